@@ -1,0 +1,4 @@
+pub mod Coding
+pub mod Data
+pub mod Trees
+pub mod Limits
