@@ -2,3 +2,9 @@ pub mod Coding
 pub mod Data
 pub mod Trees
 pub mod Limits
+pub mod TreeCode
+pub mod TreeView
+pub mod Extents
+pub mod Changes
+pub mod Refusals
+pub mod Laws

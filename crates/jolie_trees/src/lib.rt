@@ -2,11 +2,18 @@
 #![tactic(auto)]
 
 mod bytes;
+mod extent;
+mod laws;
 mod path;
 mod root;
+mod set_error;
 mod text;
+mod tree;
 
 pub use bytes::Bytes;
+pub use laws::trees_keep_what_is_set;
 pub use path::{Path, Step};
 pub use root::Root;
+pub use set_error::SetError;
 pub use text::Text;
+pub use tree::Tree;

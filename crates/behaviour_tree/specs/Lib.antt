@@ -1,0 +1,17 @@
+pub mod After
+pub mod Built
+pub mod Conforms
+pub mod Data
+pub mod Laws
+pub mod Names
+pub mod Open
+pub mod Operations
+pub mod PartsView
+pub mod Reasons
+pub mod Runs
+pub mod Start
+pub mod Tables
+pub mod Terms
+pub mod Throw
+pub mod Values
+pub mod View

@@ -1,0 +1,20 @@
+//! The types of a checked program, the words that sessions and the office share, and the calculus in definitions.
+#![tactic(auto)]
+
+mod behaviour;
+mod expr;
+mod operations;
+mod program;
+mod types;
+mod words;
+
+pub use behaviour::{Behaviour, Branch, Handler, HandlerKey, Handlers, ReplyPart};
+pub use expr::{
+    CastKind, CompareOp, Expr, Member, MulOp, MulPart, PathExpr, PathStep, SumOp, SumPart,
+};
+pub use program::{
+    Alias, CorrelationSet, Execution, Interface, Operation, Parts, Port, Program, Service,
+    SetVariable, Throws,
+};
+pub use types::{Field, RootKind, TypeDef};
+pub use words::{Event, Events, Given, Kind, Need, Numbers, Outcome, Reason, Strands};

@@ -1,0 +1,121 @@
+ghost use Rattle.std.specs.Prelude.{◌≡◌, IfOk};
+ghost use Rattle.behaviour_tree.specs.PartsView.{parts_of, parts_view, shared_by};
+
+use crate::behaviour::Behaviour;
+use crate::types::TypeDef;
+use jolie_trees::Text;
+use std::alloc::{AllocError, Global};
+use std::sync::Arc;
+
+/// A fault that an operation may answer, and the type of its data.
+#[derive(Drop)]
+pub struct Throws {
+    pub fault: u32,
+    pub ty: TypeDef,
+}
+
+/// An operation. A one-way operation has no response.
+#[derive(Drop)]
+pub struct Operation {
+    pub name: Text,
+    pub request: TypeDef,
+    pub response: Option<TypeDef>,
+    pub throws: Vec<Throws>,
+}
+
+/// An interface.
+#[derive(Drop)]
+pub struct Interface {
+    pub name: Text,
+    pub operations: Vec<Operation>,
+}
+
+/// A port, and its interfaces by number.
+#[derive(Drop)]
+pub struct Port {
+    pub name: Text,
+    pub input: bool,
+    pub location: Text,
+    pub interfaces: Vec<u32>,
+}
+
+/// Where a message of a type has the value of a correlation variable.
+#[derive(Drop)]
+pub struct Alias {
+    pub ty: u32,
+    pub path: Vec<Text>,
+}
+
+/// A correlation variable.
+#[derive(Drop)]
+pub struct SetVariable {
+    pub name: Text,
+    pub aliases: Vec<Alias>,
+}
+
+/// A correlation set.
+#[derive(Drop)]
+pub struct CorrelationSet {
+    pub variables: Vec<SetVariable>,
+}
+
+/// How a service runs its sessions.
+#[derive(Clone, Copy, Debug, PartialEq, Eq)]
+pub enum Execution {
+    Concurrent,
+    Single,
+}
+
+/// A service.
+#[derive(Drop)]
+pub struct Service {
+    pub name: Text,
+    pub execution: Execution,
+    pub ports: Vec<Port>,
+    pub sets: Vec<CorrelationSet>,
+    pub init: Behaviour,
+    pub main: Behaviour,
+}
+
+/// What a program consists of. Types, interfaces and services are named by their places, and
+/// faults and scopes by their places in `names`.
+#[derive(Drop)]
+pub struct Parts {
+    pub types: Vec<TypeDef>,
+    pub interfaces: Vec<Interface>,
+    pub services: Vec<Service>,
+    pub names: Vec<Text>,
+}
+
+/// A checked program, whose copies share its parts.
+#[derive(Drop)]
+pub struct Program {
+    parts: Arc<Parts>,
+}
+
+impl Program {
+    /// A program of these parts, which a checker has found well formed: each number of a type,
+    /// an interface, a name or a port stands for one, and each operation for one of its service.
+    pub fn new(alloc: Global, parts: Parts) -> Result<Program, AllocError>
+        ensures { IfOk result (λ program. parts_of program ≡ parts_view parts) }
+    {
+        let parts = Arc::new(alloc, parts)?;
+        Ok(Program { parts })
+    }
+
+    pub fn parts(&self) -> &Parts
+        ensures shared { result.now ≡ shared_by self.now }
+        ensures parts { parts_view result.now ≡ parts_of self.now }
+    {
+        &self.parts
+    }
+
+    /// The same program once more, which shares its parts.
+    pub fn again(&self) -> Result<Program, AllocError>
+        ensures shared { IfOk result (λ program. shared_by program ≡ shared_by self.now) }
+        ensures parts { IfOk result (λ program. parts_of program ≡ parts_of self.now) }
+    {
+        let parts = Arc::try_clone(&self.parts)?;
+        Ok(Program { parts })
+    }
+}

@@ -1,0 +1,6 @@
+pub mod Entries
+pub mod Sizes
+pub mod Vectors
+pub mod Names
+pub mod Growth
+pub mod Kept

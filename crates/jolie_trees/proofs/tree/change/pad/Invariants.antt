@@ -1,0 +1,11 @@
+use Rattle.std.proofs.Common.{◌≡◌, ◌+◌, ◌-◌, vec_len}
+use Rattle.jolie_trees.specs.Trees.{change_nth}
+use Rattle.jolie_trees.specs.TreeView.{trees_of}
+use Rattle.jolie_trees.proofs.tree.change.pad.Given as goal
+
+abbrev pub invariant-loop-alloc : goal.invariant-loop-alloc
+invariant-loop-alloc l =
+    change_nth l.place (λ t. t) (trees_of l.nodes.items) ≡ change_nth l.place (λ t. t) (trees_of l.initial.nodes.items)
+
+abbrev pub decreases-loop-alloc : goal.decreases-loop-alloc
+decreases-loop-alloc l = l.place + 1 - vec_len l.nodes

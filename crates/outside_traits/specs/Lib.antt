@@ -1,0 +1,3 @@
+pub mod Adapted
+pub mod Causes
+pub mod Memory

@@ -1,0 +1,21 @@
+//! What a program reaches outside itself, as traits with a written meaning.
+//! Each object has a count of faults, which rises where a call answers `Failed` and stands still else, and may tell the bytes that it holds.
+//! Beside the traits stand objects in memory for tests, scripted to fail or calm, and the adapters to the real world.
+#![tactic(auto)]
+
+mod calm;
+mod errors;
+mod memory;
+mod script;
+mod scripted;
+mod system;
+#[cfg(test)]
+mod tests;
+mod traits;
+
+pub use calm::{CalmFiles, CalmSink, CalmSource};
+pub use errors::{CallError, Failed};
+pub use script::Script;
+pub use scripted::{ScriptedFiles, ScriptedSink, ScriptedSource};
+pub use system::{Inputs, Outputs, Storage};
+pub use traits::{Files, Sink, Source};
