@@ -1,0 +1,30 @@
+//! The tree of a Jolie text.
+//!
+//! There is one node for each form of the grammar, with the place of its first token where no part of it has that
+//! place. A sequence, a parallel or a level of one member is that member, parentheses leave no node, and neither do
+//! the optional dots and commas of fields and literals.
+#![tactic(auto)]
+
+mod expression;
+mod interface;
+mod name;
+mod process;
+mod service;
+#[cfg(test)]
+mod tests;
+mod tree;
+mod types;
+
+pub use expression::{
+    Additive, CastTarget, Comparison, Expr, ExprForm, Factor, Member, Multiplicative, Path, Step,
+    Term,
+};
+pub use interface::{Fault, Interface, OneWay, OperationGroup, RequestResponse, TypeName};
+pub use name::{Name, Quoted};
+pub use process::{
+    Answer, Assignment, Block, Branch, Count, ForStep, Handler, HandlerKey, If, Input, Otherwise,
+    Process, Reply,
+};
+pub use service::{Alias, Clause, CorrelationVariable, Execution, Port, Service};
+pub use tree::{Ast, Definition};
+pub use types::{Cardinality, DefinedType, Field, RootKind, TypeBody, TypeDefinition};

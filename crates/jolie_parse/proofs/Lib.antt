@@ -1,0 +1,5 @@
+pub mod Sets
+pub mod Complete
+pub mod OneToken
+pub mod Unique
+pub mod Equal

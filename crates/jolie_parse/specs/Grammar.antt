@@ -1,0 +1,400 @@
+-- The grammar, production by production, and what is a file.
+use Rattle.std.specs.Prelude.{ℕ, zero, suc, List, [], ◌∷◌, ◌++◌, Option, Some, None}
+use Rattle.jolie_ast.specs.declared.expression.Expr.{Expr}
+use Rattle.jolie_ast.specs.declared.expression.ExprForm.TheVariants as form
+use Rattle.jolie_ast.specs.declared.expression.Member.{Member, roll-Member}
+use Rattle.jolie_ast.specs.declared.expression.Path.{Path}
+use Rattle.jolie_ast.specs.declared.expression.Step.{Step}
+use Rattle.jolie_ast.specs.declared.process.Process.{Process}
+use Rattle.jolie_ast.specs.declared.process.Process.TheVariants as process
+use Rattle.jolie_ast.specs.declared.process.Assignment.{Assignment}
+use Rattle.jolie_ast.specs.declared.process.Assignment.TheVariants as assignment
+use Rattle.jolie_ast.specs.declared.process.ForStep.{ForStep}
+use Rattle.jolie_ast.specs.declared.process.ForStep.TheVariants as for_step
+use Rattle.jolie_ast.specs.declared.process.HandlerKey.{HandlerKey}
+use Rattle.jolie_ast.specs.declared.process.HandlerKey.TheVariants as key
+use Rattle.jolie_ast.specs.declared.process.Block.{Block}
+use Rattle.jolie_ast.specs.declared.process.Otherwise.{Otherwise}
+use Rattle.jolie_ast.specs.declared.process.Otherwise.TheVariants as otherwise
+use Rattle.jolie_ast.specs.declared.process.Input.{Input}
+use Rattle.jolie_ast.specs.declared.process.Reply.{Reply}
+use Rattle.jolie_ast.specs.declared.process.Branch.{Branch}
+use Rattle.jolie_ast.specs.declared.process.Answer.{Answer}
+use Rattle.jolie_ast.specs.declared.process.Handler.{Handler}
+use Rattle.jolie_ast.specs.declared.types.Cardinality.{Cardinality}
+use Rattle.jolie_ast.specs.declared.types.Cardinality.TheVariants as cardinality
+use Rattle.jolie_ast.specs.declared.types.TypeBody.{TypeBody}
+use Rattle.jolie_ast.specs.declared.types.TypeBody.TheVariants as body
+use Rattle.jolie_ast.specs.declared.types.DefinedType.TheVariants as defined
+use Rattle.jolie_ast.specs.declared.types.TypeDefinition.{TypeDefinition}
+use Rattle.jolie_ast.specs.declared.types.Field.{Field}
+use Rattle.jolie_ast.specs.declared.interface.TypeName.{TypeName}
+use Rattle.jolie_ast.specs.declared.interface.TypeName.TheVariants as type_name
+use Rattle.jolie_ast.specs.declared.interface.Fault.{Fault}
+use Rattle.jolie_ast.specs.declared.interface.RequestResponse.{RequestResponse}
+use Rattle.jolie_ast.specs.declared.interface.OneWay.{OneWay}
+use Rattle.jolie_ast.specs.declared.interface.OperationGroup.{OperationGroup}
+use Rattle.jolie_ast.specs.declared.interface.OperationGroup.TheVariants as group
+use Rattle.jolie_ast.specs.declared.interface.Interface.{Interface}
+use Rattle.jolie_ast.specs.declared.service.Alias.{Alias}
+use Rattle.jolie_ast.specs.declared.service.CorrelationVariable.{CorrelationVariable}
+use Rattle.jolie_ast.specs.declared.service.Clause.{Clause}
+use Rattle.jolie_ast.specs.declared.service.Clause.TheVariants as clause
+use Rattle.jolie_ast.specs.declared.service.Service.{Service}
+use Rattle.jolie_ast.specs.declared.tree.Definition.{Definition}
+use Rattle.jolie_ast.specs.declared.tree.Definition.TheVariants as definition
+use Rattle.jolie_parse.specs.Classes as c
+use Rattle.jolie_parse.specs.Classes.{Spelled, class, place, ids, words}
+use Rattle.jolie_parse.specs.Meanings as means_as
+use Rattle.jolie_parse.specs.Syntax.{Part, an_expression, an_operand, a_path, maybe_path, maybe_expression, a_body, some_handlers, a_name, an_input, an_else_if, for_parts, throw_parts, some_members, a_type_name, some_bounds, some_fields, some_operations, port_parts, some_variables, some_clauses, Meant, ForParts, IfParts, Syn, token, give, both, either, many, means, inside, prefix, Lang, Derives, separated, some_of, optional, behind, ended, between}
+
+-- a token of one class
+abbrev pub one : ℕ → Syn Spelled
+one k = token (k ∷ [])
+
+-- a part in parentheses
+abbrev pub parens : (r : Part) → Syn (Meant r)
+parens r = between c.sign_open_paren r c.sign_close_paren
+
+-- a part in braces
+abbrev pub braces : (r : Part) → Syn (Meant r)
+braces r = between c.sign_open_brace r c.sign_close_brace
+
+-- nothing is written where the list is empty
+abbrev pub list_of : {A : Type 0} → Option (List A) → List A
+list_of None = []
+list_of (Some xs) = xs
+
+-- ---- names and paths
+
+-- a word that is not reserved
+unfoldable pub id : Syn Spelled
+id = token ids
+
+-- any word
+unfoldable pub word : Syn Spelled
+word = token words
+
+-- an index in brackets, or none
+unfoldable pub index : Syn (Option Expr)
+index = optional (between c.sign_open_bracket an_expression c.sign_close_bracket)
+
+-- a further step of a path: a dot, a name and its index
+unfoldable pub step : Syn Step
+step = behind c.sign_dot (means (λ q. means_as.step_of q.0 q.1) (both word index))
+
+-- a path behind its first name
+unfoldable pub path_parts : Syn (Option Expr × List Step)
+path_parts = both index (many step)
+
+-- a path: a name that is not reserved, its index and the further steps
+unfoldable pub path : Syn Path
+path = means (λ q. means_as.path_of q.0 q.1) (both id path_parts)
+
+-- ---- expressions
+
+-- an operand without a prefix: a number, a string, a bool, a path, its size, whether it is defined, a cast, what stands in parentheses, a literal
+unfoldable pub primary : Syn Expr
+primary =
+    either (means (λ t. means_as.expression (place t) (form.Int (means_as.int_value t))) (one c.int_number))
+    (either (means (λ t. means_as.expression (place t) (form.Long (means_as.long_value t))) (one c.long_number))
+    (either (means (λ t. means_as.expression (place t) (form.Str (means_as.meant_text t))) (one c.quoted_text))
+    (either (means (λ t. means_as.expression (place t) (form.Bool (means_as.is_true t))) (token (c.the_true ∷ c.the_false ∷ [])))
+    (either (means means_as.path_expression path)
+    (either (means (λ q. means_as.expression (place q.0) (form.Size q.1)) (both (one c.sign_hash) path))
+    (either (means (λ q. means_as.expression (place q.0) (form.IsDefined q.1)) (both (one c.the_is_defined) (parens a_path)))
+    (either (means (λ q. means_as.expression (place q.0) (form.Cast (means_as.cast_target (class q.0)) q.1)) (both (token (c.the_int ∷ c.the_long ∷ c.the_string ∷ [])) (parens an_expression)))
+    (either (means (λ q. means_as.begun_at (place q.0) q.1) (inside c.sign_open_paren an_expression c.sign_close_paren))
+    (means (λ q. means_as.expression (place q.0) (form.Literal q.1)) (inside c.sign_open_brace some_members c.sign_close_brace))))))))))
+
+-- an operand, behind any number of `-` and `!`
+unfoldable pub unary : Syn Expr
+unary = either primary (means means_as.prefixed_of (prefix (c.sign_minus ∷ c.sign_not ∷ []) an_operand))
+
+-- operands with `*`, `/` and `%` between them
+unfoldable pub product : Syn Expr
+product = means means_as.product_of (both unary (many (both (token (c.sign_star ∷ c.sign_slash ∷ c.sign_percent ∷ [])) unary)))
+
+-- products with `+` and `-` between them
+unfoldable pub sum : Syn Expr
+sum = means means_as.sum_of (both product (many (both (token (c.sign_plus ∷ c.sign_minus ∷ [])) product)))
+
+-- a sum, or two that are compared
+unfoldable pub comparison : Syn Expr
+comparison = means means_as.comparison_made (both sum (optional (both (token (c.sign_equal ∷ c.sign_not_equal ∷ c.sign_less ∷ c.sign_at_most ∷ c.sign_greater ∷ c.sign_at_least ∷ [])) sum)))
+
+-- comparisons with `&&` between them
+unfoldable pub conjunction : Syn Expr
+conjunction = means means_as.and_of (separated c.sign_and comparison)
+
+-- an expression: conjunctions with `||` between them
+unfoldable pub expr : Syn Expr
+expr = means means_as.or_of (separated c.sign_or conjunction)
+
+-- a member of a literal: a name and its value
+unfoldable pub member : Syn Member
+member = means (λ q. roll-Member (record { name = means_as.name_of q.1.0; value = q.1.1 })) (both (optional (one c.sign_dot)) (both word (behind c.sign_assign expr)))
+
+-- ---- processes
+
+-- a block: braces and what stands in them
+unfoldable pub block : Syn Block
+block = means means_as.block_of (inside c.sign_open_brace a_body c.sign_close_brace)
+
+-- the reply part of an input: its path and its body
+unfoldable pub reply : Syn Reply
+reply = means means_as.reply_of (both (parens maybe_path) block)
+
+-- an input behind its operation
+unfoldable pub input_parts : Syn (Option Path × Option Reply)
+input_parts = both (parens maybe_path) (optional reply)
+
+-- an input: its operation, its path and its reply part
+unfoldable pub input : Syn Input
+input = means (λ q. means_as.input_of q.0 q.1) (both id input_parts)
+
+-- a branch of a choice: an input in brackets and what comes after
+unfoldable pub branch : Syn Branch
+branch = means means_as.branch_of (both (inside c.sign_open_bracket an_input c.sign_close_bracket) block)
+
+-- a choice: one branch or more
+unfoldable pub choice : Syn Process
+choice = means (λ q. means_as.choice_of q.1 q.0.0 q.0.1) (both (both (inside c.sign_open_bracket an_input c.sign_close_bracket) block) (many branch))
+
+-- what an output awaits: a path and handlers
+unfoldable pub answer : Syn Answer
+answer = means means_as.answer_of (both (parens maybe_path) (optional (between c.sign_open_bracket some_handlers c.sign_close_bracket)))
+
+-- an output behind its operation
+unfoldable pub output_parts : Syn (Spelled × (Option Expr × Option Answer))
+output_parts = behind c.sign_at (both id (both (parens maybe_expression) (optional answer)))
+
+-- an output: its operation, its port and what it sends and awaits
+unfoldable pub output : Syn Process
+output = means (λ q. means_as.output_of q.0 q.1) (both id output_parts)
+
+-- `++` or `--`
+unfoldable pub count : Syn Spelled
+count = token (c.sign_increment ∷ c.sign_decrement ∷ [])
+
+-- what is done to the path before it
+unfoldable pub change : Syn Assignment
+change =
+    either (means assignment.Root (behind c.sign_assign expr))
+    (either (means assignment.Copy (behind c.sign_deep_assign expr))
+    (means (λ t. assignment.Count (means_as.count_of t)) count))
+
+-- a path and what is done to it
+unfoldable pub assign : Syn Process
+assign = means (λ q. process.Assign q.0 q.1) (both path change)
+
+-- a correlation variable gets a value
+unfoldable pub correlate : Syn Process
+correlate = means (λ q. process.Correlate (place q.0) (means_as.name_of q.1.0) q.1.1) (both (one c.the_csets) (both (behind c.sign_dot id) (behind c.sign_assign expr)))
+
+-- the last part of a `for` behind its path
+unfoldable pub last_change : Syn ForStep
+last_change =
+    either (means (λ t. for_step.Count (means_as.count_of t)) count)
+    (means for_step.Root (behind c.sign_assign expr))
+
+-- what stands in the parentheses of a `for`
+unfoldable pub loop_parts : Syn ForParts
+loop_parts =
+    means (λ q. record { path = q.0; first = q.1.0; test = q.1.1.0; stepped = q.1.1.1.0; step = q.1.1.1.1 })
+    (both path (both (behind c.sign_assign expr) (both (behind c.sign_comma expr) (both (behind c.sign_comma path) last_change))))
+
+-- what may follow an `if` and its block
+unfoldable pub else_parts : Syn Otherwise
+else_parts =
+    either (means (λ q. otherwise.ElseIf (means_as.if_of q.0 q.1)) (behind c.the_else (prefix (c.the_if ∷ []) an_else_if)))
+    (either (means otherwise.Else (behind c.the_else block))
+    (give otherwise.Nothing))
+
+-- an `if` behind its word
+abbrev pub if_parts : Syn Otherwise → Syn IfParts
+if_parts rest = means (λ q. record { test = q.0; body = q.1.0; otherwise = q.1.1 }) (both (parens an_expression) (both block rest))
+
+-- the statements that begin with a sign or a reserved word
+abbrev pub marked_statement : Syn Otherwise → Syn Process
+marked_statement rest =
+    either (means (λ q. process.Undef (place q.0) q.1) (both (one c.the_undef) (parens a_path)))
+    (either correlate
+    (either (means (λ q. process.If (means_as.if_of q.0 q.1)) (both (one c.the_if) (if_parts rest)))
+    (either (means (λ q. process.While (place q.0) q.1.0 q.1.1) (both (one c.the_while) (both (parens an_expression) block)))
+    (either (means (λ q. means_as.for_of q.0 q.1.0 q.1.1) (both (one c.the_for) (both (parens for_parts) block)))
+    (either choice
+    (either (means (λ q. process.Scope (place q.0) q.1.0 q.1.1) (both (one c.the_scope) (both (parens a_name) block)))
+    (either (means (λ q. process.Install (place q.0) q.1) (both (one c.the_install) (parens some_handlers)))
+    (either (means (λ q. process.Throw (place q.0) q.1.0 q.1.1) (both (one c.the_throw) (parens throw_parts)))
+    (either (means (λ q. process.Compensate (place q.0) q.1) (both (one c.the_comp) (parens a_name)))
+    (either (means (λ t. process.InnerHandler (place t)) (one c.the_inner_handler))
+    (means process.Block block)))))))))))
+
+-- `nullProcess`
+unfoldable pub nothing : Syn Process
+nothing = means (λ t. process.Nothing (place t)) (one c.the_null_process)
+
+-- a statement
+unfoldable pub statement : Syn Process
+statement = either nothing (either (means process.Input input) (either output (either assign (marked_statement else_parts))))
+
+-- statements one after the other
+abbrev pub in_sequence : Syn Process → Syn Process
+in_sequence s = means means_as.sequence_of (separated c.sign_semicolon s)
+
+-- sequences beside one another
+abbrev pub in_parallel : Syn Process → Syn Process
+in_parallel s = means means_as.parallel_of (separated c.sign_bar (in_sequence s))
+
+-- what a handler is for: `this` or a name
+unfoldable pub handler_key : Syn HandlerKey
+handler_key = either (means (λ t. key.This (place t)) (one c.the_this)) (means (λ t. key.Named (means_as.name_of t)) id)
+
+-- handlers with commas between them
+abbrev pub handlers : Syn Process → Syn (List Handler)
+handlers s = separated c.sign_comma (means means_as.handler_of (both handler_key (behind c.sign_arrow (in_parallel s))))
+
+-- ---- types
+
+-- the words of the kinds of root
+abbrev pub kinds : List ℕ
+kinds = c.the_void ∷ c.the_bool ∷ c.the_int ∷ c.the_long ∷ c.the_string ∷ c.the_any ∷ []
+
+-- what a type is: a kind with fields, a name, or anything
+unfoldable pub type_body : Syn TypeBody
+type_body =
+    either (means means_as.root_body (both (token kinds) (optional (braces some_fields))))
+    (either (means (λ t. body.Named (means_as.name_of t)) id)
+    (means (λ t. body.Undefined (place t)) (one c.the_undefined)))
+
+-- how often a field may stand: `?`, `*` or bounds
+unfoldable pub cardinal : Syn Cardinality
+cardinal =
+    either (means (λ t. cardinality.Optional) (one c.sign_question))
+    (either (means (λ t. cardinality.Any) (one c.sign_star))
+    (between c.sign_open_bracket some_bounds c.sign_close_bracket))
+
+-- a field of a type
+unfoldable pub field : Syn Field
+field =
+    means (λ q. means_as.field_of q.1.0 q.1.1.0 q.1.1.1.0)
+    (both (optional (one c.sign_dot)) (both word (both (optional cardinal) (both (behind c.sign_colon type_body) (optional (one c.sign_comma))))))
+
+-- a type with its name
+unfoldable pub type_definition : Syn TypeDefinition
+type_definition =
+    means (λ q. means_as.definition_of q.0 q.1.0 q.1.1)
+    (both (one c.the_type) (both id (either (means defined.Body (behind c.sign_colon type_body)) (means defined.Fields (braces some_fields)))))
+
+-- ---- interfaces
+
+-- a type by name
+unfoldable pub type_named : Syn TypeName
+type_named =
+    either (means (λ t. type_name.Root (place t) (means_as.root_kind (class t))) (token kinds))
+    (either (means (λ t. type_name.Named (means_as.name_of t)) id)
+    (means (λ t. type_name.Undefined (place t)) (one c.the_undefined)))
+
+-- a fault that an operation may throw, and its type
+unfoldable pub fault : Syn Fault
+fault = means means_as.fault_of (both id (optional (parens a_type_name)))
+
+-- a request-response operation with its types and faults
+unfoldable pub request_response : Syn RequestResponse
+request_response =
+    means (λ q. means_as.request_response_of q.0 q.1.0 q.1.1.0 q.1.1.1)
+    (both id (both (parens a_type_name) (both (parens a_type_name) (optional (behind c.the_throws (some_of fault))))))
+
+-- a one-way operation with its type
+unfoldable pub one_way : Syn OneWay
+one_way = means means_as.one_way_of (both id (parens a_type_name))
+
+-- the operations of one kind
+unfoldable pub operation_group : Syn OperationGroup
+operation_group =
+    either (means (λ q. group.RequestResponse (place q.0) q.1) (both (ended (one c.the_request_response) c.sign_colon) (separated c.sign_comma request_response)))
+    (means (λ q. group.OneWay (place q.0) q.1) (both (ended (one c.the_one_way) c.sign_colon) (separated c.sign_comma one_way)))
+
+-- an interface with its operations
+unfoldable pub interface : Syn Interface
+interface = means (λ q. means_as.interface_of q.0 q.1.0 q.1.1) (both (one c.the_interface) (both id (braces some_operations)))
+
+-- ---- services
+
+-- where messages of a type have the value of a correlation variable
+unfoldable pub alias : Syn Alias
+alias = means (λ q. means_as.alias_of q.0 q.1.0 q.1.1) (both id (both (behind c.sign_dot word) (many (behind c.sign_dot word))))
+
+-- a correlation variable and its aliases
+unfoldable pub variable : Syn CorrelationVariable
+variable = means (λ q. means_as.variable_of q.0 q.1) (both (ended id c.sign_colon) (some_of alias))
+
+-- a name behind a word and a colon
+abbrev pub labelled : {A : Type 0} → ℕ → Syn A → Syn A
+labelled k s = behind k (behind c.sign_colon s)
+
+-- a clause of a service
+unfoldable pub clauses : Syn Clause
+clauses =
+    either (means (λ q. clause.Execution (place q.0) (means_as.execution_of q.1)) (both (ended (one c.the_execution) c.sign_colon) (token (c.the_concurrent ∷ c.the_single ∷ []))))
+    (either (means (λ q. means_as.port_clause q.0 (means_as.port_of q.0 q.1.0 q.1.1)) (both (token (c.the_input_port ∷ c.the_output_port ∷ [])) (both id (braces port_parts))))
+    (either (means (λ q. clause.CorrelationSet (place q.0) q.1) (both (one c.the_cset) (braces some_variables)))
+    (either (means (λ q. clause.Init (place q.0) q.1) (both (one c.the_init) block))
+    (means (λ q. clause.Main (place q.0) q.1) (both (one c.the_main) block)))))
+
+-- a service with its clauses
+unfoldable pub service : Syn Service
+service = means (λ q. means_as.service_of q.0 q.1.0 q.1.1) (both (one c.the_service) (both id (braces some_clauses)))
+
+-- a file: types, interfaces and services
+unfoldable pub file : Syn (List Definition)
+file = many (either (means definition.Type type_definition) (either (means definition.Interface interface) (means definition.Service service)))
+
+-- ---- what stands a level further in
+
+-- the grammar of each part, where statements and what follows an `if` are read so
+abbrev pub part_rules : Syn Process → Syn Otherwise → (r : Part) → Syn (Meant r)
+part_rules s rest an_expression = expr
+part_rules s rest an_operand = unary
+part_rules s rest a_path = path
+part_rules s rest maybe_path = optional path
+part_rules s rest maybe_expression = optional expr
+part_rules s rest a_body = optional (in_parallel s)
+part_rules s rest some_handlers = handlers s
+part_rules s rest a_name = means means_as.name_of id
+part_rules s rest an_input = input
+part_rules s rest an_else_if = if_parts rest
+part_rules s rest for_parts = loop_parts
+part_rules s rest throw_parts = means (λ q. (means_as.name_of q.0, q.1)) (both id (optional (behind c.sign_comma expr)))
+part_rules s rest some_members = means list_of (optional (separated c.sign_comma member))
+part_rules s rest a_type_name = type_named
+part_rules s rest some_bounds = means (λ q. means_as.bounds_of q.0 q.1) (both (one c.int_number) (behind c.sign_comma (token (c.int_number ∷ c.sign_star ∷ []))))
+part_rules s rest some_fields = many field
+part_rules s rest some_operations = many operation_group
+part_rules s rest port_parts =
+    means (λ q. (means_as.quoted q.0, q.1.0, q.1.1))
+    (both (labelled c.the_location (one c.quoted_text))
+    (both (optional (labelled c.the_protocol (means means_as.name_of id)))
+    (labelled c.the_interfaces (separated c.sign_comma (means means_as.name_of id)))))
+part_rules s rest some_variables = separated c.sign_comma variable
+part_rules s rest some_clauses = many clauses
+
+-- the grammar of each part
+abbrev pub production : (r : Part) → Syn (Meant r)
+production = part_rules statement else_parts
+
+-- ---- files
+
+-- what stands a level further in, with nesting at most n from there on
+abbrev pub Allowed : ℕ → (r : Part) → Lang (Meant r)
+Allowed zero r ts v = ⊥
+Allowed (suc n) r ts v = Derives (Allowed n) (production r) ts v
+
+-- the tokens are a file of these definitions, with nesting at most n
+abbrev pub IsFile : ℕ → List Spelled → List Definition → Type 0
+IsFile n ts f = Derives (Allowed n) file ts f
+
+-- some tokens can follow that make it a file, of whatever nesting
+abbrev pub BeginsFile : List Spelled → Type 0
+BeginsFile ts = (more : List Spelled) × (n : ℕ) × (f : List Definition) × IsFile n (ts ++ more) f

@@ -1,0 +1,7 @@
+pub mod Classes
+pub mod Syntax
+pub mod Meanings
+pub mod Grammar
+pub mod Factored
+pub mod Reading
+pub mod Laws

@@ -1,0 +1,296 @@
+-- What the phrases of the grammar mean as trees.
+use Rattle.std.specs.Prelude.{ℕ, ℤ, pos, Bool, ◌==◌, List, [], ◌∷◌, map, Option, Some, None, if◌then◌else◌}
+use Rattle.jolie_tokens.specs.declared.token.TokenKind.TheVariants as kind
+use Rattle.jolie_ast.specs.declared.name.Name.{Name}
+use Rattle.jolie_ast.specs.declared.name.Quoted.{Quoted}
+use Rattle.jolie_ast.specs.declared.expression.Additive.{Additive}
+use Rattle.jolie_ast.specs.declared.expression.Additive.TheVariants as additive
+use Rattle.jolie_ast.specs.declared.expression.Multiplicative.{Multiplicative}
+use Rattle.jolie_ast.specs.declared.expression.Multiplicative.TheVariants as multiplicative
+use Rattle.jolie_ast.specs.declared.expression.Comparison.{Comparison}
+use Rattle.jolie_ast.specs.declared.expression.Comparison.TheVariants as comparison
+use Rattle.jolie_ast.specs.declared.expression.CastTarget.{CastTarget}
+use Rattle.jolie_ast.specs.declared.expression.CastTarget.TheVariants as target
+use Rattle.jolie_ast.specs.declared.expression.Expr.{Expr, roll-Expr, out-Expr}
+use Rattle.jolie_ast.specs.declared.expression.ExprForm.{ExprForm}
+use Rattle.jolie_ast.specs.declared.expression.ExprForm.TheVariants as form
+use Rattle.jolie_ast.specs.declared.expression.Factor.{roll-Factor}
+use Rattle.jolie_ast.specs.declared.expression.Term.{roll-Term}
+use Rattle.jolie_ast.specs.declared.expression.Path.{Path, roll-Path, out-Path}
+use Rattle.jolie_ast.specs.declared.expression.Step.{Step, roll-Step, out-Step}
+use Rattle.jolie_ast.specs.declared.process.Process.{Process}
+use Rattle.jolie_ast.specs.declared.process.Process.TheVariants as process
+use Rattle.jolie_ast.specs.declared.process.Count.{Count}
+use Rattle.jolie_ast.specs.declared.process.Count.TheVariants as count
+use Rattle.jolie_ast.specs.declared.process.HandlerKey.{HandlerKey}
+use Rattle.jolie_ast.specs.declared.process.Block.{Block, roll-Block}
+use Rattle.jolie_ast.specs.declared.process.If.{If, roll-If}
+use Rattle.jolie_ast.specs.declared.process.Input.{Input, roll-Input}
+use Rattle.jolie_ast.specs.declared.process.Reply.{Reply, roll-Reply}
+use Rattle.jolie_ast.specs.declared.process.Branch.{Branch, roll-Branch}
+use Rattle.jolie_ast.specs.declared.process.Answer.{Answer, roll-Answer}
+use Rattle.jolie_ast.specs.declared.process.Handler.{Handler, roll-Handler}
+use Rattle.jolie_ast.specs.declared.types.RootKind.{RootKind}
+use Rattle.jolie_ast.specs.declared.types.RootKind.TheVariants as root
+use Rattle.jolie_ast.specs.declared.types.TypeBody.{TypeBody}
+use Rattle.jolie_ast.specs.declared.types.TypeBody.TheVariants as body
+use Rattle.jolie_ast.specs.declared.types.Field.{Field, roll-Field}
+use Rattle.jolie_ast.specs.declared.types.Cardinality.{Cardinality}
+use Rattle.jolie_ast.specs.declared.types.Cardinality.TheVariants as cardinality
+use Rattle.jolie_ast.specs.declared.types.DefinedType.{DefinedType}
+use Rattle.jolie_ast.specs.declared.types.TypeDefinition.{TypeDefinition}
+use Rattle.jolie_ast.specs.declared.interface.TypeName.{TypeName}
+use Rattle.jolie_ast.specs.declared.interface.Fault.{Fault}
+use Rattle.jolie_ast.specs.declared.interface.RequestResponse.{RequestResponse}
+use Rattle.jolie_ast.specs.declared.interface.OneWay.{OneWay}
+use Rattle.jolie_ast.specs.declared.interface.OperationGroup.{OperationGroup}
+use Rattle.jolie_ast.specs.declared.interface.Interface.{Interface}
+use Rattle.jolie_ast.specs.declared.service.Execution.{Execution}
+use Rattle.jolie_ast.specs.declared.service.Execution.TheVariants as execution
+use Rattle.jolie_ast.specs.declared.service.Port.{Port}
+use Rattle.jolie_ast.specs.declared.service.Alias.{Alias}
+use Rattle.jolie_ast.specs.declared.service.CorrelationVariable.{CorrelationVariable}
+use Rattle.jolie_ast.specs.declared.service.Clause.{Clause}
+use Rattle.jolie_ast.specs.declared.service.Clause.TheVariants as clause
+use Rattle.jolie_ast.specs.declared.service.Service.{Service}
+use Rattle.jolie_parse.specs.Classes as c
+use Rattle.jolie_parse.specs.Classes.{Spelled, class, place}
+use Rattle.jolie_parse.specs.Syntax.{ForParts, IfParts}
+
+-- ---- tokens
+
+-- a word as a name with its place
+abbrev pub name_of : Spelled → Name
+name_of t = record { text = t.spelling; at = place t }
+
+-- the value of an int, and of no other token
+abbrev pub int_value : Spelled → ℤ
+int_value t = elim t.token.kind [ kind.Int n ↦ n | _ ↦ pos 0 ]
+
+-- the value of a long, and of no other token
+abbrev pub long_value : Spelled → ℤ
+long_value t = elim t.token.kind [ kind.Long n ↦ n | _ ↦ pos 0 ]
+
+-- the text that a string means
+abbrev pub meant_text : Spelled → List ℕ
+meant_text t = elim t.token.kind [ kind.Str text ↦ text | _ ↦ [] ]
+
+-- whether it is the word `true`
+abbrev pub is_true : Spelled → Bool
+is_true t = class t == c.the_true
+
+-- a string with its place
+abbrev pub quoted : Spelled → Quoted
+quoted t = record { text = meant_text t; at = place t }
+
+-- ---- expressions
+
+-- an expression with its place
+abbrev pub expression : ℕ → ExprForm → Expr
+expression at form = roll-Expr (record { at = at; form = form })
+
+-- an expression that begins earlier, at a parenthesis
+abbrev pub begun_at : ℕ → Expr → Expr
+begun_at at e = expression at (out-Expr e).form
+
+-- where an expression begins
+abbrev pub start : Expr → ℕ
+start e = (out-Expr e).at
+
+-- a step of its name and index
+abbrev pub step_of : Spelled → Option Expr → Step
+step_of t index = roll-Step (record { name = name_of t; index = index })
+
+-- a path of the name of its first step, the index of that and the further steps
+abbrev pub path_of : Spelled → Option Expr × List Step → Path
+path_of t parts = roll-Path (record { first = step_of t parts.0; rest = parts.1 })
+
+-- where a path begins
+abbrev pub path_start : Path → ℕ
+path_start p = (out-Step (out-Path p).first).name.at
+
+-- a path as an expression
+abbrev pub path_expression : Path → Expr
+path_expression p = expression (path_start p) (form.Path p)
+
+-- the kind that a cast gives
+abbrev pub cast_target : ℕ → CastTarget
+cast_target k = if k == c.the_int then target.Int else if k == c.the_long then target.Long else target.Str
+
+-- the operator of a sign: `*`, `/` or `%`
+abbrev pub multiplicative_of : ℕ → Multiplicative
+multiplicative_of k = if k == c.sign_star then multiplicative.Times else if k == c.sign_slash then multiplicative.Divide else multiplicative.Remainder
+
+-- the operator of a sign: `+` or `-`
+abbrev pub additive_of : ℕ → Additive
+additive_of k = if k == c.sign_plus then additive.Plus else additive.Minus
+
+-- the comparison of a sign
+abbrev pub comparison_of : ℕ → Comparison
+comparison_of k =
+    if k == c.sign_equal then comparison.Equal
+    else if k == c.sign_not_equal then comparison.NotEqual
+    else if k == c.sign_less then comparison.Less
+    else if k == c.sign_at_most then comparison.AtMost
+    else if k == c.sign_greater then comparison.Greater
+    else comparison.AtLeast
+
+-- `-` or `!` and its operand
+abbrev pub prefixed_of : Spelled × Expr → Expr
+prefixed_of q = expression (place q.0) (if class q.0 == c.sign_minus then form.Minus q.1 else form.Not q.1)
+
+-- operands of one level; one alone is itself
+abbrev pub product_of : Expr × List (Spelled × Expr) → Expr
+product_of (e, []) = e
+product_of (e, (q ∷ qs)) = expression (start e) (form.Product e (map (λ r. roll-Factor (record { operator = multiplicative_of (class r.0); operand = r.1 })) (q ∷ qs)))
+
+-- operands with `+` and `-`; one alone is itself
+abbrev pub sum_of : Expr × List (Spelled × Expr) → Expr
+sum_of (e, []) = e
+sum_of (e, (q ∷ qs)) = expression (start e) (form.Sum e (map (λ r. roll-Term (record { operator = additive_of (class r.0); operand = r.1 })) (q ∷ qs)))
+
+-- two operands that are compared; one alone is itself
+abbrev pub comparison_made : Expr × Option (Spelled × Expr) → Expr
+comparison_made (e, None) = e
+comparison_made (e, Some q) = expression (start e) (form.Compare e (comparison_of (class q.0)) q.1)
+
+-- operands with `&&`; one alone is itself
+abbrev pub and_of : List Expr → Expr
+and_of [] = expression 0 (form.And [])
+and_of (e ∷ []) = e
+and_of (e ∷ d ∷ es) = expression (start e) (form.And (e ∷ d ∷ es))
+
+-- operands with `||`; one alone is itself
+abbrev pub or_of : List Expr → Expr
+or_of [] = expression 0 (form.Or [])
+or_of (e ∷ []) = e
+or_of (e ∷ d ∷ es) = expression (start e) (form.Or (e ∷ d ∷ es))
+
+-- ---- processes
+
+-- a block at its brace
+abbrev pub block_of : Spelled × Option Process → Block
+block_of q = roll-Block (record { at = place q.0; body = q.1 })
+
+-- one statement alone is itself
+abbrev pub sequence_of : List Process → Process
+sequence_of [] = process.Sequence []
+sequence_of (p ∷ []) = p
+sequence_of (p ∷ q ∷ ps) = process.Sequence (p ∷ q ∷ ps)
+
+-- sequences beside one another; one alone is itself
+abbrev pub parallel_of : List Process → Process
+parallel_of [] = process.Parallel []
+parallel_of (p ∷ []) = p
+parallel_of (p ∷ q ∷ ps) = process.Parallel (p ∷ q ∷ ps)
+
+-- up or down
+abbrev pub count_of : Spelled → Count
+count_of t = if class t == c.sign_increment then count.Up else count.Down
+
+-- an `if` at its word
+abbrev pub if_of : Spelled → IfParts → If
+if_of t parts = roll-If (record { at = place t; test = parts.test; body = parts.body; otherwise = parts.otherwise })
+
+-- a `for` at its word
+abbrev pub for_of : Spelled → ForParts → Block → Process
+for_of t parts body = process.For (place t) parts.path parts.first parts.test parts.stepped parts.step body
+
+-- a reply part of its path and body
+abbrev pub reply_of : Option Path × Block → Reply
+reply_of q = roll-Reply (record { path = q.0; body = q.1 })
+
+-- an input of its operation, path and reply part
+abbrev pub input_of : Spelled → Option Path × Option Reply → Input
+input_of t parts = roll-Input (record { operation = name_of t; request = parts.0; reply = parts.1 })
+
+-- a branch at its bracket
+abbrev pub branch_of : (Spelled × Input) × Block → Branch
+branch_of q = roll-Branch (record { at = place q.0.0; input = q.0.1; after = q.1 })
+
+-- a choice at its first bracket
+abbrev pub choice_of : List Branch → (Spelled × Input) → Block → Process
+choice_of rest head after = process.Choice (place head.0) (branch_of (head, after) ∷ rest)
+
+-- what an output awaits
+abbrev pub answer_of : Option Path × Option (List Handler) → Answer
+answer_of q = roll-Answer (record { path = q.0; handlers = q.1 })
+
+-- an output of its operation, its port, the value that it sends and what it awaits
+abbrev pub output_of : Spelled → Spelled × (Option Expr × Option Answer) → Process
+output_of t parts = process.Output (name_of t) (name_of parts.0) parts.1.0 parts.1.1
+
+-- a handler of its key and body
+abbrev pub handler_of : HandlerKey × Process → Handler
+handler_of q = roll-Handler (record { key = q.0; body = q.1 })
+
+-- ---- types and interfaces
+
+-- the kind of root of a word
+abbrev pub root_kind : ℕ → RootKind
+root_kind k =
+    if k == c.the_void then root.Void
+    else if k == c.the_bool then root.Bool
+    else if k == c.the_int then root.Int
+    else if k == c.the_long then root.Long
+    else if k == c.the_string then root.Str
+    else root.Any
+
+-- a type of its kind and fields
+abbrev pub root_body : Spelled × Option (List Field) → TypeBody
+root_body q = body.Root (place q.0) (root_kind (class q.0)) q.1
+
+-- a field of its name, cardinality and type
+abbrev pub field_of : Spelled → Option Cardinality → TypeBody → Field
+field_of t count ty = roll-Field (record { name = name_of t; cardinality = count; body = ty })
+
+-- `[least, most]`, where most is an int or `*`
+abbrev pub bounds_of : Spelled → Spelled → Cardinality
+bounds_of least most = cardinality.Between (int_value least) (if class most == c.int_number then Some (int_value most) else None)
+
+-- a type with its name, at its word
+abbrev pub definition_of : Spelled → Spelled → DefinedType → TypeDefinition
+definition_of t name defined = record { at = place t; name = name_of name; body = defined }
+
+-- a fault of its name and type
+abbrev pub fault_of : Spelled × Option TypeName → Fault
+fault_of q = record { name = name_of q.0; ty = q.1 }
+
+-- a request-response operation of its name, types and faults
+abbrev pub request_response_of : Spelled → TypeName → TypeName → Option (List Fault) → RequestResponse
+request_response_of t request response throws =
+    record { name = name_of t; request = request; response = response; throws = elim throws [ None ↦ [] | Some faults ↦ faults ] }
+
+-- a one-way operation of its name and type
+abbrev pub one_way_of : Spelled × TypeName → OneWay
+one_way_of q = record { name = name_of q.0; request = q.1 }
+
+-- an interface of its name and operations, at its word
+abbrev pub interface_of : Spelled → Spelled → List OperationGroup → Interface
+interface_of t name groups = record { at = place t; name = name_of name; groups = groups }
+
+-- ---- services
+
+-- how a service runs its sessions
+abbrev pub execution_of : Spelled → Execution
+execution_of t = if class t == c.the_concurrent then execution.Concurrent else execution.Single
+
+-- a port of its name, location, protocol and interfaces, at its word
+abbrev pub port_of : Spelled → Spelled → Quoted × Option Name × List Name → Port
+port_of t name parts = record { at = place t; name = name_of name; location = parts.0; protocol = parts.1; interfaces = parts.2 }
+
+-- a port of the one kind or the other
+abbrev pub port_clause : Spelled → Port → Clause
+port_clause t port = if class t == c.the_input_port then clause.InputPort port else clause.OutputPort port
+
+-- an alias of its type, the first field and the further ones
+abbrev pub alias_of : Spelled → Spelled → List Spelled → Alias
+alias_of ty field more = record { ty = name_of ty; first = name_of field; rest = map name_of more }
+
+-- a correlation variable of its name and aliases
+abbrev pub variable_of : Spelled → List Alias → CorrelationVariable
+variable_of t aliases = record { name = name_of t; aliases = aliases }
+
+-- a service of its name and clauses, at its word
+abbrev pub service_of : Spelled → Spelled → List Clause → Service
+service_of t name clauses = record { at = place t; name = name_of name; clauses = clauses }

@@ -1,0 +1,9 @@
+//! The grammar of Jolie texts, on which the parser will stand.
+//!
+//! What derives from the tokens of a text, and as which tree, stands in `specs/Grammar.antt`, production by production;
+//! that no tokens derive two trees is the law `tokens_have_one_tree`.
+#![tactic(auto)]
+
+mod laws;
+
+pub use laws::tokens_have_one_tree;

@@ -1,0 +1,11 @@
+pub mod Runs
+pub mod Scans
+pub mod Numbers
+pub mod Encoding
+pub mod Strings
+pub mod SignTable
+pub mod Comments
+pub mod Meets
+pub mod Readings
+pub mod Steps
+pub mod ReservedWords

@@ -1,0 +1,11 @@
+pub mod Bytes
+pub mod Numbers
+pub mod Signs
+pub mod Utf8
+pub mod Pieces
+pub mod Refusals
+pub mod Texts
+pub mod Outcomes
+pub mod Laws
+pub mod Reserved
+pub mod Fronts
