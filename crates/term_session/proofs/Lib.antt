@@ -1,0 +1,17 @@
+pub mod Arrivals
+pub mod Asks
+pub mod Begins
+pub mod Branches
+pub mod Enabled
+pub mod Evaluates
+pub mod Events
+pub mod Histories
+pub mod Ints
+pub mod KeptOpen
+pub mod Lists
+pub mod Moving
+pub mod NormalForms
+pub mod Options
+pub mod Ranges
+pub mod Stores
+pub mod Upward

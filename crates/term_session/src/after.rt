@@ -1,0 +1,137 @@
+ghost use Rattle.std.specs.Prelude.{◌≡◌, option_map, IfOk};
+ghost use Rattle.behaviour_tree.specs.After as spec;
+ghost use Rattle.behaviour_tree.specs.Built.{AnswersInts};
+ghost use Rattle.behaviour_tree.specs.Throw.{throw};
+ghost use Rattle.behaviour_tree.specs.PartsView.{parts_of};
+ghost use Rattle.term_session.specs.Moves.{done_view, fault_view, moment_view, move_view};
+ghost use Rattle.term_session.specs.View.{carried_view, term_view};
+
+use crate::fault::{Fault, fault_in};
+use crate::moment::{Done, Moment, Move};
+use crate::moves::moved;
+use crate::normal::normal;
+use crate::start::Begun;
+use crate::term::{ScopeState, Term};
+use crate::throw::{Carried, thrown};
+use behaviour_tree::{Event, Given, Kind, Need, Program};
+use jolie_trees::Tree;
+use std::alloc::AllocError;
+
+/// The outermost scope of a session.
+pub const MAIN: u32 = 8;
+
+/// Where a fault went that nobody kept.
+const UNKEPT: u32 = 2;
+
+/// Whether nothing is left to do.
+pub fn is_finished(t: &Term) -> bool
+    ensures { result ≡ spec.is_finished (term_view t.now) }
+{
+    match t {
+        Term::Done => true,
+        Term::Scope { name, body, state } => {
+            body.is_done() && *state == ScopeState::Live && *name == MAIN
+        }
+        Term::Place(_) | Term::Thrown { .. } | Term::Seq(_, _) => false,
+        Term::Exec { .. } | Term::Fail { .. } | Term::Prot(_) => false,
+    }
+}
+
+/// A moment whose form became `t`, in normal form.
+fn with_form(moment: &Moment, store: Tree, t: Term, next: u64) -> Result<Moment, AllocError>
+    ensures { IfOk result (λ m. moment_view m ≡ spec.with_form (record (moment_view moment.now) { store = store }) (term_view t) next) }
+{
+    let Begun { form, next } = normal(moment.alloc, t, next)?;
+    Ok(Moment {
+        alloc: moment.alloc,
+        form,
+        store,
+        next,
+        call: moment.call,
+        ended: moment.ended,
+    })
+}
+
+/// Strand 0 finishes a session that has nothing left to do.
+fn finishes(moment: &Moment, n: u64, given: &Given) -> Result<Option<Done>, AllocError>
+    ensures { IfOk result (λ d. option_map done_view d ≡ spec.finishes (moment_view moment.now) n given.now) }
+{
+    if n != 0 || !matches!(given, Given::Nothing) {
+        return Ok(None);
+    }
+    Ok(Some(Done {
+        moment: Moment {
+            alloc: moment.alloc,
+            form: moment.form.copied(moment.alloc)?,
+            store: moment.store.copied()?,
+            next: moment.next,
+            call: moment.call,
+            ended: true,
+        },
+        event: Event {
+            strand: 0,
+            kind: Kind::Finish,
+            number: 0,
+            place: 0,
+            fault: 0,
+        },
+        need: Need::Finish,
+    }))
+}
+
+/// A fault is carried as far as it comes.
+fn raised(moment: &Moment, n: u64, fault: &Fault) -> Result<Option<Done>, AllocError>
+    ensures { IfOk result (λ d. option_map done_view d ≡ spec.raised (moment_view moment.now) n fault.now.name (throw 0 (term_view moment.now.form) n fault.now.name fault.now.value)) }
+{
+    match thrown(moment.alloc, 0, &moment.form, n, fault.name, &fault.value)? {
+        Carried::Up(t) => Ok(Some(Done {
+            moment: with_form(moment, moment.store.copied()?, t, moment.next)?,
+            event: Event {
+                strand: n,
+                kind: Kind::Raise,
+                number: UNKEPT,
+                place: MAIN,
+                fault: fault.name,
+            },
+            need: Need::Nothing,
+        })),
+        Carried::Blocked(_) => Ok(None),
+        Carried::Absent => Ok(None),
+    }
+}
+
+/// The event of strand `n` for a gift, or none.
+pub fn after(
+    program: &Program,
+    service: u32,
+    moment: &Moment,
+    n: u64,
+    given: &Given,
+) -> Result<Option<Done>, AllocError>
+    requires { AnswersInts (parts_of program.now) service }
+    ensures { IfOk result (λ d. option_map done_view d ≡ spec.after (parts_of program.now) service (moment_view moment.now) n given.now) }
+{
+    if moment.ended {
+        return Ok(None);
+    }
+    if is_finished(&moment.form) {
+        return finishes(moment, n, given);
+    }
+    match fault_in(moment.alloc, &moment.store, n, 0, &moment.form)? {
+        Some(fault) => {
+            if matches!(given, Given::Nothing) {
+                raised(moment, n, &fault)
+            } else {
+                Ok(None)
+            }
+        }
+        None => match moved(program, service, moment, n, given, 0, &moment.form)? {
+            None => Ok(None),
+            Some(Move { form, made }) => Ok(Some(Done {
+                moment: with_form(moment, made.store, form, made.next)?,
+                event: made.event,
+                need: made.need,
+            })),
+        },
+    }
+}

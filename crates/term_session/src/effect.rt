@@ -1,0 +1,87 @@
+ghost use Rattle.std.specs.Prelude.{◌≡◌, option_map, IfOk};
+ghost use Rattle.behaviour_tree.specs.After as spec;
+ghost use Rattle.behaviour_tree.specs.View.{expr_view, path_view};
+ghost use Rattle.jolie_trees.specs.Trees.{set, set_root};
+ghost use Rattle.term_session.specs.Moves.{effect_view};
+
+use crate::evaluate::{steps_of, value};
+use behaviour_tree::{Expr, PathExpr};
+use jolie_trees::{Path, Root, SetError, Tree};
+use std::alloc::{AllocError, Global};
+
+/// The fault of an expression without a value.
+pub const EXPR_FAULT: u32 = 5;
+
+/// The fault of a store that would pass a limit.
+pub const STORE_TOO_LARGE: u32 = 7;
+
+/// The fault that a change has, or the store that it makes.
+#[derive(Drop)]
+pub enum Effect {
+    Faults(u32),
+    Stores(Tree),
+}
+
+/// The store with another root at a path, where it passes no limit.
+#[tactic(auto, using(crate::proofs::Stores::kept, crate::proofs::Stores::too_deep, crate::proofs::Stores::too_large))]
+fn with_root(store: &Tree, path: &Path, root: Root) -> Result<Effect, AllocError>
+    ensures { IfOk result (λ e. effect_view e ≡ spec.stored (set_root path.now.steps root store.now)) }
+{
+    let mut changed = store.copied()?;
+    match changed.set_root(path, root) {
+        Ok(()) => Ok(Effect::Stores(changed)),
+        Err(SetError::TooLarge(_)) => Ok(Effect::Faults(STORE_TOO_LARGE)),
+        Err(SetError::TooDeep(_)) => Ok(Effect::Faults(STORE_TOO_LARGE)),
+        Err(SetError::Memory(error)) => Err(error),
+    }
+}
+
+/// The store with another tree at a path, where it passes no limit.
+#[tactic(auto, using(crate::proofs::Stores::kept, crate::proofs::Stores::too_deep, crate::proofs::Stores::too_large))]
+fn with_tree(store: &Tree, path: &Path, tree: Tree) -> Result<Effect, AllocError>
+    ensures { IfOk result (λ e. effect_view e ≡ spec.stored (set path.now.steps tree store.now)) }
+{
+    let mut changed = store.copied()?;
+    match changed.set(path, tree) {
+        Ok(()) => Ok(Effect::Stores(changed)),
+        Err(SetError::TooLarge(_)) => Ok(Effect::Faults(STORE_TOO_LARGE)),
+        Err(SetError::TooDeep(_)) => Ok(Effect::Faults(STORE_TOO_LARGE)),
+        Err(SetError::Memory(error)) => Err(error),
+    }
+}
+
+/// What an assignment does to a store.
+pub fn effect_of(
+    alloc: Global,
+    store: &Tree,
+    path: &PathExpr,
+    e: &Expr,
+) -> Result<Effect, AllocError>
+    ensures { IfOk result (λ f. effect_view f ≡ spec.effect_of store.now (path_view path.now) (expr_view e.now)) }
+{
+    let Some(path) = steps_of(alloc, path, store)? else {
+        return Ok(Effect::Faults(EXPR_FAULT));
+    };
+    match value(alloc, e, store)? {
+        None => Ok(Effect::Faults(EXPR_FAULT)),
+        Some(value) => with_root(store, &path, value.root().copied()?),
+    }
+}
+
+/// What a message makes of a store, or none where its target has no path.
+pub fn received(
+    alloc: Global,
+    store: &Tree,
+    target: &Option<PathExpr>,
+    value: &Tree,
+) -> Result<Option<Effect>, AllocError>
+    ensures { IfOk result (λ f. option_map effect_view f ≡ spec.received store.now (option_map path_view target.now) value.now) }
+{
+    match target {
+        None => Ok(Some(Effect::Stores(store.copied()?))),
+        Some(target) => match steps_of(alloc, target, store)? {
+            None => Ok(None),
+            Some(path) => Ok(Some(with_tree(store, &path, value.copied()?)?)),
+        },
+    }
+}

@@ -1,0 +1,71 @@
+ghost use Rattle.std.specs.Prelude.{◌≡◌, option_map, IfOk};
+ghost use Rattle.behaviour_tree.specs.After as spec;
+ghost use Rattle.behaviour_tree.specs.View.{behaviour_view};
+ghost use Rattle.term_session.specs.Moves.{fault_view};
+ghost use Rattle.term_session.specs.View.{term_view};
+
+use crate::effect::{Effect, effect_of};
+use crate::term::Term;
+use behaviour_tree::Behaviour;
+use jolie_trees::Tree;
+use std::alloc::{AllocError, Global};
+
+/// A fault with its data.
+#[derive(Drop)]
+pub struct Fault {
+    pub name: u32,
+    pub value: Tree,
+}
+
+/// The fault of a form that acts, where it has one.
+fn fault_of(alloc: Global, store: &Tree, p: &Behaviour) -> Result<Option<Fault>, AllocError>
+    ensures { IfOk result (λ f. option_map fault_view f ≡ spec.fault_of store.now (behaviour_view p.now)) }
+{
+    match p {
+        Behaviour::Assign { path, value } => match effect_of(alloc, store, path, value)? {
+            Effect::Faults(name) => Ok(Some(Fault {
+                name,
+                value: Tree::void(alloc),
+            })),
+            Effect::Stores(_) => Ok(None),
+        },
+        _ => Ok(None),
+    }
+}
+
+/// The fault of strand `n` in a form that runs in strand `s`.
+pub fn fault_in(
+    alloc: Global,
+    store: &Tree,
+    n: u64,
+    s: u64,
+    t: &Term,
+) -> Result<Option<Fault>, AllocError>
+    ensures { IfOk result (λ f. option_map fault_view f ≡ spec.fault_in store.now n s (term_view t.now)) }
+{
+    match t {
+        Term::Place(p) => {
+            if s == n {
+                fault_of(alloc, store, p)
+            } else {
+                Ok(None)
+            }
+        }
+        Term::Thrown { fault, value } => {
+            if s == n {
+                Ok(Some(Fault {
+                    name: *fault,
+                    value: value.copied()?,
+                }))
+            } else {
+                Ok(None)
+            }
+        }
+        Term::Seq(head, _) => fault_in(alloc, store, n, s, head),
+        Term::Scope { body, .. } => fault_in(alloc, store, n, s, body),
+        Term::Exec { body, .. } => fault_in(alloc, store, n, s, body),
+        Term::Prot(body) => fault_in(alloc, store, n, s, body),
+        Term::Done => Ok(None),
+        Term::Fail { .. } => Ok(None),
+    }
+}

@@ -1,0 +1,177 @@
+ghost use Rattle.std.specs.Prelude.{◌≡◌, option_map, IfOk};
+ghost use Rattle.behaviour_tree.specs.After as spec;
+ghost use Rattle.behaviour_tree.specs.Built.{AnswersInts};
+ghost use Rattle.behaviour_tree.specs.PartsView.{parts_of};
+ghost use Rattle.behaviour_tree.specs.View.{behaviour_view};
+ghost use Rattle.term_session.specs.Moves.{effect_view, move_view};
+ghost use Rattle.term_session.specs.View.{term_view};
+
+use crate::answer::{fault_outcome, reply_of};
+use crate::comes::comes;
+use crate::effect::{Effect, effect_of};
+use crate::moment::{Made, Moment, Move};
+use crate::term::{Term, copied_list, copied_path};
+use behaviour_tree::{Behaviour, Event, Given, Kind, Need, Outcome, Program};
+use std::alloc::AllocError;
+
+/// An assignment without a fault.
+fn assigns(moment: &Moment, n: u64, effect: Effect) -> Option<Move>
+    ensures { option_map move_view result ≡ spec.assigns n moment.now.next (effect_view effect) }
+{
+    match effect {
+        Effect::Faults(_) => None,
+        Effect::Stores(store) => Some(Move {
+            form: Term::Done,
+            made: Made {
+                store,
+                next: moment.next,
+                event: Event {
+                    strand: n,
+                    kind: Kind::Local,
+                    number: 0,
+                    place: 0,
+                    fault: 0,
+                },
+                need: Need::Nothing,
+            },
+        }),
+    }
+}
+
+/// The event of a form without a fault, for a gift.
+fn act(moment: &Moment, n: u64, given: &Given, p: &Behaviour) -> Result<Option<Move>, AllocError>
+    ensures { IfOk result (λ m. option_map move_view m ≡ spec.act n given.now moment.now.store moment.now.next (behaviour_view p.now)) }
+{
+    match (given, p) {
+        (Given::Nothing, Behaviour::Assign { path, value }) => {
+            let effect = effect_of(moment.alloc, &moment.store, path, value)?;
+            Ok(assigns(moment, n, effect))
+        }
+        (Given::Mail { message, op, value }, Behaviour::Choice(list)) => {
+            comes(moment, n, *message, *op, value, list)
+        }
+        _ => Ok(None),
+    }
+}
+
+/// The move that answers a request.
+fn replies(
+    moment: &Moment,
+    n: u64,
+    message: u32,
+    outcome: Outcome,
+    form: Term,
+) -> Result<Move, AllocError>
+    ensures { IfOk result (λ m. move_view m ≡ spec.replies n message outcome (term_view form) moment.now.store moment.now.next) }
+{
+    Ok(Move {
+        form,
+        made: Made {
+            store: moment.store.copied()?,
+            next: moment.next,
+            event: Event {
+                strand: n,
+                kind: Kind::Reply,
+                number: message,
+                place: 0,
+                fault: 0,
+            },
+            need: Need::Reply { message, outcome },
+        },
+    })
+}
+
+/// The event of strand `n`, for a gift, in a form without a fault that runs in strand `s`.
+pub fn moved(
+    program: &Program,
+    service: u32,
+    moment: &Moment,
+    n: u64,
+    given: &Given,
+    s: u64,
+    t: &Term,
+) -> Result<Option<Move>, AllocError>
+    requires { AnswersInts (parts_of program.now) service }
+    ensures { IfOk result (λ m. option_map move_view m ≡ spec.moves (parts_of program.now) service n given.now moment.now.store moment.now.next s (term_view t.now)) }
+{
+    match t {
+        Term::Place(p) => {
+            if s == n {
+                act(moment, n, given, p)
+            } else {
+                Ok(None)
+            }
+        }
+        Term::Seq(head, rest) => match moved(program, service, moment, n, given, s, head)? {
+            None => Ok(None),
+            Some(Move { form, made }) => Ok(Some(Move {
+                form: Term::Seq(
+                    Box::new(moment.alloc, form)?,
+                    copied_list(moment.alloc, rest)?,
+                ),
+                made,
+            })),
+        },
+        Term::Scope { name, body, state } => {
+            match moved(program, service, moment, n, given, s, body)? {
+                None => Ok(None),
+                Some(Move { form, made }) => Ok(Some(Move {
+                    form: Term::Scope {
+                        name: *name,
+                        body: Box::new(moment.alloc, form)?,
+                        state: *state,
+                    },
+                    made,
+                })),
+            }
+        }
+        Term::Exec {
+            message,
+            op,
+            path,
+            body,
+        } => {
+            if body.is_done() {
+                if s != n || !matches!(given, Given::Nothing) {
+                    return Ok(None);
+                }
+                let outcome = reply_of(moment.alloc, program, service, *op, path, &moment.store)?;
+                return Ok(Some(replies(moment, n, *message, outcome, Term::Done)?));
+            }
+            match moved(program, service, moment, n, given, s, body)? {
+                None => Ok(None),
+                Some(Move { form, made }) => Ok(Some(Move {
+                    form: Term::Exec {
+                        message: *message,
+                        op: *op,
+                        path: copied_path(path)?,
+                        body: Box::new(moment.alloc, form)?,
+                    },
+                    made,
+                })),
+            }
+        }
+        Term::Fail {
+            message,
+            fault,
+            value,
+            body,
+        } => {
+            if s != n || !matches!(given, Given::Nothing) {
+                return Ok(None);
+            }
+            let outcome = fault_outcome(moment.alloc, program, *fault, value.copied()?)?;
+            let body = body.copied(moment.alloc)?;
+            Ok(Some(replies(moment, n, *message, outcome, body)?))
+        }
+        Term::Prot(body) => match moved(program, service, moment, n, given, s, body)? {
+            None => Ok(None),
+            Some(Move { form, made }) => Ok(Some(Move {
+                form: Term::Prot(Box::new(moment.alloc, form)?),
+                made,
+            })),
+        },
+        Term::Done => Ok(None),
+        Term::Thrown { .. } => Ok(None),
+    }
+}

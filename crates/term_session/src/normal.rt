@@ -1,0 +1,116 @@
+ghost use Rattle.std.specs.Prelude.{◌≡◌, map, IfOk};
+ghost use Rattle.behaviour_tree.specs.Start as spec;
+ghost use Rattle.behaviour_tree.specs.Tables.{empty};
+ghost use Rattle.behaviour_tree.specs.Terms.{prot_of, scope_of};
+ghost use Rattle.behaviour_tree.specs.View.{behaviour_view, procs_of};
+ghost use Rattle.term_session.specs.View.{begun_view, state_view, term_view};
+
+use crate::start::{Begun, begin_rest, in_sequence};
+use crate::term::{ScopeState, Term};
+use behaviour_tree::Behaviour;
+use std::alloc::{AllocError, Global};
+
+/// What no fault ends any more, of a form in normal form.
+#[tactic(auto, using(crate::proofs::NormalForms::prot_of_done, crate::proofs::NormalForms::prot_of_prot, crate::proofs::NormalForms::prot_of_other))]
+fn in_prot(alloc: Global, t: Term) -> Result<Term, AllocError>
+    ensures { IfOk result (λ u. term_view u ≡ prot_of (term_view t)) }
+{
+    if t.is_done() || t.is_prot() {
+        return Ok(t);
+    }
+    Ok(Term::Prot(Box::new(alloc, t)?))
+}
+
+/// A scope around a body in normal form.
+fn in_scope(alloc: Global, name: u32, body: Term, state: ScopeState) -> Result<Term, AllocError>
+    ensures { IfOk result (λ u. term_view u ≡ scope_of name (term_view body) empty (state_view state)) }
+{
+    if body.is_done() && state == ScopeState::Zombie {
+        return Ok(Term::Done);
+    }
+    Ok(Term::Scope {
+        name,
+        body: Box::new(alloc, body)?,
+        state,
+    })
+}
+
+/// A head in normal form and its rests.
+#[tactic(auto, using(crate::proofs::NormalForms::then_rest_other))]
+fn then_rest(
+    alloc: Global,
+    head: Term,
+    rest: Vec<Behaviour>,
+    next: u64,
+) -> Result<Begun, AllocError>
+    ensures { IfOk result (λ b. begun_view b ≡ spec.then_rest (term_view head) (procs_of (map behaviour_view rest.items)) next) }
+{
+    if head.is_done() {
+        return begin_rest(alloc, &rest, next);
+    }
+    Ok(Begun {
+        form: in_sequence(alloc, head, rest)?,
+        next,
+    })
+}
+
+/// Normal form after an event, innermost first.
+pub fn normal(alloc: Global, t: Term, next: u64) -> Result<Begun, AllocError>
+    ensures { IfOk result (λ b. begun_view b ≡ spec.normal (term_view t) next) }
+{
+    match t {
+        Term::Seq(head, rest) => {
+            let Begun { form, next } = normal(alloc, Box::into_inner(head), next)?;
+            then_rest(alloc, form, rest, next)
+        }
+        Term::Scope { name, body, state } => {
+            let Begun { form, next } = normal(alloc, Box::into_inner(body), next)?;
+            Ok(Begun {
+                form: in_scope(alloc, name, form, state)?,
+                next,
+            })
+        }
+        Term::Exec {
+            message,
+            op,
+            path,
+            body,
+        } => {
+            let Begun { form, next } = normal(alloc, Box::into_inner(body), next)?;
+            Ok(Begun {
+                form: Term::Exec {
+                    message,
+                    op,
+                    path,
+                    body: Box::new(alloc, form)?,
+                },
+                next,
+            })
+        }
+        Term::Fail {
+            message,
+            fault,
+            value,
+            body,
+        } => {
+            let Begun { form, next } = normal(alloc, Box::into_inner(body), next)?;
+            Ok(Begun {
+                form: Term::Fail {
+                    message,
+                    fault,
+                    value,
+                    body: Box::new(alloc, form)?,
+                },
+                next,
+            })
+        }
+        Term::Prot(body) => {
+            let Begun { form, next } = normal(alloc, Box::into_inner(body), next)?;
+            Ok(Begun {
+                form: in_prot(alloc, form)?,
+                next,
+            })
+        }
+        t => Ok(Begun { form: t, next }),
+    }
+}

@@ -1,0 +1,134 @@
+ghost use Rattle.std.specs.Prelude.{◌≡◌, map, IfOk};
+ghost use Rattle.behaviour_tree.specs.Data.{no_procs, proc, sequence};
+ghost use Rattle.behaviour_tree.specs.Start as spec;
+ghost use Rattle.behaviour_tree.specs.Terms.{seq_of};
+ghost use Rattle.behaviour_tree.specs.View.{behaviour_view, procs_of};
+ghost use Rattle.term_session.specs.View.{begun_view, term_view};
+
+use crate::term::{Term, copied_list};
+use behaviour_tree::Behaviour;
+use std::alloc::{AllocError, Global};
+
+/// A form that has begun, and the next strand.
+#[derive(Drop)]
+pub struct Begun {
+    pub form: Term,
+    pub next: u64,
+}
+
+/// A head with the forms that begin after it.
+pub fn in_sequence(alloc: Global, head: Term, rest: Vec<Behaviour>) -> Result<Term, AllocError>
+    ensures { IfOk result (λ t. term_view t ≡ seq_of (term_view head) (procs_of (map behaviour_view rest.items))) }
+{
+    if rest.is_empty() {
+        return Ok(head);
+    }
+    Ok(Term::Seq(Box::new(alloc, head)?, rest))
+}
+
+/// A form as it starts.
+#[cycle(start)]
+pub fn started(alloc: Global, p: &Behaviour, next: u64) -> Result<Begun, AllocError>
+    ensures { IfOk result (λ b. begun_view b ≡ spec.start (behaviour_view p.now) next) }
+{
+    match p {
+        Behaviour::Nothing => Ok(Begun {
+            form: Term::Done,
+            next,
+        }),
+        Behaviour::Sequence(list) => started_head(alloc, list, next),
+        _ => Ok(Begun {
+            form: Term::Place(p.copied()?),
+            next,
+        }),
+    }
+}
+
+/// The head of a sequence starts, and the rests stay.
+#[cycle(start)]
+fn started_head(alloc: Global, list: &[Behaviour], next: u64) -> Result<Begun, AllocError>
+    ensures { IfOk result (λ b. begun_view b ≡ spec.start_head (procs_of (map behaviour_view list.now)) next) }
+{
+    match list {
+        [] => Ok(Begun {
+            form: Term::Done,
+            next,
+        }),
+        [head, rest @ ..] => {
+            let Begun { form, next } = started(alloc, head, next)?;
+            let rest = copied_list(alloc, rest)?;
+            Ok(Begun {
+                form: in_sequence(alloc, form, rest)?,
+                next,
+            })
+        }
+    }
+}
+
+/// A form begins, in normal form.
+#[cycle(begin)]
+#[tactic(auto, using(crate::proofs::Begins::begin_sequence))]
+pub fn begin(alloc: Global, p: &Behaviour, next: u64) -> Result<Begun, AllocError>
+    ensures { IfOk result (λ b. begun_view b ≡ spec.begin (behaviour_view p.now) next) }
+{
+    match p {
+        Behaviour::Nothing => Ok(Begun {
+            form: Term::Done,
+            next,
+        }),
+        Behaviour::Sequence(list) => begin_rest(alloc, list, next),
+        _ => Ok(Begun {
+            form: Term::Place(p.copied()?),
+            next,
+        }),
+    }
+}
+
+/// The first of the rests begins, and the next where it is done at once.
+#[cycle(begin)]
+pub fn begin_rest(alloc: Global, list: &[Behaviour], next: u64) -> Result<Begun, AllocError>
+    ensures { IfOk result (λ b. begun_view b ≡ spec.begin_rest (procs_of (map behaviour_view list.now)) next) }
+{
+    let mut after = next;
+    for i in 0..list.len() {
+        let Begun { form, next } = begin(alloc, &list[i], after)?;
+        match form {
+            Term::Done => after = next,
+            form => {
+                let rest = copied_list(alloc, &list[i + 1..])?;
+                return Ok(Begun {
+                    form: in_sequence(alloc, form, rest)?,
+                    next,
+                });
+            }
+        }
+    }
+    Ok(Begun {
+        form: Term::Done,
+        next: after,
+    })
+}
+
+/// Two behaviours begin in sequence.
+#[tactic(auto, using(crate::proofs::Begins::begin_sequence, crate::proofs::Begins::begin_one))]
+pub fn begin_both(
+    alloc: Global,
+    first: &Behaviour,
+    second: &Behaviour,
+    next: u64,
+) -> Result<Begun, AllocError>
+    ensures { IfOk result (λ b. begun_view b ≡ spec.begin (sequence (proc (behaviour_view first.now) (proc (behaviour_view second.now) no_procs))) next) }
+{
+    let Begun { form, next } = begin(alloc, first, next)?;
+    match form {
+        Term::Done => begin(alloc, second, next),
+        form => {
+            let mut rest = Vec::new(alloc);
+            rest.push(second.copied()?)?;
+            Ok(Begun {
+                form: in_sequence(alloc, form, rest)?,
+                next,
+            })
+        }
+    }
+}

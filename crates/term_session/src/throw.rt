@@ -1,0 +1,111 @@
+ghost use Rattle.std.specs.Prelude.{◌≡◌, ℕ, IfOk};
+ghost use Rattle.jolie_trees.specs.Data.{Tree as Plain};
+ghost use Rattle.behaviour_tree.specs.Tables.{empty};
+ghost use Rattle.behaviour_tree.specs.Throw as spec;
+ghost use Rattle.term_session.specs.View.{carried_view, state_view, strands_of, term_view};
+
+use crate::term::{ScopeState, Term};
+use jolie_trees::Tree;
+use std::alloc::{AllocError, Global};
+
+/// Where a fault has come to: it goes on upward with what the forms are then, a ready strand
+/// blocks it, or its strand has no place there. No scope has a handler yet, so none catches it.
+#[derive(Drop)]
+pub enum Carried {
+    Up(Term),
+    Blocked(u64),
+    Absent,
+}
+
+/// The strand of a form running in strand `n` that waits to finish a scope.
+fn ready(n: u64, t: &Term) -> Option<u64>
+    ensures { strands_of result ≡ spec.ready n (term_view t.now) }
+{
+    match t {
+        Term::Scope { body, state, .. } => {
+            if body.is_done() && *state == ScopeState::Live {
+                Some(n)
+            } else {
+                None
+            }
+        }
+        Term::Seq(head, _) => ready(n, head),
+        Term::Exec { body, .. } => ready(n, body),
+        Term::Done | Term::Place(_) | Term::Thrown { .. } | Term::Fail { .. } | Term::Prot(_) =>
+            None,
+    }
+}
+
+/// The fault of strand `n` in a form that runs in strand `s` is carried upward.
+pub fn thrown(
+    alloc: Global,
+    s: u64,
+    t: &Term,
+    n: u64,
+    fault: u32,
+    value: &Tree,
+) -> Result<Carried, AllocError>
+    ensures { IfOk result (λ c. carried_view c ≡ spec.throw s (term_view t.now) n fault value.now) }
+{
+    match t {
+        Term::Place(_) | Term::Thrown { .. } => {
+            if s == n {
+                Ok(Carried::Up(Term::Done))
+            } else {
+                Ok(Carried::Absent)
+            }
+        }
+        Term::Seq(head, _) => thrown(alloc, s, head, n, fault, value),
+        Term::Scope { name, body, state } => {
+            match thrown(alloc, s, body, n, fault, value)? {
+                Carried::Up(left) => at_scope(alloc, ready(s, body), *name, left, *state),
+                carried => Ok(carried),
+            }
+        }
+        Term::Exec { message, body, .. } => {
+            match thrown(alloc, s, body, n, fault, value)? {
+                Carried::Up(left) => {
+                    let fail = Term::Fail {
+                        message: *message,
+                        fault,
+                        value: value.copied()?,
+                        body: Box::new(alloc, left)?,
+                    };
+                    Ok(Carried::Up(Term::Prot(Box::new(alloc, fail)?)))
+                }
+                carried => Ok(carried),
+            }
+        }
+        Term::Prot(body) => match thrown(alloc, s, body, n, fault, value)? {
+            Carried::Up(left) => Ok(Carried::Up(Term::Prot(Box::new(alloc, left)?))),
+            carried => Ok(carried),
+        },
+        Term::Done | Term::Fail { .. } => Ok(Carried::Absent),
+    }
+}
+
+/// A fault comes to a scope without handlers from its body.
+fn at_scope(
+    alloc: Global,
+    ready: Option<u64>,
+    name: u32,
+    body: Term,
+    state: ScopeState,
+) -> Result<Carried, AllocError>
+    ensures { IfOk result (λ c. (f : ℕ) (v : Plain) → carried_view c ≡ spec.reaches (strands_of ready) name (term_view body) empty (state_view state) f v) }
+{
+    if let Some(n) = ready {
+        return Ok(Carried::Blocked(n));
+    }
+    match state {
+        ScopeState::Live => {
+            let zombie = Term::Scope {
+                name,
+                body: Box::new(alloc, body)?,
+                state: ScopeState::Zombie,
+            };
+            Ok(Carried::Up(Term::Prot(Box::new(alloc, zombie)?)))
+        }
+        ScopeState::Zombie => Ok(Carried::Absent),
+    }
+}
