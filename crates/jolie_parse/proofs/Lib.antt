@@ -3,3 +3,9 @@ pub mod Complete
 pub mod OneToken
 pub mod Unique
 pub mod Equal
+pub mod Samples
+pub mod Outcomes
+pub mod Openings
+pub mod Explain
+pub mod Phrases
+pub mod Stops

@@ -403,6 +403,10 @@ words = plain_name ∷ the_location ∷ the_protocol ∷ the_interfaces ∷ the_
 abbrev pub classes : List ℕ
 classes = words ++ int_number ∷ long_number ∷ quoted_text ∷ sign_arrow ∷ sign_equal ∷ sign_not_equal ∷ sign_at_most ∷ sign_at_least ∷ sign_deep_assign ∷ sign_increment ∷ sign_decrement ∷ sign_and ∷ sign_or ∷ sign_open_brace ∷ sign_close_brace ∷ sign_open_paren ∷ sign_close_paren ∷ sign_open_bracket ∷ sign_close_bracket ∷ sign_comma ∷ sign_semicolon ∷ sign_colon ∷ sign_dot ∷ sign_bar ∷ sign_assign ∷ sign_less ∷ sign_greater ∷ sign_plus ∷ sign_minus ∷ sign_star ∷ sign_slash ∷ sign_percent ∷ sign_not ∷ sign_hash ∷ sign_at ∷ sign_question ∷ []
 
+-- the brackets that open
+abbrev pub open_brackets : List ℕ
+open_brackets = sign_open_brace ∷ sign_open_paren ∷ sign_open_bracket ∷ []
+
 -- it is among them
 abbrev pub has : List ℕ → ℕ → Bool
 has [] k = false

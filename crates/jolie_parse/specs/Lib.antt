@@ -4,4 +4,5 @@ pub mod Meanings
 pub mod Grammar
 pub mod Factored
 pub mod Reading
+pub mod Levels
 pub mod Laws

@@ -1,6 +1,6 @@
 -- Reading a grammar from the left, one token deciding each choice.
 use Rattle.std.specs.Prelude.{◌≡◌, ℕ, zero, suc, List, [], ◌∷◌, length, if◌then◌else◌}
-use Rattle.jolie_parse.specs.Classes.{Spelled, class, has, begins}
+use Rattle.jolie_parse.specs.Classes.{Spelled, class, has, begins, open_brackets}
 use Rattle.jolie_parse.specs.Syntax.{Part, Meant, Syn, token, give, both, either, many, means, inside, prefix, first}
 use Rattle.jolie_parse.specs.Factored.{rule}
 
@@ -42,11 +42,18 @@ repeat one ks (suc n) ts = if begins ks ts then and_then (one ts) (λ a r. and_t
 abbrev pub no_level : {A : Type 0} → List ℕ → List Spelled → Outcome A
 no_level ks ts = if begins ks ts then too_deep ts else refused ts
 
+-- a bracket that is refused where no level is left opens a level too many all the same
+abbrev pub deepen : {A : Type 0} → Outcome A → ℕ → Outcome A
+deepen (got a ts) n = got a ts
+deepen (too_deep ts) n = too_deep ts
+deepen (refused ts) zero = no_level open_brackets ts
+deepen (refused ts) (suc n) = refused ts
+
 -- a part between its brackets, one level further in
 abbrev pub enclosed : ℕ → {A : Type 0} → (List Spelled → Outcome A) → ℕ → ℕ → List Spelled → Outcome (Spelled × A)
 enclosed zero inner o c ts = no_level (o ∷ []) ts
 enclosed (suc n) inner o c ts =
-    and_then (take_token (o ∷ []) ts) (λ t r. and_then (inner r) (λ v r2. and_then (take_token (c ∷ []) r2) (λ _ r3. got (t, v) r3)))
+    and_then (take_token (o ∷ []) ts) (λ t r. deepen (and_then (inner r) (λ v r2. and_then (take_token (c ∷ []) r2) (λ _ r3. got (t, v) r3))) n)
 
 -- a part behind its prefix, one level further in
 abbrev pub prefixed : ℕ → {A : Type 0} → (List Spelled → Outcome A) → List ℕ → List Spelled → Outcome (Spelled × A)

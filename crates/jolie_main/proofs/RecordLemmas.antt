@@ -1,0 +1,105 @@
+-- The record of a run, its bytes and its causes, from how its lines ended.
+use Rattle.std.proofs.Common.{◌≡◌, inl, inr, refl, sym, ap, subst, ◌∙◌, arith, ℕ, List, [], ◌∷◌, ◌++◌, append-nil, append_assoc, Option, None, Some}
+use Rattle.std.specs.Io.KnownBytes.{Appends, Consumes, IsAtEnd}
+use Rattle.jolie_main.specs.declared.form.FirstForm.{FirstForm}
+use Rattle.jolie_main.specs.declared.history.Entry.{Entry}
+use Rattle.jolie_main.specs.declared.history.Act.TheVariants as act
+use Rattle.jolie_main.specs.declared.lines.End.{End}
+use Rattle.jolie_main.specs.declared.lines.End.TheVariants as ends
+use Rattle.jolie_main.specs.declared.record.Traffic.{Traffic}
+use Rattle.jolie_main.specs.declared.record.Record.{Record}
+use Rattle.jolie_main.specs.declared.request.Asked.{Asked}
+use Rattle.jolie_main.specs.FirstForm.{IsProgram}
+use Rattle.jolie_main.specs.Meaning.{program_of}
+use Rattle.jolie_main.specs.Lines.{all_lines, whole_lines}
+use Rattle.jolie_main.specs.Legal.{IsLegal, first_worker}
+use Rattle.jolie_main.specs.Written.{postings_by, IsCutShort}
+use Rattle.jolie_main.specs.Turns.{entry, closing_entries, Deeds, Did, one_more}
+use Rattle.jolie_main.specs.Sentences.{HasSessions, AnswersEach, IsStill}
+use Rattle.jolie_main.specs.Ends.{IsFinished, SourceCause, SinkCause, status}
+use Rattle.jolie_main.specs.Closing.{HasBytes, HasOwnCauses}
+use Rattle.jolie_main.specs.Headline.{Ran, ServesLines, IsRecord}
+use Rattle.jolie_main.proofs.DidLaws.{Did-sessions, Did-legal, Did-answered, Did-still, Did-written, Did-cut}
+use Rattle.jolie_main.proofs.KnownLemmas.{Tells}
+
+-- nothing taken
+pub Appends-nil : (a : Option (List ℕ)) → Appends a a []
+Appends-nil None = tt
+Appends-nil (Some xs) = sym (append-nil xs)
+
+-- what was done, with the lines that it serves, is the record
+recorded_with : (form : FirstForm) (all : List Asked) (deeds : Deeds) (bytes : List ℕ) (s : ℕ) (report : Record) (traffic : Traffic) → Did (program_of form) form.operation all deeds bytes
+    → IsProgram report.program form → report.traffic ≡ traffic ∷ [] → report.history.entries ≡ deeds.history ++ closing_entries → report.sessions ≡ deeds.sessions
+    → ServesLines form s (deeds.history ++ closing_entries) traffic → IsRecord s report
+recorded_with form all deeds bytes s report traffic did program one entries sessions lines = record {
+  form = form;
+  traffic = traffic;
+  program = program;
+  one_front = one;
+  sessions = subst (λ h. HasSessions (program_of form) h report.sessions) (sym entries) (subst (λ t. HasSessions (program_of form) (deeds.history ++ closing_entries) t) (sym sessions) (Did-sessions did));
+  legal = subst (λ h. IsLegal h) (sym entries) (Did-legal did);
+  answered = subst (λ h. AnswersEach h) (sym entries) (Did-answered did);
+  still = subst (λ h. IsStill (program_of form) h) (sym entries) (Did-still did);
+  lines = subst (λ h. ServesLines form s h traffic) (sym entries) lines;
+}
+
+-- the record of a run whose lines ended so
+pub recorded : (form : FirstForm) (e : End) (read : List ℕ) (deeds : Deeds) (written : List ℕ) (s : ℕ) (report : Record) → s ≡ status e → IsFinished form e read deeds written
+    → IsProgram report.program form → report.traffic ≡ record { read = read; written = written } ∷ [] → report.history.entries ≡ deeds.history ++ closing_entries → report.sessions ≡ deeds.sessions
+    → Ran s × IsRecord s report
+recorded form ends.Whole read deeds written s report at did program one entries sessions = (
+  inl at,
+  recorded_with form (postings_by form.operation form.fields (all_lines read)) deeds written s report (record { read = read; written = written }) did program one entries sessions
+      (record { whole = λ x. Did-written did; cut = λ x. absurd (omega arith); stopped = λ x. absurd (omega arith) }),
+)
+recorded form ends.Cut read deeds written s report at did program one entries sessions = (
+  inr (inl at),
+  recorded_with form (postings_by form.operation form.fields (whole_lines read)) deeds written s report (record { read = read; written = written }) did program one entries sessions
+      (record { whole = λ x. absurd (omega arith); cut = λ x. Did-written did; stopped = λ x. absurd (omega arith) }),
+)
+recorded form ends.Stopped read deeds written s report at k program one entries sessions =
+    let did = one_more k.done k.old k.bytes k.last deeds k.text k.did k.turn in
+    let short : IsCutShort form.operation (deeds.history ++ closing_entries) (postings_by form.operation form.fields (all_lines read)) written =
+    subst (λ w. IsCutShort form.operation (deeds.history ++ closing_entries) (postings_by form.operation form.fields (all_lines read)) w) (sym k.sent)
+    (Did-cut (postings_by form.operation form.fields (all_lines read)) k.piece k.did k.turn k.cut k.front) in (
+      inr (inr at),
+      recorded_with form (k.done ++ k.last ∷ []) deeds (k.bytes ++ k.text ++ 10 ∷ []) s report (record { read = read; written = written }) did program one entries sessions
+          (record { whole = λ x. absurd (omega arith); cut = λ x. absurd (omega arith); stopped = λ x. short }),
+    )
+
+-- status 0 comes of a whole input alone
+whole_only : (e : End) → status e ≡ 0 → e ≡ ends.Whole
+whole_only ends.Whole h = refl
+whole_only ends.Cut h = absurd (omega arith)
+whole_only ends.Stopped h = absurd (omega arith)
+
+-- the bytes of a run
+pub bytes_told : (e : End) (s : ℕ) (report : Record) (left left_now taken taken_now : Option (List ℕ)) (read written before : List ℕ) → s ≡ status e
+    → report.traffic ≡ record { read = read; written = written } ∷ [] → Consumes left left_now read → before ≡ [] → Tells taken before taken_now written
+    → (e ≡ ends.Whole → IsAtEnd left_now) → HasBytes s report left left_now taken taken_now
+bytes_told e s report left left_now taken taken_now read written before at one given empty told end = record {
+  traffic = record { read = read; written = written };
+  one = one;
+  read = given;
+  written = told taken (subst (λ w. Appends taken taken w) (sym empty) (Appends-nil taken));
+  end = λ z. end (whole_only e (sym at ∙ z));
+}
+
+-- the causes of its status
+pub own_causes : (e : End) (s source source_now sink sink_now : ℕ) → s ≡ status e → SourceCause e source source_now → SinkCause e sink sink_now → HasOwnCauses s source source_now sink sink_now
+own_causes ends.Whole s source source_now sink sink_now at a b =
+    record { cut = λ x. absurd (omega arith); stopped = λ x. absurd (omega arith); calm_source = λ n. a; calm_sink = λ n. b }
+own_causes ends.Cut s source source_now sink sink_now at a b =
+    record { cut = λ x. a; stopped = λ x. absurd (omega arith); calm_source = λ n. absurd (n at); calm_sink = λ n. b }
+own_causes ends.Stopped s source source_now sink sink_now at a b =
+    record { cut = λ x. absurd (omega arith); stopped = λ x. b; calm_source = λ n. a; calm_sink = λ n. absurd (n at) }
+
+-- the history at the end of a run
+pub closed : (h closing stopping last : List Entry) → closing ≡ h ++ entry first_worker act.Close ∷ [] → stopping ≡ closing ++ entry first_worker act.Stop ∷ [] → last ≡ stopping
+    → last ≡ h ++ closing_entries
+closed h closing stopping last a b c =
+    c ∙ b ∙ ap (λ l. l ++ entry first_worker act.Stop ∷ []) a ∙ append_assoc h (entry first_worker act.Close ∷ []) (entry first_worker act.Stop ∷ [])
+
+-- the one front's traffic
+pub one_front : (all old : List Traffic) (traffic : Traffic) → all ≡ old ++ traffic ∷ [] → old ≡ [] → all ≡ traffic ∷ []
+one_front all old traffic e none = e ∙ ap (λ l. l ++ traffic ∷ []) none

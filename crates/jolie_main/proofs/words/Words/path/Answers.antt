@@ -1,0 +1,10 @@
+use Rattle.jolie_main.specs.Reading.{next_step}
+use Rattle.jolie_main.proofs.Loops.{loop_ends, loop_over}
+use Rattle.jolie_main.proofs.words.Words.path.Goals as goal
+
+pub returns-in-None : goal.returns-in-None
+returns-in-None c =
+    loop_ends next_step c.loop-turn._turn 15 c.loop-turn.steps c.loop-turn.self _ _ _ c.loop-turn-test.true c.in_ok-step.ensures c.in-None.is c.loop-turn.invariant
+
+pub returns : goal.returns
+returns c = loop_over next_step c.loop-turn._turn 15 c.loop-turn.steps c.loop-turn.self _ c.loop-turn-test.false c.loop-turn.invariant

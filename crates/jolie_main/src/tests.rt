@@ -1,0 +1,439 @@
+ghost use Rattle.std.specs.Prelude.{◌≡◌};
+ghost use Rattle.behaviour_tree.specs.PartsView.{parts_of};
+ghost use Rattle.jolie_main.specs.Meaning.{IsFirstProgram};
+ghost use Rattle.term_session.specs.Sessions.{service_of};
+
+use crate::form::read_first_form;
+use crate::meaning::program_of_form;
+use crate::record::Ended;
+use crate::request::{Asked, read_line};
+use crate::top::run;
+use behaviour_tree::{Event, Events, Given, Kind, Program};
+use jolie_trees::Tree;
+use outside_traits::{Script, ScriptedFiles, ScriptedSink, ScriptedSource};
+use sqlite_items::Items;
+use std::alloc::{AllocError, Global};
+use std::test::Fail;
+use term_session::TermSession;
+
+const SERVICE: &str = "type Req: void { n: int }\n\
+    interface TwiceI { RequestResponse: twice(Req)(int) }\n\
+    service Twice {\n  execution: concurrent\n  \
+    inputPort In { location: \"socket://localhost:8000\" protocol: jsonrpc interfaces: TwiceI }\n  \
+    main { twice(x)(y) { y = x.n * 2 } }\n}\n";
+
+const LINE: &str = "{\"jsonrpc\":\"2.0\",\"method\":\"twice\",\"params\":{\"n\":21},\"id\":1}\n";
+
+const ANSWER: &str = "{\"id\":1,\"jsonrpc\":\"2.0\",\"result\":42}\n";
+
+const LARGE_LINE: &str =
+    "{\"jsonrpc\":\"2.0\",\"method\":\"twice\",\"params\":{\"n\":2147483647},\"id\":1}\n";
+
+const FAULT: &str =
+    "{\"error\":{\"code\":-32000,\"data\":null,\"message\":\"ExprFault\"},\"id\":1,\"jsonrpc\":\"2.0\"}\n";
+
+const REFUSED: &str = "refused first Form 0\n";
+
+const BLANKS_BETWEEN: &str =
+    "{\"jsonrpc\":\"2.0\",\"method\":\"twice\",\"params\":{\"n\":21},\"id\":1}\n \t\r\n\
+    nonsense\n[]\n{\"jsonrpc\":\"2.0\",\"method\":\"twice\",\"params\":{\"n\":21},\"id\":1}\n";
+
+const ANSWERS_BETWEEN: &str = "{\"id\":1,\"jsonrpc\":\"2.0\",\"result\":42}\n\
+    {\"error\":{\"code\":-32099,\"message\":\"not built\"},\"id\":null,\"jsonrpc\":\"2.0\"}\n\
+    {\"error\":{\"code\":-32099,\"message\":\"not built\"},\"id\":null,\"jsonrpc\":\"2.0\"}\n\
+    {\"id\":1,\"jsonrpc\":\"2.0\",\"result\":42}\n";
+
+/// No call has this number.
+const NEVER: u64 = 1 << 60;
+
+/// A command over the file `twice.ol` and an input that comes in pieces; of the calls of each object one may fail.
+#[derive(Clone, Copy)]
+struct Run {
+    command: &'static str,
+    file: &'static str,
+    input: &'static str,
+    failing_file: u64,
+    failing_read: u64,
+    failing_write: u64,
+    piece: usize,
+}
+
+/// A run of the service over an input that comes at once, in which no call fails.
+const fn calm(input: &'static str) -> Run {
+    Run {
+        command: "run",
+        file: SERVICE,
+        input,
+        failing_file: NEVER,
+        failing_read: NEVER,
+        failing_write: NEVER,
+        piece: 100_000,
+    }
+}
+
+/// The words of a command over the file `twice.ol`.
+fn words_of(alloc: Global, command: &str) -> Result<Vec<String>, Fail> {
+    let mut words = Vec::new(alloc);
+    words.push(String::from_str(alloc, command)?)?;
+    words.push(String::from_str(alloc, "twice.ol")?)?;
+    Ok(words)
+}
+
+fn files_of(alloc: Global, row: Run) -> Result<ScriptedFiles, Fail> {
+    let script = Script::new(alloc, &[row.failing_file])?;
+    Ok(ScriptedFiles::new(alloc, row.file.as_bytes(), script)?)
+}
+
+fn source_of(alloc: Global, row: Run) -> Result<ScriptedSource, Fail> {
+    let script = Script::new(alloc, &[row.failing_read])?;
+    Ok(ScriptedSource::new(alloc, row.input.as_bytes(), row.piece.max(1), script)?)
+}
+
+fn sink_of(alloc: Global, failing_write: u64, piece: usize) -> Result<ScriptedSink, Fail> {
+    let script = Script::new(alloc, &[failing_write])?;
+    Ok(ScriptedSink::new(alloc, 100_000, piece.max(1), script)?)
+}
+
+/// What `run` answers.
+fn ended_by(
+    alloc: Global,
+    words: &[String],
+    files: &mut ScriptedFiles,
+    source: &mut ScriptedSource,
+    output: &mut ScriptedSink,
+    notes: &mut ScriptedSink,
+) -> Result<Ended, AllocError> {
+    run(alloc, words, files, source, output, notes)
+}
+
+fn text_of(alloc: Global, bytes: &[u8]) -> Result<String, Fail> {
+    match str::from_utf8(bytes) {
+        Ok(text) => Ok(String::from_str(alloc, text)?),
+        Err(_) => Ok(String::from_str(alloc, "no text")?),
+    }
+}
+
+/// How a run over these objects ended.
+fn ended_over(
+    alloc: Global,
+    row: Run,
+    files: &mut ScriptedFiles,
+    source: &mut ScriptedSource,
+    output: &mut ScriptedSink,
+) -> Result<Ended, Fail> {
+    let words = words_of(alloc, row.command)?;
+    let mut notes = sink_of(alloc, NEVER, row.piece)?;
+    Ok(ended_by(alloc, &words, files, source, output, &mut notes)?)
+}
+
+/// How a run over these objects ended, and what its output took.
+fn ran_over(
+    alloc: Global,
+    row: Run,
+    files: &mut ScriptedFiles,
+    source: &mut ScriptedSource,
+) -> Result<(Ended, String), Fail> {
+    let mut output = sink_of(alloc, row.failing_write, row.piece)?;
+    let ended = ended_over(alloc, row, files, source, &mut output)?;
+    let written = text_of(alloc, output.bytes())?;
+    Ok((ended, written))
+}
+
+/// How a run over an input ended, and what its output took.
+fn ran_on(alloc: Global, row: Run, files: &mut ScriptedFiles) -> Result<(Ended, String), Fail> {
+    let mut source = source_of(alloc, row)?;
+    ran_over(alloc, row, files, &mut source)
+}
+
+/// How a run ended, and what the output took.
+fn ran(alloc: Global, row: Run) -> Result<(Ended, String), Fail> {
+    let mut files = files_of(alloc, row)?;
+    ran_on(alloc, row, &mut files)
+}
+
+/// Whether a run ends with this status and this output.
+fn gives(alloc: Global, row: Run, status: u8, output: &str) -> Result<bool, Fail> {
+    let (ended, written) = ran(alloc, row)?;
+    Ok(ended.status == status && written.as_str() == output)
+}
+
+#[test]
+fn a_request_is_answered_whatever_the_pieces(rt: HostRuntime) -> Result<(), Fail> {
+    assert!(rt; gives(rt.alloc(), calm(LINE), 0, ANSWER)?);
+    assert!(rt;
+        gives(
+            rt.alloc(),
+            Run {
+                piece: 1,
+                ..calm(LINE)
+            },
+            0,
+            ANSWER
+        )?
+    );
+    Ok(())
+}
+
+#[test]
+fn nothing_in_is_nothing_out(rt: HostRuntime) -> Result<(), Fail> {
+    assert!(rt; gives(rt.alloc(), calm(""), 0, "")?);
+    Ok(())
+}
+
+#[test]
+fn twice_the_greatest_int_is_a_fault(rt: HostRuntime) -> Result<(), Fail> {
+    assert!(rt; gives(rt.alloc(), calm(LARGE_LINE), 0, FAULT)?);
+    Ok(())
+}
+
+#[test]
+fn blank_lines_are_passed_over_and_others_answered(rt: HostRuntime) -> Result<(), Fail> {
+    assert!(rt;
+        gives(
+            rt.alloc(),
+            Run {
+                piece: 3,
+                ..calm(BLANKS_BETWEEN)
+            },
+            0,
+            ANSWERS_BETWEEN
+        )?
+    );
+    Ok(())
+}
+
+#[test]
+fn failing_output_stops_the_run(rt: HostRuntime) -> Result<(), Fail> {
+    assert!(rt;
+        gives(
+            rt.alloc(),
+            Run {
+                failing_write: 0,
+                ..calm(LINE)
+            },
+            5,
+            ""
+        )?
+    );
+    assert!(rt;
+        gives(
+            rt.alloc(),
+            Run {
+                failing_write: 2,
+                piece: 5,
+                ..calm(LINE)
+            },
+            5,
+            "{\"id\":1,\"j"
+        )?
+    );
+    Ok(())
+}
+
+#[test]
+fn failing_input_drops_the_line_that_it_cuts(rt: HostRuntime) -> Result<(), Fail> {
+    assert!(rt;
+        gives(
+            rt.alloc(),
+            Run {
+                failing_read: 1,
+                ..calm(LINE)
+            },
+            4,
+            ANSWER
+        )?
+    );
+    assert!(rt;
+        gives(
+            rt.alloc(),
+            Run {
+                failing_read: 4,
+                piece: 7,
+                ..calm(LINE)
+            },
+            4,
+            ""
+        )?
+    );
+    Ok(())
+}
+
+#[test]
+fn other_programs_and_words_are_refused(rt: HostRuntime) -> Result<(), Fail> {
+    assert!(rt;
+        gives(
+            rt.alloc(),
+            Run {
+                file: "",
+                ..calm(LINE)
+            },
+            3,
+            REFUSED
+        )?
+    );
+    assert!(rt;
+        gives(
+            rt.alloc(),
+            Run {
+                failing_file: 0,
+                ..calm(LINE)
+            },
+            2,
+            ""
+        )?
+    );
+    assert!(rt;
+        gives(
+            rt.alloc(),
+            Run {
+                command: "walk",
+                ..calm(LINE)
+            },
+            1,
+            ""
+        )?
+    );
+    Ok(())
+}
+
+/// An event of strand 0.
+fn event(kind: Kind, number: u32, place: u32, fault: u32) -> Event {
+    Event {
+        strand: 0,
+        kind,
+        number,
+        place,
+        fault,
+    }
+}
+
+#[test]
+fn a_request_has_four_events_in_the_record(rt: HostRuntime) -> Result<(), Fail> {
+    let alloc = rt.alloc();
+    let (ended, _written) = ran(alloc, calm(LINE))?;
+    assert_eq!(rt; ended.report.sessions.len(), 1);
+    for events in ended.report.sessions.as_slice() {
+        assert_eq!(rt;
+            events.as_slice(),
+            [
+                event(Kind::In, 0, 0, 0),
+                event(Kind::Local, 0, 0, 0),
+                event(Kind::Reply, 0, 0, 0),
+                event(Kind::Finish, 0, 0, 0),
+            ]
+            .as_slice()
+        );
+    }
+    assert_eq!(rt; ended.report.history.entries.len(), 8);
+    Ok(())
+}
+
+/// Does the event of strand 0 for a gift, by the session's own call, and notes it where there is one.
+fn note_event(
+    session: &mut TermSession,
+    program: &Program,
+    given: Given,
+    events: &mut Events,
+) -> Result<(), Fail>
+    requires first { IsFirstProgram (parts_of program.now) }
+    requires service { service_of session.old ≡ 0 }
+    ensures service { service_of session.new ≡ 0 }
+{
+    if let Ok(event) = session.step(program, 0, given) {
+        events.push(event)?;
+    }
+    Ok(())
+}
+
+/// The events of a session, from its start until it ended and no strand is enabled.
+fn session_events(alloc: Global, program: &Program, value: Tree) -> Result<Events, Fail>
+    requires first { IsFirstProgram (parts_of program.now) }
+{
+    let mut events = Items::new(alloc);
+    let mut session = TermSession::start(alloc, program, 0)?;
+    let mail = Given::Mail {
+        message: 0,
+        op: 0,
+        value,
+    };
+    note_event(&mut session, program, mail, &mut events)?;
+    note_event(&mut session, program, Given::Nothing, &mut events)?;
+    note_event(&mut session, program, Given::Nothing, &mut events)?;
+    if session.ended() || session.enabled(program)?.as_slice() != [0].as_slice() {
+        return Ok(Items::new(alloc));
+    }
+    note_event(&mut session, program, Given::Nothing, &mut events)?;
+    if !session.ended() || !session.enabled(program)?.is_empty() {
+        return Ok(Items::new(alloc));
+    }
+    note_event(&mut session, program, Given::Nothing, &mut events)?;
+    Ok(events)
+}
+
+/// The events of the session that a line starts.
+fn events_of_line(alloc: Global, line: &str) -> Result<Events, Fail> {
+    let nothing = Items::new(alloc);
+    let Some(form) = read_first_form(alloc, SERVICE.as_bytes())? else {
+        return Ok(nothing);
+    };
+    match read_line(alloc, &form, line.as_bytes())? {
+        Asked::NotBuilt => Ok(nothing),
+        Asked::Request { id: _, value } => {
+            let program = program_of_form(alloc, &form)?;
+            session_events(alloc, &program, value)
+        }
+    }
+}
+
+#[test]
+fn a_session_tells_its_events(rt: HostRuntime) -> Result<(), Fail> {
+    let events = events_of_line(rt.alloc(), LINE)?;
+    // The request comes in, the assignment is done, the answer is given.
+    assert_eq!(rt;
+        events.as_slice(),
+        [
+            event(Kind::In, 0, 0, 0),
+            event(Kind::Local, 0, 0, 0),
+            event(Kind::Reply, 0, 0, 0),
+            event(Kind::Finish, 0, 0, 0),
+        ]
+        .as_slice()
+    );
+    Ok(())
+}
+
+#[test]
+fn a_fault_that_nobody_catches_is_the_answer(rt: HostRuntime) -> Result<(), Fail> {
+    let events = events_of_line(rt.alloc(), LARGE_LINE)?;
+    // The assignment has the fault ExprFault, number 5, and main, number 8, does not catch it.
+    assert_eq!(rt;
+        events.as_slice(),
+        [
+            event(Kind::In, 0, 0, 0),
+            event(Kind::Raise, 2, 8, 5),
+            event(Kind::Reply, 0, 0, 0),
+            event(Kind::Finish, 0, 0, 0),
+        ]
+        .as_slice()
+    );
+    Ok(())
+}
+
+#[test]
+fn a_program_knows_its_operation(rt: HostRuntime) -> Result<(), Fail> {
+    let alloc = rt.alloc();
+    let Some(form) = read_first_form(alloc, SERVICE.as_bytes())? else {
+        panic!(rt; "the example is not read");
+    };
+    let first = program_of_form(alloc, &form)?;
+    let program = first.again()?;
+    assert_eq!(rt; program.operation_named(0, "twice"), Some(0));
+    assert_eq!(rt; program.operation_named(0, "thrice"), None);
+    assert_eq!(rt; program.operation_named(1, "twice"), None);
+    assert!(rt; program.operation(0, 1).is_none());
+    let Some(operation) = program.operation(0, 0) else {
+        panic!(rt; "operation 0 is not there");
+    };
+    assert_eq!(rt; operation.name.as_str(), "twice");
+    Ok(())
+}
