@@ -2,24 +2,31 @@
 use Rattle.std.specs.Prelude.{ℕ, Bool, false, ◌||◌, not, ◌==◌, List, [], ◌∷◌, if◌then◌else◌}
 use Rattle.std.specs.Char.{is_ascii_alphabetic, is_ascii_digit}
 
+-- the byte that ends a line
 abbrev pub line_feed : ℕ
 line_feed = 10
 
+-- `"`
 abbrev pub quote : ℕ
 quote = 34
 
+-- `*`
 abbrev pub star : ℕ
 star = 42
 
+-- `.`
 abbrev pub dot : ℕ
 dot = 46
 
+-- `/`
 abbrev pub slash : ℕ
 slash = 47
 
+-- `L`
 abbrev pub letter_l : ℕ
 letter_l = 76
 
+-- the byte that begins an escape
 abbrev pub backslash : ℕ
 backslash = 92
 
@@ -31,6 +38,7 @@ is_blank b = b == 32 || b == 9 || b == 13 || b == 10
 abbrev pub is_letter : ℕ → Bool
 is_letter b = is_ascii_alphabetic b || b == 95
 
+-- a decimal digit of ASCII
 abbrev pub is_digit : ℕ → Bool
 is_digit b = is_ascii_digit b
 

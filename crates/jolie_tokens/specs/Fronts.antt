@@ -28,15 +28,17 @@ is_second x y =
     else if x == 0xF4 then is_in_range 0x80 0x8F y
     else is_in_range 0x80 0xBF y
 
--- how many bytes of a character stand at the front of bytes that begin with no whole one, after two bytes, one and none
+-- how many bytes of a character stand at the front of bytes that begin with no whole one, after its first two
 abbrev pub begun_third : List ℕ → ℕ
 begun_third [] = 0
 begun_third (z ∷ bs) = if is_in_range 0x80 0xBF z then 1 else 0
 
+-- the same after the first byte x
 abbrev pub begun_second : ℕ → List ℕ → ℕ
 begun_second x [] = 0
 begun_second x (y ∷ bs) = if is_second x y then 1 + begun_third bs else 0
 
+-- the same of the whole bytes
 abbrev pub begun_len : List ℕ → ℕ
 begun_len [] = 0
 begun_len (x ∷ bs) = if is_lead x then 1 + begun_second x bs else 0
@@ -50,6 +52,7 @@ abbrev pub comment_end_from : Bool → ℕ → List ℕ → Option ℕ
 comment_end_from starred i [] = None
 comment_end_from starred i (b ∷ bs) = if starred && b == slash then Some (i - 1) else comment_end_from (b == star) (i + 1) bs
 
+-- where the first `*/` stands
 unfoldable pub comment_end : List ℕ → Option ℕ
 comment_end bs = comment_end_from false 0 bs
 
@@ -61,6 +64,7 @@ string_end_from escaped i (b ∷ bs) =
     else if b == quote then Some i
     else string_end_from (b == backslash) (i + 1) bs
 
+-- where the first quote stands that no backslash escapes
 unfoldable pub string_end : List ℕ → Option ℕ
 string_end bs = string_end_from false 0 bs
 
@@ -69,6 +73,7 @@ abbrev pub bad_escape_from : Bool → ℕ → List ℕ → Option ℕ
 bad_escape_from escaped i [] = None
 bad_escape_from escaped i (b ∷ bs) = if escaped && not (is_escape b) then Some (i - 1) else bad_escape_from (not escaped && b == backslash) (i + 1) bs
 
+-- where the backslash of the first bad escape stands
 unfoldable pub bad_escape : List ℕ → Option ℕ
 bad_escape bs = bad_escape_from false 0 bs
 
@@ -77,6 +82,7 @@ abbrev pub parts_from : Bool → List ℕ → List Part
 parts_from escaped [] = []
 parts_from escaped (b ∷ bs) = if not escaped && b == backslash then parts_from true bs else (if escaped then escape b else plain b) ∷ parts_from false bs
 
+-- the parts of a string's inside
 unfoldable pub parts : List ℕ → List Part
 parts bs = parts_from false bs
 
@@ -114,16 +120,19 @@ abbrev pub Gives : Result Piece LexError → Result Lexeme LexError → Type 0
 Gives (Ok piece) result = MatchResult result (λ lexeme. lexeme ≡ lexeme_of piece) IsMemory
 Gives (Err expected) result = MatchResult result (λ lexeme. ⊥) (λ e. FailsAs expected e)
 
--- the word, the number, the comments, the string and the sign at the front; for comments and strings, of what follows
--- the bytes that open them
+-- What stands at the front, kind by kind; of comments and strings, what follows the bytes that open them.
+
+-- the word at the front
 abbrev pub word : List ℕ → Result Piece LexError
 word bs = Ok (p.word (take (prefix_len is_word_byte bs) bs))
 
+-- the number of these digits before that rest, or why they make none
 abbrev pub number_of : List ℕ → List ℕ → ℕ → Result Piece LexError
 number_of digits rest at =
     if is_bad_number digits rest then Err (error.BadNumber at)
     else Ok (if closes_long rest then p.long digits else p.int digits)
 
+-- the number at the front
 unfoldable pub number : List ℕ → ℕ → Result Piece LexError
 number bs at = number_of (take (prefix_len is_digit bs) bs) (drop (prefix_len is_digit bs) bs) at
 
@@ -132,29 +141,36 @@ abbrev pub unless_stopped : Option ℕ → Piece → ℕ → Result Piece LexErr
 unless_stopped None piece at = Ok piece
 unless_stopped (Some k) piece at = Err (error.BadByte (at + k))
 
+-- the comment of the rest of the line
 unfoldable pub line_comment : List ℕ → ℕ → Result Piece LexError
 line_comment bs at =
     let line : List ℕ = take (prefix_len is_in_line bs) bs in unless_stopped (utf8_stop line) (p.line_comment line) (at + 2)
 
+-- the comment up to the `*/` at a place, or none to close it
 abbrev pub block_comment_to : Option ℕ → List ℕ → ℕ → Result Piece LexError
 block_comment_to None bs at = Err (error.OpenComment at)
 block_comment_to (Some n) bs at = unless_stopped (utf8_stop (take n bs)) (p.block_comment (take n bs)) (at + 2)
 
+-- the comment up to the first `*/`
 unfoldable pub block_comment : List ℕ → ℕ → Result Piece LexError
 block_comment bs at = block_comment_to (comment_end bs) bs at
 
+-- the string up to the quote at a place, or none to close it; the first bad byte or escape in it refuses it
 abbrev pub string_to : Option ℕ → List ℕ → ℕ → Result Piece LexError
 string_to None bs at = Err (error.OpenString at)
 string_to (Some n) bs at =
     unless_stopped (least (bad_escape (take n bs)) (utf8_stop (take n bs))) (p.string (parts (take n bs))) (at + 1)
 
+-- the string up to its closing quote
 unfoldable pub string : List ℕ → ℕ → Result Piece LexError
 string bs at = string_to (string_end bs) bs at
 
+-- the sign, or a byte that begins nothing
 abbrev pub sign_or : Option Sign → ℕ → Result Piece LexError
 sign_or None at = Err (error.BadByte at)
 sign_or (Some s) at = Ok (p.sign s)
 
+-- the longest sign at the front
 abbrev pub sign : List ℕ → ℕ → Result Piece LexError
 sign bs at = sign_or (sign_at bs) at
 

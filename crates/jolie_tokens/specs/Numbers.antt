@@ -4,9 +4,11 @@ use Rattle.std.specs.List.{AllPass}
 use Rattle.std.specs.Str.Parse.{digits_value}
 use Rattle.jolie_tokens.specs.Bytes.{dot, letter_l, is_digit, is_letter, is_word_byte, begins}
 
+-- the largest number of 32 bits with a sign
 abbrev pub largest_int : ℕ
 largest_int = 2147483647
 
+-- the largest number of 64 bits with a sign
 abbrev pub largest_long : ℕ
 largest_long = 9223372036854775807
 

@@ -13,6 +13,7 @@ use Rattle.jolie_tokens.specs.Signs.{sign_bytes, IsLongest}
 pub data Part : Type 0 where
   plain escape : ℕ → Part
 
+-- how a part is written
 abbrev pub part_bytes : Part → List ℕ
 part_bytes (plain b) = b ∷ []
 part_bytes (escape b) = backslash ∷ b ∷ []
@@ -36,6 +37,7 @@ meant (escape b) = meant_byte b
 abbrev pub inside : List Part → List ℕ
 inside parts = flat_map part_bytes parts
 
+-- one piece of a text; a number's bytes are its digits, a comment's are those between its marks
 pub data Piece : Type 0 where
   blank : ℕ → Piece
   line_comment block_comment word int long : List ℕ → Piece
