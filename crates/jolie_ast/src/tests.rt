@@ -1,4 +1,8 @@
 use crate::expression::{Additive, Expr, ExprForm, Term};
+use crate::interface::Interface;
+use crate::name::Name;
+use crate::tree::{Ast, Definition};
+use jolie_trees::Text;
 use sqlite_items::{Boxed, Items};
 use std::alloc::{AllocError, Global};
 use std::test::Fail;
@@ -37,5 +41,22 @@ fn a_tree_keeps_what_is_put_into_it(rt: HostRuntime) -> Result<(), Fail> {
         }
         _ => assert!(rt; false),
     }
+    Ok(())
+}
+
+#[test]
+fn a_file_gives_its_definitions(rt: HostRuntime) -> Result<(), Fail> {
+    let name = Name {
+        text: Text::new(rt.alloc(), "Shop")?,
+        at: 10,
+    };
+    let mut definitions = Items::new(rt.alloc());
+    definitions.push(Definition::Interface(Interface {
+        at: 0,
+        name,
+        groups: Items::new(rt.alloc()),
+    }))?;
+    let file = Ast::new(definitions);
+    assert_eq!(rt; file.definitions().len(), 1);
     Ok(())
 }

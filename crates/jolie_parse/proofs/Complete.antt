@@ -1,16 +1,16 @@
 -- What derives is read.
 use Rattle.std.proofs.Common.{◌≡◌, ℕ, zero, suc, ◌≤◌, inl, inr, Bool, true, false, ◌&&◌, not, List, [], ◌∷◌, ◌++◌, length, refl, sym, ap, ◌∙◌, arith, append_assoc, if◌then◌else◌, length-append}
-use Rattle.std.specs.Prelude.{◌==◌}
-use Rattle.std.proofs.lemmas.Bool.{eq-eqb}
-use Rattle.jolie_parse.specs.Classes.{Spelled, has, begins, class}
+use Rattle.jolie_parse.specs.declared.class.Class.{Class}
+use Rattle.jolie_parse.specs.Classes.{same, Spelled, has, begins, class}
 use Rattle.jolie_parse.specs.Syntax.{disjoint, Syn, token, give, both, either, many, means, inside, prefix, later, covers, Part, Meant, Lang, Derives, Many, nullable, first, further}
 use Rattle.jolie_parse.specs.Factored.{rule, Within, Nests, decided, usable}
 use Rattle.jolie_parse.specs.Reading.{Outcome, got, take_token, repeat, enclosed, inner, read}
+use Rattle.jolie_parse.proofs.Numbered.{eq_same}
 use Rattle.jolie_parse.proofs.Sets.{and_left, and_right, or_left, or_right, not_true, is_false, has_left, has_right, apart, begins_left, begins_right, begins_covered, cons_split, nil_split}
 
 -- ---- the first token
 
-pub many_head : {A : Type 0} (one : Lang A) (ks : List ℕ) → ((t : Spelled) (ts : List Spelled) (v : A) → one (t ∷ ts) v → has ks (class t) ≡ true)
+pub many_head : {A : Type 0} (one : Lang A) (ks : List Class) → ((t : Spelled) (ts : List Spelled) (v : A) → one (t ∷ ts) v → has ks (class t) ≡ true)
     → (t : Spelled) (ts : List Spelled) (vs : List A) → Many one (t ∷ ts) vs → has ks (class t) ≡ true
 many_head one ks h t ts [] d = cc
 many_head one ks h t ts (v ∷ vs) d = elim (cons_split t ts d.0 d.1 d.2) [
@@ -44,29 +44,29 @@ module _ (within : (r : Part) → Lang (Meant r)) where
   head (either s u) t ts v d = elim d [ inl h ↦ has_left (first s) (first u) (class t) (head s t ts v h) | inr h ↦ has_right (first s) (first u) (class t) (head u t ts v h) ]
   head (many s) t ts v d = many_head (Derives within s) (first s) (head s) t ts v d
   head (means f s) t ts v d = head s t ts d.0 d.2
-  head (inside o r c) t ts v d = let e : t ≡ v.0 = cc in or_left (o == class t) false (eq-eqb o (class t) (sym (ap class e ∙ d.2)))
+  head (inside o r c) t ts v d = let e : t ≡ v.0 = cc in or_left (same o (class t)) false (eq_same o (class t) (sym (ap class e ∙ d.2)))
   head (prefix ks r) t ts v d = let e : t ≡ v.0 = cc in ap (λ u. has ks (class u)) e ∙ d.1
 
 -- ---- what derives is read
 
 -- the tokens after the first part do not go on with it
-pub apart_after : (ks js : List ℕ) (y r : List Spelled) → disjoint js ks ≡ true → ((t : Spelled) (ts : List Spelled) → y ≡ t ∷ ts → has js (class t) ≡ true)
+pub apart_after : (ks js : List Class) (y r : List Spelled) → disjoint js ks ≡ true → ((t : Spelled) (ts : List Spelled) → y ≡ t ∷ ts → has js (class t) ≡ true)
     → (y ≡ [] → begins ks r ≡ false) → begins ks (y ++ r) ≡ false
 apart_after ks js [] r d h g = g refl
 apart_after ks js (t ∷ ts) r d h g = is_false (has ks (class t)) (λ yes. apart js ks (class t) d (h t ts refl) yes)
 
-pub take_it : (ks : List ℕ) (t : Spelled) (r : List Spelled) → has ks (class t) ≡ true → take_token ks (t ∷ r) ≡ got t r
+pub take_it : (ks : List Class) (t : Spelled) (r : List Spelled) → has ks (class t) ≡ true → take_token ks (t ∷ r) ≡ got t r
 take_it ks t r h = rw h refl
 
-pub starts : (ks : List ℕ) (x r : List Spelled) → ((t : Spelled) (ts : List Spelled) → x ≡ t ∷ ts → has ks (class t) ≡ true) → (x ≡ [] → ⊥) → begins ks (x ++ r) ≡ true
+pub starts : (ks : List Class) (x r : List Spelled) → ((t : Spelled) (ts : List Spelled) → x ≡ t ∷ ts → has ks (class t) ≡ true) → (x ≡ [] → ⊥) → begins ks (x ++ r) ≡ true
 starts ks [] r h g = absurd (g refl)
 starts ks (t ∷ ts) r h g = h t ts refl
 
-pub repeat_stops : {A : Type 0} (one : List Spelled → Outcome A) (ks : List ℕ) (n : ℕ) (r : List Spelled) → begins ks r ≡ false → repeat one ks n r ≡ got [] r
+pub repeat_stops : {A : Type 0} (one : List Spelled → Outcome A) (ks : List Class) (n : ℕ) (r : List Spelled) → begins ks r ≡ false → repeat one ks n r ≡ got [] r
 repeat_stops one ks zero r h = refl
 repeat_stops one ks (suc n) r h = rw h refl
 
-pub repeat_goes : {A : Type 0} (one : List Spelled → Outcome A) (ks : List ℕ) (n : ℕ) (z r r2 : List Spelled) (a : A) (vs : List A) → begins ks z ≡ true → one z ≡ got a r → repeat one ks n r ≡ got vs r2
+pub repeat_goes : {A : Type 0} (one : List Spelled → Outcome A) (ks : List Class) (n : ℕ) (z r r2 : List Spelled) (a : A) (vs : List A) → begins ks z ≡ true → one z ≡ got a r → repeat one ks n r ≡ got vs r2
     → repeat one ks (suc n) z ≡ got (a ∷ vs) r2
 repeat_goes one ks n z r r2 a vs b e f = rw (b, e, f) refl
 
@@ -78,7 +78,7 @@ pub nonempty_some : (x z : List Spelled) → (x ≡ [] → ⊥) → length (x ++
 nonempty_some [] z h le = h refl
 nonempty_some (t ∷ x) z h le = omega arith
 
-many_reads : {A : Type 0} (D : Lang A) (one : List Spelled → Outcome A) (ks js : List ℕ)
+many_reads : {A : Type 0} (D : Lang A) (one : List Spelled → Outcome A) (ks js : List Class)
     → ((x r : List Spelled) (v : A) → D x v → begins js r ≡ false → one (x ++ r) ≡ got v r)
     → ((t : Spelled) (ts : List Spelled) (v : A) → D (t ∷ ts) v → has ks (class t) ≡ true)
     → ((v : A) → D [] v → ⊥)
@@ -97,42 +97,42 @@ many_reads D one ks js ok hd ne dis (suc n) x r (v ∷ vs) le d stop stop2 =
     (ok d.0 (d.1 ++ r) v d.3 later)
     (many_reads D one ks js ok hd ne dis n d.1 r vs le2 d.4 stop stop2))
 
-enclosed_reads : {A : Type 0} (n : ℕ) (inn : List Spelled → Outcome A) (o c : ℕ) (u close : Spelled) (x r : List Spelled) (v : A)
+enclosed_reads : {A : Type 0} (n : ℕ) (inn : List Spelled → Outcome A) (o c : Class) (u close : Spelled) (x r : List Spelled) (v : A)
     → class u ≡ o → class close ≡ c → inn (x ++ close ∷ r) ≡ got v (close ∷ r)
     → enclosed (suc n) inn o c (u ∷ (x ++ close ∷ r)) ≡ got (u, v) r
 enclosed_reads n inn o c u close x r v eo ec e =
-    let h : has (o ∷ []) (class u) ≡ true = or_left (o == class u) false (eq-eqb o (class u) (sym eo)) in
-    let g : has (c ∷ []) (class close) ≡ true = or_left (c == class close) false (eq-eqb c (class close) (sym ec)) in
+    let h : has (o ∷ []) (class u) ≡ true = or_left (same o (class u)) false (eq_same o (class u) (sym eo)) in
+    let g : has (c ∷ []) (class close) ≡ true = or_left (same c (class close)) false (eq_same c (class close) (sym ec)) in
     rw (h, e, g) refl
 
-pub stop_right : (b : Bool) (p q : List ℕ) (r : List Spelled) → begins (if b then p ++ q else q) r ≡ false → begins q r ≡ false
+pub stop_right : (b : Bool) (p q : List Class) (r : List Spelled) → begins (if b then p ++ q else q) r ≡ false → begins q r ≡ false
 stop_right true p q r h = begins_right p q r h
 stop_right false p q r h = h
 
-pub stop_left : (b : Bool) (p q : List ℕ) (r : List Spelled) → b ≡ true → begins (if b then p ++ q else q) r ≡ false → begins p r ≡ false
+pub stop_left : (b : Bool) (p q : List Class) (r : List Spelled) → b ≡ true → begins (if b then p ++ q else q) r ≡ false → begins p r ≡ false
 stop_left true p q r e h = begins_left p q r h
 stop_left false p q r e h = cc
 
-pub stop_parts : (b : Bool) (p q : List ℕ) (r : List Spelled) → begins (if b then p ++ q else q) r ≡ false → begins q r ≡ false
+pub stop_parts : (b : Bool) (p q : List Class) (r : List Spelled) → begins (if b then p ++ q else q) r ≡ false → begins q r ≡ false
 stop_parts true p q r h = begins_right p q r h
 stop_parts false p q r h = h
 
-pub stop_first : (b : Bool) (p q : List ℕ) (r : List Spelled) → b ≡ true → begins (if b then p ++ q else q) r ≡ false → begins p r ≡ false
+pub stop_first : (b : Bool) (p q : List Class) (r : List Spelled) → b ≡ true → begins (if b then p ++ q else q) r ≡ false → begins p r ≡ false
 stop_first true p q r e h = begins_left p q r h
 stop_first false p q r e h = cc
 
 inside_at : (n : ℕ) → ((r : Part) (x z : List Spelled) (v : Meant r) → Within n r x v → begins (further (rule r)) z ≡ false → inner n r (x ++ z) ≡ got v z)
-    → (o : ℕ) (r : Part) (c : ℕ) → decided (inside o r c) ≡ true → (x z : List Spelled) (v : Spelled × Meant r) → Nests n (inside o r c) x v → read n (inside o r c) (x ++ z) ≡ got v z
+    → (o : Class) (r : Part) (c : Class) → decided (inside o r c) ≡ true → (x z : List Spelled) (v : Spelled × Meant r) → Nests n (inside o r c) x v → read n (inside o r c) (x ++ z) ≡ got v z
 inside_at zero down o r c ok x z v d = absurd d.5
 inside_at (suc n) down o r c ok x z v d =
-    let no = not_true (has (further (rule r)) c) (and_left (not (has (further (rule r)) c)) _ ok) in
+    let no = not_true (has (further (rule r)) c) ok in
     let no2 : begins (further (rule r)) (d.0 ∷ z) ≡ false = ap (has (further (rule r))) d.3 ∙ no in
     let e = down r d.1 (d.0 ∷ z) v.1 d.5 no2 in
     let whole : x ++ z ≡ v.0 ∷ (d.1 ++ d.0 ∷ z) = ap (λ y. y ++ z) d.4 ∙ ap (λ y. v.0 ∷ y) (append_assoc d.1 (d.0 ∷ []) z) in
     rw whole (enclosed_reads n (inner (suc n) r) o c v.0 d.0 d.1 z v.1 d.2 d.3 e)
 
 prefix_at : (n : ℕ) → ((r : Part) (x z : List Spelled) (v : Meant r) → Within n r x v → begins (further (rule r)) z ≡ false → inner n r (x ++ z) ≡ got v z)
-    → (ks : List ℕ) (r : Part) → decided (prefix ks r) ≡ true → (x z : List Spelled) (v : Spelled × Meant r) → Nests n (prefix ks r) x v → begins (later r) z ≡ false → read n (prefix ks r) (x ++ z) ≡ got v z
+    → (ks : List Class) (r : Part) → decided (prefix ks r) ≡ true → (x z : List Spelled) (v : Spelled × Meant r) → Nests n (prefix ks r) x v → begins (later r) z ≡ false → read n (prefix ks r) (x ++ z) ≡ got v z
 prefix_at zero down ks r ok x z v d stop = absurd d.3
 prefix_at (suc n) down ks r ok x z v d stop =
     let h : has ks (class v.0) ≡ true = d.1 in

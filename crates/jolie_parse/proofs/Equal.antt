@@ -5,6 +5,7 @@ use Rattle.jolie_ast.specs.declared.process.Process.TheVariants as process
 use Rattle.jolie_ast.specs.declared.process.Otherwise.{Otherwise}
 use Rattle.jolie_ast.specs.declared.process.Otherwise.TheVariants as otherwise
 use Rattle.jolie_ast.specs.declared.tree.Definition.{Definition}
+use Rattle.jolie_parse.specs.declared.class.Class.{Class}
 use Rattle.jolie_parse.specs.Classes as c
 use Rattle.jolie_parse.specs.Classes.{Spelled}
 use Rattle.jolie_parse.specs.Meanings as means_as
@@ -16,36 +17,35 @@ use Rattle.jolie_parse.proofs.Unique.{Many_more, Derives_more, one_file}
 
 module _ (w : (r : Part) → Lang (Meant r)) where
   -- what derives from the one derives from the other
-  abbrev Into : {A : Type 0} → Syn A → Syn A → Type 0
+  abbrev pub Into : {A : Type 0} → Syn A → Syn A → Type 0
   Into {A} s t = (ts : List Spelled) (v : A) → Derives w s ts v → Derives w t ts v
 
-  itself : {A : Type 0} (s : Syn A) → Into s s
+  pub itself : {A : Type 0} (s : Syn A) → Into s s
   itself s ts v d = d
 
-  means_into : {A B : Type 0} (f : A → B) (s t : Syn A) → Into s t → Into (means f s) (means f t)
+  pub means_into : {A B : Type 0} (f : A → B) (s t : Syn A) → Into s t → Into (means f s) (means f t)
   means_into f s t h ts v d = (d.0, d.1, h ts d.0 d.2)
 
-  both_into : {A B : Type 0} (s s2 : Syn A) (t t2 : Syn B) → Into s s2 → Into t t2 → Into (both s t) (both s2 t2)
+  pub both_into : {A B : Type 0} (s s2 : Syn A) (t t2 : Syn B) → Into s s2 → Into t t2 → Into (both s t) (both s2 t2)
   both_into s s2 t t2 h g ts v d = (d.0, d.1, d.2, h d.0 v.0 d.3, g d.1 v.1 d.4)
 
   either_into : {A : Type 0} (s s2 t t2 : Syn A) → Into s s2 → Into t t2 → Into (either s t) (either s2 t2)
   either_into s s2 t t2 h g ts v d = elim d [ inl e ↦ inl (h ts v e) | inr e ↦ inr (g ts v e) ]
 
-  many_into : {A : Type 0} (s t : Syn A) → Into s t → Into (many s) (many t)
+  pub many_into : {A : Type 0} (s t : Syn A) → Into s t → Into (many s) (many t)
   many_into s t h ts v d = Many_more (Derives w s) (Derives w t) h ts v d
 
-  behind_into : {A : Type 0} (k : ℕ) (s t : Syn A) → Into s t → Into (behind k s) (behind k t)
+  pub behind_into : {A : Type 0} (k : Class) (s t : Syn A) → Into s t → Into (behind k s) (behind k t)
   behind_into k s t h ts v d = (d.0, d.1, both_into (token (k ∷ [])) (token (k ∷ [])) s t (itself (token (k ∷ []))) h ts d.0 d.2)
 
-  separated_into : {A : Type 0} (k : ℕ) (s t : Syn A) → Into s t → Into (separated k s) (separated k t)
+  separated_into : {A : Type 0} (k : Class) (s t : Syn A) → Into s t → Into (separated k s) (separated k t)
   separated_into k s t h ts v d =
-      let later = both_into (token (k ∷ [])) (token (k ∷ [])) s t (itself (token (k ∷ []))) h in
-      (d.0, d.1, both_into s t (many (both (token (k ∷ [])) s)) (many (both (token (k ∷ [])) t)) h (many_into (both (token (k ∷ [])) s) (both (token (k ∷ [])) t) later) ts d.0 d.2)
+      (d.0, d.1, both_into s t (many (behind k s)) (many (behind k t)) h (many_into (behind k s) (behind k t) (behind_into k s t h)) ts d.0 d.2)
 
-  sequence_into : (s t : Syn Process) → Into s t → Into (in_sequence s) (in_sequence t)
+  pub sequence_into : (s t : Syn Process) → Into s t → Into (in_sequence s) (in_sequence t)
   sequence_into s t h = means_into means_as.sequence_of (separated c.sign_semicolon s) (separated c.sign_semicolon t) (separated_into c.sign_semicolon s t h)
 
-  parallel_into : (s t : Syn Process) → Into s t → Into (in_parallel s) (in_parallel t)
+  pub parallel_into : (s t : Syn Process) → Into s t → Into (in_parallel s) (in_parallel t)
   parallel_into s t h =
       means_into means_as.parallel_of (separated c.sign_bar (in_sequence s)) (separated c.sign_bar (in_sequence t))
       (separated_into c.sign_bar (in_sequence s) (in_sequence t) (sequence_into s t h))
@@ -93,7 +93,7 @@ module _ (w : (r : Part) → Lang (Meant r)) where
   ]
 
   -- a statement that begins with a name
-  statement_factored : Into statement one_statement
+  pub statement_factored : Into statement one_statement
   unfolding statement one_statement named_parts input output assign path
   statement_factored ts v d = elim d [
     | inl a ↦ inl a
@@ -110,7 +110,7 @@ module _ (w : (r : Part) → Lang (Meant r)) where
     | inr (inr (inr (inr a))) ↦ inr (inr (marked_into else_parts one_else else_factored ts v a))
   ]
 
-  statement_spread : Into one_statement statement
+  pub statement_spread : Into one_statement statement
   unfolding statement one_statement named_parts input output assign path
   statement_spread ts v d = elim d [
     | inl a ↦ inl a

@@ -1,11 +1,11 @@
 -- What reading a grammar's tokens gives is explained by what derives.
 use Rattle.std.proofs.Common.{◌≡◌, ℕ, zero, suc, ◌≤◌, ◌+◌, inl, inr, Bool, true, false, ◌&&◌, not, List, [], ◌∷◌, ◌++◌, length, refl, sym, ap, subst, ◌∙◌, arith, append_assoc, append-nil, if◌then◌else◌}
-use Rattle.std.specs.Prelude.{◌==◌}
-use Rattle.std.proofs.lemmas.Bool.{eqb-true, eq-eqb}
-use Rattle.jolie_parse.specs.Classes.{Spelled, has, class, begins, is_class, open_brackets}
+use Rattle.jolie_parse.specs.declared.class.Class.{Class}
+use Rattle.jolie_parse.specs.Classes.{Spelled, has, class, begins, same, open_brackets}
 use Rattle.jolie_parse.specs.Syntax.{disjoint, Syn, token, give, both, either, many, means, inside, prefix, later, covers, Part, Meant, Lang, nullable, first, further}
 use Rattle.jolie_parse.specs.Factored.{rule, Within, Nests, decided, usable}
 use Rattle.jolie_parse.specs.Reading.{Outcome, got, refused, too_deep, and_then, SameHead, take_token, repeat, deepen, enclosed, prefixed, inner, read}
+use Rattle.jolie_parse.proofs.Numbered.{same_eq, eq_same}
 use Rattle.jolie_parse.proofs.Sets.{and_left, and_right, or_cases, or_left, not_true}
 use Rattle.jolie_parse.proofs.Samples.{sample, sample_class}
 use Rattle.jolie_parse.proofs.Complete.{Decided, empty, nonempty_shorter, nonempty_some, repeat_stops}
@@ -23,17 +23,17 @@ Some {A} s = (y : List Spelled) × (v : A) × Any s y v
 abbrev pub AllSome : Type 0
 AllSome = (r : Part) → Some (rule r)
 
-pub usable_some : (ks : List ℕ) → usable ks ≡ true → (t : Spelled) × (has ks (class t) ≡ true)
+pub usable_some : (ks : List Class) → usable ks ≡ true → (t : Spelled) × (has ks (class t) ≡ true)
 usable_some [] u = cc
-usable_some (c ∷ cs) u = (sample c, or_left (c == class (sample c)) _ (eq-eqb c (class (sample c)) (sym (sample_class c u))))
+usable_some (c ∷ cs) u = (sample c, or_left (same c (class (sample c))) _ (eq_same c (class (sample c)) (sym (sample_class c))))
 
 pub both_any : {A B : Type 0} (s : Syn A) (t : Syn B) (x y : List Spelled) (a : A) (b : B) → Any s x a → Any t y b → Any (both s t) (x ++ y) (a, b)
 both_any s t x y a b p q = (p.0 + q.0, (x, y, refl, Nests_more p.0 (p.0 + q.0) s (omega arith) x a p.1, Nests_more q.0 (p.0 + q.0) t (omega arith) y b q.1))
 
-pub inside_any : (o : ℕ) (r : Part) (c : ℕ) (t u : Spelled) (x : List Spelled) (v : Meant r) → class t ≡ o → class u ≡ c → Any (rule r) x v → Any (inside o r c) (t ∷ (x ++ u ∷ [])) (t, v)
+pub inside_any : (o : Class) (r : Part) (c : Class) (t u : Spelled) (x : List Spelled) (v : Meant r) → class t ≡ o → class u ≡ c → Any (rule r) x v → Any (inside o r c) (t ∷ (x ++ u ∷ [])) (t, v)
 inside_any o r c t u x v ht hu p = (suc p.0, (u, x, ht, hu, refl, p.1))
 
-pub prefix_any : (ks : List ℕ) (r : Part) (t : Spelled) (x : List Spelled) (v : Meant r) → has ks (class t) ≡ true → Any (rule r) x v → Any (prefix ks r) (t ∷ x) (t, v)
+pub prefix_any : (ks : List Class) (r : Part) (t : Spelled) (x : List Spelled) (v : Meant r) → has ks (class t) ≡ true → Any (rule r) x v → Any (prefix ks r) (t ∷ x) (t, v)
 prefix_any ks r t x v h p = (suc p.0, (x, h, refl, p.1))
 
 module _ (enough : AllSome) where
@@ -54,10 +54,7 @@ module _ (enough : AllSome) where
   some (means f s) ok = let p = some s ok in (p.0, f p.1, (p.2.0, (p.1, refl, p.2.1)))
   some (inside o r c) ok =
       let p = enough r in
-      let k = and_right (not (has (further (rule r)) c)) (is_class o && is_class c) ok in
-      let ho = and_left (is_class o) (is_class c) k in
-      let hc = and_right (is_class o) (is_class c) k in
-      (sample o ∷ (p.0 ++ sample c ∷ []), (sample o, p.1), inside_any o r c (sample o) (sample c) p.0 p.1 (sample_class o ho) (sample_class c hc) p.2)
+      (sample o ∷ (p.0 ++ sample c ∷ []), (sample o, p.1), inside_any o r c (sample o) (sample c) p.0 p.1 (sample_class o) (sample_class c) p.2)
   some (prefix ks r) ok =
       let p = enough r in
       let t = usable_some ks (and_left (usable ks) (covers (further (rule r)) (later r)) ok) in
@@ -82,36 +79,36 @@ opens_in true n k s w y r h o = (o.0, o.1, o.2, h o.0 o.3)
 abbrev pub Bef : {A : Type 0} → ℕ → Syn A → Before
 Bef n s b w r = CanEnd s w × OpensIf b n s w r
 
-token_next : (n : ℕ) (ks : List ℕ) (B : Before) (t : Spelled) (ts : List Spelled) (b : Bool) → has ks (class t) ≡ b → B false [] (t ∷ ts)
+token_next : (n : ℕ) (ks : List Class) (B : Before) (t : Spelled) (ts : List Spelled) (b : Bool) → has ks (class t) ≡ b → B false [] (t ∷ ts)
     → Explains (Nests n (token ks)) B (λ z o. take_token ks z ≡ o) (t ∷ ts) (if b then got t ts else refused (t ∷ ts))
 token_next n ks B t ts true e p = (t ∷ [], refl, (e, refl), λ z h. rw e refl)
 token_next n ks B t ts false e p = ([], refl, p, again ks t ts e)
   where
-    again : (ks : List ℕ) (t : Spelled) (ts : List Spelled) → has ks (class t) ≡ false → (z : List Spelled) → SameHead (t ∷ ts) z → take_token ks z ≡ refused z
+    again : (ks : List Class) (t : Spelled) (ts : List Spelled) → has ks (class t) ≡ false → (z : List Spelled) → SameHead (t ∷ ts) z → take_token ks z ≡ refused z
     again ks t ts e [] h = absurd h
     again ks t ts e (u ∷ us) h = let g : has ks (class u) ≡ false = ap (λ x. has ks (class x)) (sym h) ∙ e in rw g refl
 
-pub ex_token : (n : ℕ) (ks : List ℕ) (B : Before) (ts : List Spelled) → B false [] ts → Explains (Nests n (token ks)) B (λ z o. take_token ks z ≡ o) ts (take_token ks ts)
+pub ex_token : (n : ℕ) (ks : List Class) (B : Before) (ts : List Spelled) → B false [] ts → Explains (Nests n (token ks)) B (λ z o. take_token ks z ≡ o) ts (take_token ks ts)
 ex_token n ks B [] p = ([], refl, p, token_end ks)
   where
-    token_end : (ks : List ℕ) (z : List Spelled) → SameHead [] z → take_token ks z ≡ refused z
+    token_end : (ks : List Class) (z : List Spelled) → SameHead [] z → take_token ks z ≡ refused z
     token_end ks [] h = refl
     token_end ks (u ∷ us) h = absurd h
 ex_token n ks B (t ∷ ts) p = token_next n ks B t ts (has ks (class t)) refl p
 
 -- ---- many
 
-repeat_fails : {A : Type 0} (one : List Spelled → Outcome A) (ks : List ℕ) (j : ℕ) (z r : List Spelled) → begins ks z ≡ true → length z ≤ j → one z ≡ refused r → repeat one ks j z ≡ refused r
+repeat_fails : {A : Type 0} (one : List Spelled → Outcome A) (ks : List Class) (j : ℕ) (z r : List Spelled) → begins ks z ≡ true → length z ≤ j → one z ≡ refused r → repeat one ks j z ≡ refused r
 repeat_fails one ks j [] r b le e = cc
 repeat_fails one ks zero (t ∷ z) r b le e = let no : ⊥ = omega arith in absurd no
 repeat_fails one ks (suc j) (t ∷ z) r b le e = rw (b, e) refl
 
-repeat_next : {A : Type 0} (one : List Spelled → Outcome A) (ks : List ℕ) (j : ℕ) (w z : List Spelled) (a : A) (o : Outcome (List A)) → (w ≡ [] → ⊥) → begins ks (w ++ z) ≡ true → one (w ++ z) ≡ got a z
+repeat_next : {A : Type 0} (one : List Spelled → Outcome A) (ks : List Class) (j : ℕ) (w z : List Spelled) (a : A) (o : Outcome (List A)) → (w ≡ [] → ⊥) → begins ks (w ++ z) ≡ true → one (w ++ z) ≡ got a z
     → ((i : ℕ) → length z ≤ i → and_then (repeat one ks i z) (λ more rest. got (a ∷ more) rest) ≡ o) → length (w ++ z) ≤ j → repeat one ks j (w ++ z) ≡ o
 repeat_next one ks zero w z a o some b e h le = absurd (nonempty_some w z some le)
 repeat_next one ks (suc j) w z a o some b e h le = rw (b, e) (h j (nonempty_shorter w z j some le))
 
-module _ {A : Type 0} (n m : ℕ) (s : Syn A) (one : List Spelled → Outcome A) (ks : List ℕ)
+module _ {A : Type 0} (n m : ℕ) (s : Syn A) (one : List Spelled → Outcome A) (ks : List Class)
     (ex : (ts : List Spelled) → Explains (Nests n s) (Bef n s) (λ z o. read m s z ≡ o) ts (one ts))
     (nonempty : (v : A) → Nests n s [] v → ⊥) where
   abbrev Goes : Reading (List A)
@@ -210,50 +207,50 @@ module _ (n m : ℕ) (le : n ≤ m) (ok : Decided) (enough : AllSome) where
 
 -- ---- brackets
 
-has_one : (c k : ℕ) → has (c ∷ []) k ≡ true → c ≡ k
-has_one c k h = elim (or_cases (c == k) false h) [ inl e ↦ eqb-true c k e | inr e ↦ cc ]
+has_one : (c k : Class) → has (c ∷ []) k ≡ true → c ≡ k
+has_one c k h = elim (or_cases (same c k) false h) [ inl e ↦ same_eq c k e | inr e ↦ cc ]
 
-one_token : (c : ℕ) → is_class c ≡ true → Some (token (c ∷ []))
-one_token c h = (sample c ∷ [], sample c, (0, (or_left (c == class (sample c)) false (eq-eqb c (class (sample c)) (sym (sample_class c h))), refl)))
+one_token : (c : Class) → Some (token (c ∷ []))
+one_token c = (sample c ∷ [], sample c, (0, (or_left (same c (class (sample c))) false (eq_same c (class (sample c)) (sym (sample_class c))), refl)))
 
-no_level_explained : {A : Type 0} (D : Lang A) (ks : List ℕ) (B : Before) (R : Reading A) (ts : List Spelled) (b : Bool) → begins ks ts ≡ b
+no_level_explained : {A : Type 0} (D : Lang A) (ks : List Class) (B : Before) (R : Reading A) (ts : List Spelled) (b : Bool) → begins ks ts ≡ b
     → B false [] ts → ((t : Spelled) (q : List Spelled) → ts ≡ t ∷ q → has ks (class t) ≡ true → B true [] ts)
     → ((z : List Spelled) → begins ks z ≡ false → R z (refused z)) → Explains D B R ts (if b then too_deep ts else refused ts)
 no_level_explained D ks B R [] true e p h g = cc
 no_level_explained D ks B R (t ∷ ts) true e p h g = ([], refl, h t ts refl e)
 no_level_explained D ks B R ts false e p h g = ([], refl, p, λ z s. g z (sym (begins_same ks ts z s) ∙ e))
 
-take_none : (ks : List ℕ) (z : List Spelled) → begins ks z ≡ false → take_token ks z ≡ refused z
+take_none : (ks : List Class) (z : List Spelled) → begins ks z ≡ false → take_token ks z ≡ refused z
 take_none ks [] e = refl
 take_none ks (t ∷ z) e = rw e refl
 
-not_opened : (m : ℕ) {A : Type 0} (inn : List Spelled → Outcome A) (o c : ℕ) (z : List Spelled) → begins (o ∷ []) z ≡ false → enclosed m inn o c z ≡ refused z
+not_opened : (m : ℕ) {A : Type 0} (inn : List Spelled → Outcome A) (o c : Class) (z : List Spelled) → begins (o ∷ []) z ≡ false → enclosed m inn o c z ≡ refused z
 not_opened zero inn o c z e = rw e refl
 not_opened (suc m) inn o c z e = rw (take_none (o ∷ []) z e) refl
 
-not_prefixed : (m : ℕ) {A : Type 0} (inn : List Spelled → Outcome A) (ks : List ℕ) (z : List Spelled) → begins ks z ≡ false → prefixed m inn ks z ≡ refused z
+not_prefixed : (m : ℕ) {A : Type 0} (inn : List Spelled → Outcome A) (ks : List Class) (z : List Spelled) → begins ks z ≡ false → prefixed m inn ks z ≡ refused z
 not_prefixed zero inn ks z e = rw e refl
 not_prefixed (suc m) inn ks z e = rw (take_none ks z e) refl
 
-inside_begun : (o : ℕ) (r : Part) (c : ℕ) → is_class c ≡ true → Some (rule r) → (w : List Spelled) → CanEnd (token (o ∷ [])) w → CanEnd (inside o r c) w
-inside_begun o r c hc p w (more, t, (k, d)) =
-    let q = inside_any o r c t (sample c) p.0 p.1 (sym (has_one o (class t) d.0)) (sample_class c hc) p.2 in (
+inside_begun : (o : Class) (r : Part) (c : Class) → Some (rule r) → (w : List Spelled) → CanEnd (token (o ∷ [])) w → CanEnd (inside o r c) w
+inside_begun o r c p w (more, t, (k, d)) =
+    let q = inside_any o r c t (sample c) p.0 p.1 (sym (has_one o (class t) d.0)) (sample_class c) p.2 in (
       more ++ (p.0 ++ sample c ∷ []),
       (t, p.1),
       (q.0, subst (λ z. Nests q.0 (inside o r c) z (t, p.1)) (sym (ap (λ z. z ++ (p.0 ++ sample c ∷ [])) d.1) ∙ append_assoc w more (p.0 ++ sample c ∷ [])) q.1),
     )
 
-inside_goes : (o : ℕ) (r : Part) (c : ℕ) → is_class c ≡ true → (t : Spelled) (y : List Spelled) → class t ≡ o → CanEnd (rule r) y → CanEnd (inside o r c) (t ∷ y)
-inside_goes o r c hc t y h (more, v, (k, d)) =
-    let q = inside_any o r c t (sample c) (y ++ more) v h (sample_class c hc) (k, d) in
+inside_goes : (o : Class) (r : Part) (c : Class) → (t : Spelled) (y : List Spelled) → class t ≡ o → CanEnd (rule r) y → CanEnd (inside o r c) (t ∷ y)
+inside_goes o r c t y h (more, v, (k, d)) =
+    let q = inside_any o r c t (sample c) (y ++ more) v h (sample_class c) (k, d) in
     (more ++ sample c ∷ [], (t, v), (q.0, subst (λ z. Nests q.0 (inside o r c) (t ∷ z) (t, v)) (append_assoc y more (sample c ∷ [])) q.1))
 
-inside_ends : (o : ℕ) (r : Part) (c : ℕ) (k : ℕ) (t : Spelled) (y y2 : List Spelled) (v : Meant r) → class t ≡ o → Nests k (rule r) y v → CanEnd (token (c ∷ [])) y2 → CanEnd (inside o r c) (t ∷ (y ++ y2))
+inside_ends : (o : Class) (r : Part) (c : Class) (k : ℕ) (t : Spelled) (y y2 : List Spelled) (v : Meant r) → class t ≡ o → Nests k (rule r) y v → CanEnd (token (c ∷ [])) y2 → CanEnd (inside o r c) (t ∷ (y ++ y2))
 inside_ends o r c k t y y2 v h d (more, u, (j, e)) =
     let q = inside_any o r c t u y v h (sym (has_one c (class u) e.0)) (k, d) in
     (more, (t, v), (q.0, subst (λ z. Nests q.0 (inside o r c) (t ∷ z) (t, v)) (sym (append_assoc y y2 more ∙ ap (λ z. y ++ z) e.1)) q.1))
 
-stood : (n : ℕ) → n ≡ 0 → (u : Spelled) (o : ℕ) (r : Part) (c : ℕ) (y : List Spelled) → has open_brackets (class u) ≡ true → CanEnd (rule r) y → Stands n u (bracket o r c) y
+stood : (n : ℕ) → n ≡ 0 → (u : Spelled) (o : Class) (r : Part) (c : Class) (y : List Spelled) → has open_brackets (class u) ≡ true → CanEnd (rule r) y → Stands n u (bracket o r c) y
 stood zero z u o r c y hb h = (hb, (h.0, h.1, h.2.0, h.2.1))
 stood (suc n) z u o r c y hb h = let no : ⊥ = omega arith in absurd no
 
@@ -291,25 +288,25 @@ here_bef n s true w r h = absurd h
 module _ (n m : ℕ) (enough : AllSome)
     (down : (r : Part) (ts : List Spelled) → Explains (Nests n (rule r)) (Bef n (rule r)) (λ z o. read m (rule r) z ≡ o) ts (read n (rule r) ts)) where
   -- what comes before a refusal behind a bracket: the tokens begin what stands in it
-  abbrev Inner : (o : ℕ) (r : Part) (c : ℕ) → Spelled → Before
+  abbrev Inner : (o : Class) (r : Part) (c : Class) → Spelled → Before
   Inner o r c t false y q = CanEnd (inside o r c) (t ∷ y) × CanEnd (rule r) y
   Inner o r c t true y q = Bef (suc n) (inside o r c) true (t ∷ y) q
 
-  inner_bef : (o : ℕ) (r : Part) (c : ℕ) (t : Spelled) (b : Bool) (y q : List Spelled) → Inner o r c t b y q → Bef (suc n) (inside o r c) b (t ∷ y) q
+  inner_bef : (o : Class) (r : Part) (c : Class) (t : Spelled) (b : Bool) (y q : List Spelled) → Inner o r c t b y q → Bef (suc n) (inside o r c) b (t ∷ y) q
   inner_bef o r c t false y q h = (h.0, tt)
   inner_bef o r c t true y q h = h
 
-  goes_inner : (o : ℕ) (r : Part) (c : ℕ) (t : Spelled) → is_class c ≡ true → class t ≡ o → has (o ∷ []) (class t) ≡ true → (b : Bool) (y q : List Spelled) → Bef n (rule r) b y q → Inner o r c t b y q
-  goes_inner o r c t ic ht hh false y q h = (inside_goes o r c ic t y ht h.0, h.0)
-  goes_inner o r c t ic ht hh true y q h = (inside_goes o r c ic t y ht h.0, opens_in true n r (inside o r c) y (t ∷ y) q (λ u l. (t, y, hh, refl, inl l)) h.1)
+  goes_inner : (o : Class) (r : Part) (c : Class) (t : Spelled) → class t ≡ o → has (o ∷ []) (class t) ≡ true → (b : Bool) (y q : List Spelled) → Bef n (rule r) b y q → Inner o r c t b y q
+  goes_inner o r c t ht hh false y q h = (inside_goes o r c t y ht h.0, h.0)
+  goes_inner o r c t ht hh true y q h = (inside_goes o r c t y ht h.0, opens_in true n r (inside o r c) y (t ∷ y) q (λ u l. (t, y, hh, refl, inl l)) h.1)
 
-  ends_here : (o : ℕ) (r : Part) (c : ℕ) (t : Spelled) (y : List Spelled) (v : Meant r) → is_class c ≡ true → class t ≡ o → Nests n (rule r) y v → (b : Bool) (y2 q : List Spelled) → Here (token (c ∷ [])) b y2 q → Inner o r c t b (y ++ y2) q
-  ends_here o r c t y v ic ht d false y2 q h = (inside_ends o r c n t y y2 v ht d (rw h.0 h.1), ([], v, (n, rw (h.0, append-nil, append-nil) d)))
-  ends_here o r c t y v ic ht d true y2 q h = absurd h
+  ends_here : (o : Class) (r : Part) (c : Class) (t : Spelled) (y : List Spelled) (v : Meant r) → class t ≡ o → Nests n (rule r) y v → (b : Bool) (y2 q : List Spelled) → Here (token (c ∷ [])) b y2 q → Inner o r c t b (y ++ y2) q
+  ends_here o r c t y v ht d false y2 q h = (inside_ends o r c n t y y2 v ht d (rw h.0 h.1), ([], v, (n, rw (h.0, append-nil, append-nil) d)))
+  ends_here o r c t y v ht d true y2 q h = absurd h
 
-  ex_inside : n ≤ m → (o : ℕ) (r : Part) (c : ℕ) → is_class o ≡ true → is_class c ≡ true → (ts : List Spelled)
+  ex_inside : n ≤ m → (o : Class) (r : Part) (c : Class) → (ts : List Spelled)
       → Explains (Nests (suc n) (inside o r c)) (Bef (suc n) (inside o r c)) (λ z u. enclosed (suc m) (inner (suc m) r) o c z ≡ u) ts (enclosed (suc n) (inner (suc n) r) o c ts)
-  ex_inside le o r c io ic ts =
+  ex_inside le o r c ts =
       ex_then (Nests (suc n) (token (o ∷ []))) (Here (inside o r c)) (λ z u. take_token (o ∷ []) z ≡ u)
       (Nests (suc n) (inside o r c)) (Bef (suc n) (inside o r c)) (λ z u. enclosed (suc m) (inner (suc m) r) o c z ≡ u)
       (λ t z u. deepen (and_then (inner (suc m) r z) (λ v r2. and_then (take_token (c ∷ []) r2) (λ _ r3. got (t, v) r3))) m ≡ u)
@@ -317,7 +314,7 @@ module _ (n m : ℕ) (enough : AllSome)
       (λ z q e. rw e refl)
       (λ w z a u d e g. rw e g)
       ts (λ t r1. deepen (and_then (inner (suc n) r r1) (λ v r2. and_then (take_token (c ∷ []) r2) (λ _ r3. got (t, v) r3))) n) (take_token (o ∷ []) ts)
-      (ex_token (suc n) (o ∷ []) (Here (inside o r c)) ts (refl, inside_begun o r c ic (enough r) [] (one_token o io)))
+      (ex_token (suc n) (o ∷ []) (Here (inside o r c)) ts (refl, inside_begun o r c (enough r) [] (one_token o)))
       (λ w r1 t eq d. rw d.1 (deeper t r1 (sym (has_one o (class t) d.0)) d.0))
     where
       stands : (t u : Spelled) (y : List Spelled) → has (o ∷ []) (class t) ≡ true → has open_brackets (class u) ≡ true → n ≡ 0 → CanEnd (rule r) y → LeadsTo (Within (suc n)) (Leads (suc n) u) (inside o r c) (t ∷ y)
@@ -334,7 +331,7 @@ module _ (n m : ℕ) (enough : AllSome)
           (λ y c2. Nests (suc n) (inside o r c) (t ∷ y) c2) (Inner o r c t)
           (λ z u. and_then (inner (suc m) r z) (λ v r2. and_then (take_token (c ∷ []) r2) (λ _ r3. got (t, v) r3)) ≡ u)
           (λ v z u. and_then (take_token (c ∷ []) z) (λ _ r3. got (t, v) r3) ≡ u)
-          (goes_inner o r c t ic ht hh)
+          (goes_inner o r c t ht hh)
           (λ z q e. rw e refl)
           (λ w z v u d e g. rw e g)
           r1 (λ v r2. and_then (take_token (c ∷ []) r2) (λ _ r3. got (t, v) r3)) (inner (suc n) r r1) (down r r1)
@@ -342,8 +339,8 @@ module _ (n m : ℕ) (enough : AllSome)
           (Here (token (c ∷ []))) (λ b y2. Inner o r c t b (y ++ y2))
           (λ z u. take_token (c ∷ []) z ≡ u) (λ z u. and_then (take_token (c ∷ []) z) (λ _ r3. got (t, v) r3) ≡ u) r2
           (λ y2 u h. (u, y, ht, sym (has_one c (class u) h.0), ap (λ z. t ∷ (y ++ z)) h.1, d))
-          (ends_here o r c t y v ic ht d)
-          (λ z q u e. rw e refl) (λ z q e. rw e refl) (take_token (c ∷ []) r2) (ex_token n (c ∷ []) (Here (token (c ∷ []))) r2 (refl, one_token c ic)))
+          (ends_here o r c t y v ht d)
+          (λ z q u e. rw e refl) (λ z q e. rw e refl) (take_token (c ∷ []) r2) (ex_token n (c ∷ []) (Here (token (c ∷ []))) r2 (refl, one_token c)))
 
       deeper : (t : Spelled) (r1 : List Spelled) → class t ≡ o → has (o ∷ []) (class t) ≡ true → Explains (λ y c2. Nests (suc n) (inside o r c) (t ∷ y) c2) (λ b y. Bef (suc n) (inside o r c) b (t ∷ y))
           (λ z u. deepen (and_then (inner (suc m) r z) (λ v r2. and_then (take_token (c ∷ []) r2) (λ _ r3. got (t, v) r3))) m ≡ u) r1
@@ -354,10 +351,10 @@ module _ (n m : ℕ) (enough : AllSome)
           (λ z y q u q2 e hb h. turned t hh y q u q2 z e hb h)
           (and_then (inner (suc n) r r1) (λ v r2. and_then (take_token (c ∷ []) r2) (λ _ r3. got (t, v) r3))) (behind t r1 ht hh)
 
-  prefix_goes : (ks : List ℕ) (r : Part) (t : Spelled) (y : List Spelled) → has ks (class t) ≡ true → CanEnd (rule r) y → CanEnd (prefix ks r) (t ∷ y)
+  prefix_goes : (ks : List Class) (r : Part) (t : Spelled) (y : List Spelled) → has ks (class t) ≡ true → CanEnd (rule r) y → CanEnd (prefix ks r) (t ∷ y)
   prefix_goes ks r t y h (more, v, (k, d)) = let q = prefix_any ks r t (y ++ more) v h (k, d) in (more, (t, v), q)
 
-  ex_prefix : (ks : List ℕ) (r : Part) → CanEnd (prefix ks r) [] → (ts : List Spelled)
+  ex_prefix : (ks : List Class) (r : Part) → CanEnd (prefix ks r) [] → (ts : List Spelled)
       → Explains (Nests (suc n) (prefix ks r)) (Bef (suc n) (prefix ks r)) (λ z u. prefixed (suc m) (inner (suc m) r) ks z ≡ u) ts (prefixed (suc n) (inner (suc n) r) ks ts)
   ex_prefix ks r start ts =
       ex_then (Nests (suc n) (token ks)) (Here (prefix ks r)) (λ z u. take_token ks z ≡ u)
@@ -382,7 +379,7 @@ Down zero m = Unit {0}
 Down (suc n) zero = Unit {0}
 Down (suc n) (suc m) = (r : Part) (ts : List Spelled) → Explains (Nests n (rule r)) (Bef n (rule r)) (λ z o. read m (rule r) z ≡ o) ts (read n (rule r) ts)
 
-ex_inside_at : (n m : ℕ) → n ≤ m → AllSome → Down n m → (o : ℕ) (r : Part) (c : ℕ) → decided (inside o r c) ≡ true → (ts : List Spelled)
+ex_inside_at : (n m : ℕ) → n ≤ m → AllSome → Down n m → (o : Class) (r : Part) (c : Class) → decided (inside o r c) ≡ true → (ts : List Spelled)
     → Explains (Nests n (inside o r c)) (Bef n (inside o r c)) (λ z u. read m (inside o r c) z ≡ u) ts (read n (inside o r c) ts)
 ex_inside_at zero m le enough down o r c dec ts =
     let start = some enough (inside o r c) dec in
@@ -390,10 +387,9 @@ ex_inside_at zero m le enough down o r c dec ts =
     (start, tt) (λ t q e h. (start, (t, q, e, (refl, h)))) (λ z e. not_opened m (inner m r) o c z e)
 ex_inside_at (suc n) zero le enough down o r c dec ts = let no : ⊥ = omega arith in absurd no
 ex_inside_at (suc n) (suc m) le enough down o r c dec ts =
-    let k = and_right (not (has (further (rule r)) c)) (is_class o && is_class c) dec in
-    ex_inside n m enough down (omega arith) o r c (and_left (is_class o) (is_class c) k) (and_right (is_class o) (is_class c) k) ts
+    ex_inside n m enough down (omega arith) o r c ts
 
-ex_prefix_at : (n m : ℕ) → n ≤ m → AllSome → Down n m → (ks : List ℕ) (r : Part) → decided (prefix ks r) ≡ true → (ts : List Spelled)
+ex_prefix_at : (n m : ℕ) → n ≤ m → AllSome → Down n m → (ks : List Class) (r : Part) → decided (prefix ks r) ≡ true → (ts : List Spelled)
     → Explains (Nests n (prefix ks r)) (Bef n (prefix ks r)) (λ z u. read m (prefix ks r) z ≡ u) ts (read n (prefix ks r) ts)
 ex_prefix_at zero m le enough down ks r dec ts =
     let start = some enough (prefix ks r) dec in

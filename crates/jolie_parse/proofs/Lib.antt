@@ -1,3 +1,4 @@
+pub mod Numbered
 pub mod Sets
 pub mod Complete
 pub mod OneToken
@@ -9,3 +10,17 @@ pub mod Openings
 pub mod Explain
 pub mod Phrases
 pub mod Stops
+pub mod Lists
+pub mod Inside
+pub mod Passes
+pub mod Opens
+pub mod SameLevels
+pub mod Files
+pub mod Steps
+pub mod Spellings
+pub mod Parses
+pub mod Turns
+pub mod Statements
+pub mod Weights
+pub mod Members
+pub mod Sizes

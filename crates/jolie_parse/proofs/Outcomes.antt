@@ -1,5 +1,6 @@
 -- What an outcome says of the tokens, put together from those of the parts.
-use Rattle.std.proofs.Common.{◌≡◌, ℕ, Bool, true, false, List, [], ◌∷◌, ◌++◌, refl, sym, ap, ◌∙◌, append_assoc}
+use Rattle.std.proofs.Common.{◌≡◌, Bool, true, false, List, [], ◌∷◌, ◌++◌, refl, sym, ap, ◌∙◌, append_assoc}
+use Rattle.jolie_parse.specs.declared.class.Class.{Class}
 use Rattle.jolie_parse.specs.Classes.{Spelled, has, class, begins}
 use Rattle.jolie_parse.specs.Syntax.{Lang}
 use Rattle.jolie_parse.specs.Reading.{Outcome, got, refused, too_deep, and_then, SameHead}
@@ -21,7 +22,7 @@ pub same_more : (w r z : List Spelled) → SameHead r z → SameHead (w ++ r) (w
 same_more [] r z h = h
 same_more (t ∷ w) r z h = refl
 
-pub begins_same : (ks : List ℕ) (r z : List Spelled) → SameHead r z → begins ks r ≡ begins ks z
+pub begins_same : (ks : List Class) (r z : List Spelled) → SameHead r z → begins ks r ≡ begins ks z
 begins_same ks [] [] h = refl
 begins_same ks [] (u ∷ us) h = absurd h
 begins_same ks (t ∷ ts) [] h = absurd h

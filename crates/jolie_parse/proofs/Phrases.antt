@@ -1,8 +1,7 @@
 -- Each part of the factored grammar has a phrase.
 use Rattle.std.proofs.Common.{◌≡◌, inl, inr, Bool, true, false, ◌&&◌, ◌||◌, not, [], ◌∷◌, ◌++◌, refl}
-use Rattle.jolie_parse.specs.Classes.{has, is_class}
 use Rattle.jolie_parse.specs.Syntax.{Part, an_input, an_else_if, an_expression, an_operand, a_path, maybe_path, maybe_expression, a_body, some_handlers, a_name, for_parts, throw_parts, some_members, a_type_name, some_bounds, some_fields, some_operations, port_parts, some_variables, some_clauses, Syn, token, give, both, either, many, means, inside, prefix, disjoint, covers, later, nullable, first, further}
-use Rattle.jolie_parse.specs.Grammar.{id, word, index, step, path_parts, path, primary, unary, product, sum, comparison, conjunction, expr, member, block, reply, input_parts, input, branch, choice, answer, output_parts, output, count, change, assign, correlate, last_change, loop_parts, nothing, handler_key, type_body, cardinal, field, type_definition, type_named, fault, request_response, one_way, operation_group, interface, alias, variable, clauses, service}
+use Rattle.jolie_parse.specs.Grammar.{id, word, index, step, path_parts, path, whole_number, long_number, quoted_text, truth, path_value, size, defined_test, cast, grouped, literal, primary, prefixed_operand, unary, product, sum, comparand, comparison, conjunction, expr, member, members, block, reply, input_parts, input, branch, choice, answer, output_parts, output, count, change, assign, correlate, last_change, loop_parts, undefine, repetition, counted_loop, scope, install, throw, compensate, inner_handler, block_statement, nothing, handler_key, thrown, name, root_type, type_body, bounds, cardinal, field, defined_type, type_definition, type_named, fault, throws, request_response, one_way, request_responses, one_ways, operation_group, interface, alias, variable, execution_clause, port_body, port, correlation_set, init_clause, main_clause, clauses, service}
 use Rattle.jolie_parse.specs.Factored.{named_parts, one_else, one_statement, rule, decided, usable}
 use Rattle.jolie_parse.proofs.Sets.{and_left, and_right, or_cases}
 use Rattle.jolie_parse.proofs.Samples.{sample, sample_class}
@@ -40,10 +39,7 @@ module _ (ok : Part → Bool) (enough : (r : Part) → ok r ≡ true → Some (r
   phrase (means f s) dec h = let p = phrase s dec h in (p.0, f p.1, (p.2.0, (p.1, refl, p.2.1)))
   phrase (inside o r c) dec h =
       let p = enough r h in
-      let k = and_right (not (has (further (rule r)) c)) (is_class o && is_class c) dec in
-      let ho = and_left (is_class o) (is_class c) k in
-      let hc = and_right (is_class o) (is_class c) k in
-      (sample o ∷ (p.0 ++ sample c ∷ []), (sample o, p.1), inside_any o r c (sample o) (sample c) p.0 p.1 (sample_class o ho) (sample_class c hc) p.2)
+      (sample o ∷ (p.0 ++ sample c ∷ []), (sample o, p.1), inside_any o r c (sample o) (sample c) p.0 p.1 (sample_class o) (sample_class c) p.2)
   phrase (prefix ks r) dec h =
       let p = enough r h in
       let t = usable_some ks (and_left (usable ks) (covers (further (rule r)) (later r)) dec) in
@@ -59,7 +55,7 @@ abbrev no_part : Part → Bool
 no_part r = false
 
 plain_has : (r : Part) → is_plain r ≡ true → has_phrase no_part (rule r) ≡ true
-unfolding id word index step path_parts path primary unary product sum comparison conjunction expr member block reply input_parts input branch choice answer output_parts output count change assign correlate last_change loop_parts nothing handler_key type_body cardinal field type_definition type_named fault request_response one_way operation_group interface alias variable clauses service named_parts one_else one_statement
+unfolding id word index step path_parts path whole_number long_number quoted_text truth path_value size defined_test cast grouped literal primary prefixed_operand unary product sum comparand comparison conjunction expr member members block reply input_parts input branch choice answer output_parts output count change assign correlate last_change loop_parts undefine repetition counted_loop scope install throw compensate inner_handler block_statement nothing handler_key thrown name root_type type_body bounds cardinal field defined_type type_definition type_named fault throws request_response one_way request_responses one_ways operation_group interface alias variable execution_clause port_body port correlation_set init_clause main_clause clauses service named_parts one_else one_statement
 plain_has an_input h = cc
 plain_has an_else_if h = cc
 plain_has an_expression h = refl
@@ -85,7 +81,7 @@ plain_phrase : (r : Part) → is_plain r ≡ true → Some (rule r)
 plain_phrase r h = phrase no_part (λ r2 h2. let never : ⊥ = cc in absurd never) (rule r) (rules_decided.each r) (plain_has r h)
 
 bracketed_has : (has_phrase is_plain (rule an_input) ≡ true) × (has_phrase is_plain (rule an_else_if) ≡ true)
-unfolding id word index step path_parts path primary unary product sum comparison conjunction expr member block reply input_parts input branch choice answer output_parts output count change assign correlate last_change loop_parts nothing handler_key type_body cardinal field type_definition type_named fault request_response one_way operation_group interface alias variable clauses service named_parts one_else one_statement
+unfolding id word index step path_parts path whole_number long_number quoted_text truth path_value size defined_test cast grouped literal primary prefixed_operand unary product sum comparand comparison conjunction expr member members block reply input_parts input branch choice answer output_parts output count change assign correlate last_change loop_parts undefine repetition counted_loop scope install throw compensate inner_handler block_statement nothing handler_key thrown name root_type type_body bounds cardinal field defined_type type_definition type_named fault throws request_response one_way request_responses one_ways operation_group interface alias variable execution_clause port_body port correlation_set init_clause main_clause clauses service named_parts one_else one_statement
 bracketed_has = (refl, refl)
 
 -- each part has a phrase

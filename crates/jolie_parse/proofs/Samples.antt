@@ -1,49 +1,79 @@
 -- A token of each class.
-use Rattle.std.proofs.Common.{◌≡◌, ℕ, zero, suc, ◌-◌, Bool, true, ◌&&◌, List, [], ◌∷◌, map, inl, inr, refl, sym, ap, ◌∙◌, pos, if◌then◌else◌}
-use Rattle.std.specs.Prelude.{◌==◌}
-use Rattle.std.proofs.lemmas.Bool.{eqb-true}
+use Rattle.std.proofs.Common.{◌≡◌, ℕ, List, [], refl, ap, pos}
 use Rattle.jolie_tokens.specs.declared.token.TokenKind.{TokenKind}
 use Rattle.jolie_tokens.specs.declared.token.TokenKind.TheVariants as kind
-use Rattle.jolie_tokens.specs.declared.sign.TheConstants.{SIGNS}
-use Rattle.jolie_parse.specs.Classes.{Spelled, class, has, is_class, classes, counted_words, words, int_number}
-use Rattle.jolie_parse.proofs.Sets.{and_left, and_right, or_cases}
+use Rattle.jolie_parse.specs.declared.word.Word.{Word}
+use Rattle.jolie_parse.specs.declared.word.Word.TheVariants as word
+use Rattle.jolie_parse.specs.declared.class.Class.{Class}
+use Rattle.jolie_parse.specs.declared.class.Class.TheVariants as classed
+use Rattle.jolie_parse.specs.Words.{spelling, counted, word_of}
+use Rattle.jolie_parse.specs.Classes.{Spelled, class}
 
--- the member of a list at a place, or another where there is none
-nth : {A : Type 0} → A → List A → ℕ → A
-nth other [] k = other
-nth other (x ∷ xs) zero = x
-nth other (x ∷ xs) (suc k) = nth other xs k
+-- each word is what is written as it
+spelled_back : (w : Word) → word_of (spelling w) ≡ w
+unfolding word_of counted
+spelled_back word.Plain = refl
+spelled_back word.Location = refl
+spelled_back word.Protocol = refl
+spelled_back word.Interfaces = refl
+spelled_back word.Concurrent = refl
+spelled_back word.Single = refl
+spelled_back word.Type = refl
+spelled_back word.Interface = refl
+spelled_back word.Service = refl
+spelled_back word.InputPort = refl
+spelled_back word.OutputPort = refl
+spelled_back word.Execution = refl
+spelled_back word.Cset = refl
+spelled_back word.Csets = refl
+spelled_back word.Init = refl
+spelled_back word.Main = refl
+spelled_back word.Scope = refl
+spelled_back word.Install = refl
+spelled_back word.Throw = refl
+spelled_back word.Comp = refl
+spelled_back word.InnerHandler = refl
+spelled_back word.This = refl
+spelled_back word.NullProcess = refl
+spelled_back word.If = refl
+spelled_back word.Else = refl
+spelled_back word.While = refl
+spelled_back word.For = refl
+spelled_back word.Undef = refl
+spelled_back word.IsDefined = refl
+spelled_back word.True = refl
+spelled_back word.False = refl
+spelled_back word.Void = refl
+spelled_back word.Bool = refl
+spelled_back word.Int = refl
+spelled_back word.Long = refl
+spelled_back word.Str = refl
+spelled_back word.Any = refl
+spelled_back word.Undefined = refl
+spelled_back word.Throws = refl
+spelled_back word.RequestResponse = refl
+spelled_back word.OneWay = refl
 
-sample_kind : ℕ → TokenKind
-unfolding nth
-sample_kind k =
-    if has words k then kind.Word
-    else nth kind.Word (kind.Int (pos 0) ∷ kind.Long (pos 0) ∷ kind.Str [] ∷ map kind.Sign SIGNS) (k - int_number)
+sample_kind : Class → TokenKind
+sample_kind (classed.Word w) = kind.Word
+sample_kind classed.Int = kind.Int (pos 0)
+sample_kind classed.Long = kind.Long (pos 0)
+sample_kind classed.Str = kind.Str []
+sample_kind (classed.Sign s) = kind.Sign s
 
-sample_word : ℕ → List ℕ
-unfolding nth
-sample_word k = nth [] ([] ∷ counted_words) k
+sample_spelling : Class → List ℕ
+sample_spelling (classed.Word w) = spelling w
+sample_spelling _ = []
 
-pub sample : ℕ → Spelled
-unfolding sample_kind sample_word
-sample k = record { token = record { kind = sample_kind k; at = 0; len = 0 }; spelling = sample_word k }
-
-all_sampled : List ℕ → Bool
-all_sampled [] = true
-all_sampled (k ∷ ks) = (class (sample k) == k) && all_sampled ks
-
-each_sampled : (ks : List ℕ) (k : ℕ) → all_sampled ks ≡ true → has ks k ≡ true → class (sample k) ≡ k
-unfolding all_sampled
-each_sampled [] k a h = cc
-each_sampled (j ∷ js) k a h = elim (or_cases (j == k) (has js k) h) [
-  | inl e ↦ (let same : j ≡ k = eqb-true j k e in let one = eqb-true (class (sample j)) j (and_left (class (sample j) == j) (all_sampled js) a) in sym (ap (λ i. class (sample i)) same) ∙ one ∙ same)
-  | inr e ↦ each_sampled js k (and_right (class (sample j) == j) (all_sampled js) a) e
-]
-
-classes_sampled : all_sampled classes ≡ true
-unfolding all_sampled sample sample_kind sample_word nth
-classes_sampled = refl
+pub sample : Class → Spelled
+unfolding sample_kind sample_spelling
+sample k = record { token = record { kind = sample_kind k; at = 0; len = 0 }; spelling = sample_spelling k }
 
 -- each class has a token
-pub sample_class : (k : ℕ) → is_class k ≡ true → class (sample k) ≡ k
-sample_class k h = each_sampled classes k classes_sampled h
+pub sample_class : (k : Class) → class (sample k) ≡ k
+unfolding sample sample_kind sample_spelling
+sample_class (classed.Word w) = ap classed.Word (spelled_back w)
+sample_class classed.Int = refl
+sample_class classed.Long = refl
+sample_class classed.Str = refl
+sample_class (classed.Sign s) = refl

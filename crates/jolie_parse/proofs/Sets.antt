@@ -1,9 +1,9 @@
 -- Tests, sets of classes, and tokens in a row.
-use Rattle.std.proofs.Common.{◌≡◌, ℕ, ◌⊎◌, inl, inr, Bool, true, false, ◌&&◌, ◌||◌, not, List, [], ◌∷◌, ◌++◌, refl, sym, ap, ◌∙◌}
-use Rattle.std.specs.Prelude.{◌==◌}
-use Rattle.std.proofs.lemmas.Bool.{eqb-true}
-use Rattle.jolie_parse.specs.Classes.{Spelled, has, begins, class}
+use Rattle.std.proofs.Common.{◌≡◌, ◌⊎◌, inl, inr, Bool, true, false, ◌&&◌, ◌||◌, not, List, [], ◌∷◌, ◌++◌, refl, sym, ap, ◌∙◌}
+use Rattle.jolie_parse.specs.declared.class.Class.{Class}
+use Rattle.jolie_parse.specs.Classes.{Spelled, has, same, begins, class}
 use Rattle.jolie_parse.specs.Syntax.{disjoint, covers}
+use Rattle.jolie_parse.proofs.Numbered.{same_eq}
 
 pub and_left : (a b : Bool) → a && b ≡ true → a ≡ true
 and_left true b e = refl
@@ -41,41 +41,41 @@ pub is_false : (a : Bool) → (a ≡ true → ⊥) → a ≡ false
 is_false true h = absurd (h refl)
 is_false false h = refl
 
-pub has_left : (a b : List ℕ) (k : ℕ) → has a k ≡ true → has (a ++ b) k ≡ true
+pub has_left : (a b : List Class) (k : Class) → has a k ≡ true → has (a ++ b) k ≡ true
 has_left [] b k h = cc
-has_left (j ∷ js) b k h = elim (or_cases (j == k) (has js k) h) [ inl e ↦ or_left (j == k) _ e | inr e ↦ or_right (j == k) _ (has_left js b k e) ]
+has_left (j ∷ js) b k h = elim (or_cases (same j k) (has js k) h) [ inl e ↦ or_left (same j k) _ e | inr e ↦ or_right (same j k) _ (has_left js b k e) ]
 
-pub has_right : (a b : List ℕ) (k : ℕ) → has b k ≡ true → has (a ++ b) k ≡ true
+pub has_right : (a b : List Class) (k : Class) → has b k ≡ true → has (a ++ b) k ≡ true
 has_right [] b k h = h
-has_right (j ∷ js) b k h = or_right (j == k) _ (has_right js b k h)
+has_right (j ∷ js) b k h = or_right (same j k) _ (has_right js b k h)
 
-pub apart : (a b : List ℕ) (k : ℕ) → disjoint a b ≡ true → has a k ≡ true → has b k ≡ true → ⊥
+pub apart : (a b : List Class) (k : Class) → disjoint a b ≡ true → has a k ≡ true → has b k ≡ true → ⊥
 apart [] b k d h g = cc
-apart (j ∷ js) b k d h g = elim (or_cases (j == k) (has js k) h) [
+apart (j ∷ js) b k d h g = elim (or_cases (same j k) (has js k) h) [
   | inl e ↦ (let no : has b j ≡ false = not_true (has b j) (and_left (not (has b j)) (disjoint js b) d) in
-      let same : j ≡ k = eqb-true j k e in
+      let same : j ≡ k = same_eq j k e in
       let yes : has b j ≡ true = ap (has b) same ∙ g in cc)
   | inr e ↦ apart js b k (and_right (not (has b j)) (disjoint js b) d) e g
 ]
 
 -- ---- the next token
 
-pub begins_left : (a b : List ℕ) (r : List Spelled) → begins (a ++ b) r ≡ false → begins a r ≡ false
+pub begins_left : (a b : List Class) (r : List Spelled) → begins (a ++ b) r ≡ false → begins a r ≡ false
 begins_left a b [] h = refl
 begins_left a b (t ∷ r) h = is_false (has a (class t)) (λ y. let z = has_left a b (class t) y in cc)
 
-pub begins_right : (a b : List ℕ) (r : List Spelled) → begins (a ++ b) r ≡ false → begins b r ≡ false
+pub begins_right : (a b : List Class) (r : List Spelled) → begins (a ++ b) r ≡ false → begins b r ≡ false
 begins_right a b [] h = refl
 begins_right a b (t ∷ r) h = is_false (has b (class t)) (λ y. let z = has_right a b (class t) y in cc)
 
-pub covered : (a b : List ℕ) (k : ℕ) → covers a b ≡ true → has a k ≡ true → has b k ≡ true
+pub covered : (a b : List Class) (k : Class) → covers a b ≡ true → has a k ≡ true → has b k ≡ true
 covered [] b k c h = cc
-covered (j ∷ js) b k c h = elim (or_cases (j == k) (has js k) h) [
-  | inl e ↦ (let same : j ≡ k = eqb-true j k e in sym (ap (has b) same) ∙ and_left (has b j) (covers js b) c)
+covered (j ∷ js) b k c h = elim (or_cases (same j k) (has js k) h) [
+  | inl e ↦ (let same : j ≡ k = same_eq j k e in sym (ap (has b) same) ∙ and_left (has b j) (covers js b) c)
   | inr e ↦ covered js b k (and_right (has b j) (covers js b) c) e
 ]
 
-pub begins_covered : (a b : List ℕ) (r : List Spelled) → covers a b ≡ true → begins b r ≡ false → begins a r ≡ false
+pub begins_covered : (a b : List Class) (r : List Spelled) → covers a b ≡ true → begins b r ≡ false → begins a r ≡ false
 begins_covered a b [] c h = refl
 begins_covered a b (t ∷ r) c h = is_false (has a (class t)) (λ y. let z = covered a b (class t) c y in cc)
 

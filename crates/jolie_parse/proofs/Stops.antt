@@ -49,10 +49,10 @@ leads_long (suc n) t p y (u, z, h, e, l) =
 
 -- ---- files and their beginnings
 
-file_read : (n : ℕ) (ts : List Spelled) (f : List Definition) → Nests n file ts f → read n file ts ≡ got f []
+pub file_read : (n : ℕ) (ts : List Spelled) (f : List Definition) → Nests n file ts f → read n file ts ≡ got f []
 file_read n ts f d = ap (read n file) (sym (append-nil ts)) ∙ complete rules_decided n file file_decided ts [] f d refl
 
-begins_file : (w : List Spelled) → CanEnd file w → BeginsFile w
+pub begins_file : (w : List Spelled) → CanEnd file w → BeginsFile w
 begins_file w (more, f, (m, d)) = (more, m, f, file_spread m (w ++ more) f d)
 
 -- what is read the same whatever follows the next token is no file
@@ -65,17 +65,22 @@ dead n w (t ∷ r) h = λ (more, m, f, d). h (n + m) (omega arith) (t ∷ more) 
 same_front : (w v r : List Spelled) (ts : List Spelled) → ts ≡ w ++ r → ts ≡ v ++ r → v ≡ w
 same_front w v r ts a b = append_cancel_right v w r (sym b ∙ a)
 
-abbrev Facts : ℕ → List Spelled → Outcome (List Definition) → Type 0
+-- what reading n levels deep says of the tokens, at each deeper limit
+abbrev pub Facts : ℕ → List Spelled → Outcome (List Definition) → Type 0
 Facts n ts o = (m : ℕ) → n ≤ m → Explains (Nests n file) (Bef n file) (λ z u. read m file z ≡ u) ts o
 
-answer : (n : ℕ) (ts : List Spelled) → length ts ≤ n → (o : Outcome (List Definition)) → Facts n ts o
-    → ((m : ℕ) × (f : List Definition) × IsFile m ts f) ⊎ ((w r : List Spelled) × (ts ≡ w ++ r) × IsStop w r)
-answer n ts le (got f []) ex = let e = ex n (omega arith) in inl (n, f, file_spread n ts f (rw (e.1, append-nil) e.2))
-answer n ts le (got f (t ∷ r)) ex =
-    let e = ex n (omega arith) in
-    inr (
+pub file_facts : (n : ℕ) (ts : List Spelled) → Facts n ts (read n file ts)
+file_facts n ts m le = explain rules_decided rules_some n m le file file_decided ts
+
+-- the tokens stop where that rest begins
+abbrev pub StopsAt : List Spelled → List Spelled → Type 0
+StopsAt ts r = (w : List Spelled) × (ts ≡ w ++ r) × IsStop w r
+
+-- where a file is read and tokens are left
+pub left_stops : (n : ℕ) (ts : List Spelled) (f : List Definition) (t : Spelled) (r : List Spelled) → Facts n ts (got f (t ∷ r)) → StopsAt ts (t ∷ r)
+left_stops n ts f t r ex =
+    let e = ex n (omega arith) in (
       e.0,
-      t ∷ r,
       e.1,
       (
         ([], n, f, rw append-nil (file_spread n e.0 f e.2)),
@@ -87,11 +92,12 @@ answer n ts le (got f (t ∷ r)) ex =
     not_left : (z : List Spelled) (t : Spelled) (r : List Spelled) → SameHead (t ∷ r) z → (f g : List Definition) → got f z ≡ got g [] → ⊥
     not_left [] t r h f g e = h
     not_left (u ∷ us) t r h f g e = cc
-answer n ts le (refused r) ex =
-    let e = ex n (omega arith) in
-    inr (
+
+-- where reading refuses
+pub refused_stops : (n : ℕ) (ts r : List Spelled) → Facts n ts (refused r) → StopsAt ts r
+refused_stops n ts r ex =
+    let e = ex n (omega arith) in (
       e.0,
-      r,
       e.1,
       (
         begins_file e.0 e.2.0,
@@ -99,6 +105,12 @@ answer n ts le (refused r) ex =
             let q : refused z ≡ got g [] = sym (rw same at (e2.3 z h)) ∙ read_it in cc),
       ),
     )
+
+answer : (n : ℕ) (ts : List Spelled) → length ts ≤ n → (o : Outcome (List Definition)) → Facts n ts o
+    → ((m : ℕ) × (f : List Definition) × IsFile m ts f) ⊎ ((w r : List Spelled) × (ts ≡ w ++ r) × IsStop w r)
+answer n ts le (got f []) ex = let e = ex n (omega arith) in inl (n, f, file_spread n ts f (rw (e.1, append-nil) e.2))
+answer n ts le (got f (t ∷ r)) ex = let e = left_stops n ts f t r ex in inr (e.0, t ∷ r, e.1, e.2)
+answer n ts le (refused r) ex = let e = refused_stops n ts r ex in inr (e.0, r, e.1, e.2)
 answer n ts le (too_deep r) ex =
     let e = ex n (omega arith) in
     let o = e.2.1 in
@@ -110,7 +122,7 @@ answer n ts le (too_deep r) ex =
 some_answer : (ts : List Spelled) → ((m : ℕ) × (f : List Definition) × IsFile m ts f) ⊎ ((w r : List Spelled) × (ts ≡ w ++ r) × IsStop w r)
 some_answer ts =
     let n = length ts in
-    answer n ts (omega arith) (read n file ts) (λ m le. explain rules_decided rules_some n m le file file_decided ts)
+    answer n ts (omega arith) (read n file ts) (file_facts n ts)
 
 -- ---- the place is one
 
@@ -126,7 +138,7 @@ not_both n f w [] d (b, k) = k n f (rw append-nil at d)
 not_both n f w (t ∷ r) d (b, k) = k (begins_less w t r (file_begins n (w ++ t ∷ r) f d))
 
 -- of two beginnings of the same tokens the one is the other, or goes on from it
-compare : (w r v q : List Spelled) → w ++ r ≡ v ++ q
+pub compare : (w r v q : List Spelled) → w ++ r ≡ v ++ q
     → (w ≡ v) ⊎ (((t : Spelled) × (more : List Spelled) × (v ≡ w ++ t ∷ more) × (r ≡ t ∷ (more ++ q))) ⊎ ((t : Spelled) × (more : List Spelled) × (w ≡ v ++ t ∷ more) × (q ≡ t ∷ (more ++ r))))
 compare [] r [] q e = inl refl
 compare [] r (u ∷ v) q e = inr (inl (u, v, refl, e))

@@ -1,422 +1,423 @@
--- The classes of tokens: one for each sign, each reserved word and each plain word that counts in its place, one for all
--- other words, and one each for ints, longs and strings. A class is a number that has a name here.
-use Rattle.std.specs.Prelude.{ℕ, suc, Bool, false, ◌||◌, ◌==◌, List, [], ◌∷◌, ◌++◌, map, codes, take, drop, if◌then◌else◌}
-use Rattle.std.specs.Str.{bytes_eq}
+-- The classes of tokens: one for each sign and each word that counts, one for all other words, and one each for ints,
+-- longs and strings.
+use Rattle.std.specs.Prelude.{ℕ, ◌+◌, Bool, false, ◌||◌, ◌==◌, List, [], ◌∷◌, ◌++◌, map, take, drop}
 use Rattle.jolie_tokens.specs.declared.token.Token.{Token}
 use Rattle.jolie_tokens.specs.declared.token.TokenKind.{TokenKind}
 use Rattle.jolie_tokens.specs.declared.token.TokenKind.TheVariants as kind
 use Rattle.jolie_tokens.specs.declared.sign.Sign.{Sign}
 use Rattle.jolie_tokens.specs.declared.sign.Sign.TheVariants as sign
-use Rattle.jolie_tokens.specs.Reserved.{reserved_words}
+use Rattle.jolie_parse.specs.declared.word.Word.TheVariants as word
+use Rattle.jolie_parse.specs.declared.class.Class.{Class}
+use Rattle.jolie_parse.specs.declared.class.Class.TheVariants as classed
+use Rattle.jolie_parse.specs.Words.{word_of, word_number}
 
 -- a token with the bytes that it is written in
 pub record Spelled : Type 0 where
   pub token : Token
   pub spelling : List ℕ
 
+-- a token of a text with its bytes
+abbrev pub spelled_one : List ℕ → Token → Spelled
+spelled_one text t = record { token = t; spelling = take t.len (drop t.at text) }
+
 -- the tokens of a text with their bytes
 abbrev pub spelled : List ℕ → List Token → List Spelled
-spelled text tokens = map (λ t. record { token = t; spelling = take t.len (drop t.at text) }) tokens
+spelled text tokens = map (spelled_one text) tokens
 
 -- where a token begins
 abbrev pub place : Spelled → ℕ
 place t = t.token.at
 
 -- a word that is not reserved and counts nowhere
-abbrev pub plain_name : ℕ
-plain_name = 0
+abbrev pub plain_name : Class
+plain_name = classed.Word word.Plain
 
 -- the plain words that count in their places
-abbrev pub the_location : ℕ
-the_location = 1
+abbrev pub the_location : Class
+the_location = classed.Word word.Location
 
 -- the word `protocol`
-abbrev pub the_protocol : ℕ
-the_protocol = 2
+abbrev pub the_protocol : Class
+the_protocol = classed.Word word.Protocol
 
 -- the word `interfaces`
-abbrev pub the_interfaces : ℕ
-the_interfaces = 3
+abbrev pub the_interfaces : Class
+the_interfaces = classed.Word word.Interfaces
 
 -- the word `concurrent`
-abbrev pub the_concurrent : ℕ
-the_concurrent = 4
+abbrev pub the_concurrent : Class
+the_concurrent = classed.Word word.Concurrent
 
 -- the word `single`
-abbrev pub the_single : ℕ
-the_single = 5
+abbrev pub the_single : Class
+the_single = classed.Word word.Single
 
 -- the reserved words
-abbrev pub the_type : ℕ
-the_type = 6
+abbrev pub the_type : Class
+the_type = classed.Word word.Type
 
 -- the word `interface`
-abbrev pub the_interface : ℕ
-the_interface = 7
+abbrev pub the_interface : Class
+the_interface = classed.Word word.Interface
 
 -- the word `service`
-abbrev pub the_service : ℕ
-the_service = 8
+abbrev pub the_service : Class
+the_service = classed.Word word.Service
 
 -- the word `inputPort`
-abbrev pub the_input_port : ℕ
-the_input_port = 9
+abbrev pub the_input_port : Class
+the_input_port = classed.Word word.InputPort
 
 -- the word `outputPort`
-abbrev pub the_output_port : ℕ
-the_output_port = 10
+abbrev pub the_output_port : Class
+the_output_port = classed.Word word.OutputPort
 
 -- the word `execution`
-abbrev pub the_execution : ℕ
-the_execution = 11
+abbrev pub the_execution : Class
+the_execution = classed.Word word.Execution
 
 -- the word `cset`
-abbrev pub the_cset : ℕ
-the_cset = 12
+abbrev pub the_cset : Class
+the_cset = classed.Word word.Cset
 
 -- the word `csets`
-abbrev pub the_csets : ℕ
-the_csets = 13
+abbrev pub the_csets : Class
+the_csets = classed.Word word.Csets
 
 -- the word `init`
-abbrev pub the_init : ℕ
-the_init = 14
+abbrev pub the_init : Class
+the_init = classed.Word word.Init
 
 -- the word `main`
-abbrev pub the_main : ℕ
-the_main = 15
+abbrev pub the_main : Class
+the_main = classed.Word word.Main
 
 -- the word `scope`
-abbrev pub the_scope : ℕ
-the_scope = 16
+abbrev pub the_scope : Class
+the_scope = classed.Word word.Scope
 
 -- the word `install`
-abbrev pub the_install : ℕ
-the_install = 17
+abbrev pub the_install : Class
+the_install = classed.Word word.Install
 
 -- the word `throw`
-abbrev pub the_throw : ℕ
-the_throw = 18
+abbrev pub the_throw : Class
+the_throw = classed.Word word.Throw
 
 -- the word `comp`
-abbrev pub the_comp : ℕ
-the_comp = 19
+abbrev pub the_comp : Class
+the_comp = classed.Word word.Comp
 
 -- the word `cH`
-abbrev pub the_inner_handler : ℕ
-the_inner_handler = 20
+abbrev pub the_inner_handler : Class
+the_inner_handler = classed.Word word.InnerHandler
 
 -- the word `this`
-abbrev pub the_this : ℕ
-the_this = 21
+abbrev pub the_this : Class
+the_this = classed.Word word.This
 
 -- the word `nullProcess`
-abbrev pub the_null_process : ℕ
-the_null_process = 22
+abbrev pub the_null_process : Class
+the_null_process = classed.Word word.NullProcess
 
 -- the word `if`
-abbrev pub the_if : ℕ
-the_if = 23
+abbrev pub the_if : Class
+the_if = classed.Word word.If
 
 -- the word `else`
-abbrev pub the_else : ℕ
-the_else = 24
+abbrev pub the_else : Class
+the_else = classed.Word word.Else
 
 -- the word `while`
-abbrev pub the_while : ℕ
-the_while = 25
+abbrev pub the_while : Class
+the_while = classed.Word word.While
 
 -- the word `for`
-abbrev pub the_for : ℕ
-the_for = 26
+abbrev pub the_for : Class
+the_for = classed.Word word.For
 
 -- the word `undef`
-abbrev pub the_undef : ℕ
-the_undef = 27
+abbrev pub the_undef : Class
+the_undef = classed.Word word.Undef
 
 -- the word `is_defined`
-abbrev pub the_is_defined : ℕ
-the_is_defined = 28
+abbrev pub the_is_defined : Class
+the_is_defined = classed.Word word.IsDefined
 
 -- the word `true`
-abbrev pub the_true : ℕ
-the_true = 29
+abbrev pub the_true : Class
+the_true = classed.Word word.True
 
 -- the word `false`
-abbrev pub the_false : ℕ
-the_false = 30
+abbrev pub the_false : Class
+the_false = classed.Word word.False
 
 -- the word `void`
-abbrev pub the_void : ℕ
-the_void = 31
+abbrev pub the_void : Class
+the_void = classed.Word word.Void
 
 -- the word `bool`
-abbrev pub the_bool : ℕ
-the_bool = 32
+abbrev pub the_bool : Class
+the_bool = classed.Word word.Bool
 
 -- the word `int`
-abbrev pub the_int : ℕ
-the_int = 33
+abbrev pub the_int : Class
+the_int = classed.Word word.Int
 
 -- the word `long`
-abbrev pub the_long : ℕ
-the_long = 34
+abbrev pub the_long : Class
+the_long = classed.Word word.Long
 
 -- the word `string`
-abbrev pub the_string : ℕ
-the_string = 35
+abbrev pub the_string : Class
+the_string = classed.Word word.Str
 
 -- the word `any`
-abbrev pub the_any : ℕ
-the_any = 36
+abbrev pub the_any : Class
+the_any = classed.Word word.Any
 
 -- the word `undefined`
-abbrev pub the_undefined : ℕ
-the_undefined = 37
+abbrev pub the_undefined : Class
+the_undefined = classed.Word word.Undefined
 
 -- the word `throws`
-abbrev pub the_throws : ℕ
-the_throws = 38
+abbrev pub the_throws : Class
+the_throws = classed.Word word.Throws
 
 -- the word `RequestResponse`
-abbrev pub the_request_response : ℕ
-the_request_response = 39
+abbrev pub the_request_response : Class
+the_request_response = classed.Word word.RequestResponse
 
 -- the word `OneWay`
-abbrev pub the_one_way : ℕ
-the_one_way = 40
+abbrev pub the_one_way : Class
+the_one_way = classed.Word word.OneWay
 
 -- numbers and strings
-abbrev pub int_number : ℕ
-int_number = 41
+abbrev pub int_number : Class
+int_number = classed.Int
 
 -- a long
-abbrev pub long_number : ℕ
-long_number = 42
+abbrev pub long_number : Class
+long_number = classed.Long
 
 -- a string
-abbrev pub quoted_text : ℕ
-quoted_text = 43
+abbrev pub quoted_text : Class
+quoted_text = classed.Str
 
 -- the signs
-abbrev pub sign_arrow : ℕ
-sign_arrow = 44
+abbrev pub sign_arrow : Class
+sign_arrow = classed.Sign sign.Arrow
 
 -- the sign `==`
-abbrev pub sign_equal : ℕ
-sign_equal = 45
+abbrev pub sign_equal : Class
+sign_equal = classed.Sign sign.Equal
 
 -- the sign `!=`
-abbrev pub sign_not_equal : ℕ
-sign_not_equal = 46
+abbrev pub sign_not_equal : Class
+sign_not_equal = classed.Sign sign.NotEqual
 
 -- the sign `<=`
-abbrev pub sign_at_most : ℕ
-sign_at_most = 47
+abbrev pub sign_at_most : Class
+sign_at_most = classed.Sign sign.AtMost
 
 -- the sign `>=`
-abbrev pub sign_at_least : ℕ
-sign_at_least = 48
+abbrev pub sign_at_least : Class
+sign_at_least = classed.Sign sign.AtLeast
 
 -- the sign `<<`
-abbrev pub sign_deep_assign : ℕ
-sign_deep_assign = 49
+abbrev pub sign_deep_assign : Class
+sign_deep_assign = classed.Sign sign.DeepAssign
 
 -- the sign `++`
-abbrev pub sign_increment : ℕ
-sign_increment = 50
+abbrev pub sign_increment : Class
+sign_increment = classed.Sign sign.Increment
 
 -- the sign `--`
-abbrev pub sign_decrement : ℕ
-sign_decrement = 51
+abbrev pub sign_decrement : Class
+sign_decrement = classed.Sign sign.Decrement
 
 -- the sign `&&`
-abbrev pub sign_and : ℕ
-sign_and = 52
+abbrev pub sign_and : Class
+sign_and = classed.Sign sign.And
 
 -- the sign `||`
-abbrev pub sign_or : ℕ
-sign_or = 53
+abbrev pub sign_or : Class
+sign_or = classed.Sign sign.Or
 
 -- the sign `{`
-abbrev pub sign_open_brace : ℕ
-sign_open_brace = 54
+abbrev pub sign_open_brace : Class
+sign_open_brace = classed.Sign sign.OpenBrace
 
 -- the sign `}`
-abbrev pub sign_close_brace : ℕ
-sign_close_brace = 55
+abbrev pub sign_close_brace : Class
+sign_close_brace = classed.Sign sign.CloseBrace
 
 -- the sign `(`
-abbrev pub sign_open_paren : ℕ
-sign_open_paren = 56
+abbrev pub sign_open_paren : Class
+sign_open_paren = classed.Sign sign.OpenParen
 
 -- the sign `)`
-abbrev pub sign_close_paren : ℕ
-sign_close_paren = 57
+abbrev pub sign_close_paren : Class
+sign_close_paren = classed.Sign sign.CloseParen
 
 -- the sign `[`
-abbrev pub sign_open_bracket : ℕ
-sign_open_bracket = 58
+abbrev pub sign_open_bracket : Class
+sign_open_bracket = classed.Sign sign.OpenBracket
 
 -- the sign `]`
-abbrev pub sign_close_bracket : ℕ
-sign_close_bracket = 59
+abbrev pub sign_close_bracket : Class
+sign_close_bracket = classed.Sign sign.CloseBracket
 
 -- the sign `,`
-abbrev pub sign_comma : ℕ
-sign_comma = 60
+abbrev pub sign_comma : Class
+sign_comma = classed.Sign sign.Comma
 
 -- the sign `;`
-abbrev pub sign_semicolon : ℕ
-sign_semicolon = 61
+abbrev pub sign_semicolon : Class
+sign_semicolon = classed.Sign sign.Semicolon
 
 -- the sign `:`
-abbrev pub sign_colon : ℕ
-sign_colon = 62
+abbrev pub sign_colon : Class
+sign_colon = classed.Sign sign.Colon
 
 -- the sign `.`
-abbrev pub sign_dot : ℕ
-sign_dot = 63
+abbrev pub sign_dot : Class
+sign_dot = classed.Sign sign.Dot
 
 -- the sign `|`
-abbrev pub sign_bar : ℕ
-sign_bar = 64
+abbrev pub sign_bar : Class
+sign_bar = classed.Sign sign.Bar
 
 -- the sign `=`
-abbrev pub sign_assign : ℕ
-sign_assign = 65
+abbrev pub sign_assign : Class
+sign_assign = classed.Sign sign.Assign
 
 -- the sign `<`
-abbrev pub sign_less : ℕ
-sign_less = 66
+abbrev pub sign_less : Class
+sign_less = classed.Sign sign.Less
 
 -- the sign `>`
-abbrev pub sign_greater : ℕ
-sign_greater = 67
+abbrev pub sign_greater : Class
+sign_greater = classed.Sign sign.Greater
 
 -- the sign `+`
-abbrev pub sign_plus : ℕ
-sign_plus = 68
+abbrev pub sign_plus : Class
+sign_plus = classed.Sign sign.Plus
 
 -- the sign `-`
-abbrev pub sign_minus : ℕ
-sign_minus = 69
+abbrev pub sign_minus : Class
+sign_minus = classed.Sign sign.Minus
 
 -- the sign `*`
-abbrev pub sign_star : ℕ
-sign_star = 70
+abbrev pub sign_star : Class
+sign_star = classed.Sign sign.Star
 
 -- the sign `/`
-abbrev pub sign_slash : ℕ
-sign_slash = 71
+abbrev pub sign_slash : Class
+sign_slash = classed.Sign sign.Slash
 
 -- the sign `%`
-abbrev pub sign_percent : ℕ
-sign_percent = 72
+abbrev pub sign_percent : Class
+sign_percent = classed.Sign sign.Percent
 
 -- the sign `!`
-abbrev pub sign_not : ℕ
-sign_not = 73
+abbrev pub sign_not : Class
+sign_not = classed.Sign sign.Not
 
 -- the sign `#`
-abbrev pub sign_hash : ℕ
-sign_hash = 74
+abbrev pub sign_hash : Class
+sign_hash = classed.Sign sign.Hash
 
 -- the sign `@`
-abbrev pub sign_at : ℕ
-sign_at = 75
+abbrev pub sign_at : Class
+sign_at = classed.Sign sign.At
 
 -- the sign `?`
-abbrev pub sign_question : ℕ
-sign_question = 76
-
--- the words of the classes from the first plain word on
-abbrev pub counted_words : List (List ℕ)
-counted_words = codes "location" ∷ codes "protocol" ∷ codes "interfaces" ∷ codes "concurrent" ∷ codes "single" ∷ reserved_words
-
--- the class of a word, where these have the classes from n on
-abbrev pub class_among : List (List ℕ) → ℕ → List ℕ → ℕ
-class_among [] n word = plain_name
-class_among (w ∷ words) n word = if bytes_eq w word then n else class_among words (suc n) word
-
--- the class of a word
-abbrev pub word_class : List ℕ → ℕ
-word_class word = class_among counted_words the_location word
-
--- the class of a sign
-abbrev pub sign_class : Sign → ℕ
-sign_class sign.Arrow = sign_arrow
-sign_class sign.Equal = sign_equal
-sign_class sign.NotEqual = sign_not_equal
-sign_class sign.AtMost = sign_at_most
-sign_class sign.AtLeast = sign_at_least
-sign_class sign.DeepAssign = sign_deep_assign
-sign_class sign.Increment = sign_increment
-sign_class sign.Decrement = sign_decrement
-sign_class sign.And = sign_and
-sign_class sign.Or = sign_or
-sign_class sign.OpenBrace = sign_open_brace
-sign_class sign.CloseBrace = sign_close_brace
-sign_class sign.OpenParen = sign_open_paren
-sign_class sign.CloseParen = sign_close_paren
-sign_class sign.OpenBracket = sign_open_bracket
-sign_class sign.CloseBracket = sign_close_bracket
-sign_class sign.Comma = sign_comma
-sign_class sign.Semicolon = sign_semicolon
-sign_class sign.Colon = sign_colon
-sign_class sign.Dot = sign_dot
-sign_class sign.Bar = sign_bar
-sign_class sign.Assign = sign_assign
-sign_class sign.Less = sign_less
-sign_class sign.Greater = sign_greater
-sign_class sign.Plus = sign_plus
-sign_class sign.Minus = sign_minus
-sign_class sign.Star = sign_star
-sign_class sign.Slash = sign_slash
-sign_class sign.Percent = sign_percent
-sign_class sign.Not = sign_not
-sign_class sign.Hash = sign_hash
-sign_class sign.At = sign_at
-sign_class sign.Question = sign_question
+abbrev pub sign_question : Class
+sign_question = classed.Sign sign.Question
 
 -- the class of a token of that kind, written so
-abbrev pub class_of : TokenKind → List ℕ → ℕ
-class_of kind.Word spelling = word_class spelling
-class_of (kind.Int n) spelling = int_number
-class_of (kind.Long n) spelling = long_number
-class_of (kind.Str text) spelling = quoted_text
-class_of (kind.Sign s) spelling = sign_class s
+abbrev pub class_of : TokenKind → List ℕ → Class
+class_of kind.Word spelling = classed.Word (word_of spelling)
+class_of (kind.Int n) spelling = classed.Int
+class_of (kind.Long n) spelling = classed.Long
+class_of (kind.Str text) spelling = classed.Str
+class_of (kind.Sign s) spelling = classed.Sign s
 
 -- the class of a token
-abbrev pub class : Spelled → ℕ
+abbrev pub class : Spelled → Class
 class t = class_of t.token.kind t.spelling
 
+-- signs by number, which tells them apart
+abbrev pub sign_number : Sign → ℕ
+sign_number sign.Arrow = 0
+sign_number sign.Equal = 1
+sign_number sign.NotEqual = 2
+sign_number sign.AtMost = 3
+sign_number sign.AtLeast = 4
+sign_number sign.DeepAssign = 5
+sign_number sign.Increment = 6
+sign_number sign.Decrement = 7
+sign_number sign.And = 8
+sign_number sign.Or = 9
+sign_number sign.OpenBrace = 10
+sign_number sign.CloseBrace = 11
+sign_number sign.OpenParen = 12
+sign_number sign.CloseParen = 13
+sign_number sign.OpenBracket = 14
+sign_number sign.CloseBracket = 15
+sign_number sign.Comma = 16
+sign_number sign.Semicolon = 17
+sign_number sign.Colon = 18
+sign_number sign.Dot = 19
+sign_number sign.Bar = 20
+sign_number sign.Assign = 21
+sign_number sign.Less = 22
+sign_number sign.Greater = 23
+sign_number sign.Plus = 24
+sign_number sign.Minus = 25
+sign_number sign.Star = 26
+sign_number sign.Slash = 27
+sign_number sign.Percent = 28
+sign_number sign.Not = 29
+sign_number sign.Hash = 30
+sign_number sign.At = 31
+sign_number sign.Question = 32
+
+-- classes by number, which tells them apart
+abbrev pub number : Class → ℕ
+number (classed.Word w) = word_number w
+number classed.Int = 41
+number classed.Long = 42
+number classed.Str = 43
+number (classed.Sign s) = sign_number s + 44
+
+-- they are the same class
+abbrev pub same : Class → Class → Bool
+same j k = number j == number k
+
 -- the classes of `id`: the words that are not reserved
-abbrev pub ids : List ℕ
+abbrev pub ids : List Class
 ids = plain_name ∷ the_location ∷ the_protocol ∷ the_interfaces ∷ the_concurrent ∷ the_single ∷ []
 
 -- the classes of `word`: all words
-abbrev pub words : List ℕ
+abbrev pub words : List Class
 words = plain_name ∷ the_location ∷ the_protocol ∷ the_interfaces ∷ the_concurrent ∷ the_single ∷ the_type ∷ the_interface ∷ the_service ∷ the_input_port ∷ the_output_port ∷ the_execution ∷ the_cset ∷ the_csets ∷ the_init ∷ the_main ∷ the_scope ∷ the_install ∷ the_throw ∷ the_comp ∷ the_inner_handler ∷ the_this ∷ the_null_process ∷ the_if ∷ the_else ∷ the_while ∷ the_for ∷ the_undef ∷ the_is_defined ∷ the_true ∷ the_false ∷ the_void ∷ the_bool ∷ the_int ∷ the_long ∷ the_string ∷ the_any ∷ the_undefined ∷ the_throws ∷ the_request_response ∷ the_one_way ∷ []
 
 -- all classes
-abbrev pub classes : List ℕ
+abbrev pub classes : List Class
 classes = words ++ int_number ∷ long_number ∷ quoted_text ∷ sign_arrow ∷ sign_equal ∷ sign_not_equal ∷ sign_at_most ∷ sign_at_least ∷ sign_deep_assign ∷ sign_increment ∷ sign_decrement ∷ sign_and ∷ sign_or ∷ sign_open_brace ∷ sign_close_brace ∷ sign_open_paren ∷ sign_close_paren ∷ sign_open_bracket ∷ sign_close_bracket ∷ sign_comma ∷ sign_semicolon ∷ sign_colon ∷ sign_dot ∷ sign_bar ∷ sign_assign ∷ sign_less ∷ sign_greater ∷ sign_plus ∷ sign_minus ∷ sign_star ∷ sign_slash ∷ sign_percent ∷ sign_not ∷ sign_hash ∷ sign_at ∷ sign_question ∷ []
 
 -- the brackets that open
-abbrev pub open_brackets : List ℕ
+abbrev pub open_brackets : List Class
 open_brackets = sign_open_brace ∷ sign_open_paren ∷ sign_open_bracket ∷ []
 
 -- it is among them
-abbrev pub has : List ℕ → ℕ → Bool
+abbrev pub has : List Class → Class → Bool
 has [] k = false
-has (j ∷ js) k = (j == k) || has js k
-
--- whether a number is a class
-abbrev pub is_class : ℕ → Bool
-is_class k = has classes k
+has (j ∷ js) k = same j k || has js k
 
 -- the next token is there and of one of these classes
-abbrev pub begins : List ℕ → List Spelled → Bool
+abbrev pub begins : List Class → List Spelled → Bool
 begins ks [] = false
 begins ks (t ∷ ts) = has ks (class t)

@@ -3,6 +3,8 @@ use Rattle.std.specs.Prelude.{ℕ, zero, suc, List, [], ◌∷◌, ◌++◌, Opt
 use Rattle.jolie_ast.specs.declared.expression.Expr.{Expr}
 use Rattle.jolie_ast.specs.declared.expression.ExprForm.TheVariants as form
 use Rattle.jolie_ast.specs.declared.expression.Member.{Member, roll-Member}
+use Rattle.jolie_ast.specs.declared.expression.Factor.{Factor}
+use Rattle.jolie_ast.specs.declared.expression.Term.{Term}
 use Rattle.jolie_ast.specs.declared.expression.Path.{Path}
 use Rattle.jolie_ast.specs.declared.expression.Step.{Step}
 use Rattle.jolie_ast.specs.declared.process.Process.{Process}
@@ -25,6 +27,7 @@ use Rattle.jolie_ast.specs.declared.types.Cardinality.{Cardinality}
 use Rattle.jolie_ast.specs.declared.types.Cardinality.TheVariants as cardinality
 use Rattle.jolie_ast.specs.declared.types.TypeBody.{TypeBody}
 use Rattle.jolie_ast.specs.declared.types.TypeBody.TheVariants as body
+use Rattle.jolie_ast.specs.declared.types.DefinedType.{DefinedType}
 use Rattle.jolie_ast.specs.declared.types.DefinedType.TheVariants as defined
 use Rattle.jolie_ast.specs.declared.types.TypeDefinition.{TypeDefinition}
 use Rattle.jolie_ast.specs.declared.types.Field.{Field}
@@ -43,13 +46,18 @@ use Rattle.jolie_ast.specs.declared.service.Clause.TheVariants as clause
 use Rattle.jolie_ast.specs.declared.service.Service.{Service}
 use Rattle.jolie_ast.specs.declared.tree.Definition.{Definition}
 use Rattle.jolie_ast.specs.declared.tree.Definition.TheVariants as definition
+use Rattle.jolie_ast.specs.declared.name.Name.{Name}
+use Rattle.jolie_ast.specs.declared.name.Quoted.{Quoted}
+use Rattle.jolie_parse.specs.declared.class.Class.{Class}
+use Rattle.jolie_parse.specs.declared.simple.ForParts.{ForParts}
+use Rattle.jolie_parse.specs.declared.process.IfParts.{IfParts}
 use Rattle.jolie_parse.specs.Classes as c
 use Rattle.jolie_parse.specs.Classes.{Spelled, class, place, ids, words}
 use Rattle.jolie_parse.specs.Meanings as means_as
-use Rattle.jolie_parse.specs.Syntax.{Part, an_expression, an_operand, a_path, maybe_path, maybe_expression, a_body, some_handlers, a_name, an_input, an_else_if, for_parts, throw_parts, some_members, a_type_name, some_bounds, some_fields, some_operations, port_parts, some_variables, some_clauses, Meant, ForParts, IfParts, Syn, token, give, both, either, many, means, inside, prefix, Lang, Derives, separated, some_of, optional, behind, ended, between}
+use Rattle.jolie_parse.specs.Syntax.{Part, an_expression, an_operand, a_path, maybe_path, maybe_expression, a_body, some_handlers, a_name, an_input, an_else_if, for_parts, throw_parts, some_members, a_type_name, some_bounds, some_fields, some_operations, port_parts, some_variables, some_clauses, Meant, Syn, token, give, both, either, many, means, inside, prefix, Lang, Derives, separated, some_of, optional, behind, ended, between}
 
 -- a token of one class
-abbrev pub one : ℕ → Syn Spelled
+abbrev pub one : Class → Syn Spelled
 one k = token (k ∷ [])
 
 -- a part in parentheses
@@ -93,35 +101,82 @@ path = means (λ q. means_as.path_of q.0 q.1) (both id path_parts)
 
 -- ---- expressions
 
--- an operand without a prefix: a number, a string, a bool, a path, its size, whether it is defined, a cast, what stands in parentheses, a literal
+-- an int
+unfoldable pub whole_number : Syn Expr
+whole_number = means (λ t. means_as.expression (place t) (form.Int (means_as.int_value t))) (one c.int_number)
+
+-- a long
+unfoldable pub long_number : Syn Expr
+long_number = means (λ t. means_as.expression (place t) (form.Long (means_as.long_value t))) (one c.long_number)
+
+-- a string
+unfoldable pub quoted_text : Syn Expr
+quoted_text = means (λ t. means_as.expression (place t) (form.Str (means_as.meant_text t))) (one c.quoted_text)
+
+-- `true` or `false`
+unfoldable pub truth : Syn Expr
+truth = means (λ t. means_as.expression (place t) (form.Bool (means_as.is_true t))) (token (c.the_true ∷ c.the_false ∷ []))
+
+-- the value at a path
+unfoldable pub path_value : Syn Expr
+path_value = means means_as.path_expression path
+
+-- how many nodes stand at a path
+unfoldable pub size : Syn Expr
+size = means (λ q. means_as.expression (place q.0) (form.Size q.1)) (both (one c.sign_hash) path)
+
+-- whether a path is there
+unfoldable pub defined_test : Syn Expr
+defined_test = means (λ q. means_as.expression (place q.0) (form.IsDefined q.1)) (both (one c.the_is_defined) (parens a_path))
+
+-- a value turned into another kind
+unfoldable pub cast : Syn Expr
+cast = means (λ q. means_as.expression (place q.0) (form.Cast (means_as.cast_target (class q.0)) q.1)) (both (token (c.the_int ∷ c.the_long ∷ c.the_string ∷ [])) (parens an_expression))
+
+-- an expression in parentheses
+unfoldable pub grouped : Syn Expr
+grouped = means (λ q. means_as.begun_at (place q.0) q.1) (inside c.sign_open_paren an_expression c.sign_close_paren)
+
+-- a tree written out
+unfoldable pub literal : Syn Expr
+literal = means (λ q. means_as.expression (place q.0) (form.Literal q.1)) (inside c.sign_open_brace some_members c.sign_close_brace)
+
+-- an operand without a prefix
 unfoldable pub primary : Syn Expr
 primary =
-    either (means (λ t. means_as.expression (place t) (form.Int (means_as.int_value t))) (one c.int_number))
-    (either (means (λ t. means_as.expression (place t) (form.Long (means_as.long_value t))) (one c.long_number))
-    (either (means (λ t. means_as.expression (place t) (form.Str (means_as.meant_text t))) (one c.quoted_text))
-    (either (means (λ t. means_as.expression (place t) (form.Bool (means_as.is_true t))) (token (c.the_true ∷ c.the_false ∷ [])))
-    (either (means means_as.path_expression path)
-    (either (means (λ q. means_as.expression (place q.0) (form.Size q.1)) (both (one c.sign_hash) path))
-    (either (means (λ q. means_as.expression (place q.0) (form.IsDefined q.1)) (both (one c.the_is_defined) (parens a_path)))
-    (either (means (λ q. means_as.expression (place q.0) (form.Cast (means_as.cast_target (class q.0)) q.1)) (both (token (c.the_int ∷ c.the_long ∷ c.the_string ∷ [])) (parens an_expression)))
-    (either (means (λ q. means_as.begun_at (place q.0) q.1) (inside c.sign_open_paren an_expression c.sign_close_paren))
-    (means (λ q. means_as.expression (place q.0) (form.Literal q.1)) (inside c.sign_open_brace some_members c.sign_close_brace))))))))))
+    either whole_number (either long_number (either quoted_text (either truth (either path_value (either size (either defined_test (either cast (either grouped literal))))))))
+
+-- `-` or `!` and the operand behind it
+unfoldable pub prefixed_operand : Syn Expr
+prefixed_operand = means means_as.prefixed_of (prefix (c.sign_minus ∷ c.sign_not ∷ []) an_operand)
 
 -- an operand, behind any number of `-` and `!`
 unfoldable pub unary : Syn Expr
-unary = either primary (means means_as.prefixed_of (prefix (c.sign_minus ∷ c.sign_not ∷ []) an_operand))
+unary = either prefixed_operand primary
+
+-- a further operand, behind `*`, `/` or `%`
+unfoldable pub factor : Syn Factor
+factor = means means_as.factor_of (both (token (c.sign_star ∷ c.sign_slash ∷ c.sign_percent ∷ [])) unary)
 
 -- operands with `*`, `/` and `%` between them
 unfoldable pub product : Syn Expr
-product = means means_as.product_of (both unary (many (both (token (c.sign_star ∷ c.sign_slash ∷ c.sign_percent ∷ [])) unary)))
+product = means means_as.product_of (both unary (many factor))
+
+-- a further operand, behind `+` or `-`
+unfoldable pub term : Syn Term
+term = means means_as.term_of (both (token (c.sign_plus ∷ c.sign_minus ∷ [])) product)
 
 -- products with `+` and `-` between them
 unfoldable pub sum : Syn Expr
-sum = means means_as.sum_of (both product (many (both (token (c.sign_plus ∷ c.sign_minus ∷ [])) product)))
+sum = means means_as.sum_of (both product (many term))
+
+-- a sum behind a sign that compares
+unfoldable pub comparand : Syn (Spelled × Expr)
+comparand = both (token (c.sign_equal ∷ c.sign_not_equal ∷ c.sign_less ∷ c.sign_at_most ∷ c.sign_greater ∷ c.sign_at_least ∷ [])) sum
 
 -- a sum, or two that are compared
 unfoldable pub comparison : Syn Expr
-comparison = means means_as.comparison_made (both sum (optional (both (token (c.sign_equal ∷ c.sign_not_equal ∷ c.sign_less ∷ c.sign_at_most ∷ c.sign_greater ∷ c.sign_at_least ∷ [])) sum)))
+comparison = means means_as.comparison_made (both sum (optional comparand))
 
 -- comparisons with `&&` between them
 unfoldable pub conjunction : Syn Expr
@@ -134,6 +189,10 @@ expr = means means_as.or_of (separated c.sign_or conjunction)
 -- a member of a literal: a name and its value
 unfoldable pub member : Syn Member
 member = means (λ q. roll-Member (record { name = means_as.name_of q.1.0; value = q.1.1 })) (both (optional (one c.sign_dot)) (both word (behind c.sign_assign expr)))
+
+-- the members of a literal
+unfoldable pub members : Syn (List Member)
+members = means list_of (optional (separated c.sign_comma member))
 
 -- ---- processes
 
@@ -159,7 +218,7 @@ branch = means means_as.branch_of (both (inside c.sign_open_bracket an_input c.s
 
 -- a choice: one branch or more
 unfoldable pub choice : Syn Process
-choice = means (λ q. means_as.choice_of q.1 q.0.0 q.0.1) (both (both (inside c.sign_open_bracket an_input c.sign_close_bracket) block) (many branch))
+choice = means means_as.choice_of (some_of branch)
 
 -- what an output awaits: a path and handlers
 unfoldable pub answer : Syn Answer
@@ -215,21 +274,60 @@ else_parts =
 abbrev pub if_parts : Syn Otherwise → Syn IfParts
 if_parts rest = means (λ q. record { test = q.0; body = q.1.0; otherwise = q.1.1 }) (both (parens an_expression) (both block rest))
 
+-- a path is taken away
+unfoldable pub undefine : Syn Process
+undefine = means (λ q. process.Undef (place q.0) q.1) (both (one c.the_undef) (parens a_path))
+
+-- an `if` statement
+abbrev pub conditional : Syn Otherwise → Syn Process
+conditional rest = means (λ q. process.If (means_as.if_of q.0 q.1)) (both (one c.the_if) (if_parts rest))
+
+-- a `while` statement
+unfoldable pub repetition : Syn Process
+repetition = means (λ q. process.While (place q.0) q.1.0 q.1.1) (both (one c.the_while) (both (parens an_expression) block))
+
+-- a `for` statement
+unfoldable pub counted_loop : Syn Process
+counted_loop = means (λ q. means_as.for_of q.0 q.1.0 q.1.1) (both (one c.the_for) (both (parens for_parts) block))
+
+-- a scope: its name and its body
+unfoldable pub scope : Syn Process
+scope = means (λ q. process.Scope (place q.0) q.1.0 q.1.1) (both (one c.the_scope) (both (parens a_name) block))
+
+-- handlers are put up
+unfoldable pub install : Syn Process
+install = means (λ q. process.Install (place q.0) q.1) (both (one c.the_install) (parens some_handlers))
+
+-- a fault is thrown
+unfoldable pub throw : Syn Process
+throw = means (λ q. process.Throw (place q.0) q.1.0 q.1.1) (both (one c.the_throw) (parens throw_parts))
+
+-- a finished scope is compensated
+unfoldable pub compensate : Syn Process
+compensate = means (λ q. process.Compensate (place q.0) q.1) (both (one c.the_comp) (parens a_name))
+
+-- the handler that this one replaces
+unfoldable pub inner_handler : Syn Process
+inner_handler = means (λ t. process.InnerHandler (place t)) (one c.the_inner_handler)
+
+-- a block as a statement
+unfoldable pub block_statement : Syn Process
+block_statement = means process.Block block
+
 -- the statements that begin with a sign or a reserved word
 abbrev pub marked_statement : Syn Otherwise → Syn Process
 marked_statement rest =
-    either (means (λ q. process.Undef (place q.0) q.1) (both (one c.the_undef) (parens a_path)))
+    either undefine
     (either correlate
-    (either (means (λ q. process.If (means_as.if_of q.0 q.1)) (both (one c.the_if) (if_parts rest)))
-    (either (means (λ q. process.While (place q.0) q.1.0 q.1.1) (both (one c.the_while) (both (parens an_expression) block)))
-    (either (means (λ q. means_as.for_of q.0 q.1.0 q.1.1) (both (one c.the_for) (both (parens for_parts) block)))
+    (either (conditional rest)
+    (either repetition
+    (either counted_loop
     (either choice
-    (either (means (λ q. process.Scope (place q.0) q.1.0 q.1.1) (both (one c.the_scope) (both (parens a_name) block)))
-    (either (means (λ q. process.Install (place q.0) q.1) (both (one c.the_install) (parens some_handlers)))
-    (either (means (λ q. process.Throw (place q.0) q.1.0 q.1.1) (both (one c.the_throw) (parens throw_parts)))
-    (either (means (λ q. process.Compensate (place q.0) q.1) (both (one c.the_comp) (parens a_name)))
-    (either (means (λ t. process.InnerHandler (place t)) (one c.the_inner_handler))
-    (means process.Block block)))))))))))
+    (either scope
+    (either install
+    (either throw
+    (either compensate
+    (either inner_handler block_statement))))))))))
 
 -- `nullProcess`
 unfoldable pub nothing : Syn Process
@@ -251,22 +349,42 @@ in_parallel s = means means_as.parallel_of (separated c.sign_bar (in_sequence s)
 unfoldable pub handler_key : Syn HandlerKey
 handler_key = either (means (λ t. key.This (place t)) (one c.the_this)) (means (λ t. key.Named (means_as.name_of t)) id)
 
+-- a handler: what it is for and what it does
+abbrev pub handler : Syn Process → Syn Handler
+handler s = means means_as.handler_of (both handler_key (behind c.sign_arrow (in_parallel s)))
+
 -- handlers with commas between them
 abbrev pub handlers : Syn Process → Syn (List Handler)
-handlers s = separated c.sign_comma (means means_as.handler_of (both handler_key (behind c.sign_arrow (in_parallel s))))
+handlers s = separated c.sign_comma (handler s)
+
+-- what a `throw` names: a fault and its data
+unfoldable pub thrown : Syn (Name × Option Expr)
+thrown = means (λ q. (means_as.name_of q.0, q.1)) (both id (optional (behind c.sign_comma expr)))
+
+-- a name alone
+unfoldable pub name : Syn Name
+name = means means_as.name_of id
 
 -- ---- types
 
 -- the words of the kinds of root
-abbrev pub kinds : List ℕ
+abbrev pub kinds : List Class
 kinds = c.the_void ∷ c.the_bool ∷ c.the_int ∷ c.the_long ∷ c.the_string ∷ c.the_any ∷ []
+
+-- a kind of root with fields
+unfoldable pub root_type : Syn TypeBody
+root_type = means means_as.root_body (both (token kinds) (optional (braces some_fields)))
 
 -- what a type is: a kind with fields, a name, or anything
 unfoldable pub type_body : Syn TypeBody
 type_body =
-    either (means means_as.root_body (both (token kinds) (optional (braces some_fields))))
+    either root_type
     (either (means (λ t. body.Named (means_as.name_of t)) id)
     (means (λ t. body.Undefined (place t)) (one c.the_undefined)))
+
+-- the bounds of a cardinality
+unfoldable pub bounds : Syn Cardinality
+bounds = means (λ q. means_as.bounds_of q.0 q.1) (both (one c.int_number) (behind c.sign_comma (token (c.int_number ∷ c.sign_star ∷ []))))
 
 -- how often a field may stand: `?`, `*` or bounds
 unfoldable pub cardinal : Syn Cardinality
@@ -281,11 +399,13 @@ field =
     means (λ q. means_as.field_of q.1.0 q.1.1.0 q.1.1.1.0)
     (both (optional (one c.sign_dot)) (both word (both (optional cardinal) (both (behind c.sign_colon type_body) (optional (one c.sign_comma))))))
 
+-- what stands behind the name of a type
+unfoldable pub defined_type : Syn DefinedType
+defined_type = either (means defined.Body (behind c.sign_colon type_body)) (means defined.Fields (braces some_fields))
+
 -- a type with its name
 unfoldable pub type_definition : Syn TypeDefinition
-type_definition =
-    means (λ q. means_as.definition_of q.0 q.1.0 q.1.1)
-    (both (one c.the_type) (both id (either (means defined.Body (behind c.sign_colon type_body)) (means defined.Fields (braces some_fields)))))
+type_definition = means (λ q. means_as.definition_of q.0 q.1.0 q.1.1) (both (one c.the_type) (both id defined_type))
 
 -- ---- interfaces
 
@@ -300,21 +420,31 @@ type_named =
 unfoldable pub fault : Syn Fault
 fault = means means_as.fault_of (both id (optional (parens a_type_name)))
 
+-- the faults that an operation may throw
+unfoldable pub throws : Syn (Option (List Fault))
+throws = optional (behind c.the_throws (some_of fault))
+
 -- a request-response operation with its types and faults
 unfoldable pub request_response : Syn RequestResponse
 request_response =
     means (λ q. means_as.request_response_of q.0 q.1.0 q.1.1.0 q.1.1.1)
-    (both id (both (parens a_type_name) (both (parens a_type_name) (optional (behind c.the_throws (some_of fault))))))
+    (both id (both (parens a_type_name) (both (parens a_type_name) throws)))
 
 -- a one-way operation with its type
 unfoldable pub one_way : Syn OneWay
 one_way = means means_as.one_way_of (both id (parens a_type_name))
 
+-- operations behind the word `RequestResponse`
+unfoldable pub request_responses : Syn OperationGroup
+request_responses = means (λ q. group.RequestResponse (place q.0) q.1) (both (ended (one c.the_request_response) c.sign_colon) (separated c.sign_comma request_response))
+
+-- operations behind the word `OneWay`
+unfoldable pub one_ways : Syn OperationGroup
+one_ways = means (λ q. group.OneWay (place q.0) q.1) (both (ended (one c.the_one_way) c.sign_colon) (separated c.sign_comma one_way))
+
 -- the operations of one kind
 unfoldable pub operation_group : Syn OperationGroup
-operation_group =
-    either (means (λ q. group.RequestResponse (place q.0) q.1) (both (ended (one c.the_request_response) c.sign_colon) (separated c.sign_comma request_response)))
-    (means (λ q. group.OneWay (place q.0) q.1) (both (ended (one c.the_one_way) c.sign_colon) (separated c.sign_comma one_way)))
+operation_group = either request_responses one_ways
 
 -- an interface with its operations
 unfoldable pub interface : Syn Interface
@@ -331,25 +461,52 @@ unfoldable pub variable : Syn CorrelationVariable
 variable = means (λ q. means_as.variable_of q.0 q.1) (both (ended id c.sign_colon) (some_of alias))
 
 -- a name behind a word and a colon
-abbrev pub labelled : {A : Type 0} → ℕ → Syn A → Syn A
+abbrev pub labelled : {A : Type 0} → Class → Syn A → Syn A
 labelled k s = behind k (behind c.sign_colon s)
+
+-- how a service runs its sessions
+unfoldable pub execution_clause : Syn Clause
+execution_clause = means (λ q. clause.Execution (place q.0) (means_as.execution_of q.1)) (both (ended (one c.the_execution) c.sign_colon) (token (c.the_concurrent ∷ c.the_single ∷ [])))
+
+-- the parts of a port
+unfoldable pub port_body : Syn (Quoted × Option Name × List Name)
+port_body =
+    means (λ q. (means_as.quoted q.0, q.1.0, q.1.1))
+    (both (labelled c.the_location (one c.quoted_text))
+    (both (optional (labelled c.the_protocol name))
+    (labelled c.the_interfaces (separated c.sign_comma name))))
+
+-- a port
+unfoldable pub port : Syn Clause
+port = means (λ q. means_as.port_clause q.0 (means_as.port_of q.0 q.1.0 q.1.1)) (both (token (c.the_input_port ∷ c.the_output_port ∷ [])) (both id (braces port_parts)))
+
+-- a correlation set
+unfoldable pub correlation_set : Syn Clause
+correlation_set = means (λ q. clause.CorrelationSet (place q.0) q.1) (both (one c.the_cset) (braces some_variables))
+
+-- what a service does first
+unfoldable pub init_clause : Syn Clause
+init_clause = means (λ q. clause.Init (place q.0) q.1) (both (one c.the_init) block)
+
+-- what a session does
+unfoldable pub main_clause : Syn Clause
+main_clause = means (λ q. clause.Main (place q.0) q.1) (both (one c.the_main) block)
 
 -- a clause of a service
 unfoldable pub clauses : Syn Clause
-clauses =
-    either (means (λ q. clause.Execution (place q.0) (means_as.execution_of q.1)) (both (ended (one c.the_execution) c.sign_colon) (token (c.the_concurrent ∷ c.the_single ∷ []))))
-    (either (means (λ q. means_as.port_clause q.0 (means_as.port_of q.0 q.1.0 q.1.1)) (both (token (c.the_input_port ∷ c.the_output_port ∷ [])) (both id (braces port_parts))))
-    (either (means (λ q. clause.CorrelationSet (place q.0) q.1) (both (one c.the_cset) (braces some_variables)))
-    (either (means (λ q. clause.Init (place q.0) q.1) (both (one c.the_init) block))
-    (means (λ q. clause.Main (place q.0) q.1) (both (one c.the_main) block)))))
+clauses = either execution_clause (either port (either correlation_set (either init_clause main_clause)))
 
 -- a service with its clauses
 unfoldable pub service : Syn Service
 service = means (λ q. means_as.service_of q.0 q.1.0 q.1.1) (both (one c.the_service) (both id (braces some_clauses)))
 
+-- a type, an interface or a service
+unfoldable pub file_part : Syn Definition
+file_part = either (means definition.Type type_definition) (either (means definition.Interface interface) (means definition.Service service))
+
 -- a file: types, interfaces and services
 unfoldable pub file : Syn (List Definition)
-file = many (either (means definition.Type type_definition) (either (means definition.Interface interface) (means definition.Service service)))
+file = many file_part
 
 -- ---- what stands a level further in
 
@@ -362,21 +519,17 @@ part_rules s rest maybe_path = optional path
 part_rules s rest maybe_expression = optional expr
 part_rules s rest a_body = optional (in_parallel s)
 part_rules s rest some_handlers = handlers s
-part_rules s rest a_name = means means_as.name_of id
+part_rules s rest a_name = name
 part_rules s rest an_input = input
 part_rules s rest an_else_if = if_parts rest
 part_rules s rest for_parts = loop_parts
-part_rules s rest throw_parts = means (λ q. (means_as.name_of q.0, q.1)) (both id (optional (behind c.sign_comma expr)))
-part_rules s rest some_members = means list_of (optional (separated c.sign_comma member))
+part_rules s rest throw_parts = thrown
+part_rules s rest some_members = members
 part_rules s rest a_type_name = type_named
-part_rules s rest some_bounds = means (λ q. means_as.bounds_of q.0 q.1) (both (one c.int_number) (behind c.sign_comma (token (c.int_number ∷ c.sign_star ∷ []))))
+part_rules s rest some_bounds = bounds
 part_rules s rest some_fields = many field
 part_rules s rest some_operations = many operation_group
-part_rules s rest port_parts =
-    means (λ q. (means_as.quoted q.0, q.1.0, q.1.1))
-    (both (labelled c.the_location (one c.quoted_text))
-    (both (optional (labelled c.the_protocol (means means_as.name_of id)))
-    (labelled c.the_interfaces (separated c.sign_comma (means means_as.name_of id)))))
+part_rules s rest port_parts = port_body
 part_rules s rest some_variables = separated c.sign_comma variable
 part_rules s rest some_clauses = many clauses
 

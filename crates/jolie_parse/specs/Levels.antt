@@ -1,6 +1,7 @@
 -- Levels of nesting, and where the tokens so far stop beginning a file.
 use Rattle.std.specs.Prelude.{◌≡◌, ◌⊎◌, ℕ, zero, suc, true, List, [], ◌∷◌, ◌++◌}
 use Rattle.jolie_ast.specs.declared.tree.Definition.{Definition}
+use Rattle.jolie_parse.specs.declared.class.Class.{Class}
 use Rattle.jolie_parse.specs.Classes.{Spelled, class, has, place, open_brackets}
 use Rattle.jolie_parse.specs.Syntax.{Part, Meant, Syn, token, give, both, either, many, means, inside, prefix, Lang, Derives}
 use Rattle.jolie_parse.specs.Grammar.{production, Allowed, IsFile, BeginsFile, file}
@@ -8,11 +9,11 @@ use Rattle.jolie_parse.specs.Grammar.{production, Allowed, IsFile, BeginsFile, f
 -- what opens a level: a bracket with what stands in it and the bracket that closes, or tokens before what is a level
 -- further in
 pub data Opener : Type 0 where
-  bracket : ℕ → Part → ℕ → Opener
-  before : List ℕ → Part → Opener
+  bracket : Class → Part → Class → Opener
+  before : List Class → Part → Opener
 
 -- the classes of the token that opens it
-abbrev pub opening : Opener → List ℕ
+abbrev pub opening : Opener → List Class
 opening (bracket o r c) = o ∷ []
 opening (before ks r) = ks
 

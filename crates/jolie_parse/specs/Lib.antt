@@ -1,3 +1,4 @@
+pub mod Words
 pub mod Classes
 pub mod Syntax
 pub mod Meanings
@@ -5,4 +6,6 @@ pub mod Grammar
 pub mod Factored
 pub mod Reading
 pub mod Levels
+pub mod Answers
 pub mod Laws
+pub mod Reads

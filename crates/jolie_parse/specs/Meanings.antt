@@ -1,5 +1,5 @@
 -- What the phrases of the grammar mean as trees.
-use Rattle.std.specs.Prelude.{ℕ, ℤ, pos, Bool, ◌==◌, List, [], ◌∷◌, map, Option, Some, None, if◌then◌else◌}
+use Rattle.std.specs.Prelude.{ℕ, ℤ, pos, Bool, List, [], ◌∷◌, map, Option, Some, None, if◌then◌else◌}
 use Rattle.jolie_tokens.specs.declared.token.TokenKind.TheVariants as kind
 use Rattle.jolie_ast.specs.declared.name.Name.{Name}
 use Rattle.jolie_ast.specs.declared.name.Quoted.{Quoted}
@@ -14,8 +14,8 @@ use Rattle.jolie_ast.specs.declared.expression.CastTarget.TheVariants as target
 use Rattle.jolie_ast.specs.declared.expression.Expr.{Expr, roll-Expr, out-Expr}
 use Rattle.jolie_ast.specs.declared.expression.ExprForm.{ExprForm}
 use Rattle.jolie_ast.specs.declared.expression.ExprForm.TheVariants as form
-use Rattle.jolie_ast.specs.declared.expression.Factor.{roll-Factor}
-use Rattle.jolie_ast.specs.declared.expression.Term.{roll-Term}
+use Rattle.jolie_ast.specs.declared.expression.Factor.{Factor, roll-Factor}
+use Rattle.jolie_ast.specs.declared.expression.Term.{Term, roll-Term}
 use Rattle.jolie_ast.specs.declared.expression.Path.{Path, roll-Path, out-Path}
 use Rattle.jolie_ast.specs.declared.expression.Step.{Step, roll-Step, out-Step}
 use Rattle.jolie_ast.specs.declared.process.Process.{Process}
@@ -27,7 +27,7 @@ use Rattle.jolie_ast.specs.declared.process.Block.{Block, roll-Block}
 use Rattle.jolie_ast.specs.declared.process.If.{If, roll-If}
 use Rattle.jolie_ast.specs.declared.process.Input.{Input, roll-Input}
 use Rattle.jolie_ast.specs.declared.process.Reply.{Reply, roll-Reply}
-use Rattle.jolie_ast.specs.declared.process.Branch.{Branch, roll-Branch}
+use Rattle.jolie_ast.specs.declared.process.Branch.{Branch, roll-Branch, out-Branch}
 use Rattle.jolie_ast.specs.declared.process.Answer.{Answer, roll-Answer}
 use Rattle.jolie_ast.specs.declared.process.Handler.{Handler, roll-Handler}
 use Rattle.jolie_ast.specs.declared.types.RootKind.{RootKind}
@@ -53,9 +53,11 @@ use Rattle.jolie_ast.specs.declared.service.CorrelationVariable.{CorrelationVari
 use Rattle.jolie_ast.specs.declared.service.Clause.{Clause}
 use Rattle.jolie_ast.specs.declared.service.Clause.TheVariants as clause
 use Rattle.jolie_ast.specs.declared.service.Service.{Service}
+use Rattle.jolie_parse.specs.declared.class.Class.{Class}
 use Rattle.jolie_parse.specs.Classes as c
-use Rattle.jolie_parse.specs.Classes.{Spelled, class, place}
-use Rattle.jolie_parse.specs.Syntax.{ForParts, IfParts}
+use Rattle.jolie_parse.specs.Classes.{Spelled, class, place, same}
+use Rattle.jolie_parse.specs.declared.simple.ForParts.{ForParts}
+use Rattle.jolie_parse.specs.declared.process.IfParts.{IfParts}
 
 -- ---- tokens
 
@@ -77,7 +79,7 @@ meant_text t = elim t.token.kind [ kind.Str text ↦ text | _ ↦ [] ]
 
 -- whether it is the word `true`
 abbrev pub is_true : Spelled → Bool
-is_true t = class t == c.the_true
+is_true t = same (class t) c.the_true
 
 -- a string with its place
 abbrev pub quoted : Spelled → Quoted
@@ -114,45 +116,58 @@ abbrev pub path_expression : Path → Expr
 path_expression p = expression (path_start p) (form.Path p)
 
 -- the kind that a cast gives
-abbrev pub cast_target : ℕ → CastTarget
-cast_target k = if k == c.the_int then target.Int else if k == c.the_long then target.Long else target.Str
+abbrev pub cast_target : Class → CastTarget
+cast_target k = if same k c.the_int then target.Int else if same k c.the_long then target.Long else target.Str
 
 -- the operator of a sign: `*`, `/` or `%`
-abbrev pub multiplicative_of : ℕ → Multiplicative
-multiplicative_of k = if k == c.sign_star then multiplicative.Times else if k == c.sign_slash then multiplicative.Divide else multiplicative.Remainder
+abbrev pub multiplicative_of : Class → Multiplicative
+multiplicative_of k = if same k c.sign_star then multiplicative.Times else if same k c.sign_slash then multiplicative.Divide else multiplicative.Remainder
 
 -- the operator of a sign: `+` or `-`
-abbrev pub additive_of : ℕ → Additive
-additive_of k = if k == c.sign_plus then additive.Plus else additive.Minus
+abbrev pub additive_of : Class → Additive
+additive_of k = if same k c.sign_plus then additive.Plus else additive.Minus
 
 -- the comparison of a sign
-abbrev pub comparison_of : ℕ → Comparison
+abbrev pub comparison_of : Class → Comparison
 comparison_of k =
-    if k == c.sign_equal then comparison.Equal
-    else if k == c.sign_not_equal then comparison.NotEqual
-    else if k == c.sign_less then comparison.Less
-    else if k == c.sign_at_most then comparison.AtMost
-    else if k == c.sign_greater then comparison.Greater
+    if same k c.sign_equal then comparison.Equal
+    else if same k c.sign_not_equal then comparison.NotEqual
+    else if same k c.sign_less then comparison.Less
+    else if same k c.sign_at_most then comparison.AtMost
+    else if same k c.sign_greater then comparison.Greater
     else comparison.AtLeast
 
 -- `-` or `!` and its operand
 abbrev pub prefixed_of : Spelled × Expr → Expr
-prefixed_of q = expression (place q.0) (if class q.0 == c.sign_minus then form.Minus q.1 else form.Not q.1)
+prefixed_of q = expression (place q.0) (if same (class q.0) c.sign_minus then form.Minus q.1 else form.Not q.1)
 
--- operands of one level; one alone is itself
-abbrev pub product_of : Expr × List (Spelled × Expr) → Expr
+-- an operand behind its operator: `*`, `/` or `%`
+abbrev pub factor_of : Spelled × Expr → Factor
+factor_of q = roll-Factor (record { operator = multiplicative_of (class q.0); operand = q.1 })
+
+-- an operand behind its operator: `+` or `-`
+abbrev pub term_of : Spelled × Expr → Term
+term_of q = roll-Term (record { operator = additive_of (class q.0); operand = q.1 })
+
+-- operands with `*`, `/` and `%`; one alone is itself
+abbrev pub product_of : Expr × List Factor → Expr
 product_of (e, []) = e
-product_of (e, (q ∷ qs)) = expression (start e) (form.Product e (map (λ r. roll-Factor (record { operator = multiplicative_of (class r.0); operand = r.1 })) (q ∷ qs)))
+product_of (e, (q ∷ qs)) = expression (start e) (form.Product e (q ∷ qs))
 
 -- operands with `+` and `-`; one alone is itself
-abbrev pub sum_of : Expr × List (Spelled × Expr) → Expr
+abbrev pub sum_of : Expr × List Term → Expr
 sum_of (e, []) = e
-sum_of (e, (q ∷ qs)) = expression (start e) (form.Sum e (map (λ r. roll-Term (record { operator = additive_of (class r.0); operand = r.1 })) (q ∷ qs)))
+sum_of (e, (q ∷ qs)) = expression (start e) (form.Sum e (q ∷ qs))
 
 -- two operands that are compared; one alone is itself
 abbrev pub comparison_made : Expr × Option (Spelled × Expr) → Expr
 comparison_made (e, None) = e
 comparison_made (e, Some q) = expression (start e) (form.Compare e (comparison_of (class q.0)) q.1)
+
+-- where the first of some operands begins
+abbrev pub start_of : List Expr → ℕ
+start_of [] = 0
+start_of (e ∷ es) = start e
 
 -- operands with `&&`; one alone is itself
 abbrev pub and_of : List Expr → Expr
@@ -186,7 +201,7 @@ parallel_of (p ∷ q ∷ ps) = process.Parallel (p ∷ q ∷ ps)
 
 -- up or down
 abbrev pub count_of : Spelled → Count
-count_of t = if class t == c.sign_increment then count.Up else count.Down
+count_of t = if same (class t) c.sign_increment then count.Up else count.Down
 
 -- an `if` at its word
 abbrev pub if_of : Spelled → IfParts → If
@@ -208,9 +223,10 @@ input_of t parts = roll-Input (record { operation = name_of t; request = parts.0
 abbrev pub branch_of : (Spelled × Input) × Block → Branch
 branch_of q = roll-Branch (record { at = place q.0.0; input = q.0.1; after = q.1 })
 
--- a choice at its first bracket
-abbrev pub choice_of : List Branch → (Spelled × Input) → Block → Process
-choice_of rest head after = process.Choice (place head.0) (branch_of (head, after) ∷ rest)
+-- a choice, at its first bracket
+abbrev pub choice_of : List Branch → Process
+choice_of [] = process.Choice 0 []
+choice_of (b ∷ bs) = process.Choice (out-Branch b).at (b ∷ bs)
 
 -- what an output awaits
 abbrev pub answer_of : Option Path × Option (List Handler) → Answer
@@ -227,13 +243,13 @@ handler_of q = roll-Handler (record { key = q.0; body = q.1 })
 -- ---- types and interfaces
 
 -- the kind of root of a word
-abbrev pub root_kind : ℕ → RootKind
+abbrev pub root_kind : Class → RootKind
 root_kind k =
-    if k == c.the_void then root.Void
-    else if k == c.the_bool then root.Bool
-    else if k == c.the_int then root.Int
-    else if k == c.the_long then root.Long
-    else if k == c.the_string then root.Str
+    if same k c.the_void then root.Void
+    else if same k c.the_bool then root.Bool
+    else if same k c.the_int then root.Int
+    else if same k c.the_long then root.Long
+    else if same k c.the_string then root.Str
     else root.Any
 
 -- a type of its kind and fields
@@ -246,7 +262,7 @@ field_of t count ty = roll-Field (record { name = name_of t; cardinality = count
 
 -- `[least, most]`, where most is an int or `*`
 abbrev pub bounds_of : Spelled → Spelled → Cardinality
-bounds_of least most = cardinality.Between (int_value least) (if class most == c.int_number then Some (int_value most) else None)
+bounds_of least most = cardinality.Between (int_value least) (if same (class most) c.int_number then Some (int_value most) else None)
 
 -- a type with its name, at its word
 abbrev pub definition_of : Spelled → Spelled → DefinedType → TypeDefinition
@@ -273,7 +289,7 @@ interface_of t name groups = record { at = place t; name = name_of name; groups 
 
 -- how a service runs its sessions
 abbrev pub execution_of : Spelled → Execution
-execution_of t = if class t == c.the_concurrent then execution.Concurrent else execution.Single
+execution_of t = if same (class t) c.the_concurrent then execution.Concurrent else execution.Single
 
 -- a port of its name, location, protocol and interfaces, at its word
 abbrev pub port_of : Spelled → Spelled → Quoted × Option Name × List Name → Port
@@ -281,7 +297,7 @@ port_of t name parts = record { at = place t; name = name_of name; location = pa
 
 -- a port of the one kind or the other
 abbrev pub port_clause : Spelled → Port → Clause
-port_clause t port = if class t == c.the_input_port then clause.InputPort port else clause.OutputPort port
+port_clause t port = if same (class t) c.the_input_port then clause.InputPort port else clause.OutputPort port
 
 -- an alias of its type, the first field and the further ones
 abbrev pub alias_of : Spelled → Spelled → List Spelled → Alias

@@ -1,5 +1,6 @@
 -- Reading a grammar from the left, one token deciding each choice.
 use Rattle.std.specs.Prelude.{◌≡◌, ℕ, zero, suc, List, [], ◌∷◌, length, if◌then◌else◌}
+use Rattle.jolie_parse.specs.declared.class.Class.{Class}
 use Rattle.jolie_parse.specs.Classes.{Spelled, class, has, begins, open_brackets}
 use Rattle.jolie_parse.specs.Syntax.{Part, Meant, Syn, token, give, both, either, many, means, inside, prefix, first}
 use Rattle.jolie_parse.specs.Factored.{rule}
@@ -29,17 +30,17 @@ SameHead (t ∷ ts) (u ∷ us) = t ≡ u
 -- ---- reading, with n levels left
 
 -- a token of these classes
-abbrev pub take_token : List ℕ → List Spelled → Outcome Spelled
+abbrev pub take_token : List Class → List Spelled → Outcome Spelled
 take_token ks [] = refused []
 take_token ks (t ∷ ts) = if has ks (class t) then got t ts else refused (t ∷ ts)
 
 -- a phrase again and again, while its first classes go on, at most n times
-abbrev pub repeat : {A : Type 0} → (List Spelled → Outcome A) → List ℕ → ℕ → List Spelled → Outcome (List A)
+abbrev pub repeat : {A : Type 0} → (List Spelled → Outcome A) → List Class → ℕ → List Spelled → Outcome (List A)
 repeat one ks zero ts = got [] ts
 repeat one ks (suc n) ts = if begins ks ts then and_then (one ts) (λ a r. and_then (repeat one ks n r) (λ more rest. got (a ∷ more) rest)) else got [] ts
 
 -- what opens a level where none is left
-abbrev pub no_level : {A : Type 0} → List ℕ → List Spelled → Outcome A
+abbrev pub no_level : {A : Type 0} → List Class → List Spelled → Outcome A
 no_level ks ts = if begins ks ts then too_deep ts else refused ts
 
 -- a bracket that is refused where no level is left opens a level too many all the same
@@ -50,13 +51,13 @@ deepen (refused ts) zero = no_level open_brackets ts
 deepen (refused ts) (suc n) = refused ts
 
 -- a part between its brackets, one level further in
-abbrev pub enclosed : ℕ → {A : Type 0} → (List Spelled → Outcome A) → ℕ → ℕ → List Spelled → Outcome (Spelled × A)
+abbrev pub enclosed : ℕ → {A : Type 0} → (List Spelled → Outcome A) → Class → Class → List Spelled → Outcome (Spelled × A)
 enclosed zero inner o c ts = no_level (o ∷ []) ts
 enclosed (suc n) inner o c ts =
     and_then (take_token (o ∷ []) ts) (λ t r. deepen (and_then (inner r) (λ v r2. and_then (take_token (c ∷ []) r2) (λ _ r3. got (t, v) r3))) n)
 
 -- a part behind its prefix, one level further in
-abbrev pub prefixed : ℕ → {A : Type 0} → (List Spelled → Outcome A) → List ℕ → List Spelled → Outcome (Spelled × A)
+abbrev pub prefixed : ℕ → {A : Type 0} → (List Spelled → Outcome A) → List Class → List Spelled → Outcome (Spelled × A)
 prefixed zero inner ks ts = no_level ks ts
 prefixed (suc n) inner ks ts = and_then (take_token ks ts) (λ t r. and_then (inner r) (λ v r2. got (t, v) r2))
 

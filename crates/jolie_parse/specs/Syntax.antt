@@ -1,14 +1,11 @@
 -- Grammars as values: what they derive, and the test that one token decides each choice.
-use Rattle.std.specs.Prelude.{◌≡◌, ℕ, ◌⊎◌, Bool, true, false, ◌&&◌, ◌||◌, not, List, [], ◌∷◌, ◌++◌, map, if◌then◌else◌, Option, Some, None}
+use Rattle.std.specs.Prelude.{◌≡◌, ◌⊎◌, Bool, true, false, ◌&&◌, ◌||◌, not, List, [], ◌∷◌, ◌++◌, if◌then◌else◌, Option, Some, None}
 use Rattle.jolie_ast.specs.declared.expression.Expr.{Expr}
 use Rattle.jolie_ast.specs.declared.expression.Path.{Path}
 use Rattle.jolie_ast.specs.declared.expression.Member.{Member}
 use Rattle.jolie_ast.specs.declared.process.Process.{Process}
 use Rattle.jolie_ast.specs.declared.process.Handler.{Handler}
 use Rattle.jolie_ast.specs.declared.process.Input.{Input}
-use Rattle.jolie_ast.specs.declared.process.Block.{Block}
-use Rattle.jolie_ast.specs.declared.process.Otherwise.{Otherwise}
-use Rattle.jolie_ast.specs.declared.process.ForStep.{ForStep}
 use Rattle.jolie_ast.specs.declared.interface.TypeName.{TypeName}
 use Rattle.jolie_ast.specs.declared.interface.OperationGroup.{OperationGroup}
 use Rattle.jolie_ast.specs.declared.types.Cardinality.{Cardinality}
@@ -17,6 +14,9 @@ use Rattle.jolie_ast.specs.declared.name.Name.{Name}
 use Rattle.jolie_ast.specs.declared.name.Quoted.{Quoted}
 use Rattle.jolie_ast.specs.declared.service.CorrelationVariable.{CorrelationVariable}
 use Rattle.jolie_ast.specs.declared.service.Clause.{Clause}
+use Rattle.jolie_parse.specs.declared.class.Class.{Class}
+use Rattle.jolie_parse.specs.declared.simple.ForParts.{ForParts}
+use Rattle.jolie_parse.specs.declared.process.IfParts.{IfParts}
 use Rattle.jolie_parse.specs.Classes.{Spelled, class, has, sign_open_bracket, sign_dot, the_else}
 
 -- ---- grammars
@@ -24,20 +24,6 @@ use Rattle.jolie_parse.specs.Classes.{Spelled, class, has, sign_open_bracket, si
 -- what stands one level further in: between brackets, behind a prefix, behind `else`
 pub data Part : Type 0 where
   an_expression an_operand a_path maybe_path maybe_expression a_body some_handlers a_name an_input an_else_if for_parts throw_parts some_members a_type_name some_bounds some_fields some_operations port_parts some_variables some_clauses : Part
-
--- the parts of a `for` in the order of the text
-pub record ForParts : Type 0 where
-  pub path : Path
-  pub first : Expr
-  pub test : Expr
-  pub stepped : Path
-  pub step : ForStep
-
--- an `if` behind its word
-pub record IfParts : Type 0 where
-  pub test : Expr
-  pub body : Block
-  pub otherwise : Otherwise
 
 -- what each of these means
 abbrev pub Meant : Part → Type 0
@@ -65,7 +51,7 @@ Meant some_clauses = List Clause
 -- a grammar, by the type of what its phrases mean
 pub data Syn : Type 0 → Type 1 where
   -- one token of these classes
-  token : List ℕ → Syn Spelled
+  token : List Class → Syn Spelled
   -- no token
   give : {A : Type 0} → A → Syn A
   -- one after the other
@@ -76,9 +62,9 @@ pub data Syn : Type 0 → Type 1 where
   -- what is meant
   means : {A B : Type 0} → (A → B) → Syn A → Syn B
   -- an open bracket, what stands inside, and the bracket that closes
-  inside : ℕ → (r : Part) → ℕ → Syn (Spelled × Meant r)
+  inside : Class → (r : Part) → Class → Syn (Spelled × Meant r)
   -- a token of these classes before what is a level further in
-  prefix : List ℕ → (r : Part) → Syn (Spelled × Meant r)
+  prefix : List Class → (r : Part) → Syn (Spelled × Meant r)
 
 -- which tokens have which meanings
 abbrev pub Lang : Type 0 → Type 1
@@ -103,17 +89,17 @@ Derives within (prefix ks r) ts v = (x : List Spelled) × (has ks (class v.0) �
 -- ---- the test that one token decides
 
 -- no class is in both
-abbrev pub disjoint : List ℕ → List ℕ → Bool
+abbrev pub disjoint : List Class → List Class → Bool
 disjoint [] b = true
 disjoint (j ∷ js) b = not (has b j) && disjoint js b
 
 -- each of the first is in the second
-abbrev pub covers : List ℕ → List ℕ → Bool
+abbrev pub covers : List Class → List Class → Bool
 covers [] b = true
 covers (j ∷ js) b = has b j && covers js b
 
 -- the classes with which what stands behind a prefix may go on where it could have ended
-abbrev pub later : Part → List ℕ
+abbrev pub later : Part → List Class
 later an_operand = sign_open_bracket ∷ sign_dot ∷ []
 later an_else_if = the_else ∷ []
 later _ = []
@@ -130,7 +116,7 @@ nullable (inside o r c) = false
 nullable (prefix ks r) = false
 
 -- the classes of its first token
-abbrev pub first : {A : Type 0} → Syn A → List ℕ
+abbrev pub first : {A : Type 0} → Syn A → List Class
 first (token ks) = ks
 first (give a) = []
 first (both s t) = if nullable s then first s ++ first t else first s
@@ -141,7 +127,7 @@ first (inside o r c) = o ∷ []
 first (prefix ks r) = ks
 
 -- the classes with which it may go on where it could have ended
-abbrev pub further : {A : Type 0} → Syn A → List ℕ
+abbrev pub further : {A : Type 0} → Syn A → List Class
 further (token ks) = []
 further (give a) = []
 further (both s t) = if nullable t then further s ++ further t else further t
@@ -153,9 +139,13 @@ further (prefix ks r) = later r
 
 -- ---- forms that grammars are made of
 
+-- a phrase behind a token that is not kept
+abbrev pub behind : {A : Type 0} → Class → Syn A → Syn A
+behind k s = means (λ q. q.1) (both (token (k ∷ [])) s)
+
 -- phrases with a token of this class between every two, at least one
-abbrev pub separated : {A : Type 0} → ℕ → Syn A → Syn (List A)
-separated k s = means (λ q. q.0 ∷ map (λ r. r.1) q.1) (both s (many (both (token (k ∷ [])) s)))
+abbrev pub separated : {A : Type 0} → Class → Syn A → Syn (List A)
+separated k s = means (λ q. q.0 ∷ q.1) (both s (many (behind k s)))
 
 -- at least one
 abbrev pub some_of : {A : Type 0} → Syn A → Syn (List A)
@@ -165,14 +155,10 @@ some_of s = means (λ q. q.0 ∷ q.1) (both s (many s))
 abbrev pub optional : {A : Type 0} → Syn A → Syn (Option A)
 optional s = either (means Some s) (give None)
 
--- a phrase behind a token that is not kept
-abbrev pub behind : {A : Type 0} → ℕ → Syn A → Syn A
-behind k s = means (λ q. q.1) (both (token (k ∷ [])) s)
-
 -- a phrase and a token of this class that is not kept
-abbrev pub ended : {A : Type 0} → Syn A → ℕ → Syn A
+abbrev pub ended : {A : Type 0} → Syn A → Class → Syn A
 ended s k = means (λ q. q.0) (both s (token (k ∷ [])))
 
 -- what stands between brackets, which are not kept
-abbrev pub between : ℕ → (r : Part) → ℕ → Syn (Meant r)
+abbrev pub between : Class → (r : Part) → Class → Syn (Meant r)
 between o r c = means (λ q. q.1) (inside o r c)

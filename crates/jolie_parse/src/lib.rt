@@ -1,10 +1,29 @@
-//! The grammar of Jolie texts, on which the parser will stand.
+//! The grammar of Jolie texts, and the parser that is proved equal to it.
 //!
-//! What derives from the tokens of a text, and as which tree, stands in `specs/Grammar.antt`, production by production;
-//! that no tokens derive two trees is the law `tokens_have_one_tree`, and that tokens are a file or stop beginning one at
-//! one place is the law `tokens_stop_at_one_place`. Levels of nesting stand in `specs/Levels.antt`.
+//! `parse` gives the tree of a text's tokens, or the one refusal that they have and its place. What derives from tokens,
+//! and as which tree, stands in `specs/Grammar.antt`, production by production; levels of nesting and where tokens are
+//! refused stand in `specs/Levels.antt`. That no tokens derive two trees is the law `tokens_have_one_tree`, and that
+//! tokens are a file or stop beginning one at one place is the law `tokens_stop_at_one_place`.
 #![tactic(auto)]
 
+mod class;
+mod cursor;
+mod expression;
+mod interface;
 mod laws;
+mod list;
+mod parse_error;
+mod parsing;
+mod process;
+mod service;
+mod simple;
+mod stop;
+mod taken;
+#[cfg(test)]
+mod tests;
+mod types;
+mod word;
 
 pub use laws::{tokens_have_one_tree, tokens_stop_at_one_place};
+pub use parse_error::ParseError;
+pub use parsing::parse;

@@ -1,0 +1,196 @@
+-- What the members of a process are at each form of process.
+use Rattle.std.proofs.Common.{◌≡◌, ℕ, ◌+◌, List, length, map, sum_by, Option, Some, None, ap, sym, ◌∙◌}
+use Rattle.std.specs.Prelude.{option_map}
+use Rattle.std.proofs.lemmas.List.{length-map}
+use Rattle.std.proofs.lemmas.List.Sums.{sum-map}
+use Rattle.jolie_ast.specs.declared.name.Name.{Name}
+use Rattle.jolie_ast.specs.declared.expression.Expr.{Expr}
+use Rattle.jolie_ast.specs.declared.expression.Path.{Path}
+use Rattle.jolie_ast.specs.declared.process.Assignment.{Assignment}
+use Rattle.jolie_ast.specs.declared.process.ForStep.{ForStep}
+use Rattle.jolie_ast.specs.declared.process.HandlerKey.{HandlerKey}
+use Rattle.jolie_ast.specs.declared.process.Otherwise.TheOpen.{Otherwise-F, Process-F}
+use Rattle.jolie_ast.specs.declared.process.Otherwise.TheFolds.{fold-roll-Answer, fold-roll-Block, fold-roll-Branch, fold-roll-Handler, fold-roll-If, fold-roll-Input, fold-roll-Otherwise, fold-roll-Process, fold-roll-Reply}
+use Rattle.jolie_ast.specs.declared.process.Process.{Process}
+use Rattle.jolie_ast.specs.declared.process.Process.TheVariants as process
+use Rattle.jolie_ast.specs.declared.process.Block.{Block, roll-Block}
+use Rattle.jolie_ast.specs.declared.process.If.{If, roll-If}
+use Rattle.jolie_ast.specs.declared.process.Otherwise.{Otherwise}
+use Rattle.jolie_ast.specs.declared.process.Otherwise.TheVariants as otherwise
+use Rattle.jolie_ast.specs.declared.process.Input.{Input, roll-Input}
+use Rattle.jolie_ast.specs.declared.process.Reply.{Reply, roll-Reply}
+use Rattle.jolie_ast.specs.declared.process.Branch.{Branch, roll-Branch}
+use Rattle.jolie_ast.specs.declared.process.Answer.{Answer, roll-Answer}
+use Rattle.jolie_ast.specs.declared.process.Handler.{Handler, roll-Handler}
+use Rattle.jolie_ast.specs.Members.{optional_count, process_level, block_level, if_level, otherwise_level, input_level, reply_level, branch_level, answer_level, handler_level, process_members, block_members, if_members, otherwise_members, input_members, reply_members, branch_members, answer_members, handler_members}
+
+-- ---- processes
+
+pub nothing_counts : (at : ℕ) → process_members (process.Nothing at) ≡ 0
+unfolding answer_members block_members branch_members handler_members if_members input_members otherwise_members process_members reply_members
+nothing_counts at =
+    ap process_members (sym (process.rolls-Nothing at))
+    ∙ fold-roll-Process ℕ ℕ ℕ ℕ ℕ ℕ ℕ ℕ ℕ otherwise_level process_level answer_level block_level branch_level handler_level if_level input_level reply_level (Process-F.«Process::Nothing» at)
+
+pub assign_counts : (path : Path) (assignment : Assignment) → process_members (process.Assign path assignment) ≡ 0
+unfolding answer_members block_members branch_members handler_members if_members input_members otherwise_members process_members reply_members
+assign_counts path assignment =
+    ap process_members (sym (process.rolls-Assign path assignment))
+    ∙ fold-roll-Process ℕ ℕ ℕ ℕ ℕ ℕ ℕ ℕ ℕ otherwise_level process_level answer_level block_level branch_level handler_level if_level input_level reply_level (Process-F.Assign path assignment)
+
+pub undef_counts : (at : ℕ) (path : Path) → process_members (process.Undef at path) ≡ 0
+unfolding answer_members block_members branch_members handler_members if_members input_members otherwise_members process_members reply_members
+undef_counts at path =
+    ap process_members (sym (process.rolls-Undef at path))
+    ∙ fold-roll-Process ℕ ℕ ℕ ℕ ℕ ℕ ℕ ℕ ℕ otherwise_level process_level answer_level block_level branch_level handler_level if_level input_level reply_level (Process-F.Undef at path)
+
+pub correlate_counts : (at : ℕ) (variable : Name) (value : Expr) → process_members (process.Correlate at variable value) ≡ 0
+unfolding answer_members block_members branch_members handler_members if_members input_members otherwise_members process_members reply_members
+correlate_counts at variable value =
+    ap process_members (sym (process.rolls-Correlate at variable value))
+    ∙ fold-roll-Process ℕ ℕ ℕ ℕ ℕ ℕ ℕ ℕ ℕ otherwise_level process_level answer_level block_level branch_level handler_level if_level input_level reply_level (Process-F.Correlate at variable value)
+
+pub conditional_counts : (i : If) → process_members (process.If i) ≡ if_members i
+unfolding answer_members block_members branch_members handler_members if_members input_members otherwise_members process_members reply_members
+conditional_counts i =
+    ap process_members (sym (process.rolls-If i))
+    ∙ fold-roll-Process ℕ ℕ ℕ ℕ ℕ ℕ ℕ ℕ ℕ otherwise_level process_level answer_level block_level branch_level handler_level if_level input_level reply_level (Process-F.If i)
+
+pub while_counts : (at : ℕ) (test : Expr) (body : Block) → process_members (process.While at test body) ≡ block_members body
+unfolding answer_members block_members branch_members handler_members if_members input_members otherwise_members process_members reply_members
+while_counts at test body =
+    ap process_members (sym (process.rolls-While at test body))
+    ∙ fold-roll-Process ℕ ℕ ℕ ℕ ℕ ℕ ℕ ℕ ℕ otherwise_level process_level answer_level block_level branch_level handler_level if_level input_level reply_level (Process-F.While at test body)
+
+pub for_counts : (at : ℕ) (path : Path) (first : Expr) (test : Expr) (stepped : Path) (step : ForStep) (body : Block) → process_members (process.For at path first test stepped step body) ≡ block_members body
+unfolding answer_members block_members branch_members handler_members if_members input_members otherwise_members process_members reply_members
+for_counts at path first test stepped step body =
+    ap process_members (sym (process.rolls-For at path first test stepped step body))
+    ∙ fold-roll-Process ℕ ℕ ℕ ℕ ℕ ℕ ℕ ℕ ℕ otherwise_level process_level answer_level block_level branch_level handler_level if_level input_level reply_level (Process-F.For at path first test stepped step body)
+
+pub input_counts : (i : Input) → process_members (process.Input i) ≡ input_members i
+unfolding answer_members block_members branch_members handler_members if_members input_members otherwise_members process_members reply_members
+input_counts i =
+    ap process_members (sym (process.rolls-Input i))
+    ∙ fold-roll-Process ℕ ℕ ℕ ℕ ℕ ℕ ℕ ℕ ℕ otherwise_level process_level answer_level block_level branch_level handler_level if_level input_level reply_level (Process-F.Input i)
+
+pub choice_counts : (at : ℕ) (branches : List Branch) → process_members (process.Choice at branches) ≡ sum_by branch_members branches
+unfolding answer_members block_members branch_members handler_members if_members input_members otherwise_members process_members reply_members
+choice_counts at branches =
+    ap process_members (sym (process.rolls-Choice at branches))
+    ∙ fold-roll-Process ℕ ℕ ℕ ℕ ℕ ℕ ℕ ℕ ℕ otherwise_level process_level answer_level block_level branch_level handler_level if_level input_level reply_level (Process-F.Choice at branches)
+    ∙ sum-map branch_members branches
+
+pub output_counts : (operation : Name) (port : Name) (value : Option Expr) (answer : Option Answer) → process_members (process.Output operation port value answer) ≡ optional_count (option_map answer_members answer)
+unfolding answer_members block_members branch_members handler_members if_members input_members otherwise_members process_members reply_members
+output_counts operation port value None =
+    ap process_members (sym (process.rolls-Output operation port value None))
+    ∙ fold-roll-Process ℕ ℕ ℕ ℕ ℕ ℕ ℕ ℕ ℕ otherwise_level process_level answer_level block_level branch_level handler_level if_level input_level reply_level (Process-F.Output operation port value None)
+output_counts operation port value (Some it) =
+    ap process_members (sym (process.rolls-Output operation port value (Some it)))
+    ∙ fold-roll-Process ℕ ℕ ℕ ℕ ℕ ℕ ℕ ℕ ℕ otherwise_level process_level answer_level block_level branch_level handler_level if_level input_level reply_level (Process-F.Output operation port value (Some it))
+
+pub scope_counts : (at : ℕ) (name : Name) (body : Block) → process_members (process.Scope at name body) ≡ block_members body
+unfolding answer_members block_members branch_members handler_members if_members input_members otherwise_members process_members reply_members
+scope_counts at name body =
+    ap process_members (sym (process.rolls-Scope at name body))
+    ∙ fold-roll-Process ℕ ℕ ℕ ℕ ℕ ℕ ℕ ℕ ℕ otherwise_level process_level answer_level block_level branch_level handler_level if_level input_level reply_level (Process-F.Scope at name body)
+
+pub install_counts : (at : ℕ) (handlers : List Handler) → process_members (process.Install at handlers) ≡ sum_by handler_members handlers
+unfolding answer_members block_members branch_members handler_members if_members input_members otherwise_members process_members reply_members
+install_counts at handlers =
+    ap process_members (sym (process.rolls-Install at handlers))
+    ∙ fold-roll-Process ℕ ℕ ℕ ℕ ℕ ℕ ℕ ℕ ℕ otherwise_level process_level answer_level block_level branch_level handler_level if_level input_level reply_level (Process-F.Install at handlers)
+    ∙ sum-map handler_members handlers
+
+pub throw_counts : (at : ℕ) (fault : Name) (value : Option Expr) → process_members (process.Throw at fault value) ≡ 0
+unfolding answer_members block_members branch_members handler_members if_members input_members otherwise_members process_members reply_members
+throw_counts at fault value =
+    ap process_members (sym (process.rolls-Throw at fault value))
+    ∙ fold-roll-Process ℕ ℕ ℕ ℕ ℕ ℕ ℕ ℕ ℕ otherwise_level process_level answer_level block_level branch_level handler_level if_level input_level reply_level (Process-F.Throw at fault value)
+
+pub compensate_counts : (at : ℕ) (scope : Name) → process_members (process.Compensate at scope) ≡ 0
+unfolding answer_members block_members branch_members handler_members if_members input_members otherwise_members process_members reply_members
+compensate_counts at scope =
+    ap process_members (sym (process.rolls-Compensate at scope))
+    ∙ fold-roll-Process ℕ ℕ ℕ ℕ ℕ ℕ ℕ ℕ ℕ otherwise_level process_level answer_level block_level branch_level handler_level if_level input_level reply_level (Process-F.Compensate at scope)
+
+pub inner_handler_counts : (at : ℕ) → process_members (process.InnerHandler at) ≡ 0
+unfolding answer_members block_members branch_members handler_members if_members input_members otherwise_members process_members reply_members
+inner_handler_counts at =
+    ap process_members (sym (process.rolls-InnerHandler at))
+    ∙ fold-roll-Process ℕ ℕ ℕ ℕ ℕ ℕ ℕ ℕ ℕ otherwise_level process_level answer_level block_level branch_level handler_level if_level input_level reply_level (Process-F.InnerHandler at)
+
+pub block_statement_counts : (b : Block) → process_members (process.Block b) ≡ block_members b
+unfolding answer_members block_members branch_members handler_members if_members input_members otherwise_members process_members reply_members
+block_statement_counts b =
+    ap process_members (sym (process.rolls-Block b))
+    ∙ fold-roll-Process ℕ ℕ ℕ ℕ ℕ ℕ ℕ ℕ ℕ otherwise_level process_level answer_level block_level branch_level handler_level if_level input_level reply_level (Process-F.Block b)
+
+pub sequence_counts : (ps : List Process) → process_members (process.Sequence ps) ≡ sum_by process_members ps
+unfolding answer_members block_members branch_members handler_members if_members input_members otherwise_members process_members reply_members
+sequence_counts ps =
+    ap process_members (sym (process.rolls-Sequence ps))
+    ∙ fold-roll-Process ℕ ℕ ℕ ℕ ℕ ℕ ℕ ℕ ℕ otherwise_level process_level answer_level block_level branch_level handler_level if_level input_level reply_level (Process-F.Sequence ps)
+    ∙ sum-map process_members ps
+
+pub parallel_counts : (ps : List Process) → process_members (process.Parallel ps) ≡ length ps + sum_by process_members ps
+unfolding answer_members block_members branch_members handler_members if_members input_members otherwise_members process_members reply_members
+parallel_counts ps =
+    ap process_members (sym (process.rolls-Parallel ps))
+    ∙ fold-roll-Process ℕ ℕ ℕ ℕ ℕ ℕ ℕ ℕ ℕ otherwise_level process_level answer_level block_level branch_level handler_level if_level input_level reply_level (Process-F.Parallel ps)
+    ∙ ap (λ n. length (map process_members ps) + n) (sum-map process_members ps)
+    ∙ ap (λ n. n + sum_by process_members ps) (length-map ps process_members)
+
+-- ---- what an `if` does where its test fails
+
+pub no_else_counts : otherwise_members otherwise.Nothing ≡ 0
+unfolding answer_members block_members branch_members handler_members if_members input_members otherwise_members process_members reply_members
+no_else_counts =
+    ap otherwise_members (sym otherwise.rolls-Nothing)
+    ∙ fold-roll-Otherwise ℕ ℕ ℕ ℕ ℕ ℕ ℕ ℕ ℕ otherwise_level process_level answer_level block_level branch_level handler_level if_level input_level reply_level Otherwise-F.«Otherwise::Nothing»
+
+pub else_if_counts : (i : If) → otherwise_members (otherwise.ElseIf i) ≡ if_members i
+unfolding answer_members block_members branch_members handler_members if_members input_members otherwise_members process_members reply_members
+else_if_counts i =
+    ap otherwise_members (sym (otherwise.rolls-ElseIf i))
+    ∙ fold-roll-Otherwise ℕ ℕ ℕ ℕ ℕ ℕ ℕ ℕ ℕ otherwise_level process_level answer_level block_level branch_level handler_level if_level input_level reply_level (Otherwise-F.ElseIf i)
+
+pub else_counts : (b : Block) → otherwise_members (otherwise.Else b) ≡ block_members b
+unfolding answer_members block_members branch_members handler_members if_members input_members otherwise_members process_members reply_members
+else_counts b =
+    ap otherwise_members (sym (otherwise.rolls-Else b))
+    ∙ fold-roll-Otherwise ℕ ℕ ℕ ℕ ℕ ℕ ℕ ℕ ℕ otherwise_level process_level answer_level block_level branch_level handler_level if_level input_level reply_level (Otherwise-F.Else b)
+
+-- ---- the parts of processes
+
+pub block_counts : (at : ℕ) (body : Option Process) → block_members (roll-Block (record { at = at; body = body })) ≡ optional_count (option_map process_members body)
+unfolding answer_members block_members branch_members handler_members if_members input_members otherwise_members process_members reply_members
+block_counts at None = fold-roll-Block ℕ ℕ ℕ ℕ ℕ ℕ ℕ ℕ ℕ otherwise_level process_level answer_level block_level branch_level handler_level if_level input_level reply_level (record { at = at; body = None })
+block_counts at (Some it) = fold-roll-Block ℕ ℕ ℕ ℕ ℕ ℕ ℕ ℕ ℕ otherwise_level process_level answer_level block_level branch_level handler_level if_level input_level reply_level (record { at = at; body = Some it })
+
+pub if_counts : (at : ℕ) (test : Expr) (body : Block) (rest : Otherwise) → if_members (roll-If (record { at = at; test = test; body = body; otherwise = rest })) ≡ block_members body + otherwise_members rest
+unfolding answer_members block_members branch_members handler_members if_members input_members otherwise_members process_members reply_members
+if_counts at test body rest = fold-roll-If ℕ ℕ ℕ ℕ ℕ ℕ ℕ ℕ ℕ otherwise_level process_level answer_level block_level branch_level handler_level if_level input_level reply_level (record { at = at; test = test; body = body; otherwise = rest })
+
+pub input_part_counts : (operation : Name) (request : Option Path) (reply : Option Reply) → input_members (roll-Input (record { operation = operation; request = request; reply = reply })) ≡ optional_count (option_map reply_members reply)
+unfolding answer_members block_members branch_members handler_members if_members input_members otherwise_members process_members reply_members
+input_part_counts operation request None = fold-roll-Input ℕ ℕ ℕ ℕ ℕ ℕ ℕ ℕ ℕ otherwise_level process_level answer_level block_level branch_level handler_level if_level input_level reply_level (record { operation = operation; request = request; reply = None })
+input_part_counts operation request (Some it) = fold-roll-Input ℕ ℕ ℕ ℕ ℕ ℕ ℕ ℕ ℕ otherwise_level process_level answer_level block_level branch_level handler_level if_level input_level reply_level (record { operation = operation; request = request; reply = Some it })
+
+pub reply_counts : (path : Option Path) (body : Block) → reply_members (roll-Reply (record { path = path; body = body })) ≡ block_members body
+unfolding answer_members block_members branch_members handler_members if_members input_members otherwise_members process_members reply_members
+reply_counts path body = fold-roll-Reply ℕ ℕ ℕ ℕ ℕ ℕ ℕ ℕ ℕ otherwise_level process_level answer_level block_level branch_level handler_level if_level input_level reply_level (record { path = path; body = body })
+
+pub branch_counts : (at : ℕ) (i : Input) (after : Block) → branch_members (roll-Branch (record { at = at; input = i; after = after })) ≡ input_members i + block_members after
+unfolding answer_members block_members branch_members handler_members if_members input_members otherwise_members process_members reply_members
+branch_counts at i after = fold-roll-Branch ℕ ℕ ℕ ℕ ℕ ℕ ℕ ℕ ℕ otherwise_level process_level answer_level block_level branch_level handler_level if_level input_level reply_level (record { at = at; input = i; after = after })
+
+pub answer_counts : (path : Option Path) (handlers : Option (List Handler)) → answer_members (roll-Answer (record { path = path; handlers = handlers })) ≡ optional_count (option_map (sum_by handler_members) handlers)
+unfolding answer_members block_members branch_members handler_members if_members input_members otherwise_members process_members reply_members
+answer_counts path None = fold-roll-Answer ℕ ℕ ℕ ℕ ℕ ℕ ℕ ℕ ℕ otherwise_level process_level answer_level block_level branch_level handler_level if_level input_level reply_level (record { path = path; handlers = None })
+answer_counts path (Some it) = fold-roll-Answer ℕ ℕ ℕ ℕ ℕ ℕ ℕ ℕ ℕ otherwise_level process_level answer_level block_level branch_level handler_level if_level input_level reply_level (record { path = path; handlers = Some it }) ∙ sum-map handler_members it
+
+pub handler_counts : (key : HandlerKey) (body : Process) → handler_members (roll-Handler (record { key = key; body = body })) ≡ process_members body
+unfolding answer_members block_members branch_members handler_members if_members input_members otherwise_members process_members reply_members
+handler_counts key body = fold-roll-Handler ℕ ℕ ℕ ℕ ℕ ℕ ℕ ℕ ℕ otherwise_level process_level answer_level block_level branch_level handler_level if_level input_level reply_level (record { key = key; body = body })

@@ -1,0 +1,141 @@
+-- How many members the parallels of a file have in all, and how many they may have.
+use Rattle.std.specs.Prelude.{ℕ, ◌+◌, List, length, sum, sum_by, Option, Some, None}
+use Rattle.jolie_ast.specs.declared.process.Otherwise.TheOpen.{Answer-F, Block-F, Branch-F, Handler-F, If-F, Input-F, Otherwise-F, Process-F, Reply-F}
+use Rattle.jolie_ast.specs.declared.process.Otherwise.TheFolds.{fold-Answer, fold-Block, fold-Branch, fold-Handler, fold-If, fold-Input, fold-Otherwise, fold-Process, fold-Reply}
+use Rattle.jolie_ast.specs.declared.process.Process.{Process}
+use Rattle.jolie_ast.specs.declared.process.Block.{Block}
+use Rattle.jolie_ast.specs.declared.process.If.{If}
+use Rattle.jolie_ast.specs.declared.process.Otherwise.{Otherwise}
+use Rattle.jolie_ast.specs.declared.process.Input.{Input}
+use Rattle.jolie_ast.specs.declared.process.Reply.{Reply}
+use Rattle.jolie_ast.specs.declared.process.Branch.{Branch}
+use Rattle.jolie_ast.specs.declared.process.Answer.{Answer}
+use Rattle.jolie_ast.specs.declared.process.Handler.{Handler}
+use Rattle.jolie_ast.specs.declared.service.Clause.{Clause}
+use Rattle.jolie_ast.specs.declared.service.Clause.TheVariants as clause
+use Rattle.jolie_ast.specs.declared.tree.Definition.{Definition}
+use Rattle.jolie_ast.specs.declared.tree.Definition.TheVariants as definition
+
+-- the most members that the parallels of a file have in all
+abbrev pub most_members : ℕ
+most_members = 1048576
+
+-- what an optional part counts
+abbrev pub optional_count : Option ℕ → ℕ
+optional_count None = 0
+optional_count (Some n) = n
+
+-- what an optional list of parts counts
+abbrev pub optional_sum : Option (List ℕ) → ℕ
+optional_sum None = 0
+optional_sum (Some ns) = sum ns
+
+-- one level of a process, with what its parts count: a parallel counts its members and what is in them
+abbrev pub process_level : Process-F ℕ ℕ ℕ ℕ ℕ ℕ ℕ ℕ ℕ → ℕ
+process_level (Process-F.«Process::Nothing» at) = 0
+process_level (Process-F.Assign path assignment) = 0
+process_level (Process-F.Undef at path) = 0
+process_level (Process-F.Correlate at variable value) = 0
+process_level (Process-F.If n) = n
+process_level (Process-F.While at test body) = body
+process_level (Process-F.For at path first test stepped step body) = body
+process_level (Process-F.Input n) = n
+process_level (Process-F.Choice at branches) = sum branches
+process_level (Process-F.Output operation port value answer) = optional_count answer
+process_level (Process-F.Scope at name body) = body
+process_level (Process-F.Install at handlers) = sum handlers
+process_level (Process-F.Throw at fault value) = 0
+process_level (Process-F.Compensate at scope) = 0
+process_level (Process-F.InnerHandler at) = 0
+process_level (Process-F.Block n) = n
+process_level (Process-F.Sequence ns) = sum ns
+process_level (Process-F.Parallel ns) = length ns + sum ns
+
+-- one level of a block
+abbrev pub block_level : Block-F ℕ ℕ ℕ ℕ ℕ ℕ ℕ ℕ ℕ → ℕ
+block_level b = optional_count b.body
+
+-- one level of an `if`
+abbrev pub if_level : If-F ℕ ℕ ℕ ℕ ℕ ℕ ℕ ℕ ℕ → ℕ
+if_level i = i.body + i.otherwise
+
+-- one level of what an `if` does where its test fails
+abbrev pub otherwise_level : Otherwise-F ℕ ℕ ℕ ℕ ℕ ℕ ℕ ℕ ℕ → ℕ
+otherwise_level Otherwise-F.«Otherwise::Nothing» = 0
+otherwise_level (Otherwise-F.ElseIf n) = n
+otherwise_level (Otherwise-F.Else n) = n
+
+-- one level of an input
+abbrev pub input_level : Input-F ℕ ℕ ℕ ℕ ℕ ℕ ℕ ℕ ℕ → ℕ
+input_level i = optional_count i.reply
+
+-- one level of a reply part
+abbrev pub reply_level : Reply-F ℕ ℕ ℕ ℕ ℕ ℕ ℕ ℕ ℕ → ℕ
+reply_level r = r.body
+
+-- one level of a branch
+abbrev pub branch_level : Branch-F ℕ ℕ ℕ ℕ ℕ ℕ ℕ ℕ ℕ → ℕ
+branch_level b = b.input + b.after
+
+-- one level of what an output awaits
+abbrev pub answer_level : Answer-F ℕ ℕ ℕ ℕ ℕ ℕ ℕ ℕ ℕ → ℕ
+answer_level a = optional_sum a.handlers
+
+-- one level of a handler
+abbrev pub handler_level : Handler-F ℕ ℕ ℕ ℕ ℕ ℕ ℕ ℕ ℕ → ℕ
+handler_level h = h.body
+
+-- how many members the parallels in a process have in all
+unfoldable pub process_members : Process → ℕ
+process_members = fold-Process ℕ ℕ ℕ ℕ ℕ ℕ ℕ ℕ ℕ otherwise_level process_level answer_level block_level branch_level handler_level if_level input_level reply_level
+
+-- those in a block
+unfoldable pub block_members : Block → ℕ
+block_members = fold-Block ℕ ℕ ℕ ℕ ℕ ℕ ℕ ℕ ℕ otherwise_level process_level answer_level block_level branch_level handler_level if_level input_level reply_level
+
+-- those in an `if`
+unfoldable pub if_members : If → ℕ
+if_members = fold-If ℕ ℕ ℕ ℕ ℕ ℕ ℕ ℕ ℕ otherwise_level process_level answer_level block_level branch_level handler_level if_level input_level reply_level
+
+-- those in what an `if` does where its test fails
+unfoldable pub otherwise_members : Otherwise → ℕ
+otherwise_members = fold-Otherwise ℕ ℕ ℕ ℕ ℕ ℕ ℕ ℕ ℕ otherwise_level process_level answer_level block_level branch_level handler_level if_level input_level reply_level
+
+-- those in an input
+unfoldable pub input_members : Input → ℕ
+input_members = fold-Input ℕ ℕ ℕ ℕ ℕ ℕ ℕ ℕ ℕ otherwise_level process_level answer_level block_level branch_level handler_level if_level input_level reply_level
+
+-- those in a reply part
+unfoldable pub reply_members : Reply → ℕ
+reply_members = fold-Reply ℕ ℕ ℕ ℕ ℕ ℕ ℕ ℕ ℕ otherwise_level process_level answer_level block_level branch_level handler_level if_level input_level reply_level
+
+-- those in a branch
+unfoldable pub branch_members : Branch → ℕ
+branch_members = fold-Branch ℕ ℕ ℕ ℕ ℕ ℕ ℕ ℕ ℕ otherwise_level process_level answer_level block_level branch_level handler_level if_level input_level reply_level
+
+-- those in what an output awaits
+unfoldable pub answer_members : Answer → ℕ
+answer_members = fold-Answer ℕ ℕ ℕ ℕ ℕ ℕ ℕ ℕ ℕ otherwise_level process_level answer_level block_level branch_level handler_level if_level input_level reply_level
+
+-- those in a handler
+unfoldable pub handler_members : Handler → ℕ
+handler_members = fold-Handler ℕ ℕ ℕ ℕ ℕ ℕ ℕ ℕ ℕ otherwise_level process_level answer_level block_level branch_level handler_level if_level input_level reply_level
+
+-- those in a clause of a service
+abbrev pub clause_members : Clause → ℕ
+clause_members (clause.Init at body) = block_members body
+clause_members (clause.Main at body) = block_members body
+clause_members (clause.Execution at execution) = 0
+clause_members (clause.InputPort port) = 0
+clause_members (clause.OutputPort port) = 0
+clause_members (clause.CorrelationSet at variables) = 0
+
+-- those in a definition
+abbrev pub definition_members : Definition → ℕ
+definition_members (definition.Service s) = sum_by clause_members s.clauses
+definition_members (definition.Type t) = 0
+definition_members (definition.Interface i) = 0
+
+-- how many members the parallels of a file have in all
+abbrev pub parallel_members : List Definition → ℕ
+parallel_members definitions = sum_by definition_members definitions

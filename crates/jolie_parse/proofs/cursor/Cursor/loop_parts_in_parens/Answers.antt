@@ -1,0 +1,9 @@
+use Rattle.std.proofs.Common.{◌-◌, refl}
+use Rattle.jolie_parse.specs.Classes as classes
+use Rattle.jolie_parse.specs.Syntax as syntax
+use Rattle.jolie_parse.proofs.Inside.{between_reads}
+use Rattle.jolie_parse.proofs.cursor.Cursor.loop_parts_in_parens.Goals as goal
+
+pub returns : goal.returns
+returns c =
+    between_reads classes.sign_open_paren syntax.for_parts classes.sign_close_paren c.args.levels (c.args.levels - 1) c.args.self.now _ _ _ _ c.loop_parts-part.result c.closed.result c.in_ok-open.ensures.opened refl c.in_ok-open.ensures.reads c.loop_parts-part.ensures c.closed.ensures

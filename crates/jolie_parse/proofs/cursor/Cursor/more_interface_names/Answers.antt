@@ -1,0 +1,26 @@
+use Rattle.std.proofs.Common.{refl}
+use Rattle.jolie_parse.specs.Classes as classes
+use Rattle.jolie_parse.specs.Grammar as spec
+use Rattle.jolie_parse.specs.Grammar.{name, id}
+use Rattle.jolie_parse.specs.Syntax.{behind}
+use Rattle.jolie_parse.proofs.Lists.{passes, turn_fails, turn_goes, turns_end, turn_shorter}
+use Rattle.jolie_parse.proofs.cursor.Cursor.more_interface_names.Goals as goal
+
+pub returns-in_err-next_interface_name : goal.returns-in_err-next_interface_name
+unfolding name id
+returns-in_err-next_interface_name c =
+    passes _ c.from_residual.result c.in_err-next_interface_name.field-0.0 _ c.from_residual.ensures.1
+    (turn_fails 0 (behind classes.sign_comma spec.name) refl _ _ _ _ _ _ _ c.loop-names.invariant c.sees_sign.ensures c.loop-names-test.true c.in_err-next_interface_name.ensures)
+
+pub loop-names-smaller : goal.loop-names-smaller
+unfolding name id
+loop-names-smaller c = turn_shorter 0 (behind classes.sign_comma spec.name) refl _ _ _ c.in_ok-next_interface_name.ensures
+
+pub loop-names-preserved : goal.loop-names-preserved
+unfolding name id
+loop-names-preserved c =
+    turn_goes 0 (behind classes.sign_comma spec.name) refl _ _ _ _ _ _ _ _ c.loop-names.invariant c.sees_sign.ensures c.loop-names-test.true c.in_ok-next_interface_name.ensures c.in_ok-push.ensures.ok
+
+pub returns : goal.returns
+unfolding name id
+returns c = turns_end 0 (behind classes.sign_comma spec.name) refl _ _ _ _ _ c.loop-names.invariant c.sees_sign.ensures c.loop-names-test.false

@@ -1,0 +1,11 @@
+use Rattle.std.proofs.Common.{◌-◌, refl}
+use Rattle.jolie_parse.specs.Classes as classes
+use Rattle.jolie_parse.specs.Grammar.{type_named, id}
+use Rattle.jolie_parse.specs.Syntax as syntax
+use Rattle.jolie_parse.proofs.Inside.{between_reads}
+use Rattle.jolie_parse.proofs.cursor.Cursor.type_in_parens.Goals as goal
+
+pub returns : goal.returns
+unfolding type_named id
+returns c =
+    between_reads classes.sign_open_paren syntax.a_type_name classes.sign_close_paren c.args.levels (c.args.levels - 1) c.args.self.now _ _ _ _ _ _ c.in_ok-open.ensures.opened refl c.in_ok-open.ensures.reads c.type_named-part.ensures c.closed.ensures

@@ -1,0 +1,103 @@
+-- The words that count in the grammar, as they are written.
+use Rattle.std.specs.Prelude.{ℕ, List, [], codes, Option, Some, None}
+use Rattle.std.specs.List.{find}
+use Rattle.std.specs.Str.{bytes_eq}
+use Rattle.jolie_parse.specs.declared.word.Word.{Word}
+use Rattle.jolie_parse.specs.declared.word.Word.TheVariants as word
+use Rattle.jolie_parse.specs.declared.word.TheConstants.{COUNTED_WORDS}
+
+-- the bytes of a word that counts; none of a plain one
+abbrev pub spelling : Word → List ℕ
+spelling word.Plain = []
+spelling word.Location = codes "location"
+spelling word.Protocol = codes "protocol"
+spelling word.Interfaces = codes "interfaces"
+spelling word.Concurrent = codes "concurrent"
+spelling word.Single = codes "single"
+spelling word.Type = codes "type"
+spelling word.Interface = codes "interface"
+spelling word.Service = codes "service"
+spelling word.InputPort = codes "inputPort"
+spelling word.OutputPort = codes "outputPort"
+spelling word.Execution = codes "execution"
+spelling word.Cset = codes "cset"
+spelling word.Csets = codes "csets"
+spelling word.Init = codes "init"
+spelling word.Main = codes "main"
+spelling word.Scope = codes "scope"
+spelling word.Install = codes "install"
+spelling word.Throw = codes "throw"
+spelling word.Comp = codes "comp"
+spelling word.InnerHandler = codes "cH"
+spelling word.This = codes "this"
+spelling word.NullProcess = codes "nullProcess"
+spelling word.If = codes "if"
+spelling word.Else = codes "else"
+spelling word.While = codes "while"
+spelling word.For = codes "for"
+spelling word.Undef = codes "undef"
+spelling word.IsDefined = codes "is_defined"
+spelling word.True = codes "true"
+spelling word.False = codes "false"
+spelling word.Void = codes "void"
+spelling word.Bool = codes "bool"
+spelling word.Int = codes "int"
+spelling word.Long = codes "long"
+spelling word.Str = codes "string"
+spelling word.Any = codes "any"
+spelling word.Undefined = codes "undefined"
+spelling word.Throws = codes "throws"
+spelling word.RequestResponse = codes "RequestResponse"
+spelling word.OneWay = codes "OneWay"
+
+-- the word that counts and is written in these bytes
+unfoldable pub counted : List ℕ → Option Word
+counted bytes = find (λ w. bytes_eq (spelling w) bytes) COUNTED_WORDS
+
+-- the word that is written in these bytes
+unfoldable pub word_of : List ℕ → Word
+word_of bytes = elim (counted bytes) [ Some w ↦ w | None ↦ word.Plain ]
+
+-- words by number, which tells them apart
+abbrev pub word_number : Word → ℕ
+word_number word.Plain = 0
+word_number word.Location = 1
+word_number word.Protocol = 2
+word_number word.Interfaces = 3
+word_number word.Concurrent = 4
+word_number word.Single = 5
+word_number word.Type = 6
+word_number word.Interface = 7
+word_number word.Service = 8
+word_number word.InputPort = 9
+word_number word.OutputPort = 10
+word_number word.Execution = 11
+word_number word.Cset = 12
+word_number word.Csets = 13
+word_number word.Init = 14
+word_number word.Main = 15
+word_number word.Scope = 16
+word_number word.Install = 17
+word_number word.Throw = 18
+word_number word.Comp = 19
+word_number word.InnerHandler = 20
+word_number word.This = 21
+word_number word.NullProcess = 22
+word_number word.If = 23
+word_number word.Else = 24
+word_number word.While = 25
+word_number word.For = 26
+word_number word.Undef = 27
+word_number word.IsDefined = 28
+word_number word.True = 29
+word_number word.False = 30
+word_number word.Void = 31
+word_number word.Bool = 32
+word_number word.Int = 33
+word_number word.Long = 34
+word_number word.Str = 35
+word_number word.Any = 36
+word_number word.Undefined = 37
+word_number word.Throws = 38
+word_number word.RequestResponse = 39
+word_number word.OneWay = 40
