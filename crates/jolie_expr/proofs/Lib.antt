@@ -1,0 +1,4 @@
+pub mod Evaluates
+pub mod Lists
+pub mod Parses
+pub mod Ranges

@@ -1,0 +1,48 @@
+ghost use Rattle.std.specs.Prelude.{◌≡◌, IfOk, option_and_then};
+ghost use Rattle.jolie_expr.specs.Casts as spec;
+ghost use Rattle.jolie_expr.specs.Numbers.{int_root, long_root};
+
+use crate::text::{int_in, long_in, spelled, text_root};
+use behaviour_tree::CastKind;
+use jolie_trees::Root;
+use std::alloc::{AllocError, Global};
+
+/// A root as an int.
+fn to_int(root: &Root) -> Option<Root>
+    ensures { result ≡ option_and_then int_root (spec.number_of root.now) }
+{
+    match root {
+        Root::Void => None,
+        Root::Bool(b) => Some(Root::Int(i32::from(*b))),
+        Root::Int(n) => Some(Root::Int(*n)),
+        Root::Long(n) => Some(Root::Int(i32::try_from(*n).ok()?)),
+        Root::Text(text) => Some(Root::Int(int_in(text)?)),
+    }
+}
+
+/// A root as a long.
+fn to_long(root: &Root) -> Option<Root>
+    ensures { result ≡ option_and_then long_root (spec.number_of root.now) }
+{
+    match root {
+        Root::Void => None,
+        Root::Bool(b) => Some(Root::Long(i64::from(*b))),
+        Root::Int(n) => Some(Root::Long(i64::from(*n))),
+        Root::Long(n) => Some(Root::Long(*n)),
+        Root::Text(text) => Some(Root::Long(long_in(text)?)),
+    }
+}
+
+/// What a cast makes of a root.
+pub fn cast(alloc: Global, to: CastKind, root: Option<Root>) -> Result<Option<Root>, AllocError>
+    ensures { IfOk result (λ r. r ≡ option_and_then (spec.cast_to to) root) }
+{
+    match root {
+        None => Ok(None),
+        Some(root) => match to {
+            CastKind::Int => Ok(to_int(&root)),
+            CastKind::Long => Ok(to_long(&root)),
+            CastKind::Text => Ok(text_root(spelled(alloc, &root)?)),
+        },
+    }
+}
