@@ -1,1 +1,6 @@
+pub mod Escapes
 pub mod Members
+pub mod PrintedExpressions
+pub mod PrintedProcesses
+pub mod PrintedTypes
+pub mod Spacing

@@ -1,1 +1,5 @@
 pub mod Members
+pub mod Spacing
+pub mod PrintedExpressions
+pub mod PrintedProcesses
+pub mod Printed

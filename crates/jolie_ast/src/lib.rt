@@ -8,6 +8,13 @@
 mod expression;
 mod interface;
 mod name;
+mod print_expression;
+mod print_file;
+mod print_interface;
+mod print_process;
+mod print_service;
+mod print_type;
+mod printer;
 mod process;
 mod service;
 #[cfg(test)]
@@ -21,6 +28,7 @@ pub use expression::{
 };
 pub use interface::{Fault, Interface, OneWay, OperationGroup, RequestResponse, TypeName};
 pub use name::{Name, Quoted};
+pub use print_file::print;
 pub use process::{
     Answer, Assignment, Block, Branch, Count, ForStep, Handler, HandlerKey, If, Input, Otherwise,
     Process, Reply,

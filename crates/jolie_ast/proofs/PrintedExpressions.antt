@@ -1,0 +1,179 @@
+-- What the tokens of an expression are at each form.
+use Rattle.std.proofs.Common.{◌≡◌, ℕ, ℤ, Bool, true, false, if◌then◌else◌, List, [], ◌∷◌, ◌++◌, map, Option, Some, None, ap, sym, ◌∙◌, codes, flat_map}
+use Rattle.std.specs.Prelude.{option_map}
+use Rattle.jolie_ast.specs.declared.name.Name.{Name}
+use Rattle.jolie_ast.specs.declared.expression.Comparison.{Comparison}
+use Rattle.jolie_ast.specs.declared.expression.CastTarget.{CastTarget}
+use Rattle.jolie_ast.specs.declared.expression.Additive.{Additive}
+use Rattle.jolie_ast.specs.declared.expression.Multiplicative.{Multiplicative}
+use Rattle.jolie_ast.specs.declared.expression.ExprForm.TheOpen.{ExprForm-F}
+use Rattle.jolie_ast.specs.declared.expression.ExprForm.TheFolds.{fold-roll-Expr, fold-roll-ExprForm, fold-roll-Factor, fold-roll-Member, fold-roll-Path, fold-roll-Step, fold-roll-Term}
+use Rattle.jolie_ast.specs.declared.expression.Expr.{Expr, out-Expr, roll-Expr, roll-out-Expr}
+use Rattle.jolie_ast.specs.declared.expression.ExprForm.{ExprForm}
+use Rattle.jolie_ast.specs.declared.expression.ExprForm.TheVariants as form
+use Rattle.jolie_ast.specs.declared.expression.Factor.{Factor, out-Factor, roll-Factor, roll-out-Factor}
+use Rattle.jolie_ast.specs.declared.expression.Term.{Term, out-Term, roll-Term, roll-out-Term}
+use Rattle.jolie_ast.specs.declared.expression.Member.{Member, out-Member, roll-Member, roll-out-Member}
+use Rattle.jolie_ast.specs.declared.expression.Path.{Path, out-Path, roll-Path, roll-out-Path}
+use Rattle.jolie_ast.specs.declared.expression.Step.{Step, out-Step, roll-Step, roll-out-Step}
+use Rattle.jolie_ast.specs.Spacing.{Token, separated, with_token, after}
+use Rattle.jolie_ast.proofs.Spacing.{after_append, mapped_tokens, mapped_separated}
+use Rattle.jolie_ast.specs.PrintedExpressions.{Shown, simple, operation, operand, in_parens, in_brackets, in_braces, index_tokens, int_token, long_token, quoted_token, truth_token, cast_token, comparison_token, additive_token, multiplicative_token, form_level, expr_level, factor_level, member_level, path_level, step_level, term_level, form_shown, expr_shown, factor_tokens, term_tokens, member_tokens, path_tokens, step_tokens, expr_tokens, operand_tokens}
+
+pub int_shown : (n : ℤ) → form_shown (form.Int n) ≡ simple (int_token n ∷ [])
+unfolding expr_shown factor_tokens form_shown member_tokens path_tokens step_tokens term_tokens
+int_shown n =
+    ap form_shown (sym (form.rolls-Int n))
+    ∙ fold-roll-ExprForm Shown Shown (List Token) (List Token) (List Token) (List Token) (List Token) form_level expr_level factor_level member_level path_level step_level term_level (ExprForm-F.Int n)
+
+pub long_shown : (n : ℤ) → form_shown (form.Long n) ≡ simple (long_token n ∷ [])
+unfolding expr_shown factor_tokens form_shown member_tokens path_tokens step_tokens term_tokens
+long_shown n =
+    ap form_shown (sym (form.rolls-Long n))
+    ∙ fold-roll-ExprForm Shown Shown (List Token) (List Token) (List Token) (List Token) (List Token) form_level expr_level factor_level member_level path_level step_level term_level (ExprForm-F.Long n)
+
+pub text_shown : (t : List ℕ) → form_shown (form.Str t) ≡ simple (quoted_token t ∷ [])
+unfolding expr_shown factor_tokens form_shown member_tokens path_tokens step_tokens term_tokens
+text_shown t =
+    ap form_shown (sym (form.rolls-Str t))
+    ∙ fold-roll-ExprForm Shown Shown (List Token) (List Token) (List Token) (List Token) (List Token) form_level expr_level factor_level member_level path_level step_level term_level (ExprForm-F.Str t)
+
+pub truth_shown : (b : Bool) → form_shown (form.Bool b) ≡ simple (truth_token b ∷ [])
+unfolding expr_shown factor_tokens form_shown member_tokens path_tokens step_tokens term_tokens
+truth_shown b =
+    ap form_shown (sym (form.rolls-Bool b))
+    ∙ fold-roll-ExprForm Shown Shown (List Token) (List Token) (List Token) (List Token) (List Token) form_level expr_level factor_level member_level path_level step_level term_level (ExprForm-F.Bool b)
+
+pub path_form_shown : (path : Path) → form_shown (form.Path path) ≡ simple (path_tokens path)
+unfolding expr_shown factor_tokens form_shown member_tokens path_tokens step_tokens term_tokens
+path_form_shown path =
+    ap form_shown (sym (form.rolls-Path path))
+    ∙ fold-roll-ExprForm Shown Shown (List Token) (List Token) (List Token) (List Token) (List Token) form_level expr_level factor_level member_level path_level step_level term_level (ExprForm-F.Path path)
+
+pub size_shown : (path : Path) → form_shown (form.Size path) ≡ simple (codes "#" ∷ path_tokens path)
+unfolding expr_shown factor_tokens form_shown member_tokens path_tokens step_tokens term_tokens
+size_shown path =
+    ap form_shown (sym (form.rolls-Size path))
+    ∙ fold-roll-ExprForm Shown Shown (List Token) (List Token) (List Token) (List Token) (List Token) form_level expr_level factor_level member_level path_level step_level term_level (ExprForm-F.Size path)
+
+pub defined_shown : (path : Path) → form_shown (form.IsDefined path) ≡ simple (codes "is_defined" ∷ in_parens (path_tokens path))
+unfolding expr_shown factor_tokens form_shown member_tokens path_tokens step_tokens term_tokens
+defined_shown path =
+    ap form_shown (sym (form.rolls-IsDefined path))
+    ∙ fold-roll-ExprForm Shown Shown (List Token) (List Token) (List Token) (List Token) (List Token) form_level expr_level factor_level member_level path_level step_level term_level (ExprForm-F.IsDefined path)
+
+pub cast_shown : (to : CastTarget) (value : Expr) → form_shown (form.Cast to value) ≡ simple (cast_token to ∷ in_parens (expr_tokens value))
+unfolding expr_shown factor_tokens form_shown member_tokens path_tokens step_tokens term_tokens
+cast_shown to value =
+    ap form_shown (sym (form.rolls-Cast to value))
+    ∙ fold-roll-ExprForm Shown Shown (List Token) (List Token) (List Token) (List Token) (List Token) form_level expr_level factor_level member_level path_level step_level term_level (ExprForm-F.Cast to value)
+
+pub literal_shown : (members : List Member) → form_shown (form.Literal members) ≡ simple (in_braces (separated (codes ",") member_tokens members))
+unfolding expr_shown factor_tokens form_shown member_tokens path_tokens step_tokens term_tokens
+literal_shown members =
+    ap form_shown (sym (form.rolls-Literal members))
+    ∙ fold-roll-ExprForm Shown Shown (List Token) (List Token) (List Token) (List Token) (List Token) form_level expr_level factor_level member_level path_level step_level term_level (ExprForm-F.Literal members)
+    ∙ ap (λ ts. simple (in_braces ts)) (mapped_separated (codes ",") (λ ts. ts) member_tokens members)
+
+pub minus_shown : (value : Expr) → form_shown (form.Minus value) ≡ simple (codes "-" ∷ operand_tokens value)
+unfolding expr_shown factor_tokens form_shown member_tokens path_tokens step_tokens term_tokens
+minus_shown value =
+    ap form_shown (sym (form.rolls-Minus value))
+    ∙ fold-roll-ExprForm Shown Shown (List Token) (List Token) (List Token) (List Token) (List Token) form_level expr_level factor_level member_level path_level step_level term_level (ExprForm-F.Minus value)
+
+pub not_shown : (value : Expr) → form_shown (form.Not value) ≡ simple (codes "!" ∷ operand_tokens value)
+unfolding expr_shown factor_tokens form_shown member_tokens path_tokens step_tokens term_tokens
+not_shown value =
+    ap form_shown (sym (form.rolls-Not value))
+    ∙ fold-roll-ExprForm Shown Shown (List Token) (List Token) (List Token) (List Token) (List Token) form_level expr_level factor_level member_level path_level step_level term_level (ExprForm-F.Not value)
+
+pub product_shown : (first : Expr) (rest : List Factor) → form_shown (form.Product first rest) ≡ operation (operand_tokens first ++ flat_map factor_tokens rest)
+unfolding expr_shown factor_tokens form_shown member_tokens path_tokens step_tokens term_tokens
+product_shown first rest =
+    ap form_shown (sym (form.rolls-Product first rest))
+    ∙ fold-roll-ExprForm Shown Shown (List Token) (List Token) (List Token) (List Token) (List Token) form_level expr_level factor_level member_level path_level step_level term_level (ExprForm-F.Product first rest)
+    ∙ ap (λ ts. operation (operand_tokens first ++ ts)) (mapped_tokens (λ ts. ts) factor_tokens rest)
+
+pub sum_shown : (first : Expr) (rest : List Term) → form_shown (form.Sum first rest) ≡ operation (operand_tokens first ++ flat_map term_tokens rest)
+unfolding expr_shown factor_tokens form_shown member_tokens path_tokens step_tokens term_tokens
+sum_shown first rest =
+    ap form_shown (sym (form.rolls-Sum first rest))
+    ∙ fold-roll-ExprForm Shown Shown (List Token) (List Token) (List Token) (List Token) (List Token) form_level expr_level factor_level member_level path_level step_level term_level (ExprForm-F.Sum first rest)
+    ∙ ap (λ ts. operation (operand_tokens first ++ ts)) (mapped_tokens (λ ts. ts) term_tokens rest)
+
+pub compare_shown : (left : Expr) (compared : Comparison) (right : Expr) → form_shown (form.Compare left compared right) ≡ operation (operand_tokens left ++ comparison_token compared ∷ operand_tokens right)
+unfolding expr_shown factor_tokens form_shown member_tokens path_tokens step_tokens term_tokens
+compare_shown left compared right =
+    ap form_shown (sym (form.rolls-Compare left compared right))
+    ∙ fold-roll-ExprForm Shown Shown (List Token) (List Token) (List Token) (List Token) (List Token) form_level expr_level factor_level member_level path_level step_level term_level (ExprForm-F.Compare left compared right)
+
+pub and_shown : (values : List Expr) → form_shown (form.And values) ≡ operation (separated (codes "&&") operand_tokens values)
+unfolding expr_shown factor_tokens form_shown member_tokens path_tokens step_tokens term_tokens
+and_shown values =
+    ap form_shown (sym (form.rolls-And values))
+    ∙ fold-roll-ExprForm Shown Shown (List Token) (List Token) (List Token) (List Token) (List Token) form_level expr_level factor_level member_level path_level step_level term_level (ExprForm-F.And values)
+    ∙ ap operation (mapped_separated (codes "&&") operand expr_shown values)
+
+pub or_shown : (values : List Expr) → form_shown (form.Or values) ≡ operation (separated (codes "||") operand_tokens values)
+unfolding expr_shown factor_tokens form_shown member_tokens path_tokens step_tokens term_tokens
+or_shown values =
+    ap form_shown (sym (form.rolls-Or values))
+    ∙ fold-roll-ExprForm Shown Shown (List Token) (List Token) (List Token) (List Token) (List Token) form_level expr_level factor_level member_level path_level step_level term_level (ExprForm-F.Or values)
+    ∙ ap operation (mapped_separated (codes "||") operand expr_shown values)
+
+pub expr_is : (e : Expr) → expr_shown e ≡ form_shown (out-Expr e).form
+unfolding expr_shown factor_tokens form_shown member_tokens path_tokens step_tokens term_tokens
+expr_is e =
+    ap expr_shown (sym (roll-out-Expr e))
+    ∙ fold-roll-Expr Shown Shown (List Token) (List Token) (List Token) (List Token) (List Token) form_level expr_level factor_level member_level path_level step_level term_level (out-Expr e)
+
+pub factor_is : (f : Factor) → factor_tokens f ≡ multiplicative_token (out-Factor f).operator ∷ operand_tokens (out-Factor f).operand
+unfolding expr_shown factor_tokens form_shown member_tokens path_tokens step_tokens term_tokens
+factor_is f =
+    ap factor_tokens (sym (roll-out-Factor f))
+    ∙ fold-roll-Factor Shown Shown (List Token) (List Token) (List Token) (List Token) (List Token) form_level expr_level factor_level member_level path_level step_level term_level (out-Factor f)
+
+pub term_is : (t : Term) → term_tokens t ≡ additive_token (out-Term t).operator ∷ operand_tokens (out-Term t).operand
+unfolding expr_shown factor_tokens form_shown member_tokens path_tokens step_tokens term_tokens
+term_is t =
+    ap term_tokens (sym (roll-out-Term t))
+    ∙ fold-roll-Term Shown Shown (List Token) (List Token) (List Token) (List Token) (List Token) form_level expr_level factor_level member_level path_level step_level term_level (out-Term t)
+
+pub member_is : (m : Member) → member_tokens m ≡ (out-Member m).name.text ∷ (codes "=" ∷ expr_tokens (out-Member m).value)
+unfolding expr_shown factor_tokens form_shown member_tokens path_tokens step_tokens term_tokens
+member_is m =
+    ap member_tokens (sym (roll-out-Member m))
+    ∙ fold-roll-Member Shown Shown (List Token) (List Token) (List Token) (List Token) (List Token) form_level expr_level factor_level member_level path_level step_level term_level (out-Member m)
+
+pub path_is : (p : Path) → path_tokens p ≡ step_tokens (out-Path p).first ++ flat_map (λ s. codes "." ∷ step_tokens s) (out-Path p).rest
+unfolding expr_shown factor_tokens form_shown member_tokens path_tokens step_tokens term_tokens
+path_is p =
+    ap path_tokens (sym (roll-out-Path p))
+    ∙ fold-roll-Path Shown Shown (List Token) (List Token) (List Token) (List Token) (List Token) form_level expr_level factor_level member_level path_level step_level term_level (out-Path p)
+    ∙ ap (λ ts. step_tokens (out-Path p).first ++ ts) (mapped_tokens (λ ts. codes "." ∷ ts) step_tokens (out-Path p).rest)
+
+-- a step of its name and its index, if one is written
+pub step_made : (name : Name) (index : Option Expr) → step_tokens (roll-Step (record { name = name; index = index })) ≡ name.text ∷ index_tokens (option_map expr_shown index)
+unfolding expr_shown factor_tokens form_shown member_tokens path_tokens step_tokens term_tokens
+step_made name None = fold-roll-Step Shown Shown (List Token) (List Token) (List Token) (List Token) (List Token) form_level expr_level factor_level member_level path_level step_level term_level (record { name = name; index = None })
+step_made name (Some e) = fold-roll-Step Shown Shown (List Token) (List Token) (List Token) (List Token) (List Token) form_level expr_level factor_level member_level path_level step_level term_level (record { name = name; index = Some e })
+
+pub step_is : (s : Step) → step_tokens s ≡ (out-Step s).name.text ∷ index_tokens (option_map expr_shown (out-Step s).index)
+step_is s = ap step_tokens (sym (roll-out-Step s)) ∙ step_made (out-Step s).name (out-Step s).index
+
+-- an operand that is an operation with two or more operands
+pub operand_several : (e : Expr) → (form_shown (out-Expr e).form).several ≡ true → operand_tokens e ≡ in_parens (expr_tokens e)
+operand_several e h = ap (λ b. if b then in_parens (expr_tokens e) else expr_tokens e) (ap (λ s. s.several) (expr_is e) ∙ h)
+
+-- another operand
+pub operand_alone : (e : Expr) → (form_shown (out-Expr e).form).several ≡ false → operand_tokens e ≡ expr_tokens e
+operand_alone e h = ap (λ b. if b then in_parens (expr_tokens e) else expr_tokens e) (ap (λ s. s.several) (expr_is e) ∙ h)
+
+-- a step with an index is written by its name, a bracket, the index and a bracket
+pub indexed_step : (s : Step) (e d : Expr) (p0 p1 p2 p3 p4 : Option (List ℕ)) → (out-Step s).index ≡ Some e → d ≡ e → p1 ≡ with_token p0 (out-Step s).name.text
+    → p2 ≡ with_token p1 (codes "[") → p3 ≡ after p2 (expr_tokens d) → p4 ≡ with_token p3 (codes "]") → p4 ≡ after p0 (step_tokens s)
+indexed_step s e d p0 p1 p2 p3 p4 has same name opened inner closed =
+    closed
+    ∙ ap (λ p. with_token p (codes "]")) (inner ∙ ap (λ p. after p (expr_tokens d)) (opened ∙ ap (λ p. with_token p (codes "[")) name) ∙ ap (λ x. after (with_token (with_token p0 (out-Step s).name.text) (codes "[")) (expr_tokens x)) same)
+    ∙ sym (after_append (with_token (with_token p0 (out-Step s).name.text) (codes "[")) (expr_tokens e) (codes "]" ∷ []))
+    ∙ ap (after p0) (sym (step_is s ∙ ap (λ i. (out-Step s).name.text ∷ index_tokens (option_map expr_shown i)) has))

@@ -1,0 +1,72 @@
+use Rattle.std.proofs.Common.{◌≡◌, ◌+◌, ◌++◌, ◌∷◌, ◌<◌, ◌≤◌, [], OnOk, arith, codes, length, take, drop, get_or, flat_map, Some, None, ap, subst, sym, refl, ◌∙◌}
+use Rattle.std.specs.Prelude.{option_map}
+use Rattle.jolie_ast.specs.declared.expression.Factor.{out-Factor}
+use Rattle.jolie_ast.specs.declared.expression.Term.{out-Term}
+use Rattle.jolie_ast.specs.declared.expression.Path.{out-Path}
+use Rattle.jolie_ast.specs.declared.expression.Step.{out-Step}
+use Rattle.jolie_ast.specs.Spacing.{after, with_token, separated}
+use Rattle.jolie_ast.specs.PrintedExpressions.{additive_token, multiplicative_token, factor_tokens, term_tokens, member_tokens, step_tokens, operand_tokens, expr_shown, form_shown, expr_tokens, path_tokens, index_tokens, in_parens}
+use Rattle.jolie_ast.proofs.Spacing.{turn_of, token_then, all_separated, all_behind}
+use Rattle.jolie_ast.proofs.PrintedExpressions.{operand_several, operand_alone, indexed_step, factor_is, term_is, path_is, step_is, defined_shown}
+use Rattle.jolie_ast.proofs.printer.Printer.+expression.Goals as goal
+
+pub operand-returns-then-is_operation : goal.operand-returns-then-is_operation
+operand-returns-then-is_operation t c = rw (operand_several c.args.operand.now (sym c.is_operation.ensures ∙ c.if-is_operation.true)) c.in_parens.ensures
+
+pub operand-returns-else-is_operation : goal.operand-returns-else-is_operation
+operand-returns-else-is_operation t c = rw (operand_alone c.args.operand.now (sym c.is_operation.ensures ∙ c.if-is_operation.false)) c.expr.ensures
+
+pub form-returns-in_ok-token-in-IsDefined : goal.form-returns-in_ok-token-in-IsDefined
+form-returns-in_ok-token-in-IsDefined t c =
+    subst (λ us. OnOk c.path_in_parens.result (c.path_in_parens.new.self ≡ after c.args.self.now us))
+    (sym (ap (λ f. (form_shown f).tokens) c.in-IsDefined.is ∙ ap (λ s. s.tokens) (defined_shown c.in-IsDefined.path)))
+    (subst (λ p. OnOk c.path_in_parens.result (c.path_in_parens.new.self ≡ after p (in_parens (path_tokens c.in-IsDefined.path)))) (c.in_ok-token-in-IsDefined.ensures) c.path_in_parens.ensures)
+
+pub factors-loop-factor-preserved : goal.factors-loop-factor-preserved
+factors-loop-factor-preserved t c =
+    turn_of factor_tokens c.args.self.now c.loop-factor.self c.operand.new.self c.args.factors.now c.loop-factor.factor-index c.factor-item.result c.loop-factor-test.true c.factor-item.is c.loop-factor.invariant
+    (token_then _ _ _ _ _ _ (c.in_ok-multiplicative.ensures) (c.in_ok-operand.ensures) (factor_is c.factor-item.result))
+
+pub terms-loop-term-preserved : goal.terms-loop-term-preserved
+terms-loop-term-preserved t c =
+    turn_of term_tokens c.args.self.now c.loop-term.self c.operand.new.self c.args.terms.now c.loop-term.term-index c.term-item.result c.loop-term-test.true c.term-item.is c.loop-term.invariant
+    (token_then _ _ _ _ _ _ (c.in_ok-additive.ensures) (c.in_ok-operand.ensures) (term_is c.term-item.result))
+
+pub members-loop-member-preserved : goal.members-loop-member-preserved
+members-loop-member-preserved t c =
+    turn_of (λ m. codes "," ∷ member_tokens m) c.member.new.self c.loop-member.self c.member-in-loop-member.new.self _ c.loop-member.member-index c.member-item.result c.loop-member-test.true c.member-item.is c.loop-member.invariant
+    (token_then c.loop-member.self c.token.new.self c.member-in-loop-member.new.self (codes ",") (member_tokens c.member-item.result) _ (c.in_ok-token.ensures) (c.in_ok-member-2.ensures) refl)
+
+pub operands-loop-value-preserved : goal.operands-loop-value-preserved
+operands-loop-value-preserved t c =
+    turn_of (λ e. c.args.sign.now ∷ operand_tokens e) c.operand.new.self c.loop-value.self c.operand-in-loop-value.new.self _ c.loop-value.value-index c.value-item.result c.loop-value-test.true c.value-item.is c.loop-value.invariant
+    (token_then c.loop-value.self c.token.new.self c.operand-in-loop-value.new.self c.args.sign.now (operand_tokens c.value-item.result) _ (c.in_ok-token.ensures) (c.in_ok-operand-2.ensures) refl)
+
+pub members-returns-after-loop-member : goal.members-returns-after-loop-member
+members-returns-after-loop-member t c =
+    all_separated (codes ",") member_tokens c.args.self.now c.member.new.self c.loop-member.self c.args.members.now c.first-item.result c.loop-member.member-index c.in-len1-up.len_at_least c.first-item.is (c.in_ok-member.ensures) c.loop-member.invariant (omega arith)
+
+pub operands-returns-after-loop-value : goal.operands-returns-after-loop-value
+operands-returns-after-loop-value t c =
+    all_separated c.args.sign.now operand_tokens c.args.self.now c.operand.new.self c.loop-value.self c.args.values.now c.first-item.result c.loop-value.value-index c.in-len1-up.len_at_least c.first-item.is (c.in_ok-operand.ensures) c.loop-value.invariant (omega arith)
+
+pub path-loop-step-preserved : goal.path-loop-step-preserved
+path-loop-step-preserved t c =
+    turn_of (λ s. codes "." ∷ step_tokens s) c.step.new.self c.loop-step.self c.step-in-loop-step.new.self c.as_slice-step-items.result.now c.loop-step.step-index c.step-item.result c.loop-step-test.true c.step-item.is c.loop-step.invariant
+    (token_then c.loop-step.self c.token.new.self c.step-in-loop-step.new.self (codes ".") (step_tokens c.step-item.result) _ (c.in_ok-token.ensures) (c.in_ok-step-2.ensures) refl)
+
+pub path-returns : goal.path-returns
+path-returns t c =
+    all_behind (λ s. codes "." ∷ step_tokens s) c.args.self.now c.step.new.self c.loop-step.self (step_tokens (out-Path c.args.path.now).first) (path_tokens c.args.path.now) c.as_slice-step-items.result.now c.loop-step.step-index
+    (c.in_ok-step.ensures) c.loop-step.invariant (omega arith)
+    (path_is c.args.path.now ∙ ap (λ ss. step_tokens (out-Path c.args.path.now).first ++ flat_map (λ s. codes "." ∷ step_tokens s) ss) (sym c.as_slice-step-items.ensures))
+
+pub step-returns-in_default : goal.step-returns-in_default
+step-returns-in_default t c =
+    token_then c.args.self.now c.token.new.self c.token.new.self (out-Step c.args.step.now).name.text [] (step_tokens c.args.step.now) (c.in_ok-token.ensures ∙ ap (with_token c.args.self.now) c.as_str.ensures) refl
+    (step_is c.args.step.now ∙ ap (λ i. (out-Step c.args.step.now).name.text ∷ index_tokens (option_map expr_shown i)) c.in_default.is)
+
+pub step-returns-in_ok-token-3 : goal.step-returns-in_ok-token-3
+step-returns-in_ok-token-3 t c =
+    indexed_step c.args.step.now c.in-Some.index c.get.result.now c.args.self.now c.token.new.self c.token-in-Some.new.self c.expr.new.self c.token-in-Some-2.new.self c.in-Some.is c.get.ensures
+    (c.in_ok-token.ensures ∙ ap (with_token c.args.self.now) c.as_str.ensures) c.in_ok-token-2.ensures c.in_ok-expr.ensures c.in_ok-token-3.ensures

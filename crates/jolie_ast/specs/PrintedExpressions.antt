@@ -1,0 +1,205 @@
+-- The tokens of an expression.
+use Rattle.std.specs.Prelude.{ℕ, ℤ, Bool, true, false, List, [], ◌∷◌, ◌++◌, flat_map, Option, Some, None, codes, ◌==◌, if◌then◌else◌}
+use Rattle.std.specs.Fmt.{signed_decimal}
+use Rattle.jolie_ast.specs.declared.name.Name.{Name}
+use Rattle.jolie_ast.specs.declared.expression.Additive.{Additive}
+use Rattle.jolie_ast.specs.declared.expression.Additive.TheVariants as additive
+use Rattle.jolie_ast.specs.declared.expression.Multiplicative.{Multiplicative}
+use Rattle.jolie_ast.specs.declared.expression.Multiplicative.TheVariants as multiplicative
+use Rattle.jolie_ast.specs.declared.expression.Comparison.{Comparison}
+use Rattle.jolie_ast.specs.declared.expression.Comparison.TheVariants as comparison
+use Rattle.jolie_ast.specs.declared.expression.CastTarget.{CastTarget}
+use Rattle.jolie_ast.specs.declared.expression.CastTarget.TheVariants as target
+use Rattle.jolie_ast.specs.declared.expression.ExprForm.TheOpen.{Expr-F, ExprForm-F, Factor-F, Member-F, Path-F, Step-F, Term-F}
+use Rattle.jolie_ast.specs.declared.expression.ExprForm.TheFolds.{fold-Expr, fold-ExprForm, fold-Factor, fold-Member, fold-Path, fold-Step, fold-Term}
+use Rattle.jolie_ast.specs.declared.expression.Expr.{Expr}
+use Rattle.jolie_ast.specs.declared.expression.ExprForm.{ExprForm}
+use Rattle.jolie_ast.specs.declared.expression.Factor.{Factor}
+use Rattle.jolie_ast.specs.declared.expression.Term.{Term}
+use Rattle.jolie_ast.specs.declared.expression.Member.{Member}
+use Rattle.jolie_ast.specs.declared.expression.Path.{Path}
+use Rattle.jolie_ast.specs.declared.expression.Step.{Step}
+use Rattle.jolie_ast.specs.Spacing.{Token, separated}
+
+-- ---- words, numbers and strings
+
+-- a byte of a string: line feed, tab, carriage return, quotation mark and backslash are escaped
+abbrev pub escaped_byte : ℕ → List ℕ
+escaped_byte b =
+    if b == 10 then codes "\\n"
+    else if b == 9 then codes "\\t"
+    else if b == 13 then codes "\\r"
+    else if b == 34 then codes "\\\""
+    else if b == 92 then codes "\\\\"
+    else b ∷ []
+
+-- a string in quotation marks
+abbrev pub quoted_token : List ℕ → Token
+quoted_token text = codes "\"" ++ flat_map escaped_byte text ++ codes "\""
+
+-- an int in decimal
+abbrev pub int_token : ℤ → Token
+int_token n = signed_decimal n
+
+-- a long in decimal, with its L
+abbrev pub long_token : ℤ → Token
+long_token n = signed_decimal n ++ codes "L"
+
+-- `true` or `false`
+abbrev pub truth_token : Bool → Token
+truth_token true = codes "true"
+truth_token false = codes "false"
+
+-- a word
+abbrev pub name_tokens : Name → List Token
+name_tokens name = name.text ∷ []
+
+-- ---- operators
+
+-- the sign of an operator: `+` or `-`
+abbrev pub additive_token : Additive → Token
+additive_token additive.Plus = codes "+"
+additive_token additive.Minus = codes "-"
+
+-- the sign of an operator: `*`, `/` or `%`
+abbrev pub multiplicative_token : Multiplicative → Token
+multiplicative_token multiplicative.Times = codes "*"
+multiplicative_token multiplicative.Divide = codes "/"
+multiplicative_token multiplicative.Remainder = codes "%"
+
+-- the sign that compares
+abbrev pub comparison_token : Comparison → Token
+comparison_token comparison.Equal = codes "=="
+comparison_token comparison.NotEqual = codes "!="
+comparison_token comparison.Less = codes "<"
+comparison_token comparison.AtMost = codes "<="
+comparison_token comparison.Greater = codes ">"
+comparison_token comparison.AtLeast = codes ">="
+
+-- the word of a cast
+abbrev pub cast_token : CastTarget → Token
+cast_token target.Int = codes "int"
+cast_token target.Long = codes "long"
+cast_token target.Str = codes "string"
+
+-- ---- brackets
+
+-- tokens in parentheses
+abbrev pub in_parens : List Token → List Token
+in_parens ts = codes "(" ∷ (ts ++ codes ")" ∷ [])
+
+-- tokens in brackets
+abbrev pub in_brackets : List Token → List Token
+in_brackets ts = codes "[" ∷ (ts ++ codes "]" ∷ [])
+
+-- tokens in braces
+abbrev pub in_braces : List Token → List Token
+in_braces ts = codes "{" ∷ (ts ++ codes "}" ∷ [])
+
+-- the tokens of a part, if it is written
+abbrev pub maybe : Option (List Token) → List Token
+maybe None = []
+maybe (Some ts) = ts
+
+-- ---- expressions
+
+-- the tokens of an expression, and whether it is an operation with two or more operands
+pub record Shown : Type 0 where
+  pub several : Bool
+  pub tokens : List Token
+
+-- tokens that are no operation with two or more operands
+abbrev pub simple : List Token → Shown
+simple ts = record { several = false; tokens = ts }
+
+-- tokens of an operation with two or more operands
+abbrev pub operation : List Token → Shown
+operation ts = record { several = true; tokens = ts }
+
+-- an operand: in parentheses where it is an operation with two or more operands
+abbrev pub operand : Shown → List Token
+operand s = if s.several then in_parens s.tokens else s.tokens
+
+-- one level of a form, with the tokens of its parts
+abbrev pub form_level : ExprForm-F Shown Shown (List Token) (List Token) (List Token) (List Token) (List Token) → Shown
+form_level (ExprForm-F.Int n) = simple (int_token n ∷ [])
+form_level (ExprForm-F.Long n) = simple (long_token n ∷ [])
+form_level (ExprForm-F.Str text) = simple (quoted_token text ∷ [])
+form_level (ExprForm-F.Bool b) = simple (truth_token b ∷ [])
+form_level (ExprForm-F.Path path) = simple path
+form_level (ExprForm-F.Size path) = simple (codes "#" ∷ path)
+form_level (ExprForm-F.IsDefined path) = simple (codes "is_defined" ∷ in_parens path)
+form_level (ExprForm-F.Cast to value) = simple (cast_token to ∷ in_parens value.tokens)
+form_level (ExprForm-F.Literal members) = simple (in_braces (separated (codes ",") (λ ts. ts) members))
+form_level (ExprForm-F.Minus value) = simple (codes "-" ∷ operand value)
+form_level (ExprForm-F.Not value) = simple (codes "!" ∷ operand value)
+form_level (ExprForm-F.Product first rest) = operation (operand first ++ flat_map (λ ts. ts) rest)
+form_level (ExprForm-F.Sum first rest) = operation (operand first ++ flat_map (λ ts. ts) rest)
+form_level (ExprForm-F.Compare left compared right) = operation (operand left ++ comparison_token compared ∷ operand right)
+form_level (ExprForm-F.And values) = operation (separated (codes "&&") operand values)
+form_level (ExprForm-F.Or values) = operation (separated (codes "||") operand values)
+
+-- one level of an expression
+abbrev pub expr_level : Expr-F Shown Shown (List Token) (List Token) (List Token) (List Token) (List Token) → Shown
+expr_level e = e.form
+
+-- one level of a later operand of a product
+abbrev pub factor_level : Factor-F Shown Shown (List Token) (List Token) (List Token) (List Token) (List Token) → List Token
+factor_level f = multiplicative_token f.operator ∷ operand f.operand
+
+-- one level of a later operand of a sum
+abbrev pub term_level : Term-F Shown Shown (List Token) (List Token) (List Token) (List Token) (List Token) → List Token
+term_level t = additive_token t.operator ∷ operand t.operand
+
+-- one level of a member of a literal
+abbrev pub member_level : Member-F Shown Shown (List Token) (List Token) (List Token) (List Token) (List Token) → List Token
+member_level m = m.name.text ∷ (codes "=" ∷ m.value.tokens)
+
+-- further steps of a path, each behind a dot
+abbrev pub path_level : Path-F Shown Shown (List Token) (List Token) (List Token) (List Token) (List Token) → List Token
+path_level p = p.first ++ flat_map (λ ts. codes "." ∷ ts) p.rest
+
+-- the tokens of an index, if one is written
+abbrev pub index_tokens : Option Shown → List Token
+index_tokens None = []
+index_tokens (Some value) = in_brackets value.tokens
+
+-- one level of a step of a path
+abbrev pub step_level : Step-F Shown Shown (List Token) (List Token) (List Token) (List Token) (List Token) → List Token
+step_level s = s.name.text ∷ index_tokens s.index
+
+-- the tokens of a form, and whether it has several operands
+unfoldable pub form_shown : ExprForm → Shown
+form_shown = fold-ExprForm Shown Shown (List Token) (List Token) (List Token) (List Token) (List Token) form_level expr_level factor_level member_level path_level step_level term_level
+
+-- the tokens of an expression, and whether it has several operands
+unfoldable pub expr_shown : Expr → Shown
+expr_shown = fold-Expr Shown Shown (List Token) (List Token) (List Token) (List Token) (List Token) form_level expr_level factor_level member_level path_level step_level term_level
+
+-- the tokens of a later operand of a product, with its operator
+unfoldable pub factor_tokens : Factor → List Token
+factor_tokens = fold-Factor Shown Shown (List Token) (List Token) (List Token) (List Token) (List Token) form_level expr_level factor_level member_level path_level step_level term_level
+
+-- the tokens of a later operand of a sum, with its operator
+unfoldable pub term_tokens : Term → List Token
+term_tokens = fold-Term Shown Shown (List Token) (List Token) (List Token) (List Token) (List Token) form_level expr_level factor_level member_level path_level step_level term_level
+
+-- the tokens of a member of a literal
+unfoldable pub member_tokens : Member → List Token
+member_tokens = fold-Member Shown Shown (List Token) (List Token) (List Token) (List Token) (List Token) form_level expr_level factor_level member_level path_level step_level term_level
+
+-- the tokens of a path
+unfoldable pub path_tokens : Path → List Token
+path_tokens = fold-Path Shown Shown (List Token) (List Token) (List Token) (List Token) (List Token) form_level expr_level factor_level member_level path_level step_level term_level
+
+-- the tokens of a step of a path
+unfoldable pub step_tokens : Step → List Token
+step_tokens = fold-Step Shown Shown (List Token) (List Token) (List Token) (List Token) (List Token) form_level expr_level factor_level member_level path_level step_level term_level
+
+-- the tokens of an expression that is no operand
+abbrev pub expr_tokens : Expr → List Token
+expr_tokens e = (expr_shown e).tokens
+
+-- the tokens of an expression that is an operand
+abbrev pub operand_tokens : Expr → List Token
+operand_tokens e = operand (expr_shown e)
