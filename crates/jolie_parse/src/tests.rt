@@ -1,5 +1,7 @@
 use crate::parsing::parse;
+use jolie_ast::print;
 use jolie_tokens::lex;
+use jolie_trees::Text;
 use std::alloc::{AllocError, Global};
 use std::process::Abort;
 use std::test::Fail;
@@ -21,9 +23,44 @@ fn check(rt: &impl Abort, alloc: Global, text: &[u8], want: &str) -> Result<(), 
     Ok(())
 }
 
+/// What is printed of a text, none where it is refused.
+fn printed(alloc: Global, text: &[u8]) -> Result<Option<Text>, AllocError> {
+    let Ok(tokens) = lex(alloc, text) else {
+        return Ok(None);
+    };
+    match parse(alloc, text, &tokens) {
+        Ok(ast) => Ok(Some(print(alloc, &ast)?)),
+        Err(_) => Ok(None),
+    }
+}
+
+fn check_printed(
+    rt: &impl Abort,
+    alloc: Global,
+    text: &[u8],
+    want: &str,
+) -> Result<(), AllocError> {
+    let have = printed(alloc, text)?;
+    match have {
+        Some(have) => assert_eq!(rt; have.as_str(), want, "at {text:?}"),
+        None => panic!(rt; "refused: {text:?}"),
+    }
+    Ok(())
+}
+
+/// What is printed of the text is printed of itself.
+fn check_again(rt: &impl Abort, alloc: Global, text: &[u8]) -> Result<(), AllocError> {
+    match printed(alloc, text)? {
+        Some(once) => check_printed(rt, alloc, once.as_str().as_bytes(), once.as_str()),
+        None => panic!(rt; "refused: {text:?}"),
+    }
+}
+
+/// Each text is read, and so is what is printed of it.
 fn check_read(rt: &impl Abort, alloc: Global, texts: &[&str]) -> Result<(), AllocError> {
     for text in texts {
         check(rt, alloc, text.as_bytes(), "read")?;
+        check_again(rt, alloc, text.as_bytes())?;
     }
     Ok(())
 }
@@ -242,6 +279,33 @@ fn further_statements_are_refused_at_their_first_wrong_token(rt: HostRuntime) ->
     Ok(())
 }
 
+#[test]
+fn files_are_printed_token_by_token(rt: HostRuntime) -> Result<(), Fail> {
+    let rows = [
+        ("", "\n"),
+        (
+            "service S { main { a = 1 ; b = 2 | c = 3 } }",
+            "service S { main { a = 1 ; b = 2 | c = 3 } }\n",
+        ),
+        (
+            "service S{main{a=((1))+2*3/* c */;b=(1+2)*-(-x)}}",
+            "service S { main { a = 1 + ( 2 * 3 ) ; b = ( 1 + 2 ) * - - x } }\n",
+        ),
+        (
+            "type T{a[007,*]:int,.b?:string c:U}",
+            "type T { a [ 7 , * ] : int b ? : string c : U }\n",
+        ),
+        (
+            "service S { main { a = \"\\\"\\\\\\n\" ; b = { .x = 0L, y = !c && d == e } } }",
+            "service S { main { a = \"\\\"\\\\\\n\" ; b = { x = 0L , y = ! c && ( d == e ) } } }\n",
+        ),
+    ];
+    for (text, want) in rows {
+        check_printed(&rt, rt.alloc(), text.as_bytes(), want)?;
+    }
+    Ok(())
+}
+
 /// The types and interfaces of an order service.
 const ORDER_TYPES: &str = "type Order: void { id: string sku: string n: int price: int }
 type Item: void { sku: string n: int }
@@ -323,6 +387,7 @@ fn an_order_service_is_read_and_no_service_is_one_before_its_last_brace(
     check(&rt, alloc, ORDER_TYPES.as_bytes(), "read")?;
     for service in ORDER_SERVICES {
         check(&rt, alloc, service.as_bytes(), "read")?;
+        check_again(&rt, alloc, service.as_bytes())?;
         for len in 1..service.len() {
             let have = verdict(alloc, &service.as_bytes()[..len])?;
             assert_ne!(rt; have.as_str(), "read", "at {len} of {service}");
