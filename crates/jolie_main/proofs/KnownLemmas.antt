@@ -1,6 +1,11 @@
 -- Bytes that a source gave and a sink took, over several calls.
-use Rattle.std.proofs.Common.{◌≡◌, refl, sym, ap, subst, ◌∙◌, ℕ, List, [], ◌++◌, append_assoc, Option, None, Some}
+use Rattle.std.proofs.Common.{◌≡◌, refl, sym, ap, subst, ◌∙◌, ℕ, List, [], ◌++◌, append-nil, append_assoc, Option, None, Some}
 use Rattle.std.specs.Io.KnownBytes.{Appends, Consumes, Keeps}
+
+-- nothing taken
+pub Appends-nil : (a : Option (List ℕ)) → Appends a a []
+Appends-nil None = tt
+Appends-nil (Some xs) = sym (append-nil xs)
 
 -- taken twice
 pub Appends-trans : (a b c : Option (List ℕ)) (xs ys : List ℕ) → Appends a b xs → Appends b c ys → Appends a c (xs ++ ys)

@@ -1,49 +1,48 @@
--- What a reader gives after a step that fails, and in the turns of a loop.
-use Rattle.std.proofs.Common.{◌≡◌, ℕ, suc, ◌+◌, ◌-◌, ◌<◌, ◌≤◌, List, [], ◌∷◌, ◌++◌, refl, sym, ap, ◌∙◌, subst, arith, Option, Some, None}
-use Rattle.std.specs.Prelude.{Result, Ok, Err, IsErrAnd}
-use Rattle.jolie_main.specs.declared.words.Stop.{Stop}
-use Rattle.jolie_main.specs.declared.words.Stop.TheVariants.{Other, Memory}
-use Rattle.jolie_main.specs.declared.formula.Formula.{Formula}
-use Rattle.jolie_main.specs.declared.formula.Term.{Term}
-use Rattle.jolie_main.specs.FirstForm.{sum_with}
-use Rattle.jolie_main.specs.Words.{Token}
-use Rattle.jolie_main.specs.Reading.{Reading, ◌>>=◌, Stops, Reads, more}
+-- What stops a step stops all, and what a loop has found so far.
+use Rattle.std.specs.Borrow.{Bor}
+use Rattle.std.proofs.Common.{◌≡◌, ℕ, ◌+◌, ◌<◌, ◌≤◌, List, [], ◌∷◌, ◌++◌, length, map, drop, get_or, refl, sym, ap, ◌∙◌, subst, Option, Some, None}
+use Rattle.std.specs.Prelude.{option_map, option_and_then, Result, Ok, Err, IsErrAnd}
+use Rattle.std.proofs.lemmas.List.{drop_more, drop_all, append-nil, append_assoc}
+use Rattle.jolie_main.specs.declared.formula.Stop.{Stop}
+use Rattle.jolie_main.specs.declared.formula.Stop.TheVariants.{Other, Memory}
+use Rattle.jolie_main.specs.Stops.{Stops, Answers, Shows}
+use Rattle.jolie_main.specs.Formulas.{◌>>=◌, all_there, found_then}
 
 pub stops_then : {A B : Type 0} (o : Option A) (f : A → Option B) (e : Stop) → Stops o e → Stops (o >>= f) e
 stops_then o f Other h = rw h refl
 stops_then o f (Memory a) h = tt
 
-pub passes : {B : Type 0} (o : Reading B) (r : Result B Stop) (e : Stop) (q : List Token) → IsErrAnd r (λ y. y ≡ e) → Stops o e → Reads o r q
-passes o (Ok b) e q h s = absurd h
-passes o (Err y) e q h s = subst (λ z. Stops o z) (sym h) s
+pub stops_map : {A B : Type 0} (o : Option A) (f : A → B) (e : Stop) → Stops o e → Stops (option_map f o) e
+stops_map o f Other h = rw h refl
+stops_map o f (Memory a) h = tt
 
-module _ {A : Type 0} (next : List Token → Reading (Option A)) where
-  turn : (i n : ℕ) → i < n → n - i ≡ suc (n - (i + 1))
-  turn i n lt = omega arith
+pub passes : {B : Type 0} (o : Option B) (r : Result B Stop) (e : Stop) → IsErrAnd r (λ y. y ≡ e) → Stops o e → Answers o r
+passes o (Ok b) e h s = absurd h
+passes o (Err y) e h s = subst (λ z. Stops o z) (sym h) s
 
-  pub more_goes : (i n : ℕ) (items : List A) (ts rest : List Token) (a : A) → i < n → next ts ≡ Some (Some a, rest)
-      → more next (n - i) items ts ≡ more next (n - (i + 1)) (items ++ a ∷ []) rest
-  unfolding more
-  more_goes i n items ts rest a lt e = rw (turn i n lt, e) refl
+pub passes_on : {B : Type 0} (o : Option B) (r : Result (Bor B) Stop) (e : Stop) → IsErrAnd r (λ y. y ≡ e) → Stops o e → Shows o r
+passes_on o (Ok b) e h s = absurd h
+passes_on o (Err y) e h s = subst (λ z. Stops o z) (sym h) s
 
-  pub more_ends : (i n : ℕ) (items : List A) (ts rest : List Token) → i < n → next ts ≡ Some (None, rest) → more next (n - i) items ts ≡ Some (items, rest)
-  unfolding more
-  more_ends i n items ts rest lt e = rw (turn i n lt, e) refl
+nothing_before : {B : Type 0} (o : Option (List B)) → option_map (λ rest. [] ++ rest) o ≡ o
+nothing_before None = refl
+nothing_before (Some rest) = refl
 
-  pub more_fails : (i n : ℕ) (items : List A) (ts : List Token) (e : Stop) → i < n → Stops (next ts) e → Stops (more next (n - i) items ts) e
-  unfolding more
-  more_fails i n items ts e lt h = rw (turn i n lt) (stops_then (next ts) _ e h)
+pub from_nothing : {B : Type 0} (parts : List (Option B)) → found_then [] parts ≡ all_there parts
+from_nothing parts = nothing_before (all_there parts)
 
-  -- a loop that is left since nothing more is there
-  pub loop_ends : (i n : ℕ) (items : List A) (ts rest : List Token) (found : Option A) (all : Reading (List A)) → i < n → next ts ≡ Some (found, rest) → found ≡ None
-      → all ≡ more next (n - i) items ts → all ≡ Some (items, rest)
-  loop_ends i n items ts rest found all lt e none h = h ∙ more_ends i n items ts rest lt (e ∙ ap (λ o. Some (o, rest)) none)
+found_snoc : {B : Type 0} (found : List B) (b : B) (o : Option (List B)) → option_map (λ rest. found ++ rest) (option_map (λ rest. b ∷ rest) o) ≡ option_map (λ rest. (found ++ b ∷ []) ++ rest) o
+found_snoc found b None = refl
+found_snoc found b (Some rest) = ap Some (sym (append_assoc found (b ∷ []) rest))
 
-  -- a loop whose turns are over
-  pub loop_over : (i n : ℕ) (items : List A) (ts : List Token) (all : Reading (List A)) → n ≤ i → all ≡ more next (n - i) items ts → all ≡ Some (items, ts)
-  unfolding more
-  loop_over i n items ts all le h = let none : n - i ≡ 0 = omega arith in h ∙ rw none refl
+module _ {A B : Type 0} (f : A → Option B) where
+  pub found_goes : (xs : List A) (i : ℕ) (x : A) (found : List B) (b : B) → i < length xs → x ≡ get_or xs i x → f x ≡ Some b
+      → found_then found (map f (drop i xs)) ≡ found_then (found ++ b ∷ []) (map f (drop (i + 1) xs))
+  found_goes xs i x found b lt is e = rw (drop_more xs i x lt, sym is, e) (found_snoc found b (all_there (map f (drop (i + 1) xs))))
 
--- terms that are read make a sum
-abbrev pub and_summed : Reading (List Term) → Reading Formula
-and_summed o = o >>= λ terms. Some (sum_with terms.0, terms.1)
+  pub found_ends : (xs : List A) (i : ℕ) (found : List B) → length xs ≤ i → found_then found (map f (drop i xs)) ≡ Some found
+  found_ends xs i found le = rw (drop_all i xs le) (ap Some (append-nil found))
+
+  pub found_stops : (xs : List A) (i : ℕ) (x : A) (found : List B) (e : Stop) → i < length xs → x ≡ get_or xs i x → Stops (f x) e → Stops (found_then found (map f (drop i xs))) e
+  found_stops xs i x found Other lt is h = rw (drop_more xs i x lt, sym is, h) refl
+  found_stops xs i x found (Memory a) lt is h = tt

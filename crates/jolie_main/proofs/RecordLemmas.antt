@@ -1,5 +1,5 @@
 -- The record of a run, its bytes and its causes, from how its lines ended.
-use Rattle.std.proofs.Common.{◌≡◌, inl, inr, refl, sym, ap, subst, ◌∙◌, arith, ℕ, List, [], ◌∷◌, ◌++◌, append-nil, append_assoc, Option, None, Some}
+use Rattle.std.proofs.Common.{◌≡◌, inl, inr, refl, sym, ap, subst, ◌∙◌, arith, ℕ, List, [], ◌∷◌, ◌++◌, append_assoc, Option, None, Some}
 use Rattle.std.specs.Io.KnownBytes.{Appends, Consumes, IsAtEnd}
 use Rattle.jolie_main.specs.declared.form.FirstForm.{FirstForm}
 use Rattle.jolie_main.specs.declared.history.Entry.{Entry}
@@ -9,7 +9,7 @@ use Rattle.jolie_main.specs.declared.lines.End.TheVariants as ends
 use Rattle.jolie_main.specs.declared.record.Traffic.{Traffic}
 use Rattle.jolie_main.specs.declared.record.Record.{Record}
 use Rattle.jolie_main.specs.declared.request.Asked.{Asked}
-use Rattle.jolie_main.specs.FirstForm.{IsProgram}
+use Rattle.jolie_main.specs.Programs.{IsProgram}
 use Rattle.jolie_main.specs.Meaning.{program_of}
 use Rattle.jolie_main.specs.Lines.{all_lines, whole_lines}
 use Rattle.jolie_main.specs.Legal.{IsLegal, first_worker}
@@ -20,12 +20,7 @@ use Rattle.jolie_main.specs.Ends.{IsFinished, SourceCause, SinkCause, status}
 use Rattle.jolie_main.specs.Closing.{HasBytes, HasOwnCauses}
 use Rattle.jolie_main.specs.Headline.{Ran, ServesLines, IsRecord}
 use Rattle.jolie_main.proofs.DidLaws.{Did-sessions, Did-legal, Did-answered, Did-still, Did-written, Did-cut}
-use Rattle.jolie_main.proofs.KnownLemmas.{Tells}
-
--- nothing taken
-pub Appends-nil : (a : Option (List ℕ)) → Appends a a []
-Appends-nil None = tt
-Appends-nil (Some xs) = sym (append-nil xs)
+use Rattle.jolie_main.proofs.KnownLemmas.{Tells, Appends-nil}
 
 -- what was done, with the lines that it serves, is the record
 recorded_with : (form : FirstForm) (all : List Asked) (deeds : Deeds) (bytes : List ℕ) (s : ℕ) (report : Record) (traffic : Traffic) → Did (program_of form) form.operation all deeds bytes

@@ -1,241 +1,212 @@
--- What a program of the first form is: its tokens as they are written, one after another, and what they mean.
-use Rattle.std.specs.Prelude.{◌≡◌, ◌≤◌, ℕ, zero, suc, Bool, true, false, ◌&&◌, not, List, [], ◌∷◌, ◌++◌, map, length, Option, Some, None, bytes_eq, codes, pos}
-use Rattle.std.specs.List.{list_all, list_any}
-use Rattle.jolie_main.specs.declared.formula.Sign.{Sign}
-use Rattle.jolie_main.specs.declared.formula.Sign.TheVariants.{Plus, Minus}
-use Rattle.jolie_main.specs.declared.formula.Formula.{Formula, roll-Formula}
-use Rattle.jolie_main.specs.declared.formula.Term.{Term, roll-Term}
-use Rattle.jolie_main.specs.declared.formula.Factor.{Factor}
-use Rattle.jolie_main.specs.declared.formula.Factor.TheVariants.{Int, Path, Group}
+-- Programs of the first form: which trees are one, and what it says.
+use Rattle.std.specs.Prelude.{◌≡◌, ℕ, ◌≤◌, Bool, true, false, not, ◌&&◌, List, [], ◌∷◌, length, map, Option, Some, None, option_map, codes, bytes_eq}
+use Rattle.std.specs.List.{list_any, filter_map}
+use Rattle.jolie_ast.specs.declared.name.Name.{Name}
+use Rattle.jolie_ast.specs.declared.tree.Definition.{Definition}
+use Rattle.jolie_ast.specs.declared.tree.Definition.TheVariants as definition
+use Rattle.jolie_ast.specs.declared.types.TypeDefinition.{TypeDefinition}
+use Rattle.jolie_ast.specs.declared.types.DefinedType.{DefinedType}
+use Rattle.jolie_ast.specs.declared.types.DefinedType.TheVariants as defined
+use Rattle.jolie_ast.specs.declared.types.RootKind.TheVariants as root
+use Rattle.jolie_ast.specs.declared.types.Cardinality.{Cardinality}
+use Rattle.jolie_ast.specs.declared.types.TypeBody.{TypeBody, out-TypeBody}
+use Rattle.jolie_ast.specs.declared.types.TypeBody.TheOpen.{TypeBody-F}
+use Rattle.jolie_ast.specs.declared.types.Field.{Field, out-Field}
+use Rattle.jolie_ast.specs.declared.interface.TypeName.{TypeName}
+use Rattle.jolie_ast.specs.declared.interface.TypeName.TheVariants as type_name
+use Rattle.jolie_ast.specs.declared.interface.Fault.{Fault}
+use Rattle.jolie_ast.specs.declared.interface.RequestResponse.{RequestResponse}
+use Rattle.jolie_ast.specs.declared.interface.OperationGroup.{OperationGroup}
+use Rattle.jolie_ast.specs.declared.interface.OperationGroup.TheVariants as group
+use Rattle.jolie_ast.specs.declared.interface.Interface.{Interface}
+use Rattle.jolie_ast.specs.declared.service.Execution.{Execution}
+use Rattle.jolie_ast.specs.declared.service.Execution.TheVariants.{Concurrent}
+use Rattle.jolie_ast.specs.declared.service.Port.{Port}
+use Rattle.jolie_ast.specs.declared.service.Clause.{Clause}
+use Rattle.jolie_ast.specs.declared.service.Clause.TheVariants as clause
+use Rattle.jolie_ast.specs.declared.service.Service.{Service}
+use Rattle.jolie_ast.specs.declared.expression.Expr.{Expr}
+use Rattle.jolie_ast.specs.declared.expression.Path.{Path}
+use Rattle.jolie_ast.specs.declared.process.Assignment.{Assignment}
+use Rattle.jolie_ast.specs.declared.process.Assignment.TheVariants as assignment
+use Rattle.jolie_ast.specs.declared.process.Process.{Process, out-Process}
+use Rattle.jolie_ast.specs.declared.process.Otherwise.TheOpen.{Process-F}
+use Rattle.jolie_ast.specs.declared.process.Otherwise.{Otherwise}
+use Rattle.jolie_ast.specs.declared.process.Answer.{Answer}
+use Rattle.jolie_ast.specs.declared.process.Block.{Block, out-Block}
+use Rattle.jolie_ast.specs.declared.process.Branch.{Branch}
+use Rattle.jolie_ast.specs.declared.process.Handler.{Handler}
+use Rattle.jolie_ast.specs.declared.process.If.{If}
+use Rattle.jolie_ast.specs.declared.process.Input.{Input, out-Input}
+use Rattle.jolie_ast.specs.declared.process.Reply.{Reply, out-Reply}
 use Rattle.jolie_main.specs.declared.form.FirstForm.{FirstForm}
-use Rattle.jolie_main.specs.Words.{Token, tokens, location, is_word, is_name, is_number, value}
+use Rattle.jolie_main.specs.Formulas.{◌>>=◌, all_there, path_names, formula_of}
 
-mutual
-  -- an expression as it is written: a term and further ones
-  pub data Sum : Type 0 where
-    sum : Product → Terms → Sum
+-- ---- a file and a service by their parts
 
-  -- further terms, each behind its sign
-  pub data Terms : Type 0 where
-    no_terms : Terms
-    term : Sign → Product → Terms → Terms
+-- a definition, if it is a type
+abbrev pub type_in : Definition → Option TypeDefinition
+type_in (definition.Type ty) = Some ty
+type_in _ = None
 
-  -- an operand and further ones
-  pub data Product : Type 0 where
-    product : Operand → Operands → Product
+-- a definition, if it is an interface
+abbrev pub interface_in : Definition → Option Interface
+interface_in (definition.Interface interface) = Some interface
+interface_in _ = None
 
-  -- further operands, each behind a star
-  pub data Operands : Type 0 where
-    no_operands : Operands
-    operand : Operand → Operands → Operands
+-- a definition, if it is a service
+abbrev pub service_in : Definition → Option Service
+service_in (definition.Service service) = Some service
+service_in _ = None
 
-  -- digits, a path, or an expression in parentheses
-  pub data Operand : Type 0 where
-    number : Token → Operand
-    path : List Token → Operand
-    group : Sum → Operand
+-- a clause, if it says how sessions are run
+abbrev pub execution_in : Clause → Option Execution
+execution_in (clause.Execution at execution) = Some execution
+execution_in _ = None
 
--- a field as it is written: a dot may stand before it and a comma behind it
-pub record Field : Type 0 where
-  pub has_dot : Bool
-  pub name : Token
-  pub has_comma : Bool
+-- a clause, if it is an input port
+abbrev pub input_port_in : Clause → Option Port
+input_port_in (clause.InputPort port) = Some port
+input_port_in _ = None
 
--- a program of the first form as it is written
-pub record Written : Type 0 where
-  pub type_name : Token
-  pub fields : List Field
-  pub interface : Token
-  pub operation : Token
-  pub service : Token
-  pub target : Option (List Token)
-  pub reply : Option (List Token)
-  pub assigned : List Token
-  pub value : Sum
+-- a clause, if it is main
+abbrev pub main_in : Clause → Option Block
+main_in (clause.Main at body) = Some body
+main_in _ = None
 
--- each step but the first stands behind a dot
-abbrev pub steps_tokens : List Token → List Token
-steps_tokens [] = []
-steps_tokens (w ∷ ws) = codes "." ∷ w ∷ steps_tokens ws
+-- ---- the type
 
--- a path, whose first step stands behind no dot
-abbrev pub path_tokens : List Token → List Token
-path_tokens [] = []
-path_tokens (w ∷ ws) = w ∷ steps_tokens ws
+-- whether a type is `int`, without braces of its own
+abbrev pub is_bare_int : TypeBody-F TypeBody Field → Bool
+is_bare_int (TypeBody-F.Root at root.Int None) = true
+is_bare_int _ = false
 
--- a path that may be left out
-abbrev pub optional_path_tokens : Option (List Token) → List Token
-optional_path_tokens None = []
-optional_path_tokens (Some p) = path_tokens p
+-- the name of a field without cardinality that is such an int
+abbrev pub int_field : Name → Option Cardinality → Bool → Option (List ℕ)
+int_field name None true = Some name.text
+int_field _ _ _ = None
 
--- a token that may be left out
-abbrev pub where_there : Bool → Token → List Token
-where_there false t = []
-where_there true t = t ∷ []
+-- the name of a field that is an int and stands once
+abbrev pub field_name : Field → Option (List ℕ)
+field_name field = int_field (out-Field field).name (out-Field field).cardinality (is_bare_int (out-TypeBody (out-Field field).body))
 
--- a field, with the dot and the comma where it has them
-abbrev pub field_tokens : Field → List Token
-field_tokens f = where_there f.has_dot (codes ".") ++ (f.name ∷ codes ":" ∷ codes "int" ∷ where_there f.has_comma (codes ","))
+-- the fields of `void { fields }`
+abbrev pub fields_of_void : TypeBody-F TypeBody Field → Option (List Field)
+fields_of_void (TypeBody-F.Root at root.Void (Some fields)) = Some fields
+fields_of_void _ = None
 
--- fields, one behind another
-abbrev pub fields_tokens : List Field → List Token
-fields_tokens [] = []
-fields_tokens (f ∷ fs) = field_tokens f ++ fields_tokens fs
-
--- the sign before a further term
-abbrev pub sign_token : Sign → Token
-sign_token Plus = codes "+"
-sign_token Minus = codes "-"
-
-abbrev mutual
-  -- an expression: each list's parts stand one behind another, a further one behind its sign
-  pub sum_tokens : Sum → List Token
-  sum_tokens (sum p ts) = product_tokens p ++ terms_tokens ts
-
-  pub terms_tokens : Terms → List Token
-  terms_tokens no_terms = []
-  terms_tokens (term s p ts) = sign_token s ∷ (product_tokens p ++ terms_tokens ts)
-
-  pub product_tokens : Product → List Token
-  product_tokens (product o os) = operand_tokens o ++ operands_tokens os
-
-  pub operands_tokens : Operands → List Token
-  operands_tokens no_operands = []
-  operands_tokens (operand o os) = codes "*" ∷ (operand_tokens o ++ operands_tokens os)
-
-  pub operand_tokens : Operand → List Token
-  operand_tokens (number digits) = digits ∷ []
-  operand_tokens (path p) = path_tokens p
-  operand_tokens (group s) = codes "(" ∷ (sum_tokens s ++ codes ")" ∷ [])
-
--- type NAME : void { FIELDS }
-abbrev pub type_tokens : Written → List Token
-type_tokens w = codes "type" ∷ w.type_name ∷ codes ":" ∷ codes "void" ∷ codes "{" ∷ (fields_tokens w.fields ++ codes "}" ∷ [])
-
--- interface NAME { RequestResponse : OPERATION ( TYPE ) ( int ) }
-abbrev pub interface_tokens : Written → List Token
-interface_tokens w =
-    codes "interface" ∷ w.interface ∷ codes "{" ∷ codes "RequestResponse" ∷ codes ":" ∷ w.operation
-    ∷ codes "(" ∷ w.type_name ∷ codes ")" ∷ codes "(" ∷ codes "int" ∷ codes ")" ∷ codes "}" ∷ []
-
--- service NAME { execution : concurrent inputPort In { location : .. protocol : jsonrpc interfaces : INTERFACE } main {
-abbrev pub service_tokens : Written → List Token
-service_tokens w =
-    codes "service" ∷ w.service ∷ codes "{" ∷ codes "execution" ∷ codes ":" ∷ codes "concurrent"
-    ∷ codes "inputPort" ∷ codes "In" ∷ codes "{" ∷ codes "location" ∷ codes ":" ∷ location
-    ∷ codes "protocol" ∷ codes ":" ∷ codes "jsonrpc" ∷ codes "interfaces" ∷ codes ":" ∷ w.interface ∷ codes "}"
-    ∷ codes "main" ∷ codes "{" ∷ []
-
--- OPERATION ( PATH ) ( PATH ) { PATH = EXPRESSION }
-abbrev pub body_tokens : Written → List Token
-body_tokens w =
-    w.operation ∷ codes "(" ∷ (optional_path_tokens w.target ++ codes ")" ∷ codes "("
-    ∷ (optional_path_tokens w.reply ++ codes ")" ∷ codes "{"
-    ∷ (path_tokens w.assigned ++ codes "=" ∷ (sum_tokens w.value ++ codes "}" ∷ []))))
-
--- all of it
-abbrev pub tokens_of : Written → List Token
-tokens_of w = type_tokens w ++ (interface_tokens w ++ (service_tokens w ++ (body_tokens w ++ codes "}" ∷ codes "}" ∷ [])))
-
--- a name and further words, 16 in all at most
-abbrev pub IsPath : List Token → Type 0
-IsPath [] = ⊥
-IsPath (w ∷ ws) = (is_name w ≡ true) × (list_all is_word ws ≡ true) × (length (w ∷ ws) ≤ 16)
-
--- nothing, or such a path
-abbrev pub IsOptionalPath : Option (List Token) → Type 0
-IsOptionalPath None = Unit {0}
-IsOptionalPath (Some p) = IsPath p
-
-abbrev mutual
-  -- an expression in which at most n parentheses are open at once
-  pub IsSum : ℕ → Sum → Type 0
-  IsSum n (sum p ts) = IsProduct n p × IsTerms n ts
-
-  pub IsTerms : ℕ → Terms → Type 0
-  IsTerms n no_terms = Unit {0}
-  IsTerms n (term s p ts) = IsProduct n p × IsTerms n ts
-
-  pub IsProduct : ℕ → Product → Type 0
-  IsProduct n (product o os) = IsOperand n o × IsOperands n os
-
-  pub IsOperands : ℕ → Operands → Type 0
-  IsOperands n no_operands = Unit {0}
-  IsOperands n (operand o os) = IsOperand n o × IsOperands n os
-
-  pub IsOperand : ℕ → Operand → Type 0
-  IsOperand n (number digits) = is_number digits ≡ true
-  IsOperand n (path p) = IsPath p
-  IsOperand zero (group s) = ⊥
-  IsOperand (suc n) (group s) = IsSum n s
+-- the fields of `: void { fields }`
+abbrev pub void_fields : DefinedType → Option (List Field)
+void_fields (defined.Body body) = fields_of_void (out-TypeBody body)
+void_fields (defined.Fields fields) = None
 
 -- no text stands twice
-abbrev pub all_differ : List Token → Bool
+abbrev pub all_differ : List (List ℕ) → Bool
 all_differ [] = true
 all_differ (t ∷ ts) = not (list_any (λ u. bytes_eq u t) ts) && all_differ ts
 
--- what the fields are called
-abbrev pub names_of : List Field → List Token
-names_of fs = map (λ f. f.name) fs
+-- `type T: void { fields }` with 1 to 1,000 fields of different names, each an int
+pub record IsRequestType (ty : TypeDefinition) (f : FirstForm) : Type 0 where
+  pub fields : List Field
+  pub name : ty.name.text ≡ f.type_name
+  pub void : void_fields ty.body ≡ Some fields
+  pub ints : all_there (map field_name fields) ≡ Some f.fields
+  pub some_field : 1 ≤ length f.fields
+  pub most_fields : length f.fields ≤ 1000
+  pub different : all_differ f.fields ≡ true
 
--- The names are no reserved words and the fields different words. Of 64 levels of nesting three are open around the expression.
-pub record IsFirstForm (w : Written) : Type 0 where
-  pub type_name : is_name w.type_name ≡ true
-  pub interface : is_name w.interface ≡ true
-  pub operation : is_name w.operation ≡ true
-  pub service : is_name w.service ≡ true
-  pub some_field : 1 ≤ length w.fields
-  pub most_fields : length w.fields ≤ 1000
-  pub words : list_all is_word (names_of w.fields) ≡ true
-  pub different : all_differ (names_of w.fields) ≡ true
-  pub target : IsOptionalPath w.target
-  pub reply : IsOptionalPath w.reply
-  pub assigned : IsPath w.assigned
-  pub value : IsSum 61 w.value
+-- ---- the interface
 
--- the sum of these terms
-abbrev pub sum_with : List Term → Formula
-sum_with terms = roll-Formula (record { terms = terms })
+-- the operations of groups that are one group `RequestResponse:`
+abbrev pub operations_of : List OperationGroup → List RequestResponse
+operations_of (group.RequestResponse at operations ∷ []) = operations
+operations_of _ = []
 
--- the product of these factors with this sign
-abbrev pub term_with : Sign → List Factor → Term
-term_with sign factors = roll-Term (record { sign = sign; factors = factors })
+-- whether a type is the one of this name
+abbrev pub is_named : List ℕ → TypeName → Bool
+is_named name (type_name.Named n) = bytes_eq n.text name
+is_named name _ = false
 
-abbrev mutual
-  -- what is meant by it: its terms with their signs, the first of them added
-  pub formula_of : Sum → Formula
-  formula_of (sum p ts) = sum_with (term_with Plus (factors_of p) ∷ terms_of ts)
+-- whether a type is `int`
+abbrev pub is_int : TypeName → Bool
+is_int (type_name.Root at root.Int) = true
+is_int _ = false
 
-  pub terms_of : Terms → List Term
-  terms_of no_terms = []
-  terms_of (term s p ts) = term_with s (factors_of p) ∷ terms_of ts
+-- One group `RequestResponse:` with one operation, which takes the type, gives an int and throws nothing.
+pub record IsInterface (interface : Interface) (f : FirstForm) : Type 0 where
+  pub operation : RequestResponse
+  pub name : interface.name.text ≡ f.interface
+  pub one_operation : operations_of interface.groups ≡ operation ∷ []
+  pub operation_name : operation.name.text ≡ f.operation
+  pub request : is_named f.type_name operation.request ≡ true
+  pub response : is_int operation.response ≡ true
+  pub no_fault : operation.throws ≡ []
 
-  pub factors_of : Product → List Factor
-  factors_of (product o os) = factor_of o ∷ more_factors_of os
+-- ---- main
 
-  pub more_factors_of : Operands → List Factor
-  more_factors_of no_operands = []
-  more_factors_of (operand o os) = factor_of o ∷ more_factors_of os
+-- a process, if it is an input that stands alone
+abbrev pub input_in : Process-F Otherwise Process Answer Block Branch Handler If Input Reply → Option Input
+input_in (Process-F.Input input) = Some input
+input_in _ = None
 
-  pub factor_of : Operand → Factor
-  factor_of (number digits) = Int (pos (value digits))
-  factor_of (path p) = Path p
-  factor_of (group s) = Group (formula_of s)
+-- a process, if it is an assignment
+abbrev pub assignment_in : Process-F Otherwise Process Answer Block Branch Handler If Input Reply → Option (Path × Assignment)
+assignment_in (Process-F.Assign path assignment) = Some (path, assignment)
+assignment_in _ = None
 
--- what a program means: all that was written but its dots, its commas and the zeros before its numbers
-abbrev pub form_of : Written → FirstForm
-form_of w = record {
-  type_name = w.type_name;
-  fields = names_of w.fields;
-  interface = w.interface;
-  operation = w.operation;
-  service = w.service;
-  target = w.target;
-  reply = w.reply;
-  assigned = w.assigned;
-  value = formula_of w.value;
-}
+-- the names of a path, if it is written
+abbrev pub optional_names : Option Path → Option (Option (List (List ℕ)))
+optional_names None = Some None
+optional_names (Some path) = option_map (λ names. Some names) (path_names path)
 
--- the text is a program of the first form, and f is what it says
-abbrev pub IsProgram : List ℕ → FirstForm → Type 0
-IsProgram text f = (w : Written) × (length text ≤ 1048576) × (tokens text ≡ Some (tokens_of w)) × IsFirstForm w × (form_of w ≡ f)
+-- One input of the operation, and as its block one assignment.
+pub record IsMain (main : Block) (f : FirstForm) : Type 0 where
+  pub process : Process
+  pub input : Input
+  pub reply : Reply
+  pub body : Process
+  pub path : Path
+  pub value : Expr
+  pub one_process : (out-Block main).body ≡ Some process
+  pub one_input : input_in (out-Process process) ≡ Some input
+  pub of_operation : (out-Input input).operation.text ≡ f.operation
+  pub has_reply : (out-Input input).reply ≡ Some reply
+  pub has_body : (out-Block (out-Reply reply).body).body ≡ Some body
+  pub one_assignment : assignment_in (out-Process body) ≡ Some (path, assignment.Root value)
+  pub request_path : optional_names (out-Input input).request ≡ Some f.target
+  pub reply_path : optional_names (out-Reply reply).path ≡ Some f.reply
+  pub assigned_path : path_names path ≡ Some f.assigned
+  pub assigned_value : formula_of value ≡ Some f.value
+
+-- ---- the service and all of it
+
+-- `inputPort In`, with the one location, the one protocol and this interface alone
+pub record IsPort (port : Port) (interface : List ℕ) : Type 0 where
+  pub name : port.name.text ≡ codes "In"
+  pub location : port.location.text ≡ codes "socket://localhost:8000"
+  pub protocol : option_map (λ n. n.text) port.protocol ≡ Some (codes "jsonrpc")
+  pub interfaces : map (λ n. n.text) port.interfaces ≡ interface ∷ []
+
+-- Three clauses in any order: `execution: concurrent`, the port, and main.
+pub record IsService (service : Service) (f : FirstForm) : Type 0 where
+  pub port : Port
+  pub main : Block
+  pub name : service.name.text ≡ f.service
+  pub three_clauses : length service.clauses ≡ 3
+  pub concurrent : filter_map execution_in service.clauses ≡ Concurrent ∷ []
+  pub one_port : filter_map input_port_in service.clauses ≡ port ∷ []
+  pub one_main : filter_map main_in service.clauses ≡ main ∷ []
+  pub is_port : IsPort port f.interface
+  pub is_main : IsMain main f
+
+-- One type, one interface and one service in any order: the file is a program of the first form, and f is what it says.
+pub record IsFirstForm (file : List Definition) (f : FirstForm) : Type 0 where
+  pub ty : TypeDefinition
+  pub interface : Interface
+  pub service : Service
+  pub one_type : filter_map type_in file ≡ ty ∷ []
+  pub one_interface : filter_map interface_in file ≡ interface ∷ []
+  pub one_service : filter_map service_in file ≡ service ∷ []
+  pub is_type : IsRequestType ty f
+  pub is_interface : IsInterface interface f
+  pub is_service : IsService service f

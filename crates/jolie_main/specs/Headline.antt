@@ -1,72 +1,32 @@
--- What a run promises, over its record and over what the outside tells.
-use Rattle.std.specs.Prelude.{◌≡◌, ◌≢◌, ◌↔◌, ◌⊎◌, ℕ, ◌≤◌, List, [], ◌∷◌, take, Option, None, Some, IfSome, codes, map, String, string_bytes, if◌then◌else◌}
-use Rattle.std.specs.Str.{bytes_eq}
-use Rattle.std.specs.Io.KnownBytes.{Appends, Consumes, IsAtEnd}
-use Rattle.std.specs.declared.alloc.Global.{Global}
+-- What a call of the program promises, over its record and over what the outside tells.
+use Rattle.std.specs.Prelude.{◌≡◌, ◌⊎◌, ℕ, List, [], ◌∷◌, Option, codes}
 use Rattle.outside_traits.specs.Causes.{Rose}
+use Rattle.jolie_ast.specs.declared.tree.Definition.{Definition}
 use Rattle.jolie_main.specs.declared.form.FirstForm.{FirstForm}
 use Rattle.jolie_main.specs.declared.history.Entry.{Entry}
 use Rattle.jolie_main.specs.declared.record.Traffic.{Traffic}
 use Rattle.jolie_main.specs.declared.record.Record.{Record}
 use Rattle.jolie_main.specs.declared.record.Ended.{Ended}
-use Rattle.jolie_main.specs.FirstForm.{IsProgram}
+use Rattle.jolie_main.specs.declared.words.Action.{Action}
+use Rattle.jolie_main.specs.declared.words.Action.TheVariants as action
+use Rattle.jolie_main.specs.declared.words.Words.{Words}
+use Rattle.jolie_main.specs.declared.words.Words.TheVariants as words
+use Rattle.jolie_main.specs.Verdicts.{IsAccepted, IsRefusedBy}
+use Rattle.jolie_ast.specs.Printed.{printed_text}
+use Rattle.jolie_main.specs.Programs.{IsProgram, IsNotRunBy}
 use Rattle.jolie_main.specs.Meaning.{program_of}
 use Rattle.jolie_main.specs.Lines.{all_lines, whole_lines}
 use Rattle.jolie_main.specs.Legal.{IsLegal}
 use Rattle.jolie_main.specs.Sentences.{HasSessions, AnswersEach, IsStill}
-use Rattle.jolie_main.specs.Written.{postings_by, IsAnswered, IsCutShort, IsFront}
+use Rattle.jolie_main.specs.Written.{postings_by, IsAnswered, IsCutShort}
+use Rattle.jolie_main.specs.Closing.{HasBytes, HasOwnCauses}
+use Rattle.jolie_main.specs.Outside.{Stream, Outside, IsReadOf, IsWhole, IsCut, IsWritten}
 
--- ---- the outside
-
--- what the outside tells at a moment, and how often its calls failed
-pub record Outside : Type 0 where
-  pub left : Option (List ℕ)
-  pub taken : Option (List ℕ)
-  pub file_faults : ℕ
-  pub source_faults : ℕ
-  pub sink_faults : ℕ
-  pub note_faults : ℕ
-
--- the outside from its parts
-abbrev pub outside : Option (List ℕ) → Option (List ℕ) → ℕ → ℕ → ℕ → ℕ → Outside
-outside left taken file_faults source_faults sink_faults note_faults =
-    record { left = left; taken = taken; file_faults = file_faults; source_faults = source_faults; sink_faults = sink_faults; note_faults = note_faults }
-
--- no count of faults rose
-pub record IsCalm (before now : Outside) : Type 0 where
-  pub files : ¬ Rose before.file_faults now.file_faults
-  pub source : ¬ Rose before.source_faults now.source_faults
-  pub sink : ¬ Rose before.sink_faults now.sink_faults
-
--- every count of faults is what it was
-pub record IsUntouched (before now : Outside) : Type 0 where
-  pub files : now.file_faults ≡ before.file_faults
-  pub source : now.source_faults ≡ before.source_faults
-  pub sink : now.sink_faults ≡ before.sink_faults
-  pub notes : now.note_faults ≡ before.note_faults
-
--- ---- the command
-
--- words as bytes
-abbrev pub spelled : List (String Global) → List (List ℕ)
-spelled words = map (λ word. string_bytes word) words
-
--- the file of `run FILE`, where the words are that
-abbrev pub file_of : List (List ℕ) → Option (List ℕ)
-file_of [] = None
-file_of (command ∷ []) = None
-file_of (command ∷ file ∷ []) = if bytes_eq command (codes "run") then Some file else None
-file_of (command ∷ file ∷ more ∷ words) = None
+-- ---- a record
 
 -- the program ran: it was accepted, and the run came to its end
 abbrev pub Ran : ℕ → Type 0
 Ran status = (status ≡ 0) ⊎ (status ≡ 4) ⊎ (status ≡ 5)
-
--- the part of a file that is read
-abbrev pub program_bytes : List ℕ → List ℕ
-program_bytes file = take 1048577 file
-
--- ---- the sentences
 
 -- What was read was posted line by line and answered line by line: to its end at status 0, without the line that the
 -- source cut at status 4, and up to the answer that the output cut at status 5.
@@ -95,53 +55,75 @@ pub record IsEmptyRecord (report : Record) : Type 0 where
   pub sessions : report.sessions ≡ []
   pub traffic : report.traffic ≡ []
 
--- The traffic has what the source gave and what the output took, and a source that was read to its end has nothing left.
-pub record HasTraffic (status : ℕ) (report : Record) (before now : Outside) : Type 0 where
-  pub each : (traffic : Traffic) → report.traffic ≡ traffic ∷ [] → Consumes before.left now.left traffic.read × Appends before.taken now.taken traffic.written
-  pub end : status ≡ 0 → IsAtEnd now.left
+-- ---- a text
 
--- Each status has its cause.
-pub record HasCauses (named : Option (List ℕ)) (status : ℕ) (before now : Outside) : Type 0 where
-  pub known : status ≤ 5
-  pub words : (status ≡ 1) ↔ (named ≡ None)
-  pub file : status ≡ 2 → Rose before.file_faults now.file_faults
-  pub source : status ≡ 4 → Rose before.source_faults now.source_faults
-  pub sink : status ≡ 5 → Rose before.sink_faults now.sink_faults
-  pub calm : status ≡ 0 → IsUntouched before now
+-- the text is the answer: all of it at status 0, a part of it at status 5, where the output failed
+pub data Says (text : List ℕ) (status : ℕ) (before now : Stream) : Type 0 where
+  whole : status ≡ 0 → IsWhole text before now → Says text status before now
+  cut : status ≡ 5 → IsCut text before now → Says text status before now
 
--- the one line of a program that is refused
-abbrev pub refusal : List ℕ
-refusal = codes "refused first Form 0\n"
+-- What `check` and `print` do with a text: they show what its definitions give, or refuse it by its line at status 3.
+pub data Shows (shown : List Definition → List ℕ) (text : List ℕ) (status : ℕ) (before now : Stream) : Type 0 where
+  accepted : (file : List Definition) → IsAccepted text file → Says (shown file) status before now → Shows shown text status before now
+  refused : (line : List ℕ) → IsRefusedBy text line → status ≡ 3 → IsWritten line before now → Shows shown text status before now
 
--- A refused program has its one line, or a part of it where the output failed; nothing is read.
-pub record IsRefused (before now : Outside) : Type 0 where
-  pub written : (bytes : List ℕ) × IsFront bytes refusal × Appends before.taken now.taken bytes
-  pub whole : ¬ Rose before.sink_faults now.sink_faults → Appends before.taken now.taken refusal
-  pub unread : now.left ≡ before.left
+-- what `check` shows, whatever the definitions
+abbrev pub checked : List Definition → List ℕ
+checked file = codes "ok\n"
 
--- Faulty words and a file that can't be read write nothing.
-pub record IsSilent (before now : Outside) : Type 0 where
-  pub unread : now.left ≡ before.left
-  pub unwritten : now.taken ≡ before.taken
+-- What `run` does with a text: it runs the program that it is over the lines of the input, or refuses it by its line at
+-- status 3. Of a run the record holds the text, the traffic has what the input gave and the output took, and the statuses
+-- 4 and 5 have their causes.
+pub data Runs (text : List ℕ) (ended : Ended) (input input_now output output_now : Stream) : Type 0 where
+  ran : ended.report.program ≡ text → Ran ended.status → IsRecord ended.status ended.report
+      → HasBytes ended.status ended.report input.bytes input_now.bytes output.bytes output_now.bytes
+      → HasOwnCauses ended.status input.faults input_now.faults output.faults output_now.faults
+      → Runs text ended input input_now output output_now
+  refused : (line : List ℕ) → IsNotRunBy text line → ended.status ≡ 3 → IsEmptyRecord ended.report
+      → input_now ≡ input → IsWritten line output output_now
+      → Runs text ended input input_now output output_now
 
--- Where the words are `run FILE` and no fault came, the run was whole or the program was refused.
-abbrev pub IsComplete : Option (List ℕ) → ℕ → Outside → Outside → Type 0
-IsComplete named status before now = named ≢ None → IsCalm before now → (status ≡ 0) ⊎ (status ≡ 3)
+-- ---- a command
 
--- All that a run promises of its record, its bytes and its status.
-pub record Promises (named : Option (List ℕ)) (ended : Ended) (before now : Outside) : Type 0 where
-  pub ran : Ran ended.status → IsRecord ended.status ended.report
-  pub empty : Ran ended.status ⊎ IsEmptyRecord ended.report
-  pub traffic : Ran ended.status → HasTraffic ended.status ended.report before now
-  pub refused : ended.status ≡ 3 → IsRefused before now
-  pub silent : (ended.status ≡ 1) ⊎ (ended.status ≡ 2) → IsSilent before now
-  pub causes : HasCauses named ended.status before now
-  pub complete : IsComplete named ended.status before now
+-- what is shown of a text, and nothing else: nothing is recorded and nothing read of the input
+abbrev pub ShowsAlone : (List Definition → List ℕ) → List ℕ → Ended → Outside → Outside → Type 0
+ShowsAlone shown text ended before now =
+    Shows shown text ended.status before.output now.output × IsEmptyRecord ended.report × (now.input ≡ before.input)
 
--- The record's program is what was read of the file.
-abbrev pub IsOfFile : Option (List ℕ) → Ended → Type 0
-IsOfFile told ended = Ran ended.status → IfSome told (λ file. ended.report.program ≡ program_bytes file)
+-- what a command does with the text of its file
+abbrev pub Does : Action → List ℕ → Ended → Outside → Outside → Type 0
+Does action.Check text ended before now = ShowsAlone checked text ended before now
+Does action.Print text ended before now = ShowsAlone printed_text text ended before now
+Does action.Run text ended before now = Runs text ended before.input now.input before.output now.output
 
--- A program is refused exactly where what was read of the file is no program of the first form.
-abbrev pub IsRefusedRightly : Option (List ℕ) → Ended → Type 0
-IsRefusedRightly told ended = ended.status ≡ 3 → IfSome told (λ file. (form : FirstForm) → ¬ IsProgram (program_bytes file) form)
+-- A command over a file: it does so with the text that is read of it, or the file failed, and then the status is 2 and
+-- nothing is read, written or recorded.
+pub data Obeys (act : Action) (told : Option (List ℕ)) (ended : Ended) (before now : Outside) : Type 0 where
+  read : (text : List ℕ) → IsReadOf told text → now.file_faults ≡ before.file_faults → Does act text ended before now → Obeys act told ended before now
+  failed : ended.status ≡ 2 → Rose before.file_faults now.file_faults → IsEmptyRecord ended.report
+      → now.input ≡ before.input → now.output ≡ before.output → Obeys act told ended before now
+
+-- ---- the words
+
+-- A text of help or of the version goes to the output, and that is all.
+pub record Tells (text : List ℕ) (ended : Ended) (before now : Outside) : Type 0 where
+  pub said : Says text ended.status before.output now.output
+  pub empty : IsEmptyRecord ended.report
+  pub files : now.file_faults ≡ before.file_faults
+  pub input : now.input ≡ before.input
+  pub notes : now.notes ≡ before.notes
+
+-- Faulty words have status 1: what is wrong with them goes to the notes, and that is all.
+pub record Rebukes (text : List ℕ) (ended : Ended) (before now : Outside) : Type 0 where
+  pub status : ended.status ≡ 1
+  pub noted : IsWritten text before.notes now.notes
+  pub empty : IsEmptyRecord ended.report
+  pub files : now.file_faults ≡ before.file_faults
+  pub input : now.input ≡ before.input
+  pub output : now.output ≡ before.output
+
+-- What was understood of the words decides what is promised; `held` is what the files hold, as far as the outside tells.
+abbrev pub Promises : Words → (List ℕ → Option (List ℕ)) → Ended → Outside → Outside → Type 0
+Promises (words.Command c) held ended before now = Obeys c.action (held c.file) ended before now × (now.notes ≡ before.notes)
+Promises (words.Told text) held ended before now = Tells text ended before now
+Promises (words.Refused text) held ended before now = Rebukes text ended before now

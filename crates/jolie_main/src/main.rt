@@ -1,4 +1,4 @@
-//! Runs a service over lines of JSON-RPC.
+//! Checks and prints a text of Jolie, or runs its service over lines of JSON-RPC.
 #![tactic(auto)]
 
 mod answer;
@@ -10,12 +10,16 @@ mod lines;
 mod meaning;
 mod office;
 mod record;
+mod refusal;
 mod request;
+mod say;
 mod session;
+mod show;
 #[cfg(test)]
 mod tests;
 mod top;
 mod turn;
+mod verdict;
 mod words;
 
 use outside_traits::{Inputs, Outputs, Storage};

@@ -3,11 +3,11 @@ ghost use Rattle.behaviour_tree.specs.PartsView.{parts_of};
 ghost use Rattle.jolie_main.specs.Meaning.{IsFirstProgram};
 ghost use Rattle.term_session.specs.Sessions.{service_of};
 
-use crate::form::read_first_form;
+use crate::form::FirstForm;
 use crate::meaning::program_of_form;
 use crate::record::Ended;
 use crate::request::{Asked, read_line};
-use crate::top::run;
+use crate::top::{program_in, run};
 use behaviour_tree::{Event, Events, Given, Kind, Program};
 use jolie_trees::Tree;
 use outside_traits::{Script, ScriptedFiles, ScriptedSink, ScriptedSource};
@@ -22,6 +22,17 @@ const SERVICE: &str = "type Req: void { n: int }\n\
     inputPort In { location: \"socket://localhost:8000\" protocol: jsonrpc interfaces: TwiceI }\n  \
     main { twice(x)(y) { y = x.n * 2 } }\n}\n";
 
+/// The same service after a comment and in another order.
+const SERVICE_TURNED: &str = "// twice\n\
+    service Twice {\n  main { twice(x)(y) { y = x.n * 2 } }\n  \
+    inputPort In { location: \"socket://localhost:8000\" protocol: jsonrpc interfaces: TwiceI }\n  \
+    execution: concurrent\n}\n\
+    interface TwiceI { RequestResponse: twice(Req)(int) }\n\
+    type Req: void { .n: int }\n";
+
+/// A file of no form that runs, as it is printed but for the line feed.
+const OTHER: &str = "service S { main { a = 1 ; b = 2 | c = 3 } }";
+
 const LINE: &str = "{\"jsonrpc\":\"2.0\",\"method\":\"twice\",\"params\":{\"n\":21},\"id\":1}\n";
 
 const ANSWER: &str = "{\"id\":1,\"jsonrpc\":\"2.0\",\"result\":42}\n";
@@ -33,6 +44,10 @@ const FAULT: &str =
     "{\"error\":{\"code\":-32000,\"data\":null,\"message\":\"ExprFault\"},\"id\":1,\"jsonrpc\":\"2.0\"}\n";
 
 const REFUSED: &str = "refused first Form 0\n";
+
+const UNKNOWN_COMMAND: &str = "error: unrecognized subcommand 'walk'\n\n\
+    Usage: roqsulei <COMMAND>\n\n\
+    For more information, try '--help'.\n";
 
 const BLANKS_BETWEEN: &str =
     "{\"jsonrpc\":\"2.0\",\"method\":\"twice\",\"params\":{\"n\":21},\"id\":1}\n \t\r\n\
@@ -46,7 +61,7 @@ const ANSWERS_BETWEEN: &str = "{\"id\":1,\"jsonrpc\":\"2.0\",\"result\":42}\n\
 /// No call has this number.
 const NEVER: u64 = 1 << 60;
 
-/// A command over the file `twice.ol` and an input that comes in pieces; of the calls of each object one may fail.
+/// Words over the file `twice.ol` and an input that comes in pieces; of the calls of each object one may fail.
 #[derive(Clone, Copy)]
 struct Run {
     command: &'static str,
@@ -55,6 +70,7 @@ struct Run {
     failing_file: u64,
     failing_read: u64,
     failing_write: u64,
+    failing_note: u64,
     piece: usize,
 }
 
@@ -67,7 +83,17 @@ const fn calm(input: &'static str) -> Run {
         failing_file: NEVER,
         failing_read: NEVER,
         failing_write: NEVER,
+        failing_note: NEVER,
         piece: 100_000,
+    }
+}
+
+/// A command over a file, in which no call fails.
+const fn over(command: &'static str, file: &'static str) -> Run {
+    Run {
+        command,
+        file,
+        ..calm(LINE)
     }
 }
 
@@ -120,41 +146,65 @@ fn ended_over(
     files: &mut ScriptedFiles,
     source: &mut ScriptedSource,
     output: &mut ScriptedSink,
+    notes: &mut ScriptedSink,
 ) -> Result<Ended, Fail> {
     let words = words_of(alloc, row.command)?;
-    let mut notes = sink_of(alloc, NEVER, row.piece)?;
-    Ok(ended_by(alloc, &words, files, source, output, &mut notes)?)
+    Ok(ended_by(alloc, &words, files, source, output, notes)?)
 }
 
 /// How a run over these objects ended, and what its output took.
+fn written_over(
+    alloc: Global,
+    row: Run,
+    files: &mut ScriptedFiles,
+    source: &mut ScriptedSource,
+    notes: &mut ScriptedSink,
+) -> Result<(Ended, String), Fail> {
+    let mut output = sink_of(alloc, row.failing_write, row.piece)?;
+    let ended = ended_over(alloc, row, files, source, &mut output, notes)?;
+    let written = text_of(alloc, output.bytes())?;
+    Ok((ended, written))
+}
+
+/// How a run over these objects ended, and what its output and its notes took.
 fn ran_over(
     alloc: Global,
     row: Run,
     files: &mut ScriptedFiles,
     source: &mut ScriptedSource,
-) -> Result<(Ended, String), Fail> {
-    let mut output = sink_of(alloc, row.failing_write, row.piece)?;
-    let ended = ended_over(alloc, row, files, source, &mut output)?;
-    let written = text_of(alloc, output.bytes())?;
-    Ok((ended, written))
+) -> Result<(Ended, String, String), Fail> {
+    let mut notes = sink_of(alloc, row.failing_note, row.piece)?;
+    let (ended, written) = written_over(alloc, row, files, source, &mut notes)?;
+    let noted = text_of(alloc, notes.bytes())?;
+    Ok((ended, written, noted))
 }
 
-/// How a run over an input ended, and what its output took.
-fn ran_on(alloc: Global, row: Run, files: &mut ScriptedFiles) -> Result<(Ended, String), Fail> {
+/// How a run over an input ended, and what its output and its notes took.
+fn ran_on(
+    alloc: Global,
+    row: Run,
+    files: &mut ScriptedFiles,
+) -> Result<(Ended, String, String), Fail> {
     let mut source = source_of(alloc, row)?;
     ran_over(alloc, row, files, &mut source)
 }
 
-/// How a run ended, and what the output took.
-fn ran(alloc: Global, row: Run) -> Result<(Ended, String), Fail> {
+/// How a run ended, and what its output and its notes took.
+fn ran(alloc: Global, row: Run) -> Result<(Ended, String, String), Fail> {
     let mut files = files_of(alloc, row)?;
     ran_on(alloc, row, &mut files)
 }
 
-/// Whether a run ends with this status and this output.
+/// Whether a run ends with this status and this output, and notes nothing.
 fn gives(alloc: Global, row: Run, status: u8, output: &str) -> Result<bool, Fail> {
-    let (ended, written) = ran(alloc, row)?;
-    Ok(ended.status == status && written.as_str() == output)
+    let (ended, written, noted) = ran(alloc, row)?;
+    Ok(ended.status == status && written.as_str() == output && noted.is_empty())
+}
+
+/// Whether the words are refused with these notes and no output.
+fn notes(alloc: Global, row: Run, text: &str) -> Result<bool, Fail> {
+    let (ended, written, noted) = ran(alloc, row)?;
+    Ok(ended.status == 1 && written.is_empty() && noted.as_str() == text)
 }
 
 #[test]
@@ -259,40 +309,170 @@ fn failing_input_drops_the_line_that_it_cuts(rt: HostRuntime) -> Result<(), Fail
 }
 
 #[test]
-fn other_programs_and_words_are_refused(rt: HostRuntime) -> Result<(), Fail> {
-    assert!(rt;
-        gives(
-            rt.alloc(),
-            Run {
-                file: "",
-                ..calm(LINE)
-            },
+fn other_programs_are_refused(rt: HostRuntime) -> Result<(), Fail> {
+    let rows = [
+        ("", REFUSED),
+        (OTHER, REFUSED),
+        (
+            "service S { main { a = 1.5 } }",
+            "refused lex BadNumber 23\n",
+        ),
+        ("service S { main { a = } }", "refused parse Syntax 23\n"),
+    ];
+    for (file, line) in rows {
+        assert!(rt; gives(rt.alloc(), over("run", file), 3, line)?, "{file}");
+    }
+    Ok(())
+}
+
+#[test]
+fn comments_and_the_order_of_parts_change_nothing(rt: HostRuntime) -> Result<(), Fail> {
+    assert!(rt; gives(rt.alloc(), over("run", SERVICE_TURNED), 0, ANSWER)?);
+    Ok(())
+}
+
+#[test]
+fn check_says_whether_a_file_has_definitions(rt: HostRuntime) -> Result<(), Fail> {
+    let rows = [
+        (SERVICE, 0, "ok\n"),
+        (OTHER, 0, "ok\n"),
+        ("", 0, "ok\n"),
+        (
+            "service S { main { a = 1.5 } }",
             3,
-            REFUSED
-        )?
-    );
+            "refused lex BadNumber 23\n",
+        ),
+        (
+            "service S { main { a = \"b } }",
+            3,
+            "refused lex OpenString 23\n",
+        ),
+        (
+            "service S { main { /* } }",
+            3,
+            "refused lex OpenComment 19\n",
+        ),
+        (
+            "service S { main { a = 1 ^ 2 } }",
+            3,
+            "refused lex BadByte 25\n",
+        ),
+        ("service S { main { a = } }", 3, "refused parse Syntax 23\n"),
+        ("service S {", 3, "refused parse Syntax 11\n"),
+    ];
+    for (file, status, output) in rows {
+        assert!(rt;
+            gives(rt.alloc(), over("check", file), status, output)?,
+            "{file}"
+        );
+    }
+    Ok(())
+}
+
+#[test]
+fn print_shows_the_definitions(rt: HostRuntime) -> Result<(), Fail> {
+    let printed = "service S { main { a = 1 ; b = 2 | c = 3 } }\n";
+    assert!(rt; gives(rt.alloc(), over("print", OTHER), 0, printed)?);
+    assert!(rt; gives(rt.alloc(), over("print", printed), 0, printed)?);
+    let close = "service S{main{a=1;b=2|c=3}}// all";
+    assert!(rt; gives(rt.alloc(), over("print", close), 0, printed)?);
+    let line = "refused lex BadNumber 23\n";
     assert!(rt;
         gives(
             rt.alloc(),
-            Run {
-                failing_file: 0,
-                ..calm(LINE)
-            },
-            2,
-            ""
+            over("print", "service S { main { a = 1.5 } }"),
+            3,
+            line
         )?
     );
-    assert!(rt;
-        gives(
-            rt.alloc(),
-            Run {
-                command: "walk",
-                ..calm(LINE)
-            },
-            1,
-            ""
-        )?
-    );
+    Ok(())
+}
+
+/// What `check` says of so many blanks.
+fn checked_blanks(alloc: Global, count: usize) -> Result<String, Fail> {
+    let blanks = vec![in alloc; b' '; count]?;
+    let script = Script::new(alloc, &[NEVER])?;
+    let mut files = ScriptedFiles::new(alloc, &blanks, script)?;
+    let (_ended, written, _noted) = ran_on(alloc, over("check", ""), &mut files)?;
+    Ok(written)
+}
+
+#[test]
+fn texts_of_a_mebibyte_are_read(rt: HostRuntime) -> Result<(), Fail> {
+    let rows = [
+        (1_048_576, "ok\n"),
+        (1_048_577, "refused lex TooLong 1048576\n"),
+        (1_048_578, "refused lex TooLong 1048576\n"),
+    ];
+    for (count, output) in rows {
+        assert_eq!(rt; checked_blanks(rt.alloc(), count)?.as_str(), output);
+    }
+    Ok(())
+}
+
+#[test]
+fn a_file_that_fails_writes_nothing(rt: HostRuntime) -> Result<(), Fail> {
+    for command in ["check", "print", "run"] {
+        let row = Run {
+            failing_file: 0,
+            ..over(command, SERVICE)
+        };
+        assert!(rt; gives(rt.alloc(), row, 2, "")?, "{command}");
+    }
+    Ok(())
+}
+
+#[test]
+fn an_output_that_fails_has_a_part(rt: HostRuntime) -> Result<(), Fail> {
+    let rows = [
+        ("check", SERVICE, 5, "o"),
+        ("print", OTHER, 5, "s"),
+        ("check", "service S {", 3, "r"),
+        ("run", OTHER, 3, "r"),
+    ];
+    for (command, file, status, output) in rows {
+        let row = Run {
+            failing_write: 1,
+            piece: 1,
+            ..over(command, file)
+        };
+        assert!(rt; gives(rt.alloc(), row, status, output)?, "{command} {file}");
+    }
+    Ok(())
+}
+
+#[test]
+fn faulty_words_are_noted(rt: HostRuntime) -> Result<(), Fail> {
+    let row = over("walk", SERVICE);
+    assert!(rt; notes(rt.alloc(), row, UNKNOWN_COMMAND)?);
+    let failing = Run {
+        failing_note: 2,
+        piece: 3,
+        ..row
+    };
+    assert!(rt; notes(rt.alloc(), failing, "error:")?);
+    Ok(())
+}
+
+#[test]
+fn the_version_is_told(rt: HostRuntime) -> Result<(), Fail> {
+    let row = over("--version", SERVICE);
+    assert!(rt; gives(rt.alloc(), row, 0, "roqsulei 0.1.0\n")?);
+    let failing = Run {
+        failing_write: 1,
+        piece: 8,
+        ..row
+    };
+    assert!(rt; gives(rt.alloc(), failing, 5, "roqsulei")?);
+    Ok(())
+}
+
+#[test]
+fn help_is_told(rt: HostRuntime) -> Result<(), Fail> {
+    let (ended, written, noted) = ran(rt.alloc(), over("--help", SERVICE))?;
+    assert_eq!(rt; ended.status, 0);
+    assert!(rt; written.starts_with("Checks, prints and runs services written in Jolie\n"));
+    assert!(rt; noted.is_empty());
     Ok(())
 }
 
@@ -310,7 +490,7 @@ fn event(kind: Kind, number: u32, place: u32, fault: u32) -> Event {
 #[test]
 fn a_request_has_four_events_in_the_record(rt: HostRuntime) -> Result<(), Fail> {
     let alloc = rt.alloc();
-    let (ended, _written) = ran(alloc, calm(LINE))?;
+    let (ended, _written, _noted) = ran(alloc, calm(LINE))?;
     assert_eq!(rt; ended.report.sessions.len(), 1);
     for events in ended.report.sessions.as_slice() {
         assert_eq!(rt;
@@ -370,10 +550,18 @@ fn session_events(alloc: Global, program: &Program, value: Tree) -> Result<Event
     Ok(events)
 }
 
+/// The service of the example, none where it is not read.
+fn example(alloc: Global) -> Result<Option<FirstForm>, Fail> {
+    match program_in(alloc, SERVICE.as_bytes())? {
+        Ok(form) => Ok(Some(form)),
+        Err(_) => Ok(None),
+    }
+}
+
 /// The events of the session that a line starts.
 fn events_of_line(alloc: Global, line: &str) -> Result<Events, Fail> {
     let nothing = Items::new(alloc);
-    let Some(form) = read_first_form(alloc, SERVICE.as_bytes())? else {
+    let Some(form) = example(alloc)? else {
         return Ok(nothing);
     };
     match read_line(alloc, &form, line.as_bytes())? {
@@ -422,7 +610,7 @@ fn a_fault_that_nobody_catches_is_the_answer(rt: HostRuntime) -> Result<(), Fail
 #[test]
 fn a_program_knows_its_operation(rt: HostRuntime) -> Result<(), Fail> {
     let alloc = rt.alloc();
-    let Some(form) = read_first_form(alloc, SERVICE.as_bytes())? else {
+    let Some(form) = example(alloc)? else {
         panic!(rt; "the example is not read");
     };
     let first = program_of_form(alloc, &form)?;

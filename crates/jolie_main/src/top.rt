@@ -1,15 +1,23 @@
-ghost use Rattle.std.specs.Prelude.{◌≡◌, List, ℕ, Some, IfOk, option_map};
-ghost use Rattle.jolie_main.specs.Headline.{Promises, IsOfFile, IsRefusedRightly, outside, spelled, file_of, Ran, IsRecord, IsEmptyRecord};
-ghost use Rattle.jolie_main.specs.FirstForm.{IsProgram};
+ghost use Rattle.std.specs.Prelude.{◌≡◌, IfOk, MatchResult};
+ghost use Rattle.jolie_main.specs.declared.words.Words.{Words as Said};
+ghost use Rattle.jolie_main.specs.Commands.{spelled, IsUnderstood};
+ghost use Rattle.jolie_main.specs.Verdicts.{line_of};
+ghost use Rattle.jolie_main.specs.Programs.{IsProgram, IsNotRunBy};
+ghost use Rattle.jolie_main.specs.Outside.{Stream, stream, outside};
+ghost use Rattle.jolie_main.specs.Headline.{Promises, Obeys, Runs, Ran, IsRecord};
 ghost use Rattle.jolie_main.specs.Ends.{status};
 ghost use Rattle.jolie_main.specs.Closing.{HasBytes, HasOwnCauses};
 
-use crate::form::{FirstForm, read_first_form};
-use crate::history::History;
-use crate::lines::{End, Progress, answer_lines, write_text};
+use crate::form::{FirstForm, first_form};
+use crate::lines::{End, Progress, answer_lines};
 use crate::meaning::program_of_form;
 use crate::record::{Ended, Record, Traffic};
+use crate::refusal::Refusal;
+use crate::say::{answer, rebuke, refuse, without_record};
+use crate::show::{check_text, print_text};
 use crate::turn::{Built, Deeds};
+use crate::verdict::{Verdict, verdict_of};
+use crate::words::{Action, Command, Words, understood};
 use jolie_trees::Bytes;
 use outside_traits::{CallError, Files, Sink, Source};
 use sqlite_items::Items;
@@ -18,10 +26,11 @@ use std::alloc::{AllocError, Global};
 /// The most bytes that are read of a program.
 const MOST: u64 = 1_048_577;
 
-/// Does what the words of the command line say: `run FILE` runs the program of the file over the lines of the input.
+/// Does what the words of the command line say: `check FILE` says whether the file has definitions, `print FILE` prints
+/// them, and `run FILE` runs its program over the lines of the input.
 ///
-/// The status is 0 where the input was read to its end, 1 for faulty words, 2 where the file can't be read, 3 for a
-/// program that is refused, 4 where the input failed and 5 where the output failed.
+/// The status is 0 where all that was asked for was done, 1 for faulty words, 2 where the file can't be read, 3 for a
+/// file that is refused, 4 where the input failed and 5 where the output failed.
 pub fn run<F: Files, S: Source, K: Sink, N: Sink>(
     alloc: Global,
     words: &[String],
@@ -31,29 +40,70 @@ pub fn run<F: Files, S: Source, K: Sink, N: Sink>(
     notes: &mut N,
 ) -> Result<Ended, AllocError>
     // The headline.
-    ensures promises { let before = outside (S.left input.old) (K.taken output.old) (F.faults files.old) (S.faults input.old) (K.faults output.old) (N.faults notes.old) in
-        let now = outside (S.left input.new) (K.taken output.new) (F.faults files.new) (S.faults input.new) (K.faults output.new) (N.faults notes.new) in
-        IfOk result (λ ended. Promises (file_of (spelled words.now)) ended before now) }
-
-    // The program is the front of the file, and it is refused only where that is no program of the first form.
-    ensures file { IfOk result (λ ended. (name : List ℕ) → file_of (spelled words.now) ≡ Some name → IsOfFile (F.held files.old name) ended) }
-    ensures refused { IfOk result (λ ended. (name : List ℕ) → file_of (spelled words.now) ≡ Some name → IsRefusedRightly (F.held files.old name) ended) }
+    ensures promises { let before = outside (F.faults files.old) (stream (S.left input.old) (S.faults input.old)) (stream (K.taken output.old) (K.faults output.old)) (stream (N.taken notes.old) (N.faults notes.old)) in
+        let now = outside (F.faults files.new) (stream (S.left input.new) (S.faults input.new)) (stream (K.taken output.new) (K.faults output.new)) (stream (N.taken notes.new) (N.faults notes.new)) in
+        IfOk result (λ ended. (said : Said) × IsUnderstood (spelled words.now) said × Promises said (F.held files.old) ended before now) }
 {
-    let _ = &notes;
-    let Some(name) = file_named(words) else {
-        return Ok(without_record(alloc, 1));
-    };
-    let program = match files.read(name, MOST) {
-        Ok(program) => program,
+    match understood(alloc, words)? {
+        Words::Command(command) => obey(alloc, &command, files, input, output),
+        Words::Told(text) => answer(alloc, text.as_str().as_bytes(), output),
+        Words::Refused(text) => rebuke(alloc, text.as_str().as_bytes(), notes),
+    }
+}
+
+/// Does a command over its file.
+fn obey<F: Files, S: Source, K: Sink>(
+    alloc: Global,
+    command: &Command,
+    files: &mut F,
+    input: &mut S,
+    output: &mut K,
+) -> Result<Ended, AllocError>
+    ensures { IfOk result (λ ended. (notes : Stream) → Obeys command.now.action (F.held files.old command.now.file) ended
+        (outside (F.faults files.old) (stream (S.left input.old) (S.faults input.old)) (stream (K.taken output.old) (K.faults output.old)) notes)
+        (outside (F.faults files.new) (stream (S.left input.new) (S.faults input.new)) (stream (K.taken output.new) (K.faults output.new)) notes)) }
+{
+    let text = match files.read(command.file.as_str(), MOST) {
+        Ok(text) => text,
         Err(CallError::Failed) => return Ok(without_record(alloc, 2)),
-        Err(CallError::Memory(e)) => return Err(e),
+        Err(CallError::Memory(cause)) => return Err(cause),
     };
-    let Some(form) = read_first_form(alloc, &program)? else {
-        let mut written = Bytes::new(alloc);
-        let _ = write_text(output, b"refused first Form 0\n", &mut written)?;
-        return Ok(without_record(alloc, 3));
+    match command.action {
+        Action::Check => check_text(alloc, &text, output),
+        Action::Print => print_text(alloc, &text, output),
+        Action::Run => run_text(alloc, text, input, output),
+    }
+}
+
+/// Runs the program that a text is.
+fn run_text<S: Source, K: Sink>(
+    alloc: Global,
+    text: Vec<u8>,
+    input: &mut S,
+    output: &mut K,
+) -> Result<Ended, AllocError>
+    ensures { IfOk result (λ ended. Runs text.items ended
+        (stream (S.left input.old) (S.faults input.old)) (stream (S.left input.new) (S.faults input.new))
+        (stream (K.taken output.old) (K.faults output.old)) (stream (K.taken output.new) (K.faults output.new))) }
+{
+    match program_in(alloc, &text)? {
+        Ok(form) => run_program(alloc, Bytes::from_vec(text), form, input, output),
+        Err(refusal) => refuse(alloc, &refusal, output),
+    }
+}
+
+/// The program that a text is, or why it is none that runs.
+pub fn program_in(alloc: Global, text: &[u8]) -> Result<Result<FirstForm, Refusal>, AllocError>
+    ensures { IfOk result (λ found. MatchResult found (λ form. IsProgram text.now form) (λ refusal. IsNotRunBy text.now (line_of refusal))) }
+{
+    let file = match verdict_of(alloc, text)? {
+        Verdict::File(file) => file,
+        Verdict::Refused(refusal) => return Ok(Err(refusal)),
     };
-    run_program(alloc, Bytes::from_vec(program), form, input, output)
+    match first_form(alloc, file.definitions())? {
+        Some(form) => Ok(Ok(form)),
+        None => Ok(Err(Refusal::of_form())),
+    }
 }
 
 /// Runs a program over the lines of the input.
@@ -108,34 +158,4 @@ fn status_of(end: End) -> u8
         End::Cut => 4,
         End::Stopped => 5,
     }
-}
-
-/// The file of `run FILE`.
-fn file_named(words: &[String]) -> Option<&str>
-    ensures { option_map (λ name. name.now) result ≡ file_of (spelled words.now) }
-{
-    match words {
-        [command, file] => if command.as_str() == "run" {
-            Some(file.as_str())
-        } else {
-            None
-        },
-        _ => None,
-    }
-}
-
-/// A run that came to no session.
-fn without_record(alloc: Global, status: u8) -> Ended
-    ensures status { result.status ≡ status }
-    ensures empty { IsEmptyRecord result.report }
-{
-    let report = Record {
-        program: Bytes::new(alloc),
-        history: History {
-            entries: Items::new(alloc),
-        },
-        sessions: Items::new(alloc),
-        traffic: Items::new(alloc),
-    };
-    Ended { status, report }
 }

@@ -1,0 +1,59 @@
+-- What a text that is read or refused has.
+use Rattle.std.proofs.Common.{◌≡◌, ℕ, ◌<◌, ◌≤◌, List, length, Result, Ok, Err, refl, subst, sym, arith}
+use Rattle.std.specs.Prelude.{IsErrOf, ◌↔◌, Option, None, IsNone}
+use Rattle.jolie_tokens.specs.declared.token.Token.{Token}
+use Rattle.jolie_tokens.specs.declared.lex_error.LexError.{LexError}
+use Rattle.jolie_tokens.specs.declared.lex_error.LexError.TheVariants as lex
+use Rattle.jolie_tokens.specs.Texts.{longest, IsRead}
+use Rattle.jolie_tokens.specs.Outcomes.{IsCause}
+use Rattle.jolie_ast.specs.declared.tree.Definition.{Definition}
+use Rattle.jolie_parse.specs.declared.parse_error.ParseError.{ParseError}
+use Rattle.jolie_parse.specs.declared.parse_error.ParseError.TheVariants as parse
+use Rattle.jolie_parse.specs.Classes.{spelled}
+use Rattle.jolie_parse.specs.Grammar.{IsFile}
+use Rattle.jolie_parse.specs.Answers.{IsRefusedAt, IsTooDeepAt}
+use Rattle.jolie_main.specs.declared.form.FirstForm.{FirstForm}
+use Rattle.jolie_main.specs.declared.refusal.Refusal.{Refusal}
+use Rattle.jolie_main.specs.declared.verdict.Verdict.{Verdict}
+use Rattle.jolie_main.specs.declared.verdict.Verdict.TheVariants as verdict
+use Rattle.jolie_main.specs.FirstForm.{IsFirstForm}
+use Rattle.jolie_main.specs.Programs.{IsNotRunBy, no_form, form_line}
+use Rattle.jolie_main.specs.Programs as program
+use Rattle.jolie_main.specs.Verdicts.{IsAccepted, IsRefusedBy, too_long, no_tokens, no_file, too_deep, line_of, IsLexRefusal, IsParseRefusal, IsVerdict}
+
+-- a text that has tokens is not too long
+pub fits : (r : Result (List Token) LexError) (tokens : List Token) (n : ℕ) → r ≡ Ok tokens → (IsErrOf r lex.TooLong ↔ longest < n) → n ≤ longest
+fits r tokens n is exact = let never : longest < n → ⊥ = λ h. let e : r ≡ Err lex.TooLong = exact.1 h in cc in omega arith
+
+-- a text whose tokens are a file
+pub accepted : (text : List ℕ) (tokens : List Token) (file : List Definition) → length text ≤ longest → IsRead text tokens → IsFile 64 (spelled text tokens) file → IsAccepted text file
+accepted text tokens file fit read derived = record { fits = fit; tokens = tokens; read = read; derived = derived }
+
+-- a text that has no tokens
+pub refused_by_lex : (text : List ℕ) (e : LexError) (r : Refusal) → IsCause text e → IsLexRefusal e r → IsRefusedBy text (line_of r)
+refused_by_lex text lex.TooLong r cause line = subst (λ l. IsRefusedBy text l) (sym line) (too_long cause)
+refused_by_lex text (lex.BadByte at) r cause line = subst (λ l. IsRefusedBy text l) (sym line) (no_tokens (lex.BadByte at) cause.0 cause.1)
+refused_by_lex text (lex.OpenString at) r cause line = subst (λ l. IsRefusedBy text l) (sym line) (no_tokens (lex.OpenString at) cause.0 cause.1)
+refused_by_lex text (lex.OpenComment at) r cause line = subst (λ l. IsRefusedBy text l) (sym line) (no_tokens (lex.OpenComment at) cause.0 cause.1)
+refused_by_lex text (lex.BadNumber at) r cause line = subst (λ l. IsRefusedBy text l) (sym line) (no_tokens (lex.BadNumber at) cause.0 cause.1)
+refused_by_lex text (lex.Memory why) r cause line = absurd line
+
+-- a text whose tokens are no file
+pub refused_by_parse : (text : List ℕ) (tokens : List Token) (result : Result (List Definition) ParseError) (e : ParseError) (r : Refusal) → length text ≤ longest → IsRead text tokens → result ≡ Err e
+    → ((at : ℕ) → result ≡ Err (parse.Syntax at) → IsRefusedAt 64 (length text) (spelled text tokens) at)
+    → ((at : ℕ) → result ≡ Err (parse.TooDeep at) → IsTooDeepAt 64 (length text) (spelled text tokens) at) → IsParseRefusal e r → IsRefusedBy text (line_of r)
+refused_by_parse text tokens result (parse.Syntax at) r fit read is syntax deep line = subst (λ l. IsRefusedBy text l) (sym line) (no_file tokens at fit read (syntax at is))
+refused_by_parse text tokens result (parse.TooDeep at) r fit read is syntax deep line = subst (λ l. IsRefusedBy text l) (sym line) (too_deep tokens at fit read (deep at is))
+refused_by_parse text tokens result (parse.Memory cause) r fit read is syntax deep line = absurd line
+
+-- a text that is refused is not run
+pub not_run : (text : List ℕ) (v : Verdict) (r : Refusal) → IsVerdict text v → v ≡ verdict.Refused r → IsNotRunBy text (line_of r)
+not_run text v r right is = program.no_file (line_of r) (subst (λ x. IsVerdict text x) is right)
+
+-- nor is a file of another form
+pub no_form_runs : (text : List ℕ) (v : Verdict) (file given : List Definition) (found : Option FirstForm) (r : Refusal) → IsVerdict text v → v ≡ verdict.File file
+    → (IsNone found → (form : FirstForm) → ¬ IsFirstForm given form) → found ≡ None → given ≡ file → line_of r ≡ form_line → IsNotRunBy text (line_of r)
+no_form_runs text v file given found r right is none nothing same line =
+    let none_there : IsNone found = subst (λ o. IsNone o) (sym nothing) refl in
+    subst (λ l. IsNotRunBy text l) (sym line)
+    (no_form file (subst (λ x. IsVerdict text x) is right) (subst (λ x. (form : FirstForm) → ¬ IsFirstForm x form) same (none none_there)))

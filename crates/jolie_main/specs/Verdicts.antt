@@ -1,0 +1,97 @@
+-- What is said of a text: its definitions, or the one line that refuses it.
+use Rattle.std.specs.Prelude.{◌≡◌, ℕ, ◌<◌, ◌≤◌, List, [], ◌∷◌, ◌++◌, length, codes}
+use Rattle.std.specs.Fmt.{decimal}
+use Rattle.jolie_tokens.specs.declared.token.Token.{Token}
+use Rattle.jolie_tokens.specs.declared.lex_error.LexError.{LexError}
+use Rattle.jolie_tokens.specs.declared.lex_error.LexError.TheVariants as lex
+use Rattle.jolie_tokens.specs.Texts.{longest, IsRead, IsRefused}
+use Rattle.jolie_ast.specs.declared.tree.Definition.{Definition}
+use Rattle.jolie_parse.specs.declared.parse_error.ParseError.{ParseError}
+use Rattle.jolie_parse.specs.declared.parse_error.ParseError.TheVariants as parse
+use Rattle.jolie_parse.specs.Classes.{spelled}
+use Rattle.jolie_parse.specs.Grammar.{IsFile}
+use Rattle.jolie_parse.specs.Answers.{IsRefusedAt, IsTooDeepAt}
+use Rattle.jolie_main.specs.declared.refusal.Stage.{Stage}
+use Rattle.jolie_main.specs.declared.refusal.Stage.TheVariants as stage
+use Rattle.jolie_main.specs.declared.refusal.Fault.{Fault}
+use Rattle.jolie_main.specs.declared.refusal.Fault.TheVariants as fault
+use Rattle.jolie_main.specs.declared.refusal.Refusal.{Refusal}
+use Rattle.jolie_main.specs.declared.verdict.Verdict.{Verdict}
+use Rattle.jolie_main.specs.declared.verdict.Verdict.TheVariants as verdict
+
+-- ---- the line of a refusal
+
+-- its stage, its name and its place
+abbrev pub refusal : List ℕ → List ℕ → ℕ → List ℕ
+refusal stage name place = codes "refused " ++ (stage ++ (codes " " ++ (name ++ (codes " " ++ (decimal place ++ codes "\n")))))
+
+-- of a text that has no tokens
+abbrev pub lex_line : LexError → List ℕ
+lex_line lex.TooLong = refusal (codes "lex") (codes "TooLong") 1048576
+lex_line (lex.BadByte at) = refusal (codes "lex") (codes "BadByte") at
+lex_line (lex.OpenString at) = refusal (codes "lex") (codes "OpenString") at
+lex_line (lex.OpenComment at) = refusal (codes "lex") (codes "OpenComment") at
+lex_line (lex.BadNumber at) = refusal (codes "lex") (codes "BadNumber") at
+lex_line (lex.Memory cause) = []
+
+-- of tokens that are no file: the one at that place stops beginning one, or opens level 65
+abbrev pub parse_line : ParseError → List ℕ
+parse_line (parse.Syntax at) = refusal (codes "parse") (codes "Syntax") at
+parse_line (parse.TooDeep at) = refusal (codes "parse") (codes "TooDeep") at
+parse_line (parse.Memory cause) = []
+
+-- ---- a text
+
+-- the text has these definitions, with nesting at most 64
+pub record IsAccepted (text : List ℕ) (file : List Definition) : Type 0 where
+  pub fits : length text ≤ longest
+  pub tokens : List Token
+  pub read : IsRead text tokens
+  pub derived : IsFile 64 (spelled text tokens) file
+
+-- The text has no definitions, for the reason that the line gives.
+pub data IsRefusedBy (text : List ℕ) : List ℕ → Type 0 where
+  too_long : longest < length text → IsRefusedBy text (lex_line lex.TooLong)
+  no_tokens : (e : LexError) → length text ≤ longest → IsRefused text e → IsRefusedBy text (lex_line e)
+  no_file : (tokens : List Token) (at : ℕ) → length text ≤ longest → IsRead text tokens
+      → IsRefusedAt 64 (length text) (spelled text tokens) at → IsRefusedBy text (parse_line (parse.Syntax at))
+  too_deep : (tokens : List Token) (at : ℕ) → length text ≤ longest → IsRead text tokens
+      → IsTooDeepAt 64 (length text) (spelled text tokens) at → IsRefusedBy text (parse_line (parse.TooDeep at))
+
+-- ---- as the code has them
+
+-- the word of a stage
+abbrev pub stage_word : Stage → List ℕ
+stage_word stage.Lex = codes "lex"
+stage_word stage.Parse = codes "parse"
+stage_word stage.First = codes "first"
+
+-- the word of a fault
+abbrev pub fault_word : Fault → List ℕ
+fault_word fault.TooLong = codes "TooLong"
+fault_word fault.BadByte = codes "BadByte"
+fault_word fault.OpenString = codes "OpenString"
+fault_word fault.OpenComment = codes "OpenComment"
+fault_word fault.BadNumber = codes "BadNumber"
+fault_word fault.Syntax = codes "Syntax"
+fault_word fault.TooDeep = codes "TooDeep"
+fault_word fault.Form = codes "Form"
+
+-- the line of a refusal
+abbrev pub line_of : Refusal → List ℕ
+line_of r = refusal (stage_word r.stage) (fault_word r.fault) r.at
+
+-- the error is no want of memory, and the refusal has its line
+abbrev pub IsLexRefusal : LexError → Refusal → Type 0
+IsLexRefusal (lex.Memory cause) r = ⊥
+IsLexRefusal e r = line_of r ≡ lex_line e
+
+-- the same of an error of the parser
+abbrev pub IsParseRefusal : ParseError → Refusal → Type 0
+IsParseRefusal (parse.Memory cause) r = ⊥
+IsParseRefusal e r = line_of r ≡ parse_line e
+
+-- what is said of the text is right
+abbrev pub IsVerdict : List ℕ → Verdict → Type 0
+IsVerdict text (verdict.File file) = IsAccepted text file
+IsVerdict text (verdict.Refused r) = IsRefusedBy text (line_of r)

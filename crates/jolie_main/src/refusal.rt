@@ -1,0 +1,134 @@
+//! Why a text is refused.
+
+ghost use Rattle.std.specs.Prelude.{◌≡◌, Some, IfOk, string_bytes};
+ghost use Rattle.jolie_main.specs.Programs.{form_line};
+ghost use Rattle.jolie_main.specs.Verdicts.{stage_word, fault_word, line_of, IsLexRefusal, IsParseRefusal};
+
+use jolie_parse::ParseError;
+use jolie_tokens::LexError;
+use std::alloc::{AllocError, Global};
+use std::fmt;
+
+/// What refuses a text: its tokens, its grammar, or the first form.
+#[derive(Clone, Copy, Debug, PartialEq, Eq)]
+pub enum Stage {
+    Lex,
+    Parse,
+    First,
+}
+
+impl Stage {
+    pub fn as_str(self) -> &'static str
+        ensures { result.now ≡ stage_word self }
+    {
+        match self {
+            Stage::Lex => "lex",
+            Stage::Parse => "parse",
+            Stage::First => "first",
+        }
+    }
+}
+
+/// What is wrong with a text.
+#[derive(Clone, Copy, Debug, PartialEq, Eq)]
+pub enum Fault {
+    TooLong,
+    BadByte,
+    OpenString,
+    OpenComment,
+    BadNumber,
+    Syntax,
+    TooDeep,
+    Form,
+}
+
+impl Fault {
+    pub fn as_str(self) -> &'static str
+        ensures { result.now ≡ fault_word self }
+    {
+        match self {
+            Fault::TooLong => "TooLong",
+            Fault::BadByte => "BadByte",
+            Fault::OpenString => "OpenString",
+            Fault::OpenComment => "OpenComment",
+            Fault::BadNumber => "BadNumber",
+            Fault::Syntax => "Syntax",
+            Fault::TooDeep => "TooDeep",
+            Fault::Form => "Form",
+        }
+    }
+}
+
+/// Why a text is refused, and the place of the byte that is at fault.
+#[derive(Clone, Copy, Debug, PartialEq, Eq)]
+pub struct Refusal {
+    pub stage: Stage,
+    pub fault: Fault,
+    pub at: u32,
+}
+
+impl Refusal {
+    /// The refusal of a file that is of no form that runs.
+    pub fn of_form() -> Refusal
+        ensures { line_of result ≡ form_line }
+    {
+        Refusal {
+            stage: Stage::First,
+            fault: Fault::Form,
+            at: 0,
+        }
+    }
+
+    /// The refusal of a text that has no tokens. Want of memory refuses none.
+    pub fn by_lex(error: LexError) -> Result<Refusal, AllocError>
+        ensures { IfOk result (λ refusal. IsLexRefusal error refusal) }
+    {
+        let (fault, at) = match error {
+            LexError::TooLong => (Fault::TooLong, 1_048_576),
+            LexError::BadByte(at) => (Fault::BadByte, at),
+            LexError::OpenString(at) => (Fault::OpenString, at),
+            LexError::OpenComment(at) => (Fault::OpenComment, at),
+            LexError::BadNumber(at) => (Fault::BadNumber, at),
+            LexError::Memory(cause) => return Err(cause),
+        };
+        Ok(Refusal {
+            stage: Stage::Lex,
+            fault,
+            at,
+        })
+    }
+
+    /// The refusal of tokens that are no file. Want of memory refuses none.
+    pub fn by_parse(error: ParseError) -> Result<Refusal, AllocError>
+        ensures { IfOk result (λ refusal. IsParseRefusal error refusal) }
+    {
+        let (fault, at) = match error {
+            ParseError::Syntax(at) => (Fault::Syntax, at),
+            ParseError::TooDeep(at) => (Fault::TooDeep, at),
+            ParseError::Memory(cause) => return Err(cause),
+        };
+        Ok(Refusal {
+            stage: Stage::Parse,
+            fault,
+            at,
+        })
+    }
+
+    /// The line that says it.
+    pub fn line(&self, alloc: Global) -> Result<String, AllocError>
+        ensures { IfOk result (λ line. string_bytes line ≡ line_of self.now) }
+    {
+        format!(in alloc; "{self}")
+    }
+}
+
+impl fmt::Display for Refusal {
+    ghost output = { λ refusal. Some (line_of refusal) };
+
+    fn fmt<W: fmt::Write>(&self, f: &mut fmt::Formatter<W>) -> fmt::Result {
+        let stage = self.stage.as_str();
+        let fault = self.fault.as_str();
+        let at = self.at;
+        write!(f, "refused {stage} {fault} {at}\n")
+    }
+}

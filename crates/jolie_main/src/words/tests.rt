@@ -1,0 +1,123 @@
+use super::{Action, Words, understood};
+use std::alloc::{AllocError, Global};
+use std::test::Fail;
+
+const HELP: &str = "Checks, prints and runs services written in Jolie
+
+Usage: roqsulei <COMMAND>
+
+Commands:
+  check  Says whether FILE is well formed, and else where it is not
+  print  Prints FILE in its canonical form
+  run    Runs the service of FILE over lines of JSON-RPC from the standard input
+  help   Print this message or the help of the given subcommand(s)
+
+Options:
+  -h, --help     Print help
+  -V, --version  Print version
+";
+
+const HELP_OF_RUN: &str = "Runs the service of FILE over lines of JSON-RPC from the standard input
+
+Usage: roqsulei run <FILE>
+
+Arguments:
+  <FILE>  The file of the service
+
+Options:
+  -h, --help  Print help
+";
+
+const WITHOUT_FILE: &str = "error: the following required arguments were not provided:
+  <FILE>
+
+Usage: roqsulei run <FILE>
+
+For more information, try '--help'.
+";
+
+fn said_of(alloc: Global, words: &[&str]) -> Result<Words, AllocError> {
+    let mut line = Vec::new(alloc);
+    for word in words {
+        line.push(String::from_str(alloc, word)?)?;
+    }
+    understood(alloc, line.as_slice())
+}
+
+fn asks_for(alloc: Global, words: &[&str], action: Action, file: &str) -> Result<bool, AllocError> {
+    match said_of(alloc, words)? {
+        Words::Command(command) => Ok(command.action == action && command.file.as_str() == file),
+        _ => Ok(false),
+    }
+}
+
+fn is_told(alloc: Global, words: &[&str], expected: &str) -> Result<bool, AllocError> {
+    match said_of(alloc, words)? {
+        Words::Told(text) => Ok(text.as_str() == expected),
+        _ => Ok(false),
+    }
+}
+
+fn is_refused_with(alloc: Global, words: &[&str], expected: &str) -> Result<bool, AllocError> {
+    match said_of(alloc, words)? {
+        Words::Refused(text) => Ok(text.as_str() == expected),
+        _ => Ok(false),
+    }
+}
+
+fn is_refused(alloc: Global, words: &[&str]) -> Result<bool, AllocError> {
+    match said_of(alloc, words)? {
+        Words::Refused(text) => Ok(text.as_str().ends_with(".\n")),
+        _ => Ok(false),
+    }
+}
+
+#[test]
+fn a_command_has_its_file(rt: HostRuntime) -> Result<(), Fail> {
+    let cases: [(&[&str], Action, &str); 6] = [
+        (&["run", "a.ol"], Action::Run, "a.ol"),
+        (&["check", "a.ol"], Action::Check, "a.ol"),
+        (&["print", "run"], Action::Print, "run"),
+        (&["run", ""], Action::Run, ""),
+        (&["run", "--", "-a"], Action::Run, "-a"),
+        (&["run", "-"], Action::Run, "-"),
+    ];
+    for (words, action, file) in cases {
+        assert!(rt; asks_for(rt.alloc(), words, action, file)?, "{words:?}");
+    }
+    Ok(())
+}
+
+#[test]
+fn faulty_words_are_refused(rt: HostRuntime) -> Result<(), Fail> {
+    let cases: [&[&str]; 6] = [
+        &["check", "-x"],
+        &["run", "a", "b"],
+        &["frob", "a"],
+        &["Run", "a"],
+        &["--", "run", "a"],
+        &["run", "--version"],
+    ];
+    for words in cases {
+        assert!(rt; is_refused(rt.alloc(), words)?, "{words:?}");
+    }
+    assert!(rt; is_refused_with(rt.alloc(), &["run"], WITHOUT_FILE)?);
+    assert!(rt; is_refused_with(rt.alloc(), &[], HELP)?);
+    Ok(())
+}
+
+#[test]
+fn help_and_the_version_are_told(rt: HostRuntime) -> Result<(), Fail> {
+    let cases: [(&[&str], &str); 6] = [
+        (&["--help"], HELP),
+        (&["help"], HELP),
+        (&["run", "--help"], HELP_OF_RUN),
+        (&["help", "run"], HELP_OF_RUN),
+        (&["--version"], "roqsulei 0.1.0\n"),
+        (&["-V"], "roqsulei 0.1.0\n"),
+    ];
+    for (words, expected) in cases {
+        assert!(rt; is_told(rt.alloc(), words, expected)?, "{words:?}");
+    }
+    Ok(())
+}
