@@ -4,3 +4,4 @@ pub mod Vectors
 pub mod Names
 pub mod Growth
 pub mod Kept
+pub mod Lent

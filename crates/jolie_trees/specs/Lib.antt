@@ -7,4 +7,6 @@ pub mod TreeView
 pub mod Extents
 pub mod Changes
 pub mod Refusals
+pub mod Children
+pub mod Lending
 pub mod Laws

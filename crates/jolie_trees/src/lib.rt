@@ -16,4 +16,4 @@ pub use path::{Path, Step};
 pub use root::Root;
 pub use set_error::SetError;
 pub use text::Text;
-pub use tree::Tree;
+pub use tree::{Children, Tree};

@@ -4,6 +4,7 @@ ghost use Rattle.jolie_trees.specs.Trees as spec;
 ghost use Rattle.jolie_trees.specs.Data.{node, no_fields};
 
 mod change;
+mod children;
 mod copied;
 mod count;
 mod growth;
@@ -17,6 +18,7 @@ mod undef;
 use crate::path::{Path, Step};
 use crate::root::Root;
 use crate::text::Text;
+pub use children::Children;
 use sqlite_items::at;
 use std::alloc::Global;
 use std::collections::BTreeMap;

@@ -1,0 +1,113 @@
+#!/bin/sh
+# Times 10,000 `get` and 10,000 `set` in a tree of about 60 nodes and in one of about 60,000, and prints the times and
+# their ratios; that of `get` is to be at most 4. It runs in a folder of its own, outside the gate: bench/trees.sh
+set -eu
+top=$(cd "$(dirname "$0")/.." && pwd)
+work=$(mktemp -d)
+trap 'rm -rf "$work"' EXIT
+
+mkdir -p "$work/crates/tree_times/src"
+cp -r "$top/crates/jolie_trees" "$work/crates/"
+rm -rf "$work"/crates/*/out
+cat > "$work/crates.txt" <<'END'
+jolie_trees: sqlite_items thiserror
+tree_times: jolie_trees sqlite_items
+END
+cat > "$work/crates/tree_times/src/main.rt" <<'END'
+//! The times of 10,000 `get` and of 10,000 `set` in an order of as many lines as the argument says, each with an id and a
+//! price, in microseconds, and how many nodes the order has.
+#![tactic(auto)]
+
+use jolie_trees::{Path, Root, SetError, Step, Text, Tree};
+use sqlite_items::Items;
+use std::alloc::{AllocError, Global};
+use std::time::Instant;
+use std::{env, io};
+
+const TIMES: u32 = 10_000;
+
+fn main(rt: HostRuntime) -> io::Result<()> {
+    for word in env::args(&rt)?.skip(1) {
+        let lines = word.as_str().parse::<u32>().unwrap_or(1).max(1);
+        let alloc = rt.alloc();
+        match order(alloc, lines) {
+            Err(_) => println!(rt; "out of memory")?,
+            Ok(mut tree) => {
+                let start = Instant::now(&rt)?;
+                let found = read(alloc, &tree, lines).unwrap_or(0);
+                let reading = start.elapsed(&rt)?.as_micros();
+                let start = Instant::now(&rt)?;
+                let written = write(alloc, &mut tree, lines).is_ok();
+                let writing = start.elapsed(&rt)?.as_micros();
+                let nodes = tree.size();
+                println!(rt; "{reading} {writing} {nodes} {found} {written}")?;
+            }
+        }
+    }
+    Ok(())
+}
+
+fn order(alloc: Global, lines: u32) -> Result<Tree, AllocError> {
+    let mut order = Tree::void(alloc);
+    let name = Text::new(alloc, "line")?;
+    for number in 0..lines {
+        order.push(&name, line(alloc, number)?)?;
+    }
+    Ok(order)
+}
+
+fn line(alloc: Global, number: u32) -> Result<Tree, AllocError> {
+    let mut line = Tree::void(alloc);
+    line.push(&Text::new(alloc, "id")?, Tree::of_root(alloc, Root::Int(number as i32)))?;
+    line.push(&Text::new(alloc, "price")?, Tree::of_root(alloc, Root::Int(1)))?;
+    Ok(line)
+}
+
+fn price(alloc: Global, number: u32) -> Result<Path, AllocError> {
+    let mut steps = Items::new(alloc);
+    steps.push(Step {
+        name: Text::new(alloc, "line")?,
+        index: Some(number),
+    })?;
+    steps.push(Step {
+        name: Text::new(alloc, "price")?,
+        index: None,
+    })?;
+    Ok(Path { steps })
+}
+
+/// How many prices are found at lines all over the order.
+fn read(alloc: Global, tree: &Tree, lines: u32) -> Result<u32, AllocError> {
+    let mut found: u32 = 0;
+    for time in 0..TIMES {
+        let path = price(alloc, time.wrapping_mul(7919) % lines)?;
+        if tree.get(&path).is_some() {
+            found = found.wrapping_add(1);
+        }
+    }
+    Ok(found)
+}
+
+/// Sets prices at lines all over the order.
+fn write(alloc: Global, tree: &mut Tree, lines: u32) -> Result<(), SetError> {
+    for time in 0..TIMES {
+        let path = price(alloc, time.wrapping_mul(7919) % lines)?;
+        tree.set(&path, Tree::of_root(alloc, Root::Int(2)))?;
+    }
+    Ok(())
+}
+END
+cd "$work/crates/tree_times"
+rt run -- 1 > "$work/log" 2>&1 || { cat "$work/log" >&2; exit 1; }
+
+# The least of 20 readings and of 5 writings counts.
+least() {
+    for _ in $(seq "$2"); do
+        "$work/crates/tree_times/out/tree_times" "$1" | cut -d ' ' -f "$3"
+    done | sort -n | head -1
+}
+echo "$(least 20 20 1) $(least 20000 20 1) $(least 20 5 2) $(least 20000 5 2)" | awk '{
+    printf "10,000 get: %.2f ms in 61 nodes, %.2f ms in 60,001 nodes, ratio %.1f (at most 4)\n", $1 / 1000, $2 / 1000, $2 / $1
+    printf "10,000 set: %.2f ms in 61 nodes, %.2f ms in 60,001 nodes, ratio %.1f\n", $3 / 1000, $4 / 1000, $4 / $3
+    exit !($2 <= 4 * $1)
+}'
