@@ -1,0 +1,76 @@
+-- Types, fields and trees as a walk over them sees them, one by one.
+use Rattle.std.proofs.Common.{◌≡◌, ◌∙◌, ℕ, zero, suc, ◌+◌, ◌-◌, ◌*◌, ◌<◌, ◌≤◌, max, min, List, [], ◌∷◌, map, length, take, drop, get_or, Option, None, Some, Bool, true, false, refl, ap, sym, arith, rules, drop-cons}
+use Rattle.std.proofs.lemmas.List.{drop_all, length-map}
+use Rattle.std.proofs.lemmas.Bool.Decides.{nat_tests}
+use Rattle.std.proofs.lemmas.Option.{slice_get-map, slice_get_past, slice_get_read}
+use Rattle.std.specs.Prelude.{◌&&◌, nat_eq, nat_le, slice_get, option_map, option_and_then, bytes_eq, if◌then◌else◌}
+use Rattle.jolie_trees.specs.Data.{Tree, node, Fields, no_fields, field, Trees, no_trees, tree}
+use Rattle.jolie_trees.specs.Trees.{root_of, count_of, under, levels, fields_levels, trees_levels}
+use Rattle.jolie_trees.specs.TreeView.{trees_of}
+use Rattle.jolie_trees.specs.Extents.{children_of}
+use Rattle.jolie_trees.specs.declared.root.Root.{Root}
+use Rattle.behaviour_tree.specs.declared.types.RootKind.{RootKind}
+use Rattle.behaviour_tree.specs.Data.{TypeTree, plain, named, undefined, TypeFields}
+use Rattle.behaviour_tree.specs.Conforms.{shape, has_kind, at_most, counts_fit, field_type, fits, children_fit, members_fit}
+use Rattle.behaviour_tree.specs.View.{FieldView, field_view, type_fields_of, type_view}
+use Rattle.behaviour_tree.specs.declared.types.Field.{Field}
+use Rattle.behaviour_tree.specs.declared.types.TypeDef.{TypeDef}
+
+pub taken_off : {A : Type 0} (xs : List A) (i : ℕ) (x : A) → i < length xs → x ≡ get_or xs i x → drop i xs ≡ x ∷ drop (i + 1) xs
+taken_off xs i x h is = let f : i + 1 ≡ suc i = omega arith in rw f (drop-cons xs i x h ∙ ap (λ y. y ∷ drop (suc i) xs) (sym is))
+
+-- a name leads one step on
+shape-named : (types : List TypeTree) (left i : ℕ) (ty : TypeTree) → 1 ≤ left → ty ≡ named i → shape types left ty ≡ option_and_then (shape types (left - 1)) (slice_get types i)
+shape-named types zero i ty h e = absurd (omega (arith, h))
+shape-named types (suc left) i ty h e = let less : suc left - 1 ≡ left = omega arith in rw (e, less) refl
+
+pub shape-next : (types : List TypeDef) (left i : ℕ) (ty : TypeTree) (next : TypeDef) → 1 ≤ left → ty ≡ named i → i < length types → next ≡ get_or types i next
+    → shape (map type_view types) (left - 1) (type_view next) ≡ shape (map type_view types) left ty
+shape-next types left i ty next h e within is =
+    sym (shape-named (map type_view types) left i ty h e
+    ∙ ap (option_and_then (shape (map type_view types) (left - 1))) (slice_get-map type_view types i ∙ ap (option_map type_view) (slice_get_read types (length types) i next refl within is)))
+
+pub shape-past : (types : List TypeDef) (left i : ℕ) (ty : TypeTree) → 1 ≤ left → ty ≡ named i → length types ≤ i → None ≡ shape (map type_view types) left ty
+shape-past types left i ty h e past =
+    sym (shape-named (map type_view types) left i ty h e
+    ∙ ap (option_and_then (shape (map type_view types) (left - 1))) (slice_get-map type_view types i ∙ ap (option_map type_view) (slice_get_past types i past)))
+
+pub count_of-trees : (ts : List Tree) → count_of (trees_of ts) ≡ length ts
+count_of-trees [] = refl
+count_of-trees (t ∷ ts) = ap suc (count_of-trees ts)
+
+-- the members of a name that has no field
+pub members_fit-none : (types : List TypeTree) (ts : List Tree) (empty : Bool) → empty ≡ nat_eq (length ts) 0 → empty ≡ members_fit types (trees_of ts) None
+members_fit-none types [] empty h = h
+members_fit-none types (t ∷ ts) empty h = let more : nat_eq (length (t ∷ ts)) 0 ≡ false = grind (arith, nat_tests) in h ∙ more
+
+-- a member has no more levels than all together
+pub levels-member : (ts : List Tree) (i : ℕ) (t : Tree) → i < length ts → t ≡ get_or ts i t → levels t ≤ trees_levels (trees_of ts)
+levels-member [] i t h is = absurd (omega (arith, h))
+levels-member (u ∷ ts) zero t h is = let e : levels t ≡ levels u = ap levels is in omega (arith, e)
+levels-member (u ∷ ts) (suc i) t h is = omega (arith, levels-member ts i t (omega (arith, h)) is)
+
+-- whether a node fits, by the type behind its names
+abbrev pub fits_at : List TypeTree → Root → Fields → Option TypeTree → Bool
+fits_at types r children o =
+    elim o [
+      | None ↦ false
+      | Some s ↦ elim s [
+        | plain k fields ↦ has_kind k r && counts_fit children fields && children_fit types children fields
+        | named i ↦ false
+        | undefined ↦ true
+      ]
+    ]
+
+pub fits-by : (types : List TypeDef) (t : Tree) (ty : TypeTree) (s : Option TypeTree) → s ≡ shape (map type_view types) (length types) ty
+    → fits_at (map type_view types) (root_of t) (children_of t) s ≡ fits (map type_view types) t ty
+fits-by types (node r children) ty s h =
+    let all = map type_view types in
+    ap (fits_at all r children) (h ∙ ap (λ n. shape all n ty) (sym (length-map types type_view)))
+
+-- a field whose members are counted
+pub count-within : (least : ℕ) (most : Option ℕ) (n : ℕ) (r : Bool) → least ≤ n → r ≡ at_most most n → r ≡ (nat_le least n && at_most most n)
+count-within least most n r h e = let within : nat_le least n ≡ true = grind (arith, nat_tests) in rw within e
+
+pub count-below : (least : ℕ) (most : Option ℕ) (n : ℕ) → n < least → nat_le least n ≡ (nat_le least n && at_most most n)
+count-below least most n h = let below : nat_le least n ≡ false = grind (arith, nat_tests) in rw below refl

@@ -1,0 +1,4 @@
+mod Breaks
+mod Fits
+mod NoBreach
+mod Widens
