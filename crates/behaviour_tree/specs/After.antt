@@ -2,7 +2,7 @@
 use Rattle.std.specs.Prelude.{◌≡◌, ℕ, zero, suc, ◌+◌, List, [], ◌∷◌, Option, None, Some, option_map, option_and_then, unwrap_or, Bool, true, false, if◌then◌else◌, nat_eq}
 use Rattle.jolie_trees.specs.declared.path.Step.{Step}
 use Rattle.jolie_trees.specs.Data.{Tree}
-use Rattle.jolie_trees.specs.Trees.{void_tree, root_of, set, set_root}
+use Rattle.jolie_trees.specs.Trees.{void_tree, root_of, set, set_root, undef as removed}
 use Rattle.jolie_trees.specs.Limits.{is_store}
 use Rattle.behaviour_tree.specs.declared.words.Kind.TheVariants as kind
 use Rattle.behaviour_tree.specs.declared.words.Event.{Event}
@@ -12,7 +12,7 @@ use Rattle.behaviour_tree.specs.declared.words.Given.{Given}
 use Rattle.behaviour_tree.specs.declared.words.Given.TheVariants as given
 use Rattle.behaviour_tree.specs.declared.words.Outcome.{Outcome}
 use Rattle.behaviour_tree.specs.declared.words.Outcome.TheVariants as outcome
-use Rattle.behaviour_tree.specs.Data.{PathTree, Exp, Proc, Procs, no_procs, proc, Branches, no_branches, one_way, request, assign, choice, TypeTree, OperationPart, ProgramParts}
+use Rattle.behaviour_tree.specs.Data.{PathTree, Exp, Proc, Procs, no_procs, proc, Branches, no_branches, one_way, request, assign, undef, copy, choice, TypeTree, OperationPart, ProgramParts}
 use Rattle.behaviour_tree.specs.Names.{type_mismatch, expr_fault, store_too_large, main, name_at}
 use Rattle.behaviour_tree.specs.Values.{value, steps_of, tree_at}
 use Rattle.behaviour_tree.specs.Conforms.{conforms, wide}
@@ -44,7 +44,7 @@ first_config p =
 
 -- ---- the fault of a place
 
--- what an assignment does: the fault that it has, or the store that it makes
+-- what an action on the store does: the fault that it has, or the store that it makes
 pub data Effect : Type 0 where
   faults : ℕ → Effect
   stores : Tree → Effect
@@ -63,6 +63,25 @@ assigned store (Some path) (Some v) = stored (set_root path (root_of v) store)
 abbrev pub effect_of : Tree → PathTree → Exp → Effect
 effect_of store p e = assigned store (steps_of store p) (value store e)
 
+-- the whole tree of a value in place of the node at a path; either may fault
+abbrev pub put : Tree → Option (List Step) → Option Tree → Effect
+put store None v = faults expr_fault
+put store (Some path) None = faults expr_fault
+put store (Some path) (Some v) = stored (set path v store)
+
+-- what a copy does to a store
+abbrev pub copied : Tree → PathTree → Exp → Effect
+copied store p e = put store (steps_of store p) (value store e)
+
+-- a store without the nodes that a path names; the path may fault
+abbrev pub taken_away : Tree → Option (List Step) → Effect
+taken_away store None = faults expr_fault
+taken_away store (Some path) = stored (removed path store)
+
+-- what an undef does to a store
+abbrev pub undefined_at : Tree → PathTree → Effect
+undefined_at store p = taken_away store (steps_of store p)
+
 -- a fault with its data
 pub record Fault : Type 0 where
   pub name : ℕ
@@ -80,6 +99,8 @@ fault_of_effect (stores s) = None
 -- the fault of a form that acts, where it has one
 abbrev pub fault_of : Tree → Proc → Option Fault
 fault_of store (assign p e) = fault_of_effect (effect_of store p e)
+fault_of store (copy p e) = fault_of_effect (copied store p e)
+fault_of store (undef p) = fault_of_effect (undefined_at store p)
 fault_of store p = None
 
 -- the fault of strand n in a form that runs in strand s
@@ -110,7 +131,7 @@ within f m = record m { form = f m.form }
 abbrev pub local_event : ℕ → Event
 local_event n = record { strand = n; kind = kind.Local; number = 0; place = 0; fault = 0 }
 
--- an assignment without a fault
+-- an action on the store without a fault
 abbrev pub assigns : ℕ → ℕ → Effect → Option Move
 assigns n next (faults f) = None
 assigns n next (stores store) = Some (record { form = done; store = store; next = next; event = local_event n; need = need.Nothing })
@@ -163,6 +184,8 @@ comes n m o v ops next store branch (request o' x y body after bs) =
 -- the event of a form without a fault, for a gift; the other forms have no rule yet
 abbrev pub act : ℕ → Given → Tree → ℕ → Proc → Option Move
 act n given.Nothing store next (assign p e) = assigns n next (effect_of store p e)
+act n given.Nothing store next (copy p e) = assigns n next (copied store p e)
+act n given.Nothing store next (undef p) = assigns n next (undefined_at store p)
 act n (given.Mail m o v) store next (choice bs) = comes n m o v (ops_of bs) next store zero bs
 act n g store next p = None
 

@@ -6,8 +6,8 @@ use Rattle.jolie_trees.specs.Data.{Tree}
 use Rattle.jolie_trees.specs.declared.root.Root.{Root}
 use Rattle.jolie_trees.specs.declared.path.Step.{Step}
 use Rattle.behaviour_tree.specs.Data.{PathTree}
-use Rattle.jolie_expr.specs.Operators.{both, sum_of_two, product_of_two, truth_in, either, each}
-use Rattle.jolie_expr.specs.Values.{value, root_in, joined, literal_from, any_from, all_from, steps_of, sum_from, product_from}
+use Rattle.behaviour_tree.specs.Operators.{both, sum_of_two, product_of_two, truth_in, either, each}
+use Rattle.behaviour_tree.specs.Values.{value, root_in, joined, literal_from, any_from, all_from, steps_of, sum_from, product_from}
 use Rattle.behaviour_tree.specs.View.{expr_view, exps_of, member_view, member_list_of, step_of, path_of, step_view, sum_part_view, sum_parts_of, mul_part_view, mul_parts_of}
 use Rattle.behaviour_tree.specs.declared.expr.Expr.{Expr}
 use Rattle.behaviour_tree.specs.declared.expr.Member.{Member}

@@ -7,8 +7,8 @@ use Rattle.std.proofs.lemmas.Bool.{false≢true}
 use Rattle.std.proofs.lemmas.Str.Parse.{IsNumeralModel, IsDigitsTest, numerals_by_value}
 use Rattle.jolie_trees.specs.declared.root.Root.{Root}
 use Rattle.jolie_trees.specs.declared.root.Root.TheVariants as root
-use Rattle.jolie_expr.specs.Numbers.{int_root, long_root}
-use Rattle.jolie_expr.specs.Texts.{are_digits, digits_in, number_in}
+use Rattle.behaviour_tree.specs.Numbers.{int_root, long_root}
+use Rattle.behaviour_tree.specs.Texts.{are_digits, digits_in, number_in}
 use Rattle.jolie_expr.specs.Signs.{begins_with_plus}
 use Rattle.jolie_expr.proofs.Ranges.{int_fits, int_passes, long_fits, long_passes}
 use mir.Syntax.{Width, w32, w64}

@@ -5,7 +5,7 @@ use Rattle.std.proofs.Math.Facts.{sfits_lit}
 use Rattle.std.proofs.lemmas.Float.{T_from_true}
 use Rattle.std.proofs.lemmas.Int.{ints}
 use Rattle.std.proofs.lemmas.Bool.Decides.{nat_tests}
-use Rattle.jolie_expr.specs.Numbers.{int_root, long_root}
+use Rattle.behaviour_tree.specs.Numbers.{int_root, long_root}
 use Rattle.jolie_trees.specs.declared.root.Root.TheVariants as root
 use mir.Syntax.{w32, w64}
 

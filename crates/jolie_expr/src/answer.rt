@@ -1,6 +1,6 @@
 ghost use Rattle.behaviour_tree.specs.View.{expr_view, path_view};
 ghost use Rattle.jolie_expr.specs.Answers.{Answers};
-ghost use Rattle.jolie_expr.specs.Values as spec;
+ghost use Rattle.behaviour_tree.specs.Values as spec;
 
 use crate::eval_error::EvalError;
 use crate::evaluate::{root_value, steps_of, value};

@@ -1,6 +1,6 @@
 ghost use Rattle.std.specs.Prelude.{◌≡◌, IfOk, option_and_then};
-ghost use Rattle.jolie_expr.specs.Casts as spec;
-ghost use Rattle.jolie_expr.specs.Numbers.{int_root, long_root};
+ghost use Rattle.behaviour_tree.specs.Casts as spec;
+ghost use Rattle.behaviour_tree.specs.Numbers.{int_root, long_root};
 
 use crate::text::{int_in, long_in, spelled, text_root};
 use behaviour_tree::CastKind;

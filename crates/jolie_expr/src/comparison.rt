@@ -1,7 +1,7 @@
 ghost use Rattle.std.specs.Prelude.{◌≡◌, option_map};
 ghost use Rattle.jolie_trees.specs.declared.root.Root.TheVariants as root;
-ghost use Rattle.jolie_expr.specs.Comparisons as spec;
-ghost use Rattle.jolie_expr.specs.Operators.{both};
+ghost use Rattle.behaviour_tree.specs.Comparisons as spec;
+ghost use Rattle.behaviour_tree.specs.Operators.{both};
 
 use behaviour_tree::CompareOp;
 use jolie_trees::Root;

@@ -3,7 +3,7 @@ ghost use Rattle.behaviour_tree.specs.Data.{PathTree};
 ghost use Rattle.behaviour_tree.specs.View.{expr_view, exps_of, member_list_of, member_view, mul_part_view, mul_parts_of, path_view, step_of, step_view, sum_part_view, sum_parts_of};
 ghost use Rattle.jolie_trees.specs.declared.root.Root.TheVariants as root;
 ghost use Rattle.jolie_trees.specs.Trees.{void_tree};
-ghost use Rattle.jolie_expr.specs.Values as spec;
+ghost use Rattle.behaviour_tree.specs.Values as spec;
 
 use crate::cast::cast;
 use crate::comparison::compared;

@@ -1,5 +1,5 @@
 ghost use Rattle.std.specs.Prelude.{◌≡◌, ◌+ℤ◌, ◌-ℤ◌, ◌*ℤ◌, int_div, None, if◌then◌else◌};
-ghost use Rattle.jolie_expr.specs.Numbers as spec;
+ghost use Rattle.behaviour_tree.specs.Numbers as spec;
 
 use jolie_trees::Root;
 

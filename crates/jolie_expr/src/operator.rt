@@ -1,5 +1,5 @@
 ghost use Rattle.std.specs.Prelude.{◌≡◌, IfOk, option_and_then};
-ghost use Rattle.jolie_expr.specs.Operators as spec;
+ghost use Rattle.behaviour_tree.specs.Operators as spec;
 
 use crate::number::{minus, over, plus, rest, times};
 use crate::text::joined;

@@ -1,9 +1,9 @@
 ghost use Rattle.std.specs.Prelude.{◌≡◌, ◌++◌, IfOk, string_bytes, option_and_then, option_map};
 ghost use Rattle.jolie_trees.specs.declared.root.Root.TheVariants as root;
-ghost use Rattle.jolie_expr.specs.Numbers.{int_root, long_root};
-ghost use Rattle.jolie_expr.specs.Operators.{constant_root};
+ghost use Rattle.behaviour_tree.specs.Numbers.{int_root, long_root};
+ghost use Rattle.behaviour_tree.specs.Operators.{constant_root};
 ghost use Rattle.jolie_expr.specs.Signs.{begins_with_plus};
-ghost use Rattle.jolie_expr.specs.Texts as spec;
+ghost use Rattle.behaviour_tree.specs.Texts as spec;
 
 use jolie_trees::{Root, Text};
 use std::alloc::{AllocError, Global};

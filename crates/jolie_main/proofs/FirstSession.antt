@@ -1,8 +1,9 @@
 -- The one session of a first program takes its message, does its assignment, answers and ends.
 use Rattle.std.proofs.Common.{◌≡◌, ℕ, true, false, List, [], ◌∷◌, ◌++◌, Option, Some, None, refl, sym, ap, subst, ◌∙◌}
 use Rattle.std.proofs.lemmas.Bool.{false≢true}
-use Rattle.std.specs.Prelude.{IfSome, IsSome, MatchOption, is_some, option_map}
+use Rattle.std.specs.Prelude.{IfSome, IsSome, MatchOption, is_some, option_map, option_and_then, ◌&&◌, Bool, pos}
 use Rattle.jolie_trees.specs.declared.path.Step.{Step}
+use Rattle.jolie_trees.specs.declared.root.Root.TheVariants as root
 use Rattle.jolie_trees.specs.Data.{Tree}
 use Rattle.jolie_trees.specs.Trees.{void_tree, set}
 use Rattle.behaviour_tree.specs.declared.words.Event.{Event}
@@ -12,15 +13,16 @@ use Rattle.behaviour_tree.specs.declared.words.Given.{Given}
 use Rattle.behaviour_tree.specs.declared.words.Given.TheVariants as given
 use Rattle.behaviour_tree.specs.declared.words.Outcome.{Outcome}
 use Rattle.behaviour_tree.specs.declared.words.Outcome.TheVariants as outcome
-use Rattle.behaviour_tree.specs.Data.{PathTree, here, step, step_at, Exp, nothing, assign, sequence, choice, no_procs, proc, Branches, no_branches, request, ProgramParts, behaviour_of}
+use Rattle.behaviour_tree.specs.Data.{PathTree, here, step, step_at, Exp, constant, nothing, assign, sequence, choice, no_procs, proc, Branches, no_branches, request, ProgramParts, behaviour_of}
 use Rattle.behaviour_tree.specs.Names.{main, name_at}
-use Rattle.behaviour_tree.specs.Values.{steps_of, stepped}
+use Rattle.behaviour_tree.specs.Values.{value, steps_of, stepped, root_in}
+use Rattle.behaviour_tree.specs.Operators.{index_in}
 use Rattle.behaviour_tree.specs.Terms.{Term, done, place, thrown, seq, in_scope, exec, fail, prot, live, zombie}
 use Rattle.behaviour_tree.specs.Tables.{empty}
 use Rattle.behaviour_tree.specs.Throw.{throw, up}
 use Rattle.behaviour_tree.specs.After.{Config, Done, Move, Effect, faults, stores, Fault, bare, within, first_config, stored, effect_of, fault_of_effect, fault_in, assigns, local_event, received, comes_request, moves, moved, replies, finish_event, raise_event, with_form, is_finished, reply_of, after, HasEvent}
 use Rattle.behaviour_tree.specs.Runs.{TakenStep, Leads, start_of}
-use Rattle.behaviour_tree.specs.Built.{is_built_path, is_built_target}
+use Rattle.behaviour_tree.specs.Built.{is_number, is_fixed_path, is_fixed_target}
 use Rattle.jolie_main.specs.Meaning.{IsFirstProgram}
 use Rattle.jolie_main.specs.Sessions.{Call, call_if, calls_from}
 use Rattle.jolie_main.specs.Turns.{IsWholeSession}
@@ -95,19 +97,39 @@ pub data IsThrough : Config → Type 0 where
 abbrev pub HasEnded : Config → Type 0
 HasEnded c = c.ended ≡ true
 
--- a path that is built has steps
-built_steps : (p : PathTree) → is_built_path p ≡ true → (store : Tree) → (steps : List Step) × (steps_of store p ≡ Some steps)
-built_steps here h store = ([], refl)
-built_steps (step name p) h store =
-    let r = built_steps p h store in
-    (stepped name None ∷ r.0, ap (option_map (λ steps. stepped name None ∷ steps)) r.1)
-built_steps (step_at name e p) h store = absurd (false≢true h)
+-- an index that is written as a number is that number
+number_index : (e : Exp) → is_number e ≡ true → (store : Tree) → (n : ℕ) × (option_and_then index_in (root_in (value store e)) ≡ Some n)
+number_index (constant (root.Int (pos n))) h store = (n, refl)
+number_index e h store = absurd (false≢true h)
 
--- a message comes to a target that is built
-built_received : (x : Option PathTree) → is_built_target x ≡ true → (store v : Tree) → (e : Effect) × (received store x v ≡ Some e)
-built_received None h store v = (stores store, refl)
-built_received (Some p) h store v =
-    let r = built_steps p h store in
+-- the two halves of what holds of both
+fixed_first : (a b : Bool) → (a && b) ≡ true → a ≡ true
+fixed_first true b h = refl
+fixed_first false b h = h
+
+fixed_rest : (a b : Bool) → (a && b) ≡ true → b ≡ true
+fixed_rest true b h = h
+fixed_rest false b h = absurd (false≢true h)
+
+-- a path whose indices are numbers has steps
+fixed_steps : (p : PathTree) → is_fixed_path p ≡ true → (store : Tree) → (steps : List Step) × (steps_of store p ≡ Some steps)
+fixed_steps here h store = ([], refl)
+fixed_steps (step name p) h store =
+    let r = fixed_steps p h store in
+    (stepped name None ∷ r.0, ap (option_map (λ steps. stepped name None ∷ steps)) r.1)
+fixed_steps (step_at name e p) h store =
+    let i = number_index e (fixed_first (is_number e) (is_fixed_path p) h) store in
+    let r = fixed_steps p (fixed_rest (is_number e) (is_fixed_path p) h) store in (
+      stepped name (Some i.0) ∷ r.0,
+      ap (option_and_then (λ n. option_map (λ steps. stepped name (Some n) ∷ steps) (steps_of store p))) i.1
+          ∙ ap (option_map (λ steps. stepped name (Some i.0) ∷ steps)) r.1,
+    )
+
+-- a message comes to a target whose indices are numbers
+fixed_received : (x : Option PathTree) → is_fixed_target x ≡ true → (store v : Tree) → (e : Effect) × (received store x v ≡ Some e)
+fixed_received None h store v = (stores store, refl)
+fixed_received (Some p) h store v =
+    let r = fixed_steps p h store in
     (stored (set r.0 v store), ap (option_map (λ path. stored (set path v store))) r.1)
 
 module _ (parts : ProgramParts) (m : ℕ) (target reply : Option PathTree) (path : PathTree) (value : Exp) where
@@ -215,7 +237,7 @@ module _ (parts : ProgramParts) (k : IsFirstProgram parts) where
 
 module _ (parts : ProgramParts) (k : IsFirstProgram parts) (m : ℕ) (v : Tree) where
   pub takes_first : Next parts (first parts k) (given.Mail m 0 v) (need.Take (0 ∷ [])) (IsWorking m k.reply k.path k.value)
-  takes_first = let r = built_received k.target k.built_target void_tree v in takes parts m k.target k.reply k.path k.value v r.0 r.1
+  takes_first = let r = fixed_received k.target k.fixed_target void_tree v in takes parts m k.target k.reply k.path k.value v r.0 r.1
 
   pub works_next : Next parts takes_first.made.config given.Nothing need.Nothing (IsReplying m k.reply)
   works_next = works parts m k.target k.reply k.path k.value takes_first.then_is

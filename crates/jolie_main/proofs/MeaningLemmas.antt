@@ -8,9 +8,8 @@ use Rattle.behaviour_tree.specs.declared.expr.SumPart.{SumPart}
 use Rattle.behaviour_tree.specs.declared.expr.MulPart.{MulPart}
 use Rattle.behaviour_tree.specs.View as view
 use Rattle.behaviour_tree.specs.View.{FieldView, StepView, SumPartView, MulPartView, field_view, step_view, sum_part_view, mul_part_view}
-use Rattle.behaviour_tree.specs.Built.{int_type}
 use Rattle.jolie_main.specs.Meaning as meaning
-use Rattle.jolie_main.specs.Meaning.{Signed, operator_of, term_of, factor_of}
+use Rattle.jolie_main.specs.Meaning.{Signed, operator_of, term_of, factor_of, int_type}
 use Rattle.jolie_main.specs.declared.formula.Term.{Term}
 use Rattle.jolie_main.specs.declared.formula.Factor.{Factor}
 

@@ -7,7 +7,7 @@ use Rattle.behaviour_tree.specs.declared.expr.SumOp.TheVariants as sums
 use Rattle.behaviour_tree.specs.declared.expr.MulOp.TheVariants as products
 use Rattle.behaviour_tree.specs.declared.program.Execution.TheVariants.{Concurrent}
 use Rattle.behaviour_tree.specs.Data.{TypeTree, plain, named, TypeFields, no_type_fields, type_field, PathTree, here, step, Exp, constant, at_path, sum, product, SumParts, no_sum_parts, sum_part, MulParts, no_mul_parts, mul_part, Proc, nothing, assign, choice, no_branches, request, OperationPart, InterfacePart, PortPart, ServicePart, ProgramParts}
-use Rattle.behaviour_tree.specs.Built.{is_built_target, is_built_path, is_built_exp, int_type, AnswersInts}
+use Rattle.behaviour_tree.specs.Built.{is_fixed_target}
 use Rattle.jolie_main.specs.declared.formula.Sign.{Sign}
 use Rattle.jolie_main.specs.declared.formula.Sign.TheVariants as sign
 use Rattle.jolie_main.specs.declared.formula.Formula.{Formula}
@@ -80,6 +80,10 @@ term_of = fold-Term Exp Exp Signed factor_step formula_step term_step
 abbrev pub factor_of : Factor → Exp
 factor_of = fold-Factor Exp Exp Signed factor_step formula_step term_step
 
+-- the type of ints
+abbrev pub int_type : TypeTree
+int_type = plain kind.Int no_type_fields
+
 -- the fields of the type: each once, an int
 abbrev pub int_fields : List (List ℕ) → TypeFields
 int_fields [] = no_type_fields
@@ -124,7 +128,7 @@ program_of f = record {
   names = standard_names;
 }
 
--- The first service waits for one request and answers it after one assignment, with an int.
+-- The first service waits for one request and answers it after one assignment.
 pub record IsFirstProgram (parts : ProgramParts) : Type 0 where
   pub service : ServicePart
   pub first : slice_get parts.services 0 ≡ Some service
@@ -134,8 +138,5 @@ pub record IsFirstProgram (parts : ProgramParts) : Type 0 where
   pub value : Exp
   pub no_init : service.init ≡ nothing
   pub one_input : service.main ≡ choice (request 0 target reply (assign path value) nothing no_branches)
-  pub built_target : is_built_target target ≡ true
-  pub built_reply : is_built_target reply ≡ true
-  pub built_path : is_built_path path ≡ true
-  pub built_value : is_built_exp value ≡ true
-  pub answers : AnswersInts parts 0
+  pub fixed_target : is_fixed_target target ≡ true
+  pub fixed_reply : is_fixed_target reply ≡ true

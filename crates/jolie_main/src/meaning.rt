@@ -1,6 +1,5 @@
 ghost use Rattle.std.specs.Prelude.{◌≡◌, IfOk, Some, option_map, map};
 ghost use Rattle.behaviour_tree.specs.PartsView.{parts_of, parts_view, operation_view, interface_view, port_view, service_view};
-ghost use Rattle.behaviour_tree.specs.Built as built;
 ghost use Rattle.behaviour_tree.specs.View as view;
 ghost use Rattle.behaviour_tree.specs.View.{type_view, expr_view, sum_part_view, mul_part_view, path_view, behaviour_view};
 ghost use Rattle.jolie_main.specs.Meaning as meaning;
@@ -64,7 +63,7 @@ fn standard_names(alloc: Global) -> Result<Vec<Text>, AllocError>
 }
 
 fn int_type(alloc: Global) -> TypeDef
-    ensures { type_view result ≡ built.int_type }
+    ensures { type_view result ≡ meaning.int_type }
 {
     TypeDef::Plain {
         kind: RootKind::Int,

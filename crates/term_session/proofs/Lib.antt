@@ -3,15 +3,13 @@ pub mod Asks
 pub mod Begins
 pub mod Branches
 pub mod Enabled
-pub mod Evaluates
 pub mod Events
 pub mod Histories
-pub mod Ints
 pub mod KeptOpen
 pub mod Lists
 pub mod Moving
 pub mod NormalForms
 pub mod Options
-pub mod Ranges
+pub mod Paths
 pub mod Stores
 pub mod Upward

@@ -1,5 +1,3 @@
-pub mod Arithmetic
-pub mod Ints
 pub mod Moves
 pub mod Needs
 pub mod Sessions

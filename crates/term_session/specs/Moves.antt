@@ -1,5 +1,6 @@
 -- What the moves of Rust stand for, and when a choice can take a message.
 use Rattle.std.specs.Prelude.{ℕ, Bool, true, false, ◌||◌, List, [], ◌∷◌, Option, None, Some, option_map, is_some, if◌then◌else◌, nat_eq}
+use Rattle.jolie_trees.specs.declared.path.Step.{Step}
 use Rattle.jolie_trees.specs.Data.{Tree}
 use Rattle.behaviour_tree.specs.Data.{PathTree, Branches, no_branches, one_way, request}
 use Rattle.behaviour_tree.specs.Values.{steps_of}
@@ -7,6 +8,7 @@ use Rattle.behaviour_tree.specs.View.{BranchView}
 use Rattle.behaviour_tree.specs.After as spec
 use Rattle.term_session.specs.View.{term_view}
 use Rattle.term_session.specs.declared.effect.Effect as effect
+use Rattle.term_session.specs.declared.effect.Placed as effect_placed
 use Rattle.term_session.specs.declared.fault.Fault as fault
 use Rattle.term_session.specs.declared.moment.Moment as moment
 use Rattle.term_session.specs.declared.moment.Move as move_type
@@ -16,6 +18,16 @@ use Rattle.term_session.specs.declared.moment.Done as done_type
 abbrev pub effect_view : effect.Effect → spec.Effect
 effect_view (effect.TheVariants.Faults f) = spec.faults f
 effect_view (effect.TheVariants.Stores s) = spec.stores s
+
+-- where something is put, and what
+abbrev pub placed_view : effect_placed.Placed → List Step × Tree
+placed_view p = (p.path.steps, p.value)
+
+-- a path and a value, where both are there
+abbrev pub together : Option (List Step) → Option Tree → Option (List Step × Tree)
+together None v = None
+together (Some path) None = None
+together (Some path) (Some v) = Some (path, v)
 
 -- a fault with its data
 abbrev pub fault_view : fault.Fault → spec.Fault

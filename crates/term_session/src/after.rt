@@ -1,6 +1,5 @@
 ghost use Rattle.std.specs.Prelude.{◌≡◌, option_map, IfOk};
 ghost use Rattle.behaviour_tree.specs.After as spec;
-ghost use Rattle.behaviour_tree.specs.Built.{AnswersInts};
 ghost use Rattle.behaviour_tree.specs.Throw.{throw};
 ghost use Rattle.behaviour_tree.specs.PartsView.{parts_of};
 ghost use Rattle.term_session.specs.Moves.{done_view, fault_view, moment_view, move_view};
@@ -108,7 +107,6 @@ pub fn after(
     n: u64,
     given: &Given,
 ) -> Result<Option<Done>, AllocError>
-    requires { AnswersInts (parts_of program.now) service }
     ensures { IfOk result (λ d. option_map done_view d ≡ spec.after (parts_of program.now) service (moment_view moment.now) n given.now) }
 {
     if moment.ended {

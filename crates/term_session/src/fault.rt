@@ -1,10 +1,10 @@
 ghost use Rattle.std.specs.Prelude.{◌≡◌, option_map, IfOk};
 ghost use Rattle.behaviour_tree.specs.After as spec;
 ghost use Rattle.behaviour_tree.specs.View.{behaviour_view};
-ghost use Rattle.term_session.specs.Moves.{fault_view};
+ghost use Rattle.term_session.specs.Moves.{effect_view, fault_view};
 ghost use Rattle.term_session.specs.View.{term_view};
 
-use crate::effect::{Effect, effect_of};
+use crate::effect::{Effect, effect_of, effect_of_copy, effect_of_undef};
 use crate::term::Term;
 use behaviour_tree::Behaviour;
 use jolie_trees::Tree;
@@ -17,18 +17,36 @@ pub struct Fault {
     pub value: Tree,
 }
 
+/// The fault of an effect, where it has one.
+fn fault_of_effect(alloc: Global, effect: Effect) -> Option<Fault>
+    ensures { option_map fault_view result ≡ spec.fault_of_effect (effect_view effect) }
+{
+    match effect {
+        Effect::Faults(name) => Some(Fault {
+            name,
+            value: Tree::void(alloc),
+        }),
+        Effect::Stores(_) => None,
+    }
+}
+
 /// The fault of a form that acts, where it has one.
 fn fault_of(alloc: Global, store: &Tree, p: &Behaviour) -> Result<Option<Fault>, AllocError>
     ensures { IfOk result (λ f. option_map fault_view f ≡ spec.fault_of store.now (behaviour_view p.now)) }
 {
     match p {
-        Behaviour::Assign { path, value } => match effect_of(alloc, store, path, value)? {
-            Effect::Faults(name) => Ok(Some(Fault {
-                name,
-                value: Tree::void(alloc),
-            })),
-            Effect::Stores(_) => Ok(None),
-        },
+        Behaviour::Assign { path, value } => {
+            let effect = effect_of(alloc, store, path, value)?;
+            Ok(fault_of_effect(alloc, effect))
+        }
+        Behaviour::Copy { path, value } => {
+            let effect = effect_of_copy(alloc, store, path, value)?;
+            Ok(fault_of_effect(alloc, effect))
+        }
+        Behaviour::Undef { path } => {
+            let effect = effect_of_undef(alloc, store, path)?;
+            Ok(fault_of_effect(alloc, effect))
+        }
         _ => Ok(None),
     }
 }

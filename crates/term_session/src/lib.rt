@@ -13,7 +13,6 @@ mod moment;
 mod moves;
 mod needs;
 mod normal;
-mod numbers;
 mod session;
 mod start;
 mod term;

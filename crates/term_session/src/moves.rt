@@ -1,6 +1,5 @@
 ghost use Rattle.std.specs.Prelude.{◌≡◌, option_map, IfOk};
 ghost use Rattle.behaviour_tree.specs.After as spec;
-ghost use Rattle.behaviour_tree.specs.Built.{AnswersInts};
 ghost use Rattle.behaviour_tree.specs.PartsView.{parts_of};
 ghost use Rattle.behaviour_tree.specs.View.{behaviour_view};
 ghost use Rattle.term_session.specs.Moves.{effect_view, move_view};
@@ -8,13 +7,13 @@ ghost use Rattle.term_session.specs.View.{term_view};
 
 use crate::answer::{fault_outcome, reply_of};
 use crate::comes::comes;
-use crate::effect::{Effect, effect_of};
+use crate::effect::{Effect, effect_of, effect_of_copy, effect_of_undef};
 use crate::moment::{Made, Moment, Move};
 use crate::term::{Term, copied_list, copied_path};
 use behaviour_tree::{Behaviour, Event, Given, Kind, Need, Outcome, Program};
 use std::alloc::AllocError;
 
-/// An assignment without a fault.
+/// An action on the store without a fault.
 fn assigns(moment: &Moment, n: u64, effect: Effect) -> Option<Move>
     ensures { option_map move_view result ≡ spec.assigns n moment.now.next (effect_view effect) }
 {
@@ -45,6 +44,14 @@ fn act(moment: &Moment, n: u64, given: &Given, p: &Behaviour) -> Result<Option<M
     match (given, p) {
         (Given::Nothing, Behaviour::Assign { path, value }) => {
             let effect = effect_of(moment.alloc, &moment.store, path, value)?;
+            Ok(assigns(moment, n, effect))
+        }
+        (Given::Nothing, Behaviour::Copy { path, value }) => {
+            let effect = effect_of_copy(moment.alloc, &moment.store, path, value)?;
+            Ok(assigns(moment, n, effect))
+        }
+        (Given::Nothing, Behaviour::Undef { path }) => {
+            let effect = effect_of_undef(moment.alloc, &moment.store, path)?;
             Ok(assigns(moment, n, effect))
         }
         (Given::Mail { message, op, value }, Behaviour::Choice(list)) => {
@@ -91,7 +98,6 @@ pub fn moved(
     s: u64,
     t: &Term,
 ) -> Result<Option<Move>, AllocError>
-    requires { AnswersInts (parts_of program.now) service }
     ensures { IfOk result (λ m. option_map move_view m ≡ spec.moves (parts_of program.now) service n given.now moment.now.store moment.now.next s (term_view t.now)) }
 {
     match t {

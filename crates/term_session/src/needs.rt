@@ -1,5 +1,4 @@
 ghost use Rattle.std.specs.Prelude.{◌≡◌, IfOk};
-ghost use Rattle.behaviour_tree.specs.Built.{AnswersInts};
 ghost use Rattle.behaviour_tree.specs.PartsView.{parts_of};
 ghost use Rattle.behaviour_tree.specs.View.{behaviour_view};
 ghost use Rattle.term_session.specs.Moves.{moment_view};
@@ -71,7 +70,6 @@ pub fn needed(
     moment: &Moment,
     n: u64,
 ) -> Result<Option<Need>, AllocError>
-    requires { AnswersInts (parts_of program.now) service }
     ensures { IfOk result (λ need. need ≡ spec.needed (parts_of program.now) service (moment_view moment.now) n) }
 {
     match after(program, service, moment, n, &Given::Nothing)? {

@@ -1,6 +1,6 @@
 use Rattle.std.proofs.Common.{◌≡◌, ◌+◌, ◌∷◌, ◌++◌, [], List, Some, map, drop, sym, ap, ◌∙◌}
 use Rattle.jolie_trees.specs.declared.path.Step.{Step}
-use Rattle.jolie_expr.specs.Values.{steps_of}
+use Rattle.behaviour_tree.specs.Values.{steps_of}
 use Rattle.behaviour_tree.specs.Data.{Exp, PathTree}
 use Rattle.behaviour_tree.specs.View.{MemberView, MulPartView, StepView, SumPartView, expr_level, member_level, mul_part_level, path_level, step_level, sum_part_level, path_of, path_view, step_view}
 use Rattle.behaviour_tree.specs.declared.expr.Expr.TheFolds.{fold_out-PathExpr}

@@ -1,5 +1,5 @@
 use Rattle.std.proofs.Common.{◌≡◌, map, drop}
-use Rattle.jolie_expr.specs.Values.{any_from, all_from, literal_from, sum_from, product_from, steps_of}
+use Rattle.behaviour_tree.specs.Values.{any_from, all_from, literal_from, sum_from, product_from, steps_of}
 use Rattle.behaviour_tree.specs.View.{expr_view, exps_of, member_list_of, member_view, path_of, step_view, sum_part_view, sum_parts_of, mul_part_view, mul_parts_of}
 use Rattle.jolie_trees.specs.Trees.{void_tree}
 use Rattle.std.specs.Prelude.{Some}

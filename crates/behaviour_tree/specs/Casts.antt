@@ -4,8 +4,8 @@ use Rattle.jolie_trees.specs.declared.root.Root.{Root}
 use Rattle.jolie_trees.specs.declared.root.Root.TheVariants as root
 use Rattle.behaviour_tree.specs.declared.expr.CastKind.{CastKind}
 use Rattle.behaviour_tree.specs.declared.expr.CastKind.TheVariants as kind
-use Rattle.jolie_expr.specs.Numbers.{int_root, long_root}
-use Rattle.jolie_expr.specs.Texts.{spelled, text_root, number_in}
+use Rattle.behaviour_tree.specs.Numbers.{int_root, long_root}
+use Rattle.behaviour_tree.specs.Texts.{spelled, text_root, number_in}
 
 -- the number of a root: a number itself, a bool as 0 or 1, the number that a text writes, none for void
 abbrev pub number_of : Root → Option ℤ

@@ -6,8 +6,8 @@ use Rattle.behaviour_tree.specs.declared.expr.SumOp.{SumOp}
 use Rattle.behaviour_tree.specs.declared.expr.SumOp.TheVariants.{Plus, Minus}
 use Rattle.behaviour_tree.specs.declared.expr.MulOp.{MulOp}
 use Rattle.behaviour_tree.specs.declared.expr.MulOp.TheVariants.{Times, Over, Rest}
-use Rattle.jolie_expr.specs.Numbers.{on_numbers, on_divisor, left_over}
-use Rattle.jolie_expr.specs.Texts.{spelled, text_root}
+use Rattle.behaviour_tree.specs.Numbers.{on_numbers, on_divisor, left_over}
+use Rattle.behaviour_tree.specs.Texts.{spelled, text_root}
 
 -- `+`: a text on either side joins texts, a void without a text gives the other root, numbers are added
 abbrev pub added : Root → Root → Option Root
