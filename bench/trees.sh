@@ -58,7 +58,7 @@ fn order(alloc: Global, lines: u32) -> Result<Tree, AllocError> {
 
 fn line(alloc: Global, number: u32) -> Result<Tree, AllocError> {
     let mut line = Tree::void(alloc);
-    line.push(&Text::new(alloc, "id")?, Tree::of_root(alloc, Root::Int(number as i32)))?;
+    line.push(&Text::new(alloc, "id")?, Tree::of_root(alloc, Root::Int(i32::try_from(number).unwrap_or(0))))?;
     line.push(&Text::new(alloc, "price")?, Tree::of_root(alloc, Root::Int(1)))?;
     Ok(line)
 }
@@ -76,11 +76,16 @@ fn price(alloc: Global, number: u32) -> Result<Path, AllocError> {
     Ok(Path { steps })
 }
 
+/// A line somewhere in the order.
+fn place(time: u32, lines: u32) -> u32 {
+    time.wrapping_mul(7919).checked_rem(lines).unwrap_or(0)
+}
+
 /// How many prices are found at lines all over the order.
 fn read(alloc: Global, tree: &Tree, lines: u32) -> Result<u32, AllocError> {
     let mut found: u32 = 0;
     for time in 0..TIMES {
-        let path = price(alloc, time.wrapping_mul(7919) % lines)?;
+        let path = price(alloc, place(time, lines))?;
         if tree.get(&path).is_some() {
             found = found.wrapping_add(1);
         }
@@ -91,7 +96,7 @@ fn read(alloc: Global, tree: &Tree, lines: u32) -> Result<u32, AllocError> {
 /// Sets prices at lines all over the order.
 fn write(alloc: Global, tree: &mut Tree, lines: u32) -> Result<(), SetError> {
     for time in 0..TIMES {
-        let path = price(alloc, time.wrapping_mul(7919) % lines)?;
+        let path = price(alloc, place(time, lines))?;
         tree.set(&path, Tree::of_root(alloc, Root::Int(2)))?;
     }
     Ok(())
