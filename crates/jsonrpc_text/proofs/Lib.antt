@@ -1,0 +1,10 @@
+mod Batches
+mod Behind
+mod Children
+mod Depths
+mod Floats
+mod Posts
+mod ReadBack
+mod Reading
+mod Sorted
+mod Typed

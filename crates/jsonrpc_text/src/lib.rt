@@ -1,0 +1,16 @@
+//! JSON-RPC 2.0 texts: what a text posts, and the texts that answer it.
+#![tactic(auto)]
+
+mod answer;
+mod from_json;
+mod laws;
+mod message;
+mod read;
+#[cfg(test)]
+mod tests;
+mod to_json;
+
+pub use answer::{answer_text, batch_text, early_text};
+pub use laws::{answers_say_their_outcomes, texts_post_some, trees_read_back};
+pub use message::{Early, Id, Read, ReadCall};
+pub use read::read_message;
