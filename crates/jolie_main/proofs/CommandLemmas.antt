@@ -3,7 +3,8 @@ use Rattle.std.proofs.Common.{◌≡◌, refl, sym, subst, ℕ, List, Option, No
 use Rattle.std.specs.Prelude.{MatchResult}
 use Rattle.std.specs.declared.alloc.AllocError.{AllocError}
 use Rattle.jolie_ast.specs.declared.tree.Definition.{Definition}
-use Rattle.jolie_main.specs.declared.form.FirstForm.{FirstForm}
+use Rattle.behaviour_tree.specs.PartsView.{parts_of}
+use Rattle.behaviour_tree.specs.declared.program.Program.{Program}
 use Rattle.jolie_main.specs.declared.record.Ended.{Ended}
 use Rattle.jolie_main.specs.declared.refusal.Refusal.{Refusal}
 use Rattle.jolie_main.specs.declared.verdict.Verdict.{Verdict}
@@ -35,12 +36,12 @@ shown_refused show text v refusal (Ok ended) before now right is status written 
 shown_refused show text v refusal (Err e) before now right is status written = tt
 
 -- a text that is not run is refused
-pub run_refused : (text given : List ℕ) (found : Result FirstForm Refusal) (refusal : Refusal) (r : Result Ended AllocError) (input output output_now : Stream)
-    → MatchResult found (λ form. IsProgram given form) (λ why. IsNotRunBy given (line_of why)) → found ≡ Err refusal → given ≡ text
+pub run_refused : (text given : List ℕ) (found : Result Program Refusal) (refusal : Refusal) (r : Result Ended AllocError) (input output output_now : Stream)
+    → MatchResult found (λ p. IsProgram given (parts_of p)) (λ why. IsNotRunBy given (line_of why)) → found ≡ Err refusal → given ≡ text
     → IfOk r (λ ended. ended.status ≡ 3) → IfOk r (λ ended. IsWritten (line_of refusal) output output_now) → IfOk r (λ ended. IsEmptyRecord ended.report)
     → IfOk r (λ ended. Runs text ended input input output output_now)
 run_refused text given found refusal (Ok ended) input output output_now right is same status written empty =
-    headline.refused (line_of refusal) (subst (λ t. IsNotRunBy t (line_of refusal)) same (subst (λ x. MatchResult x (λ form. IsProgram given form) (λ why. IsNotRunBy given (line_of why))) is right)) status empty refl written
+    headline.refused (line_of refusal) (subst (λ t. IsNotRunBy t (line_of refusal)) same (subst (λ x. MatchResult x (λ p. IsProgram given (parts_of p)) (λ why. IsNotRunBy given (line_of why))) is right)) status empty refl written
 run_refused text given found refusal (Err e) input output output_now right is same status written empty = tt
 
 -- A command over a file that was read, by the name that it was read by.

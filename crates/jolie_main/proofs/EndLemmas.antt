@@ -1,7 +1,7 @@
 -- How the lines of a source begin and end.
 use Rattle.std.proofs.Common.{◌≡◌, sym, subst, ℕ, List, [], ◌++◌, Option}
 use Rattle.std.specs.Io.KnownBytes.{Consumes}
-use Rattle.jolie_main.specs.declared.form.FirstForm.{FirstForm}
+use Rattle.behaviour_tree.specs.Data.{ProgramParts}
 use Rattle.jolie_main.specs.declared.lines.End.{End}
 use Rattle.jolie_main.specs.declared.lines.Progress.{Progress}
 use Rattle.jolie_main.specs.Lines.{split, IsOpen}
@@ -14,13 +14,13 @@ use Rattle.jolie_main.proofs.ProgressLemmas.{under_way-start}
 use Rattle.jolie_main.proofs.KnownLemmas.{Consumes-nil, Consumes-trans}
 
 -- before the first line
-pub begun : (form : FirstForm) (p : ℕ) (d : Deeds) (w : List ℕ) → p ≡ 0 → d ≡ no_deeds → w ≡ [] → IsUnderWay form [] p d w
-begun form p d w none nothing empty = rw (none, nothing, empty) (under_way-start form)
+pub begun : (parts : ProgramParts) (p : ℕ) (d : Deeds) (w : List ℕ) → p ≡ 0 → d ≡ no_deeds → w ≡ [] → IsUnderWay parts [] p d w
+begun parts p d w none nothing empty = rw (none, nothing, empty) (under_way-start parts)
 
 -- before anything is read
-pub nothing_read : (form : FirstForm) (read : List ℕ) (p : ℕ) (d : Deeds) (w : List ℕ) → read ≡ [] → IsUnderWay form [] p d w → IsUnderWay form (split read).0 p d w
+pub nothing_read : (parts : ProgramParts) (read : List ℕ) (p : ℕ) (d : Deeds) (w : List ℕ) → read ≡ [] → IsUnderWay parts [] p d w → IsUnderWay parts (split read).0 p d w
 unfolding split
-nothing_read form read p d w none k = rw none k
+nothing_read parts read p d w none k = rw none k
 
 -- no line is under way then
 pub no_line : (read line : List ℕ) → read ≡ [] → line ≡ [] → line ≡ (split read).1
@@ -40,9 +40,9 @@ pub open_line : (read line : List ℕ) → line ≡ (split read).1 → IsOpen li
 open_line read line is = subst IsOpen (sym is) (IsOpen-split read)
 
 -- the same end of the same bytes at the same state
-pub finished_so : (form : FirstForm) (e f : End) (all read : List ℕ) (now then : Progress) → e ≡ f → all ≡ read → now ≡ then
-    → IsFinished form f read (deeds_of then.deeds) then.written → IsFinished form e all (deeds_of now.deeds) now.written
-finished_so form e f all read now then same bytes state h =
-    subst (λ x. IsFinished form x all (deeds_of now.deeds) now.written) (sym same)
-    (subst (λ x. IsFinished form f x (deeds_of now.deeds) now.written) (sym bytes)
-    (subst (λ (x : Progress). IsFinished form f read (deeds_of x.deeds) x.written) (sym state) h))
+pub finished_so : (parts : ProgramParts) (e f : End) (all read : List ℕ) (now then : Progress) → e ≡ f → all ≡ read → now ≡ then
+    → IsFinished parts f read (deeds_of then.deeds) then.written → IsFinished parts e all (deeds_of now.deeds) now.written
+finished_so parts e f all read now then same bytes state h =
+    subst (λ x. IsFinished parts x all (deeds_of now.deeds) now.written) (sym same)
+    (subst (λ x. IsFinished parts f x (deeds_of now.deeds) now.written) (sym bytes)
+    (subst (λ (x : Progress). IsFinished parts f read (deeds_of x.deeds) x.written) (sym state) h))

@@ -1,193 +1,243 @@
--- What postings and the end of a run add to a history is legal.
-use Rattle.std.proofs.Common.{◌≡◌, ℕ, ◌+◌, ◌<◌, Bool, true, false, not, ◌&&◌, ◌||◌, nat_eq, nat_lt, if◌then◌else◌, List, [], ◌∷◌, ◌++◌, length, Some, option_map, slice_get, refl, sym, ap, subst, ◌∙◌, arith, append_assoc, append-nil, length-append, le_refl, lt-ltb, eq-eqb}
-use Rattle.std.proofs.lemmas.Bool.{and_from, and_left, and_right}
-use Rattle.std.proofs.lemmas.List.Elements.{filter_map-append}
-use Rattle.jolie_trees.specs.Data.{Tree}
+-- What posts, sessions and the end of a run add to a history is legal.
+use Rattle.std.proofs.Common.{◌≡◌, ℕ, ◌<◌, Bool, true, false, not, ◌&&◌, ◌||◌, nat_eq, nat_lt, if◌then◌else◌, List, [], ◌∷◌, ◌++◌, Some, option_map, slice_get, refl, sym, ap, subst, ◌∙◌, append_assoc, append-nil, le_refl, lt-ltb, eq-eqb}
+use Rattle.std.proofs.Math.Bool.{or-false}
+use Rattle.std.proofs.lemmas.Bool.{and_from, and_left, and_right, or_left, or_right}
+use Rattle.std.proofs.lemmas.Option.{slice_get_within}
+use Rattle.jolie_trees.specs.Trees.{void_tree}
 use Rattle.behaviour_tree.specs.declared.words.Outcome.{Outcome}
 use Rattle.behaviour_tree.specs.declared.words.Outcome.TheVariants as outcome
-use Rattle.behaviour_tree.specs.declared.words.Reason.{Reason}
 use Rattle.behaviour_tree.specs.declared.words.Reason.TheVariants as reason
+use Rattle.behaviour_tree.specs.Data.{ProgramParts}
 use Rattle.jolie_main.specs.declared.history.Entry.{Entry}
 use Rattle.jolie_main.specs.declared.history.Act.TheVariants as act
 use Rattle.jolie_main.specs.declared.history.Posted.{Posted}
-use Rattle.jolie_main.specs.declared.history.PostReply.TheVariants as reply
-use Rattle.jolie_main.specs.Messages.{accepted_in, messages, poster_in, posters, births, stops, has_stopped, has_closed, was_adopted, was_taken, has_ended, was_collected, replies_to, queue}
+use Rattle.jolie_main.specs.declared.history.PostReply.{PostReply}
+use Rattle.jolie_main.specs.declared.session.Lived.{Lived}
+use Rattle.jolie_main.specs.declared.session.Lived.TheVariants as lived
+use Rattle.jolie_main.specs.Messages.{is_request, messages, posters, births, was_request, stops, has_stopped, has_closed, was_adopted, was_taken, has_ended, was_collected, replies_to, queue}
 use Rattle.jolie_main.specs.Route.{routed}
-use Rattle.jolie_main.specs.Replies.{is_empty, is_open, answers_after}
+use Rattle.jolie_main.specs.Replies.{is_empty, is_open, answers, answers_after, first_answer}
 use Rattle.jolie_main.specs.Legal.{first_worker, IsOfSession, IsLegalAct, AreLegalAfter}
-use Rattle.jolie_main.specs.Turns.{entry, post_entry, service_entries, closing_entries}
-use Rattle.jolie_main.proofs.MessagesLemmas.{list_any-aside, filter_map-aside, slice_get-last, posters-length}
-use Rattle.jolie_main.proofs.RepliesLemmas.{IsSeen, seen_on, first_answer}
+use Rattle.jolie_main.specs.Turns.{entry, session_entries, closing_entries, outcome_of, IsLived}
+use Rattle.jolie_main.proofs.MessagesLemmas.{list_any-aside, message_kept, was_request_is}
+use Rattle.jolie_main.proofs.RepliesLemmas.{IsSeen, seen_on, seen_as, at_birth, is_taken_by, replies_by, is_open-unasked}
 
 -- legal entries after legal entries
-pub AreLegalAfter-append : (h xs ys : List Entry) → AreLegalAfter h xs → AreLegalAfter (h ++ xs) ys → AreLegalAfter h (xs ++ ys)
-AreLegalAfter-append h [] ys a b = subst (λ g. AreLegalAfter g ys) (append-nil h) b
-AreLegalAfter-append h (e ∷ xs) ys a b =
-    (a.0, AreLegalAfter-append (h ++ e ∷ []) xs ys a.1 (subst (λ g. AreLegalAfter g ys) (sym (append_assoc h (e ∷ []) xs)) b))
+pub AreLegalAfter-append : (parts : ProgramParts) (h xs ys : List Entry) → AreLegalAfter parts h xs → AreLegalAfter parts (h ++ xs) ys → AreLegalAfter parts h (xs ++ ys)
+AreLegalAfter-append parts h [] ys a b = subst (λ g. AreLegalAfter parts g ys) (append-nil h) b
+AreLegalAfter-append parts h (e ∷ xs) ys a b =
+    (a.0, AreLegalAfter-append parts (h ++ e ∷ []) xs ys a.1 (subst (λ g. AreLegalAfter parts g ys) (sym (append_assoc h (e ∷ []) xs)) b))
 
--- a post that is refused
-pub refused_legal : (operation : List ℕ) (j : ℕ) (value : Tree) (why : Reason) (h : List Entry) → has_stopped h ≡ false
-    → routed h value ≡ reply.Refused why → AreLegalAfter h (post_entry operation j value (reply.Refused why) ∷ [])
-refused_legal operation j value why h running e = ((le_refl first_worker, running, sym e), tt)
+-- a post
+pub post_legal : (parts : ProgramParts) (h : List Entry) (j i : ℕ) (posted : Posted) (r : PostReply) → has_stopped h ≡ false → posted.service ≡ 0
+    → routed parts h posted ≡ r → AreLegalAfter parts h (entry first_worker (act.Post j i posted r) ∷ [])
+post_legal parts h j i posted r running service e = ((le_refl first_worker, running, service, sym e), tt)
+
+-- an answer that is collected by the worker that posted its message
+pub collect_legal : (parts : ProgramParts) (h : List Entry) (m : ℕ) (o : Outcome) → m < births h → was_collected m h ≡ false → slice_get (posters h) m ≡ Some first_worker
+    → answers parts h m ≡ o ∷ [] → AreLegalAfter parts h (entry first_worker (act.Collect m o) ∷ [])
+collect_legal parts h m o born uncollected poster given = ((born, uncollected, (λ on. poster), ap first_answer given), tt)
 
 -- the end of a run
-pub closing_legal : (h : List Entry) → has_stopped h ≡ false → has_closed h ≡ false → AreLegalAfter h closing_entries
-closing_legal h running unclosed =
+pub closing_legal : (parts : ProgramParts) (h : List Entry) → has_stopped h ≡ false → has_closed h ≡ false → AreLegalAfter parts h closing_entries
+closing_legal parts h running unclosed =
     ((le_refl first_worker, running, unclosed), ((le_refl first_worker, list_any-aside stops h (entry first_worker act.Close ∷ []) false running refl), tt))
 
--- ---- a request while its session serves it
+-- ---- a message while its session serves it
 
--- The message is the last that was accepted, the run goes on, and this is what is seen of its session.
-pub record IsServing (before : List Posted) (posted : Posted) (m : ℕ) (h : List Entry) (adopted taken ended collected : Bool) (replies : List Outcome) : Type 0 where
-  pub messages_are : messages h ≡ before ++ posted ∷ []
+-- The message was accepted, the run goes on, and this is what is seen of its session.
+pub record IsServing (parts : ProgramParts) (posted : Posted) (m : ℕ) (h : List Entry) (adopted taken ended : Bool) (replies given : List Outcome) : Type 0 where
+  pub message_is : slice_get (messages h) m ≡ Some posted
   pub running : has_stopped h ≡ false
-  pub seen : IsSeen m h adopted taken ended collected replies
+  pub seen : IsSeen parts m h adopted taken ended false replies given
 
-module _ (before : List Posted) (posted : Posted) (m : ℕ) (h : List Entry) (a t d c : Bool) (r : List Outcome) where
-  -- after an entry that accepts nothing and stops nothing
-  pub serving_on : (e : Entry) → messages (e ∷ []) ≡ [] → has_stopped (e ∷ []) ≡ false → answers_after m h (e ∷ []) ≡ replies_to m (e ∷ [])
-      → IsServing before posted m h a t d c r
-      → IsServing before posted m (h ++ e ∷ []) (a || was_adopted m (e ∷ [])) (t || was_taken m (e ∷ [])) (d || has_ended m (e ∷ [])) (c || was_collected m (e ∷ [])) (r ++ replies_to m (e ∷ []))
-  serving_on e none going given k = record {
-    messages_are = filter_map-aside accepted_in h (e ∷ []) none ∙ k.messages_are;
+-- a session is itself
+same : (m : ℕ) → nat_eq m m ≡ true
+same m = eq-eqb m m refl
+
+module _ (parts : ProgramParts) (posted : Posted) (m : ℕ) (h : List Entry) (a t d : Bool) (r w : List Outcome) (k : IsServing parts posted m h a t d r w) where
+  -- after an entry of the session
+  serving_on : (e : Entry) (a' t' d' : Bool) (r' w' : List Outcome) → has_stopped (e ∷ []) ≡ false → was_collected m (e ∷ []) ≡ false
+      → (a || was_adopted m (e ∷ [])) ≡ a' → (t || was_taken m (e ∷ [])) ≡ t' → (d || has_ended m (e ∷ [])) ≡ d' → r ++ replies_to m (e ∷ []) ≡ r' → w ++ answers_after parts m h (e ∷ []) ≡ w'
+      → IsServing parts posted m (h ++ e ∷ []) a' t' d' r' w'
+  serving_on e a' t' d' r' w' going uncollected ea et ed er ew = record {
+    message_is = message_kept h (e ∷ []) m posted k.message_is;
     running = list_any-aside stops h (e ∷ []) false k.running going;
-    seen = seen_on m h (e ∷ []) a t d c r given k.seen;
+    seen = seen_as ea et ed uncollected er ew (seen_on parts m h (e ∷ []) a t d false r w k.seen);
   }
 
-  module _ (last : m ≡ length before) (k : IsServing before posted m h a t d c r) where
-    -- its session is born
-    pub serving_born : m < births h
-    serving_born = let long : births h ≡ length before + 1 = ap length k.messages_are ∙ length-append before (posted ∷ []) in omega arith
+  -- after its adoption
+  pub serving_adopted : IsServing parts posted m (h ++ entry m (act.Adopt 0) ∷ []) true t d r w
+  serving_adopted =
+      serving_on (entry m (act.Adopt 0)) true t d r w refl refl (or_right a (nat_eq m m || false) (or_left (nat_eq m m) false (same m))) (or-false t) (or-false d) (append-nil r) (append-nil w)
 
-    -- the message of its number is this one
-    pub serving_message : slice_get (messages h) m ≡ Some posted
-    serving_message = ap (λ xs. slice_get xs m) k.messages_are ∙ slice_get-last before posted m last
+  -- after it took its message
+  pub serving_taken : IsServing parts posted m (h ++ entry m (act.Take m) ∷ []) a true d r w
+  serving_taken =
+      serving_on (entry m (act.Take m)) a true d r w refl refl (or-false a) (or_right t (nat_eq m m || false) (or_left (nat_eq m m) false (same m))) (or-false d) (append-nil r) (append-nil w)
 
-    -- while it was not taken it waits
-    pub serving_queue : t ≡ false → queue h m ≡ m ∷ []
-    serving_queue e =
-        ap (λ b. if b then m ∷ [] else []) (and_from (nat_lt m (births h)) (not (was_taken m h)) (lt-ltb m (births h) serving_born) (ap not (k.seen.taken_is ∙ e)))
+  -- after it answered
+  pub serving_replied : (o : Outcome) → IsServing parts posted m (h ++ entry m (act.Reply m o) ∷ []) a t d (r ++ o ∷ []) (w ++ o ∷ [])
+  serving_replied o = serving_on (entry m (act.Reply m o)) a t d (r ++ o ∷ []) (w ++ o ∷ []) refl refl (or-false a) (or-false t) (or-false d) (rw (same m) refl) (rw (same m) refl)
 
-    -- while it has no reply and its session did not end it is open
-    pub serving_open : d ≡ false → r ≡ [] → is_open m h ≡ true
-    serving_open e f =
-        let closed : (has_ended m h && not (was_taken m h)) ≡ false = and_left (has_ended m h) (not (was_taken m h)) (k.seen.ended_is ∙ e) in
-        let empty : is_empty (replies_to m h) ≡ true = ap is_empty (k.seen.replies_are ∙ f) in
-        let two : (nat_lt m (births h) && is_empty (replies_to m h)) ≡ true = and_from (nat_lt m (births h)) (is_empty (replies_to m h)) (lt-ltb m (births h) serving_born) empty in
-        and_from (nat_lt m (births h) && is_empty (replies_to m h) && not (has_ended m h && not (was_taken m h))) (not (has_stopped h))
-        (and_from (nat_lt m (births h) && is_empty (replies_to m h)) (not (has_ended m h && not (was_taken m h))) two (ap not closed))
-        (ap not k.running)
+  -- after it ended, with the answers that its end gives
+  serving_ended : (w' : List Outcome) → w ++ answers_after parts m h (entry m act.End ∷ []) ≡ w' → IsServing parts posted m (h ++ entry m act.End ∷ []) a t true r w'
+  serving_ended w' given = serving_on (entry m act.End) a t true r w' refl refl (or-false a) (or-false t) (or_right d (nat_eq m m || false) (or_left (nat_eq m m) false (same m))) (append-nil r) given
 
-    -- an adopted session that did not end may call
-    pub serving_may_call : a ≡ true → d ≡ false → IsOfSession h m
-    serving_may_call e f = record {
-      live = and_from (nat_lt m (births h)) (not (has_ended m h)) (lt-ltb m (births h) serving_born) (ap not (k.seen.ended_is ∙ f));
-      adopted = k.seen.adopted_is ∙ e;
-      running = k.running;
-    }
+  -- the end of a session gives no answer where its message was taken or is not open
+  end_gives_none : (is_open parts m h && not (was_taken m h)) ≡ false → answers_after parts m h (entry m act.End ∷ []) ≡ []
+  end_gives_none e = ap (λ b. (if b && is_open parts m h && not (was_taken m h) then outcome.Refused reason.SessionEnded ∷ [] else []) ++ []) (same m) ∙ ap (λ b. (if b then outcome.Refused reason.SessionEnded ∷ [] else []) ++ []) e
 
--- ---- the entries of a request that is served, one by one
+  -- and one where it was not taken and is open
+  end_gives_one : (is_open parts m h && not (was_taken m h)) ≡ true → answers_after parts m h (entry m act.End ∷ []) ≡ outcome.Refused reason.SessionEnded ∷ []
+  end_gives_one e = ap (λ b. (if b && is_open parts m h && not (was_taken m h) then outcome.Refused reason.SessionEnded ∷ [] else []) ++ []) (same m) ∙ ap (λ b. (if b then outcome.Refused reason.SessionEnded ∷ [] else []) ++ []) e
 
--- the message of a request
-abbrev pub message_of : List ℕ → Tree → Posted
-message_of operation value = record { service = 0; op = operation; value = value }
+  -- after the end of a session that took its message
+  pub serving_ended_taken : t ≡ true → IsServing parts posted m (h ++ entry m act.End ∷ []) a t true r w
+  serving_ended_taken e =
+      serving_ended w (ap (λ x. w ++ x) (end_gives_none (and_right (is_open parts m h) (not (was_taken m h)) (ap not (k.seen.taken_is ∙ e)))) ∙ append-nil w)
 
-module _ (operation : List ℕ) (j : ℕ) (value : Tree) (m : ℕ) (o : Outcome) (h : List Entry) where
-  -- once it is posted
-  abbrev pub when_posted : List Entry
-  when_posted = h ++ post_entry operation j value (reply.Accepted m) ∷ []
+  -- after the end of a session that did not take a message that asks for no answer
+  pub serving_ended_unasked : is_request parts posted ≡ false → IsServing parts posted m (h ++ entry m act.End ∷ []) a t true r w
+  serving_ended_unasked e =
+      let closed : is_open parts m h ≡ false = is_open-unasked parts m h (was_request_is parts h m posted k.message_is ∙ e) in
+      serving_ended w (ap (λ x. w ++ x) (end_gives_none (and_left (is_open parts m h) (not (was_taken m h)) closed)) ∙ append-nil w)
 
-  -- once its session is adopted
+  -- the session was born
+  pub serving_born : m < births h
+  serving_born = slice_get_within (messages h) m posted k.message_is
+
+  -- while the message was not taken it waits
+  pub serving_queue : t ≡ false → queue h m ≡ m ∷ []
+  serving_queue e =
+      ap (λ b. if b then m ∷ [] else []) (and_from (nat_lt m (births h)) (not (was_taken m h)) (lt-ltb m (births h) serving_born) (ap not (k.seen.taken_is ∙ e)))
+
+  -- while a request has no reply and its session did not end it is open
+  pub serving_open : is_request parts posted ≡ true → d ≡ false → r ≡ [] → is_open parts m h ≡ true
+  serving_open asked e f =
+      let closed : (has_ended m h && not (was_taken m h)) ≡ false = and_left (has_ended m h) (not (was_taken m h)) (k.seen.ended_is ∙ e) in
+      let empty : is_empty (replies_to m h) ≡ true = ap is_empty (k.seen.replies_are ∙ f) in
+      let two : (was_request parts h m && is_empty (replies_to m h)) ≡ true =
+      and_from (was_request parts h m) (is_empty (replies_to m h)) (was_request_is parts h m posted k.message_is ∙ asked) empty in
+      and_from (was_request parts h m && is_empty (replies_to m h) && not (has_ended m h && not (was_taken m h))) (not (has_stopped h))
+      (and_from (was_request parts h m && is_empty (replies_to m h)) (not (has_ended m h && not (was_taken m h))) two (ap not closed))
+      (ap not k.running)
+
+  -- after the end of a session that did not take a request
+  pub serving_ended_untaken : is_request parts posted ≡ true → t ≡ false → d ≡ false → r ≡ [] → IsServing parts posted m (h ++ entry m act.End ∷ []) a t true r (w ++ outcome.Refused reason.SessionEnded ∷ [])
+  serving_ended_untaken asked e f g =
+      serving_ended (w ++ outcome.Refused reason.SessionEnded ∷ [])
+      (ap (λ x. w ++ x) (end_gives_one (and_from (is_open parts m h) (not (was_taken m h)) (serving_open asked f g) (ap not (k.seen.taken_is ∙ e)))))
+
+  -- an adopted session that did not end may call
+  pub serving_may_call : a ≡ true → d ≡ false → IsOfSession h m
+  serving_may_call e f = record {
+    live = and_from (nat_lt m (births h)) (not (has_ended m h)) (lt-ltb m (births h) serving_born) (ap not (k.seen.ended_is ∙ f));
+    adopted = k.seen.adopted_is ∙ e;
+    running = k.running;
+  }
+
+  -- one that was not adopted may be
+  serving_may_adopt : posted.service ≡ 0 → a ≡ false → IsLegalAct parts h m (act.Adopt 0)
+  serving_may_adopt service e = (serving_born, k.seen.adopted_is ∙ e, k.running, ap (λ o. option_map (λ q. q.service) o) k.message_is ∙ ap (λ n. Some n) service)
+
+  -- one that did not take its message may
+  serving_may_take : a ≡ true → t ≡ false → d ≡ false → IsLegalAct parts h m (act.Take m)
+  serving_may_take ea et ed = (serving_may_call ea ed, serving_queue et)
+
+  -- one that took a request may answer it
+  serving_may_reply : (o : Outcome) → is_request parts posted ≡ true → a ≡ true → t ≡ true → d ≡ false → r ≡ [] → IsLegalAct parts h m (act.Reply m o)
+  serving_may_reply o asked ea et ed er = (serving_may_call ea ed, refl, k.seen.taken_is ∙ et, serving_open asked ed er)
+
+-- ---- the entries of a session, one by one
+
+module _ (m : ℕ) (h : List Entry) where
+  -- once the session is adopted
   abbrev pub when_adopted : List Entry
-  when_adopted = when_posted ++ entry m (act.Adopt 0) ∷ []
+  when_adopted = h ++ entry m (act.Adopt 0) ∷ []
 
-  -- once its session took it
+  -- once it took its message
   abbrev pub when_taken : List Entry
   when_taken = when_adopted ++ entry m (act.Take m) ∷ []
 
-  -- once its session answered it
-  abbrev pub when_replied : List Entry
-  when_replied = when_taken ++ entry m (act.Reply m o) ∷ []
+  -- once it answered it
+  abbrev pub when_replied : Outcome → List Entry
+  when_replied o = when_taken ++ entry m (act.Reply m o) ∷ []
 
-  -- once its session ended
-  abbrev pub when_ended : List Entry
-  when_ended = when_replied ++ entry m act.End ∷ []
+-- A session that did nothing yet, of a message that was accepted.
+abbrev pub IsWaiting : ProgramParts → Posted → ℕ → List Entry → Type 0
+IsWaiting parts posted m h = IsServing parts posted m h false false false [] (at_birth (is_request parts posted))
 
-  -- the first worker posted it
-  posted_by : posters when_ended ≡ posters h ++ first_worker ∷ []
-  posted_by =
-      filter_map-aside poster_in when_replied (entry m act.End ∷ []) refl
-      ∙ filter_map-aside poster_in when_taken (entry m (act.Reply m o) ∷ []) refl
-      ∙ filter_map-aside poster_in when_adopted (entry m (act.Take m) ∷ []) refl
-      ∙ filter_map-aside poster_in when_posted (entry m (act.Adopt 0) ∷ []) refl
-      ∙ filter_map-append poster_in h (post_entry operation j value (reply.Accepted m) ∷ [])
+module _ (parts : ProgramParts) (posted : Posted) (m : ℕ) (h : List Entry) (waiting : IsWaiting parts posted m h) where
+  -- it is adopted
+  pub adopted_serving : IsServing parts posted m (when_adopted m h) true false false [] (at_birth (is_request parts posted))
+  adopted_serving = serving_adopted parts posted m h false false false [] (at_birth (is_request parts posted)) waiting
 
-  -- with the collection these are all of them
-  when_collected_is : when_ended ++ entry first_worker (act.Collect m o) ∷ [] ≡ h ++ service_entries operation j value m o
-  when_collected_is = simp append_assoc
+  -- it takes its message
+  pub taken_serving : IsServing parts posted m (when_taken m h) true true false [] (at_birth (is_request parts posted))
+  taken_serving = serving_taken parts posted m (when_adopted m h) true false false [] (at_birth (is_request parts posted)) adopted_serving
 
-  module _ (running : has_stopped h ≡ false) (fresh : IsSeen m h false false false false []) where
-    -- the session is itself
-    same : nat_eq m m ≡ true
-    same = eq-eqb m m refl
+  -- it answers it
+  pub replied_serving : (o : Outcome) → IsServing parts posted m (when_replied m h o) true true false (o ∷ []) (at_birth (is_request parts posted) ++ o ∷ [])
+  replied_serving o = serving_replied parts posted m (when_taken m h) true true false [] (at_birth (is_request parts posted)) taken_serving o
 
-    -- posted, it is served by a session that did nothing
-    pub posted_serving : IsServing (messages h) (message_of operation value) m when_posted false false false false []
-    posted_serving = record {
-      messages_are = filter_map-append accepted_in h (post_entry operation j value (reply.Accepted m) ∷ []);
-      running = list_any-aside stops h (post_entry operation j value (reply.Accepted m) ∷ []) false running refl;
-      seen = seen_on m h (post_entry operation j value (reply.Accepted m) ∷ []) false false false false [] refl fresh;
-    }
+  -- it ended behind its answer
+  answered_over : (o : Outcome) → is_request parts posted ≡ true → IsSeen parts m (h ++ session_entries m (lived.Answered o)) true true true false (o ∷ []) (o ∷ [])
+  answered_over o asked =
+      let over : IsSeen parts m (when_replied m h o ++ entry m act.End ∷ []) true true true false (o ∷ []) (at_birth (is_request parts posted) ++ o ∷ []) =
+      (serving_ended_taken parts posted m (when_replied m h o) true true false (o ∷ []) (at_birth (is_request parts posted) ++ o ∷ []) (replied_serving o) refl).seen in
+      let all : when_replied m h o ++ entry m act.End ∷ [] ≡ h ++ session_entries m (lived.Answered o) = simp append_assoc in
+      subst (λ g. IsSeen parts m g true true true false (o ∷ []) (o ∷ [])) all (seen_as refl refl refl refl refl (ap (λ b. at_birth b ++ o ∷ []) asked) over)
 
-    -- then by one that was adopted
-    pub adopted_serving : IsServing (messages h) (message_of operation value) m when_adopted true false false false []
-    adopted_serving = rw same at (serving_on (messages h) (message_of operation value) m when_posted false false false false [] (entry m (act.Adopt 0)) refl refl refl posted_serving)
+  -- it ended behind a message that asks for no answer
+  silent_over : is_request parts posted ≡ false → IsSeen parts m (h ++ session_entries m lived.Silent) true true true false [] (outcome.Value void_tree ∷ [])
+  silent_over unasked =
+      let over : IsSeen parts m (when_taken m h ++ entry m act.End ∷ []) true true true false [] (at_birth (is_request parts posted)) =
+      (serving_ended_taken parts posted m (when_taken m h) true true false [] (at_birth (is_request parts posted)) taken_serving refl).seen in
+      let all : when_taken m h ++ entry m act.End ∷ [] ≡ h ++ session_entries m lived.Silent = simp append_assoc in
+      subst (λ g. IsSeen parts m g true true true false [] (outcome.Value void_tree ∷ [])) all (seen_as refl refl refl refl refl (ap at_birth unasked) over)
 
-    -- that took it
-    pub taken_serving : IsServing (messages h) (message_of operation value) m when_taken true true false false []
-    taken_serving = rw same at (serving_on (messages h) (message_of operation value) m when_adopted true false false false [] (entry m (act.Take m)) refl refl refl adopted_serving)
+  -- it ended before it took a message
+  untaken_over : (b : Bool) → is_request parts posted ≡ b → IsSeen parts m (h ++ session_entries m lived.Untaken) true false true false [] (outcome_of b lived.Untaken ∷ [])
+  untaken_over true asked =
+      let over : IsSeen parts m (when_adopted m h ++ entry m act.End ∷ []) true false true false [] (at_birth (is_request parts posted) ++ outcome.Refused reason.SessionEnded ∷ []) =
+      (serving_ended_untaken parts posted m (when_adopted m h) true false false [] (at_birth (is_request parts posted)) adopted_serving asked refl refl refl).seen in
+      let all : when_adopted m h ++ entry m act.End ∷ [] ≡ h ++ session_entries m lived.Untaken = simp append_assoc in
+      subst (λ g. IsSeen parts m g true false true false [] (outcome.Refused reason.SessionEnded ∷ [])) all
+      (seen_as refl refl refl refl refl (ap (λ b. at_birth b ++ outcome.Refused reason.SessionEnded ∷ []) asked) over)
+  untaken_over false unasked =
+      let over : IsSeen parts m (when_adopted m h ++ entry m act.End ∷ []) true false true false [] (at_birth (is_request parts posted)) =
+      (serving_ended_unasked parts posted m (when_adopted m h) true false false [] (at_birth (is_request parts posted)) adopted_serving unasked).seen in
+      let all : when_adopted m h ++ entry m act.End ∷ [] ≡ h ++ session_entries m lived.Untaken = simp append_assoc in
+      subst (λ g. IsSeen parts m g true false true false [] (outcome.Value void_tree ∷ [])) all (seen_as refl refl refl refl refl (ap at_birth unasked) over)
 
-    -- that answered it
-    pub replied_serving : IsServing (messages h) (message_of operation value) m when_replied true true false false (o ∷ [])
-    replied_serving = rw same at (serving_on (messages h) (message_of operation value) m when_taken true true false false [] (entry m (act.Reply m o)) refl refl (rw same refl) taken_serving)
+  -- what is seen of it afterwards
+  pub session_seen : (how : Lived) → IsLived (is_request parts posted) how
+      → IsSeen parts m (h ++ session_entries m how) true (is_taken_by how) true false (replies_by how) (outcome_of (is_request parts posted) how ∷ [])
+  session_seen (lived.Answered o) is = answered_over o is
+  session_seen lived.Silent is = silent_over is
+  session_seen lived.Untaken is = untaken_over (is_request parts posted) refl
 
-    -- a session that took its message gives no answer by its end
-    end_gives_none : answers_after m when_replied (entry m act.End ∷ []) ≡ []
-    end_gives_none =
-        ap (λ b. (if b then outcome.Refused reason.SessionEnded ∷ [] else []) ++ [])
-        (and_right (nat_eq m m && is_open m when_replied) (not (was_taken m when_replied)) (ap not replied_serving.seen.taken_is))
+  module _ (service : posted.service ≡ 0) where
+    -- it may be adopted
+    may_adopt : IsLegalAct parts h m (act.Adopt 0)
+    may_adopt = serving_may_adopt parts posted m h false false false [] (at_birth (is_request parts posted)) waiting service refl
 
-    -- and that ended
-    pub ended_serving : IsServing (messages h) (message_of operation value) m when_ended true true true false (o ∷ [])
-    ended_serving = rw same at (serving_on (messages h) (message_of operation value) m when_replied true true false false (o ∷ []) (entry m act.End) refl refl end_gives_none replied_serving)
+    -- and then take its message
+    may_take : IsLegalAct parts (when_adopted m h) m (act.Take m)
+    may_take = serving_may_take parts posted m (when_adopted m h) true false false [] (at_birth (is_request parts posted)) adopted_serving refl refl refl
 
-    -- all of them are legal
-    pub served_legal : m ≡ births h → routed h value ≡ reply.Accepted m → AreLegalAfter h (service_entries operation j value m o)
-    served_legal last e =
-        let ms : List Posted = messages h in
-        let p : Posted = message_of operation value in
-        let may_post : IsLegalAct h first_worker (act.Post j 0 p (reply.Accepted m)) = (le_refl first_worker, running, sym e) in
-        let may_adopt : IsLegalAct when_posted m (act.Adopt 0) = (
-          serving_born ms p m when_posted false false false false [] last posted_serving,
-          posted_serving.seen.adopted_is,
-          posted_serving.running,
-          ap (option_map (λ q. q.service)) (serving_message ms p m when_posted false false false false [] last posted_serving),
-        ) in
-        let may_take : IsLegalAct when_adopted m (act.Take m) =
-        (serving_may_call ms p m when_adopted true false false false [] last adopted_serving refl refl, serving_queue ms p m when_adopted true false false false [] last adopted_serving refl) in
-        let may_reply : IsLegalAct when_taken m (act.Reply m o) =
-        (serving_may_call ms p m when_taken true true false false [] last taken_serving refl refl, refl, taken_serving.seen.taken_is, serving_open ms p m when_taken true true false false [] last taken_serving refl refl) in
-        let may_end : IsLegalAct when_replied m act.End = serving_may_call ms p m when_replied true true false false (o ∷ []) last replied_serving refl refl in
-        let may_collect : IsLegalAct when_ended first_worker (act.Collect m o) = (
-          serving_born ms p m when_ended true true true false (o ∷ []) last ended_serving,
-          ended_serving.seen.collected_is,
-          (λ on. ap (λ xs. slice_get xs m) posted_by ∙ slice_get-last (posters h) first_worker m (last ∙ sym (posters-length h))),
-          ap first_answer ended_serving.seen.answers_are,
-        ) in
-        (may_post, (may_adopt, (may_take, (may_reply, (may_end, (may_collect, tt))))))
-
-    -- what is seen of the session afterwards
-    pub served_seen : IsSeen m (h ++ service_entries operation j value m o) true true true true (o ∷ [])
-    served_seen =
-        subst (λ g. IsSeen m g true true true true (o ∷ [])) when_collected_is
-        (rw same at (serving_on (messages h) (message_of operation value) m when_ended true true true false (o ∷ []) (entry first_worker (act.Collect m o)) refl refl refl ended_serving)).seen
+    -- its entries are legal
+    pub session_legal : (how : Lived) → IsLived (is_request parts posted) how → AreLegalAfter parts h (session_entries m how)
+    session_legal (lived.Answered o) is =
+        let may_reply : IsLegalAct parts (when_taken m h) m (act.Reply m o) =
+        serving_may_reply parts posted m (when_taken m h) true true false [] (at_birth (is_request parts posted)) taken_serving o is refl refl refl refl in
+        let may_end : IsLegalAct parts (when_replied m h o) m act.End =
+        serving_may_call parts posted m (when_replied m h o) true true false (o ∷ []) (at_birth (is_request parts posted) ++ o ∷ []) (replied_serving o) refl refl in
+        (may_adopt, (may_take, (may_reply, (may_end, tt))))
+    session_legal lived.Silent is =
+        let may_end : IsLegalAct parts (when_taken m h) m act.End = serving_may_call parts posted m (when_taken m h) true true false [] (at_birth (is_request parts posted)) taken_serving refl refl in
+        (may_adopt, (may_take, (may_end, tt)))
+    session_legal lived.Untaken is =
+        let may_end : IsLegalAct parts (when_adopted m h) m act.End = serving_may_call parts posted m (when_adopted m h) true false false [] (at_birth (is_request parts posted)) adopted_serving refl refl in
+        (may_adopt, (may_end, tt))

@@ -1,131 +1,248 @@
 -- What a posting adds to the history, and what is written at any moment between postings.
-use Rattle.std.proofs.Common.{◌≡◌, ◌≢◌, ⊎_elim, ℕ, ◌+◌, ◌<◌, ◌≤◌, List, [], ◌∷◌, ◌++◌, length, filter_map, Some, refl, sym, ap, subst, ◌∙◌, arith, append_assoc, append-nil, length-append, ne_eqb, eq-eqb, le_refl, le_of_eq}
+use Rattle.std.proofs.Common.{◌≡◌, ◌≢◌, ⊎_elim, ℕ, ◌+◌, ◌<◌, ◌≤◌, List, [], ◌∷◌, ◌++◌, length, filter_map, Option, Some, Result, Ok, Err, if◌then◌else◌, refl, sym, ap, ap₂, subst, ◌∙◌, arith, append_assoc, length-append, add-zero, le_refl}
 use Rattle.std.proofs.lemmas.Bool.{cases_eq}
 use Rattle.std.proofs.lemmas.List.Elements.{filter_map-append}
 use Rattle.jolie_trees.specs.Data.{Tree}
 use Rattle.behaviour_tree.specs.declared.words.Outcome.{Outcome}
-use Rattle.behaviour_tree.specs.declared.words.Outcome.TheVariants as outcome
 use Rattle.behaviour_tree.specs.declared.words.Reason.{Reason}
 use Rattle.behaviour_tree.specs.Data.{ProgramParts}
+use Rattle.jsonrpc_text.specs.declared.message.Early.{Early}
+use Rattle.jsonrpc_text.specs.declared.message.Id.{Id}
+use Rattle.jsonrpc_text.specs.declared.message.ReadCall.{ReadCall}
+use Rattle.jsonrpc_text.specs.declared.message.Read.{Read}
 use Rattle.jolie_main.specs.declared.history.Entry.{Entry}
+use Rattle.jolie_main.specs.declared.history.PostReply.{PostReply}
 use Rattle.jolie_main.specs.declared.history.PostReply.TheVariants as reply
-use Rattle.jolie_main.specs.declared.request.Asked.{Asked}
-use Rattle.jolie_main.specs.declared.request.Asked.TheVariants as asked
+use Rattle.jolie_main.specs.declared.turn.Fate.{Fate}
+use Rattle.jolie_main.specs.declared.turn.Fate.TheVariants as fate
 use Rattle.jolie_main.specs.Messages.{births}
 use Rattle.jolie_main.specs.Route.{routed}
-use Rattle.jolie_main.specs.Answers.{said, not_built_text}
-use Rattle.jolie_main.specs.Replies.{answers}
-use Rattle.jolie_main.specs.Written.{post_in, posts, posts_from, reply_in, first_of, reply_to, said_if, text_for, text_of, texts_from}
-use Rattle.jolie_main.specs.Turns.{post_entry, service_entries, Deeds, Turn, passed_over, refused, served, Did, nothing_yet, one_more}
-use Rattle.jolie_main.proofs.MessagesLemmas.{filter_map-aside, births-append, births-aside}
-use Rattle.jolie_main.proofs.RepliesLemmas.{first_answer, answers-aside, served_aside}
-use Rattle.jolie_main.proofs.LegalLemmas.{served_seen}
-use Rattle.jolie_main.proofs.WrittenLemmas.{posts_from-more, texts_from-more, text_of-same, texts_from-same, reply_to-aside}
-use Rattle.jolie_main.proofs.SettledLemmas.{IsSettled, did_settled, routed_accepted}
+use Rattle.jolie_main.specs.Replies.{first_answer, answer_of}
+use Rattle.jolie_main.specs.Written.{post_in, posts, posts_of, posts_from, message_to, reply_in, first_of, reply_to, said_if, said_of, has_id, text_of, texts_of, response_of, response, line_if, lines_from}
+use Rattle.jolie_main.specs.Turns.{post_entry, call_entries, fate_of_reply, fates, collect_entries, texts_by, Deeds, Turn, Did, nothing_yet, one_more}
+use Rattle.jolie_main.proofs.MessagesLemmas.{filter_map-aside, births-append}
+use Rattle.jolie_main.proofs.WrittenLemmas.{call_with, posts_from-more, lines_from-more, text_of-same, lines_from-same, reply_to-aside, reply_to-first}
+use Rattle.jolie_main.proofs.PostedLemmas.{PostNothing, PostNothing-append, collects_post_nothing, serves_nothing, post_entries, first_reply}
+use Rattle.jolie_main.proofs.PostedLemmas as post
+use Rattle.jolie_main.proofs.RepliesLemmas.{AreAnswers, KeepsAnswers, answer_kept}
+use Rattle.jolie_main.proofs.QuietLemmas.{IsUnposted}
+use Rattle.jolie_main.proofs.SettledLemmas.{IsSettled, routed_accepted, did_settled, did_unposted, turn_births, turn_kept, turn_answers}
 
--- The history grew by the post of this posting and by no other, the answers that there were are the same, and this is
--- the text for the posting.
-pub record HasAdded (operation : List ℕ) (j : ℕ) (a : Asked) (h es : List Entry) (text : List ℕ) : Type 0 where
-  pub posted : posts es ≡ posts_from operation j (a ∷ [])
-  pub others : (k : ℕ) → k ≢ j → filter_map (reply_in k) es ≡ []
-  pub same : (m : ℕ) → m < births h → answers (h ++ es) m ≡ answers h m
+-- ---- the texts of a turn
+
+module _ (parts : ProgramParts) (all : List Entry) (j i : ℕ) (x : Id) (cs : List ReadCall) (fs : List Fate) where
+  -- a call that was refused before it was posted
+  early_text : (early : Early) (os : List Outcome) → texts_of parts all j (i + 1) cs ≡ texts_by parts cs fs os
+      → texts_of parts all j i (call_with x (Err early) ∷ cs) ≡ texts_by parts (call_with x (Err early) ∷ cs) (fate.Early early ∷ fs) os
+  early_text early os rest = ap (λ t. text_of parts all j i (call_with x (Err early)) ++ t) rest
+
+  module _ (w : List ℕ × Tree) where
+    -- a call that the office refused
+    refused_text : (why : Reason) (os : List Outcome) → reply_to all j i ≡ Some (reply.Refused why) → texts_of parts all j (i + 1) cs ≡ texts_by parts cs fs os
+        → texts_of parts all j i (call_with x (Ok w) ∷ cs) ≡ texts_by parts (call_with x (Ok w) ∷ cs) (fate.Refused why ∷ fs) os
+    refused_text why os at rest = ap₂ (λ r t. (if has_id x then said_of parts all w.0 x r else []) ++ t) at rest
+
+    -- a call that was accepted
+    accepted_text : (m : ℕ) (o : Outcome) (os : List Outcome) → reply_to all j i ≡ Some (reply.Accepted m) → answer_of parts all m ≡ Some o
+        → texts_of parts all j (i + 1) cs ≡ texts_by parts cs fs os
+        → texts_of parts all j i (call_with x (Ok w) ∷ cs) ≡ texts_by parts (call_with x (Ok w) ∷ cs) (fate.Accepted m ∷ fs) (o ∷ os)
+    accepted_text m o os at answer rest =
+        ap₂ (λ s t. (if has_id x then s else []) ++ t) (ap (said_of parts all w.0 x) at ∙ ap (said_if parts w.0 x) answer) rest
+
+-- The calls from number i of posting j on are still to be posted on this history, all of which is the whole history in the end, where these are the
+-- answers of those that will be accepted.
+record IsToPost (parts : ProgramParts) (all : List Entry) (j i : ℕ) (h : List Entry) (cs : List ReadCall) (os : List Outcome) : Type 0 where
+  pub later : List Entry
+  pub is : all ≡ h ++ (post_entries parts j i h cs ++ later)
+  pub unposted : (k : ℕ) → i ≤ k → filter_map (reply_in j k) h ≡ []
+  pub answers : AreAnswers parts all (births h) os
+  pub count : births all ≡ births h + length os
+
+module _ (parts : ProgramParts) (all : List Entry) (j : ℕ) where
+  -- the history behind a call
+  is_behind : (i : ℕ) (h : List Entry) (c : ReadCall) (cs : List ReadCall) (later : List Entry) → all ≡ h ++ (post_entries parts j i h (c ∷ cs) ++ later)
+      → all ≡ (h ++ call_entries parts j i h c) ++ (post_entries parts j (i + 1) (h ++ call_entries parts j i h c) cs ++ later)
+  is_behind i h c cs later is =
+      let own : List Entry = call_entries parts j i h c in
+      let others : List Entry = post_entries parts j (i + 1) (h ++ own) cs in
+      is ∙ ap (λ t. h ++ t) (append_assoc own others later) ∙ sym (append_assoc h own (others ++ later))
+
+  -- behind a call that accepted no message
+  behind_none : (i : ℕ) (h : List Entry) (x : Id) (what : Result (List ℕ × Tree) Early) (cs : List ReadCall) (os : List Outcome)
+      → births (call_entries parts j i h (call_with x what)) ≡ 0 → IsToPost parts all j i h (call_with x what ∷ cs) os
+      → IsToPost parts all j (i + 1) (h ++ call_entries parts j i h (call_with x what)) cs os
+  behind_none i h x what cs os none k =
+      let own : List Entry = call_entries parts j i h (call_with x what) in
+      let same : births (h ++ own) ≡ births h = births-append h own ∙ ap (λ n. births h + n) none ∙ add-zero (births h) in
+      record {
+        later = k.later;
+        is = is_behind i h (call_with x what) cs k.later k.is;
+        unposted = λ n le. filter_map-aside (reply_in j n) h own (post.call_alone parts j n i h x what (omega arith)) ∙ k.unposted n (omega arith);
+        answers = subst (λ n. AreAnswers parts all n os) (sym same) k.answers;
+        count = k.count ∙ ap (λ n. n + length os) (sym same);
+      }
+
+  -- behind one that accepted a message
+  behind_one : (i : ℕ) (h : List Entry) (x : Id) (what : Result (List ℕ × Tree) Early) (cs : List ReadCall) (o : Outcome) (os : List Outcome)
+      → births (call_entries parts j i h (call_with x what)) ≡ 1 → IsToPost parts all j i h (call_with x what ∷ cs) (o ∷ os)
+      → IsToPost parts all j (i + 1) (h ++ call_entries parts j i h (call_with x what)) cs os
+  behind_one i h x what cs o os one k =
+      let own : List Entry = call_entries parts j i h (call_with x what) in
+      let more : births (h ++ own) ≡ births h + 1 = births-append h own ∙ ap (λ n. births h + n) one in
+      let count : births all ≡ births h + length (o ∷ os) = k.count in
+      record {
+        later = k.later;
+        is = is_behind i h (call_with x what) cs k.later k.is;
+        unposted = λ n le. filter_map-aside (reply_in j n) h own (post.call_alone parts j n i h x what (omega arith)) ∙ k.unposted n (omega arith);
+        answers = subst (λ n. AreAnswers parts all n os) (sym more) k.answers.1;
+        count = omega arith;
+      }
+
+  -- the reply to a call that is to be posted
+  reply_there : (i : ℕ) (h : List Entry) (x : Id) (w : List ℕ × Tree) (cs : List ReadCall) (os : List Outcome)
+      → IsToPost parts all j i h (call_with x (Ok w) ∷ cs) os → reply_to all j i ≡ Some (routed parts h (message_to w))
+  reply_there i h x w cs os k =
+      let own : List Entry = call_entries parts j i h (call_with x (Ok w)) in
+      let others : List Entry = post_entries parts j (i + 1) (h ++ own) cs in
+      ap (λ g. reply_to g j i) k.is ∙ reply_to-first h ((own ++ others) ++ k.later) j i (k.unposted i (omega arith))
+      ∙ first_reply (reply_in j i) (post_entry parts j i h (message_to w)) (others ++ k.later) (routed parts h (message_to w)) (post.call_reply parts j i h (message_to w))
+
+  -- a message that is accepted has an answer
+  answers_there : (i : ℕ) (h : List Entry) (x : Id) (w : List ℕ × Tree) (cs : List ReadCall) (os : List Outcome) (m : ℕ) → routed parts h (message_to w) ≡ reply.Accepted m
+      → IsToPost parts all j i h (call_with x (Ok w) ∷ cs) os → births h < births all
+  answers_there i h x w cs os m e k =
+      let own : List Entry = call_entries parts j i h (call_with x (Ok w)) in
+      let others : List Entry = post_entries parts j (i + 1) (h ++ own) cs in
+      let one : births own ≡ 1 = post.births_accepted parts j i h (message_to w) m e in
+      let both : births ((own ++ others) ++ k.later) ≡ births (own ++ others) + births k.later = births-append (own ++ others) k.later in
+      let two : births (own ++ others) ≡ births own + births others = births-append own others in
+      let total : births all ≡ births h + births ((own ++ others) ++ k.later) = ap births k.is ∙ births-append h ((own ++ others) ++ k.later) in
+      omega arith
+
+  -- the text of a call and those of the later ones
+  texts_step : (i : ℕ) (h : List Entry) (x : Id) (what : Result (List ℕ × Tree) Early) (cs : List ReadCall) (os : List Outcome)
+      → ((os' : List Outcome) → IsToPost parts all j (i + 1) (h ++ call_entries parts j i h (call_with x what)) cs os'
+      → texts_of parts all j (i + 1) cs ≡ texts_by parts cs (fates parts j (i + 1) (h ++ call_entries parts j i h (call_with x what)) cs) os')
+      → IsToPost parts all j i h (call_with x what ∷ cs) os
+      → texts_of parts all j i (call_with x what ∷ cs) ≡ texts_by parts (call_with x what ∷ cs) (fates parts j i h (call_with x what ∷ cs)) os
+  texts_step i h x (Err early) cs os rest k =
+      early_text parts all j i x cs (fates parts j (i + 1) (h ++ []) cs) early os (rest os (behind_none i h x (Err early) cs os refl k))
+  texts_step i h x (Ok w) cs os rest k = by_reply (routed parts h (message_to w)) refl os k
+    where
+      by_reply : (r : PostReply) → routed parts h (message_to w) ≡ r → (os : List Outcome) → IsToPost parts all j i h (call_with x (Ok w) ∷ cs) os
+          → texts_of parts all j i (call_with x (Ok w) ∷ cs) ≡ texts_by parts (call_with x (Ok w) ∷ cs) (fate_of_reply r ∷ fates parts j (i + 1) (h ++ call_entries parts j i h (call_with x (Ok w))) cs) os
+      by_reply (reply.Refused why) e os k =
+          refused_text parts all j i x cs (fates parts j (i + 1) (h ++ call_entries parts j i h (call_with x (Ok w))) cs) w why os (reply_there i h x w cs os k ∙ ap Some e)
+          (rest os (behind_none i h x (Ok w) cs os (post.births_refused parts j i h (message_to w) why e) k))
+      by_reply (reply.Accepted m) e [] k =
+          let lt = answers_there i h x w cs [] m e k in
+          let count = k.count in
+          absurd (omega arith)
+      by_reply (reply.Accepted m) e (o ∷ os) k =
+          accepted_text parts all j i x cs (fates parts j (i + 1) (h ++ call_entries parts j i h (call_with x (Ok w))) cs) w m o os (reply_there i h x w cs (o ∷ os) k ∙ ap Some e)
+          (ap (answer_of parts all) (routed_accepted parts h (message_to w) m e).0 ∙ ap first_answer k.answers.0)
+          (rest os (behind_one i h x (Ok w) cs o os (post.births_accepted parts j i h (message_to w) m e) k))
+
+  -- the texts of the calls are those that their fates and the answers give
+  texts_are : (i : ℕ) (h : List Entry) (cs : List ReadCall) (os : List Outcome) → IsToPost parts all j i h cs os
+      → texts_of parts all j i cs ≡ texts_by parts cs (fates parts j i h cs) os
+  texts_are i h [] os k = refl
+  texts_are i h (c ∷ cs) os k = texts_step i h c.id c.what cs os (λ others next. texts_are (i + 1) (h ++ call_entries parts j i h c) cs others next) k
+
+-- ---- what a posting adds
+
+-- The history grew by the posts of this posting and by no other, the answers that there were are the same, and this is the text for the posting.
+pub record HasAdded (parts : ProgramParts) (j : ℕ) (r : Read) (h es : List Entry) (text : Option (List ℕ)) : Type 0 where
+  pub posted : posts es ≡ posts_of j 0 r.calls
+  pub others : (k i : ℕ) → k ≢ j → filter_map (reply_in k i) es ≡ []
+  pub same : KeepsAnswers parts (births h) h (h ++ es)
   pub more : births h ≤ births (h ++ es)
-  pub named : (m : ℕ) → first_of (filter_map (reply_in j) es) ≡ Some (reply.Accepted m) → m < births (h ++ es)
-  pub text_is : filter_map (reply_in j) h ≡ [] → text_of (h ++ es) j a ≡ text
+  pub named : (i m : ℕ) → first_of (filter_map (reply_in j i) es) ≡ Some (reply.Accepted m) → m < births (h ++ es)
+  pub text_is : ((i : ℕ) → filter_map (reply_in j i) h ≡ []) → response parts (h ++ es) j r ≡ text
 
--- the first reply to a posting
-reply_to-first : (h es : List Entry) (j : ℕ) → filter_map (reply_in j) h ≡ [] → reply_to (h ++ es) j ≡ first_of (filter_map (reply_in j) es)
-reply_to-first h es j none = ap first_of (filter_map-append (reply_in j) h es ∙ ap (λ t. t ++ filter_map (reply_in j) es) none)
-
--- a posting that is not built adds nothing
-passed_adds : (operation : List ℕ) (j : ℕ) (h : List Entry) → HasAdded operation j asked.NotBuilt h [] not_built_text
-passed_adds operation j h = record {
-  posted = refl;
-  others = λ k no. refl;
-  same = λ m lt. ap (λ g. answers g m) (append-nil h);
-  more = le_of_eq (sym (ap births (append-nil h)));
-  named = λ m e. absurd (cc e);
-  text_is = λ none. refl;
-}
-
--- a request that is refused
-refused_adds : (operation : List ℕ) (j id : ℕ) (value : Tree) (why : Reason) (h : List Entry)
-    → HasAdded operation j (asked.Request id value) h (post_entry operation j value (reply.Refused why) ∷ []) (said id (outcome.Refused why))
-refused_adds operation j id value why h =
-    let es : List Entry = post_entry operation j value (reply.Refused why) ∷ [] in
-    let own : first_of (filter_map (reply_in j) es) ≡ Some (reply.Refused why) = rw (eq-eqb j j refl) refl in
+-- the posts of a posting with what stands behind them
+added : (parts : ProgramParts) (j : ℕ) (r : Read) (h own later : List Entry) (text : Option (List ℕ)) → PostNothing later → own ≡ post_entries parts j 0 h r.calls
+    → KeepsAnswers parts (births h) h (h ++ (own ++ later))
+    → (os : List Outcome) → AreAnswers parts (h ++ (own ++ later)) (births h) os → births (h ++ (own ++ later)) ≡ births h + length os
+    → text ≡ response_of r.batch (texts_by parts r.calls (fates parts j 0 h r.calls) os)
+    → HasAdded parts j r h (own ++ later) text
+added parts j r h own later text nothing is same os answers count text_is =
+    let all : births (h ++ (own ++ later)) ≡ births h + births (own ++ later) = births-append h (own ++ later) in
+    let one : births (h ++ own) ≡ births h + births own = births-append h own in
+    let both : births (own ++ later) ≡ births own + births later = births-append own later in
     record {
-      posted = refl;
-      others = λ k no. rw (ne_eqb k j no) refl;
-      same = λ m lt. answers-aside m h es refl;
-      more = le_of_eq (sym (births-aside h es refl));
-      named = λ m e. absurd (cc (sym own ∙ e));
-      text_is = λ none. ap (text_for (h ++ es) id) (reply_to-first h es j none ∙ own);
-    }
-
--- a request that is served
-served_adds : (parts : ProgramParts) (operation : List ℕ) (j id : ℕ) (value : Tree) (m : ℕ) (o : Outcome) (old : Deeds) → routed old.history value ≡ reply.Accepted m → IsSettled parts old
-    → HasAdded operation j (asked.Request id value) old.history (service_entries operation j value m o) (said id o)
-served_adds parts operation j id value m o old e k =
-    let h = old.history in
-    let es : List Entry = service_entries operation j value m o in
-    let next = (routed_accepted h value m e).0 in
-    let more : births (h ++ es) ≡ births h + 1 = births-append h es in
-    let own : first_of (filter_map (reply_in j) es) ≡ Some (reply.Accepted m) = rw (eq-eqb j j refl) refl in
-    record {
-      posted = refl;
-      others = λ n no. rw (ne_eqb n j no) refl;
-      same = λ s lt. answers-aside s h es (served_aside operation j value s m o h (ne_eqb s m (omega arith))).answers;
+      posted = filter_map-aside post_in own later nothing.no_post ∙ ap posts is ∙ post.calls_post parts j 0 h r.calls;
+      others = λ n i other. filter_map-aside (reply_in n i) own later (nothing.no_reply n i) ∙ ap (filter_map (reply_in n i)) is ∙ post.calls_others parts j n i 0 h r.calls other;
+      same = same;
       more = omega arith;
-      named = λ s f. let same : m ≡ s = cc (sym own ∙ f) in omega arith;
-      text_is = λ none. ap (text_for (h ++ es) id) (reply_to-first h es j none ∙ own) ∙ ap (λ os. said_if id (first_answer os)) (served_seen operation j value m o h k.running (k.fresh m (omega arith))).answers_are;
+      named = λ i m e.
+          let found : first_of (filter_map (reply_in j i) (post_entries parts j 0 h r.calls)) ≡ Some (reply.Accepted m) =
+          sym (ap first_of (filter_map-aside (reply_in j i) own later (nothing.no_reply j i) ∙ ap (filter_map (reply_in j i)) is)) ∙ e in
+          let lt : m < births (h ++ own) = subst (λ es. m < births (h ++ es)) (sym is) (post.named_below parts j i 0 h r.calls m found) in
+          omega arith;
+      text_is = λ none. ap (response_of r.batch)
+          (texts_are parts (h ++ (own ++ later)) j 0 h r.calls os
+          (record { later = later; is = ap (λ es. h ++ (es ++ later)) is; unposted = λ n le. none n; answers = answers; count = count })) ∙ sym text_is;
     }
 
--- what a posting does adds its post and its text
-pub turn_adds : {parts : ProgramParts} {operation : List ℕ} {j : ℕ} {a : Asked} {old new : Deeds} {text : List ℕ} → Turn parts operation j a old new text → IsSettled parts old
-    → (es : List Entry) × (new.history ≡ old.history ++ es) × HasAdded operation j a old.history es text
-turn_adds {parts} {operation} (passed_over j old) k = ([], sym (append-nil old.history), passed_adds operation j old.history)
-turn_adds {parts} {operation} (refused j id value old why e) k = (post_entry operation j value (reply.Refused why) ∷ [], refl, refused_adds operation j id value why old.history)
-turn_adds {parts} {operation} (served j id value old m events o e whole) k = (service_entries operation j value m o, refl, served_adds parts operation j id value m o old e k)
+-- what a posting does adds its posts and its text
+pub turn_adds : {parts : ProgramParts} {j : ℕ} {r : Read} {old new : Deeds} {text : Option (List ℕ)} → Turn parts j r old new text → IsSettled parts old → IsUnposted j old.history
+    → (es : List Entry) × (new.history ≡ old.history ++ es) × HasAdded parts j r old.history es text
+turn_adds {parts} {j} {r} {old} {new} {text} turn k unposted =
+    let h = old.history in
+    let served = serves_nothing turn.serves in
+    let own : List Entry = post_entries parts j 0 h r.calls in
+    let collected : List Entry = collect_entries (length old.sessions) turn.outcomes in
+    let later : List Entry = served.0 ++ collected in
+    let nothing : PostNothing later = PostNothing-append served.0 collected served.2 (collects_post_nothing (length old.sessions) turn.outcomes) in
+    let is : new.history ≡ h ++ (own ++ later) =
+    turn.history_is ∙ ap (λ g. g ++ collected) (served.1 ∙ ap (λ g. g ++ served.0) (post.after_posts-are parts j 0 h r.calls) ∙ append_assoc h own served.0)
+    ∙ append_assoc h (own ++ served.0) collected ∙ ap (λ t. h ++ t) (append_assoc own served.0 collected) in (
+      own ++ later,
+      is,
+      added parts j r h own later text nothing refl (subst (λ g. KeepsAnswers parts (births h) h g) is (turn_kept turn k)) turn.outcomes
+          (subst (λ g. AreAnswers parts g (births h) turn.outcomes) is (turn_answers turn k unposted)) (subst (λ g. births g ≡ births h + length turn.outcomes) is (turn_births turn k)) turn.text_is,
+    )
 
 -- ---- what is written at any moment between postings
 
 -- The postings were posted and answered in order, no later posting was, and each accepted message has its session.
-pub record IsWritten (operation : List ℕ) (all : List Asked) (h : List Entry) (bytes : List ℕ) : Type 0 where
-  pub posted : posts h ≡ posts_from operation 0 all
-  pub unposted : (k : ℕ) → length all ≤ k → filter_map (reply_in k) h ≡ []
-  pub named : (k m : ℕ) → reply_to h k ≡ Some (reply.Accepted m) → m < births h
-  pub answered : bytes ≡ texts_from h 0 all
+pub record IsWritten (parts : ProgramParts) (all : List Read) (h : List Entry) (bytes : List ℕ) : Type 0 where
+  pub posted : posts h ≡ posts_from 0 all
+  pub unposted : (k i : ℕ) → length all ≤ k → filter_map (reply_in k i) h ≡ []
+  pub named : (k i m : ℕ) → reply_to h k i ≡ Some (reply.Accepted m) → m < births h
+  pub answered : bytes ≡ lines_from parts h 0 all
 
--- the texts of postings to which the later entries do not reply
-pub texts_kept : (h es : List Entry) (all : List Asked) → ((k : ℕ) → k < length all → filter_map (reply_in k) es ≡ []) → ((m : ℕ) → m < births h → answers (h ++ es) m ≡ answers h m)
-    → ((k m : ℕ) → reply_to h k ≡ Some (reply.Accepted m) → m < births h) → texts_from (h ++ es) 0 all ≡ texts_from h 0 all
-texts_kept h es all others same named =
-    texts_from-same h (h ++ es) 0 all (λ k lt a. text_of-same h (h ++ es) k (reply_to-aside h es k (others k (omega arith))) (λ m e. same m (named k m e)) a)
+-- the lines of postings to which the later entries do not reply
+pub lines_kept : (parts : ProgramParts) (h es : List Entry) (all : List Read) → ((k i : ℕ) → k < length all → filter_map (reply_in k i) es ≡ [])
+    → KeepsAnswers parts (births h) h (h ++ es)
+    → ((k i m : ℕ) → reply_to h k i ≡ Some (reply.Accepted m) → m < births h) → lines_from parts (h ++ es) 0 all ≡ lines_from parts h 0 all
+lines_kept parts h es all others same named =
+    lines_from-same parts h (h ++ es) 0 all (λ k i lt c. text_of-same parts h (h ++ es) k i (reply_to-aside h es k i (others k i (omega arith))) (λ m e. answer_kept parts (births h) h (h ++ es) m same (named k i m e)) c)
 
 -- one posting more
-pub written_on : (operation : List ℕ) (all : List Asked) (h es : List Entry) (bytes : List ℕ) (a : Asked) (text : List ℕ) → HasAdded operation (length all) a h es text → IsWritten operation all h bytes
-    → IsWritten operation (all ++ a ∷ []) (h ++ es) (bytes ++ text ++ 10 ∷ [])
-written_on operation all h es bytes a text added k =
-    let long : length (all ++ a ∷ []) ≡ length all + 1 = length-append all (a ∷ []) in
-    let before : texts_from (h ++ es) 0 all ≡ texts_from h 0 all = texts_kept h es all (λ n lt. added.others n (omega arith)) added.same k.named in
-    let none : filter_map (reply_in (length all)) h ≡ [] = k.unposted (length all) (le_refl (length all)) in
+pub written_on : (parts : ProgramParts) (all : List Read) (h es : List Entry) (bytes : List ℕ) (r : Read) (text : Option (List ℕ)) → HasAdded parts (length all) r h es text
+    → IsWritten parts all h bytes → IsWritten parts (all ++ r ∷ []) (h ++ es) (bytes ++ line_if text)
+written_on parts all h es bytes r text new k =
+    let long : length (all ++ r ∷ []) ≡ length all + 1 = length-append all (r ∷ []) in
+    let before : lines_from parts (h ++ es) 0 all ≡ lines_from parts h 0 all = lines_kept parts h es all (λ n i lt. new.others n i (λ e. omega arith)) new.same k.named in
+    let none = λ (i : ℕ). k.unposted (length all) i (le_refl (length all)) in
     record {
-      posted = filter_map-append post_in h es ∙ ap (λ t. t ++ posts es) k.posted ∙ ap (λ t. posts_from operation 0 all ++ t) added.posted ∙ sym (posts_from-more operation all a);
-      unposted = λ n le. filter_map-aside (reply_in n) h es (added.others n (omega arith)) ∙ k.unposted n (omega arith);
-      named = λ n m e. ⊎_elim (λ same. added.named m (sym (reply_to-first h es (length all) none) ∙ ap (reply_to (h ++ es)) (sym same) ∙ e))
-          (λ no. let lt : m < births h = k.named n m (sym (reply_to-aside h es n (added.others n no)) ∙ e) in let more = added.more in omega arith)
+      posted = filter_map-append post_in h es ∙ ap₂ (λ xs ys. xs ++ ys) k.posted new.posted ∙ sym (posts_from-more all r);
+      unposted = λ n i le. filter_map-aside (reply_in n i) h es (new.others n i (λ e. omega arith)) ∙ k.unposted n i (omega arith);
+      named = λ n i m e. ⊎_elim (λ same. new.named i m (sym (reply_to-first h es (length all) i (none i)) ∙ ap (λ j. reply_to (h ++ es) j i) (sym same) ∙ e))
+          (λ other. let lt : m < births h = k.named n i m (sym (reply_to-aside h es n i (new.others n i other)) ∙ e) in let more = new.more in omega arith)
           (cases_eq n (length all));
-      answered = append_assoc bytes text (10 ∷ []) ∙ ap (λ t. bytes ++ (t ++ 10 ∷ [])) (sym (added.text_is none)) ∙ ap (λ t. t ++ (text_of (h ++ es) (length all) a ++ 10 ∷ [])) (k.answered ∙ sym before) ∙ sym (texts_from-more (h ++ es) all a);
+      answered = ap₂ (λ b t. b ++ line_if t) (k.answered ∙ sym before) (sym (new.text_is none)) ∙ sym (lines_from-more parts (h ++ es) all r);
     }
 
 -- before a run
-none_written : (operation : List ℕ) → IsWritten operation [] [] []
-none_written operation = record { posted = refl; unposted = λ k le. refl; named = λ k m e. absurd (cc e); answered = refl }
+none_written : (parts : ProgramParts) → IsWritten parts [] [] []
+none_written parts = record { posted = refl; unposted = λ k i le. refl; named = λ k i m e. absurd (cc e); answered = refl }
 
 -- at any moment between postings
-pub did_written : {parts : ProgramParts} {operation : List ℕ} {all : List Asked} {deeds : Deeds} {bytes : List ℕ} → Did parts operation all deeds bytes → IsWritten operation all deeds.history bytes
-did_written {operation} nothing_yet = none_written operation
-did_written {operation} (one_more all old bytes a new text did turn) =
-    let added = turn_adds turn (did_settled did) in
-    subst (λ h. IsWritten operation (all ++ a ∷ []) h (bytes ++ text ++ 10 ∷ [])) (sym added.1) (written_on operation all old.history added.0 bytes a text added.2 (did_written did))
+pub did_written : {parts : ProgramParts} {all : List Read} {deeds : Deeds} {bytes : List ℕ} → Did parts all deeds bytes → IsWritten parts all deeds.history bytes
+did_written {parts} nothing_yet = none_written parts
+did_written {parts} (one_more all old bytes r new text did turn) =
+    let now = turn_adds turn (did_settled did) (did_unposted did) in
+    subst (λ h. IsWritten parts (all ++ r ∷ []) h (bytes ++ line_if text)) (sym now.1) (written_on parts all old.history now.0 bytes r text now.2 (did_written did))

@@ -1,15 +1,14 @@
 -- How a run goes on line by line.
-use Rattle.std.proofs.Common.{◌≡◌, ◌≢◌, refl, sym, ap, subst, ◌∙◌, ℕ, zero, suc, ◌+◌, ◌<◌, ◌≤◌, min, Bool, true, false, not, List, [], ◌∷◌, ◌++◌, length, take, drop, get_or, map, arith, append_assoc, append-nil, length-append, Result, Ok, Err, IfOk}
+use Rattle.std.proofs.Common.{◌≡◌, ◌≢◌, refl, sym, ap, subst, ◌∙◌, ℕ, zero, suc, ◌+◌, ◌<◌, ◌≤◌, min, Bool, true, false, not, List, [], ◌∷◌, ◌++◌, length, take, drop, get_or, map, arith, append_assoc, append-nil, length-append, Option, None, Some, Result, Ok, Err, IfOk}
 use Rattle.std.specs.declared.alloc.AllocError.{AllocError}
 use Rattle.std.specs.List.{filter}
 use Rattle.std.proofs.lemmas.List.{take_all, take-append-le, length-take, map-append}
 use Rattle.std.proofs.lemmas.List.Elements.{filter-append}
-use Rattle.jolie_main.specs.declared.form.FirstForm.{FirstForm}
-use Rattle.jolie_main.specs.declared.request.Asked.{Asked}
-use Rattle.jolie_main.specs.Lines.{split, IsOpen, is_blank, all_lines}
-use Rattle.jolie_main.specs.Requests.{asked_of}
-use Rattle.jolie_main.specs.Meaning.{program_of}
-use Rattle.jolie_main.specs.Written.{asked_by, most_postings, postings_by, IsFront}
+use Rattle.behaviour_tree.specs.Data.{ProgramParts}
+use Rattle.jsonrpc_text.specs.declared.message.Read.{Read}
+use Rattle.jsonrpc_text.specs.Posted.{posted as read_of}
+use Rattle.jolie_main.specs.Lines.{split, IsOpen, is_blank, said_lines, all_lines}
+use Rattle.jolie_main.specs.Written.{most_postings, postings_by, line_if, IsFront}
 use Rattle.jolie_main.specs.Turns.{Deeds, Turn, no_deeds, Did, nothing_yet, one_more}
 use Rattle.jolie_main.specs.Progress.{IsUnderWay, IsStopped, Goes, Sends, AllOrFault}
 use Rattle.jolie_main.specs.Ends.{IsDone}
@@ -38,118 +37,122 @@ take_room n xs x lt =
     let both : length (xs ++ x ∷ []) ≡ length xs + 1 = length-append xs (x ∷ []) in
     take_all n (xs ++ x ∷ []) (omega arith) ∙ ap (λ l. l ++ x ∷ []) (sym (take_all n xs (omega arith)))
 
-module _ (operation : List ℕ) (fields lines : List (List ℕ)) where
+-- what lines ask, however many they are
+abbrev reads_of : List (List ℕ) → List Read
+reads_of lines = map read_of (said_lines lines)
+
+module _ (lines : List (List ℕ)) where
   -- what more lines ask
-  asked_by-append : (more : List (List ℕ)) → asked_by operation fields (lines ++ more) ≡ asked_by operation fields lines ++ asked_by operation fields more
-  asked_by-append more =
-      ap (λ ls. map (asked_of operation fields) ls) (filter-append (λ line. not (is_blank line)) lines more)
-      ∙ map-append (asked_of operation fields) (filter (λ line. not (is_blank line)) lines) (filter (λ line. not (is_blank line)) more)
+  reads_of-append : (more : List (List ℕ)) → reads_of (lines ++ more) ≡ reads_of lines ++ reads_of more
+  reads_of-append more =
+      ap (λ ls. map read_of ls) (filter-append (λ line. not (is_blank line)) lines more)
+      ∙ map-append read_of (filter (λ line. not (is_blank line)) lines) (filter (λ line. not (is_blank line)) more)
 
   -- a blank line asks nothing
-  asked_blank : (line : List ℕ) → is_blank line ≡ true → asked_by operation fields (line ∷ []) ≡ []
-  asked_blank line h = rw h
+  read_blank : (line : List ℕ) → is_blank line ≡ true → reads_of (line ∷ []) ≡ []
+  read_blank line h = rw h
 
   -- another asks one thing
-  asked_said : (line : List ℕ) → is_blank line ≡ false → asked_by operation fields (line ∷ []) ≡ asked_of operation fields line ∷ []
-  asked_said line h = rw h
+  read_said : (line : List ℕ) → is_blank line ≡ false → reads_of (line ∷ []) ≡ read_of line ∷ []
+  read_said line h = rw h
 
   -- the postings stand before those of more lines
-  postings_front : (more : List (List ℕ)) → IsFront (postings_by operation fields lines) (postings_by operation fields (lines ++ more))
+  postings_front : (more : List (List ℕ)) → IsFront (postings_by lines) (postings_by (lines ++ more))
   postings_front more =
-      subst (λ xs. IsFront (postings_by operation fields lines) (take most_postings xs)) (sym (asked_by-append more))
-      (take_front most_postings (asked_by operation fields lines) (asked_by operation fields more))
+      subst (λ xs. IsFront (postings_by lines) (take most_postings xs)) (sym (reads_of-append more))
+      (take_front most_postings (reads_of lines) (reads_of more))
 
   -- a blank line adds none
-  postings_blank : (line : List ℕ) → is_blank line ≡ true → postings_by operation fields (lines ++ line ∷ []) ≡ postings_by operation fields lines
+  postings_blank : (line : List ℕ) → is_blank line ≡ true → postings_by (lines ++ line ∷ []) ≡ postings_by lines
   postings_blank line h =
-      ap (λ xs. take most_postings xs) (asked_by-append (line ∷ []) ∙ ap (λ t. asked_by operation fields lines ++ t) (asked_blank line h) ∙ append-nil (asked_by operation fields lines))
+      ap (λ xs. take most_postings xs) (reads_of-append (line ∷ []) ∙ ap (λ t. reads_of lines ++ t) (read_blank line h) ∙ append-nil (reads_of lines))
 
   -- nor does any where they are as many as a run has
-  postings_full : (line : List ℕ) → length (postings_by operation fields lines) ≡ most_postings → postings_by operation fields (lines ++ line ∷ []) ≡ postings_by operation fields lines
+  postings_full : (line : List ℕ) → length (postings_by lines) ≡ most_postings → postings_by (lines ++ line ∷ []) ≡ postings_by lines
   postings_full line e =
-      ap (λ xs. take most_postings xs) (asked_by-append (line ∷ [])) ∙ take_full most_postings (asked_by operation fields lines) (asked_by operation fields (line ∷ [])) e
+      ap (λ xs. take most_postings xs) (reads_of-append (line ∷ [])) ∙ take_full most_postings (reads_of lines) (reads_of (line ∷ [])) e
 
   -- else a line that is not blank adds one
-  postings_more : (line : List ℕ) → is_blank line ≡ false → length (postings_by operation fields lines) < most_postings
-      → postings_by operation fields (lines ++ line ∷ []) ≡ postings_by operation fields lines ++ asked_of operation fields line ∷ []
+  postings_more : (line : List ℕ) → is_blank line ≡ false → length (postings_by lines) < most_postings
+      → postings_by (lines ++ line ∷ []) ≡ postings_by lines ++ read_of line ∷ []
   postings_more line h lt =
-      ap (λ xs. take most_postings xs) (asked_by-append (line ∷ []) ∙ ap (λ t. asked_by operation fields lines ++ t) (asked_said line h))
-      ∙ take_room most_postings (asked_by operation fields lines) (asked_of operation fields line) lt
+      ap (λ xs. take most_postings xs) (reads_of-append (line ∷ []) ∙ ap (λ t. reads_of lines ++ t) (read_said line h))
+      ∙ take_room most_postings (reads_of lines) (read_of line) lt
 
   -- they are never more than a run has
-  postings_within : length (postings_by operation fields lines) ≤ most_postings
-  postings_within = let long : length (postings_by operation fields lines) ≡ min most_postings (length (asked_by operation fields lines)) = length-take most_postings (asked_by operation fields lines) in omega arith
+  postings_within : length (postings_by lines) ≤ most_postings
+  postings_within = let long : length (postings_by lines) ≡ min most_postings (length (reads_of lines)) = length-take most_postings (reads_of lines) in omega arith
 
 -- ---- one line more
 
 -- before the first line
-pub under_way-start : (form : FirstForm) → IsUnderWay form [] 0 no_deeds []
-under_way-start form = record { count = refl; did = nothing_yet }
+pub under_way-start : (parts : ProgramParts) → IsUnderWay parts [] 0 no_deeds []
+under_way-start parts = record { count = refl; did = nothing_yet }
 
 -- lines with the same postings
-under_way-same : (form : FirstForm) (lines more : List (List ℕ)) (p : ℕ) (d : Deeds) (w : List ℕ)
-    → postings_by form.operation form.fields more ≡ postings_by form.operation form.fields lines → IsUnderWay form lines p d w → IsUnderWay form more p d w
-under_way-same form lines more p d w same k = record {
+under_way-same : (parts : ProgramParts) (lines more : List (List ℕ)) (p : ℕ) (d : Deeds) (w : List ℕ)
+    → postings_by more ≡ postings_by lines → IsUnderWay parts lines p d w → IsUnderWay parts more p d w
+under_way-same parts lines more p d w same k = record {
   count = k.count ∙ ap length (sym same);
-  did = subst (λ all. Did (program_of form) form.operation all d w) (sym same) k.did;
+  did = subst (λ all. Did parts all d w) (sym same) k.did;
 }
 
 -- a blank line more
-pub under_way-blank : (form : FirstForm) (lines : List (List ℕ)) (line : List ℕ) (p : ℕ) (d : Deeds) (w : List ℕ)
-    → is_blank line ≡ true → IsUnderWay form lines p d w → IsUnderWay form (lines ++ line ∷ []) p d w
-under_way-blank form lines line p d w h k = under_way-same form lines (lines ++ line ∷ []) p d w (postings_blank form.operation form.fields lines line h) k
+pub under_way-blank : (parts : ProgramParts) (lines : List (List ℕ)) (line : List ℕ) (p : ℕ) (d : Deeds) (w : List ℕ)
+    → is_blank line ≡ true → IsUnderWay parts lines p d w → IsUnderWay parts (lines ++ line ∷ []) p d w
+under_way-blank parts lines line p d w h k = under_way-same parts lines (lines ++ line ∷ []) p d w (postings_blank lines line h) k
 
 -- a line more where there were as many postings as a run has
-pub under_way-full : (form : FirstForm) (lines : List (List ℕ)) (line : List ℕ) (p : ℕ) (d : Deeds) (w : List ℕ)
-    → p ≡ most_postings → IsUnderWay form lines p d w → IsUnderWay form (lines ++ line ∷ []) p d w
-under_way-full form lines line p d w h k = under_way-same form lines (lines ++ line ∷ []) p d w (postings_full form.operation form.fields lines line (sym k.count ∙ h)) k
+pub under_way-full : (parts : ProgramParts) (lines : List (List ℕ)) (line : List ℕ) (p : ℕ) (d : Deeds) (w : List ℕ)
+    → p ≡ most_postings → IsUnderWay parts lines p d w → IsUnderWay parts (lines ++ line ∷ []) p d w
+under_way-full parts lines line p d w h k = under_way-same parts lines (lines ++ line ∷ []) p d w (postings_full lines line (sym k.count ∙ h)) k
 
 -- a posting more
-pub answered : (all : Bool) (form : FirstForm) (lines : List (List ℕ)) (line : List ℕ) (p : ℕ) (d e : Deeds) (w x text : List ℕ)
-    → is_blank line ≡ false → p ≢ most_postings → Turn (program_of form) form.operation p (asked_of form.operation form.fields line) d e text
-    → Sends all (text ++ 10 ∷ []) w x → IsUnderWay form lines p d w → Goes all form (lines ++ line ∷ []) (p + 1) e x
-answered true form lines line p d e w x text said room turn sends k =
-    let within = postings_within form.operation form.fields lines in
+pub answered : (all : Bool) (parts : ProgramParts) (lines : List (List ℕ)) (line : List ℕ) (p : ℕ) (d e : Deeds) (w x : List ℕ) (text : Option (List ℕ))
+    → is_blank line ≡ false → p ≢ most_postings → Turn parts p (read_of line) d e text
+    → Sends all (line_if text) w x → IsUnderWay parts lines p d w → Goes all parts (lines ++ line ∷ []) (p + 1) e x
+answered true parts lines line p d e w x text said room turn sends k =
+    let within = postings_within lines in
     let count = k.count in
-    let before : List Asked = postings_by form.operation form.fields lines in
-    let a : Asked = asked_of form.operation form.fields line in
-    let more = postings_more form.operation form.fields lines line said (omega arith) in
-    let next : Turn (program_of form) form.operation (length before) a d e text = subst (λ j. Turn (program_of form) form.operation j a d e text) k.count turn in
+    let before : List Read = postings_by lines in
+    let r : Read = read_of line in
+    let more = postings_more lines line said (omega arith) in
+    let next : Turn parts (length before) r d e text = subst (λ j. Turn parts j r d e text) k.count turn in
     record {
-      count = ap (λ n. n + 1) k.count ∙ sym (ap length more ∙ length-append before (a ∷ []));
-      did = subst (λ v. Did (program_of form) form.operation (postings_by form.operation form.fields (lines ++ line ∷ [])) e v) (sym (sends.kept ∙ ap (λ b. w ++ b) sends.which ∙ sym (append_assoc w text (10 ∷ []))))
-          (subst (λ all. Did (program_of form) form.operation all e (w ++ text ++ 10 ∷ [])) (sym more) (one_more before d w a e text k.did next));
+      count = ap (λ n. n + 1) k.count ∙ sym (ap length more ∙ length-append before (r ∷ []));
+      did = subst (λ v. Did parts (postings_by (lines ++ line ∷ [])) e v) (sym (sends.kept ∙ ap (λ b. w ++ b) sends.which))
+          (subst (λ all. Did parts all e (w ++ line_if text)) (sym more) (one_more before d w r e text k.did next));
     }
-answered false form lines line p d e w x text said room turn sends k =
-    let within = postings_within form.operation form.fields lines in
+answered false parts lines line p d e w x text said room turn sends k =
+    let within = postings_within lines in
     let count = k.count in
-    let before : List Asked = postings_by form.operation form.fields lines in
-    let a : Asked = asked_of form.operation form.fields line in
-    let more = postings_more form.operation form.fields lines line said (omega arith) in
+    let before : List Read = postings_by lines in
+    let r : Read = read_of line in
+    let more = postings_more lines line said (omega arith) in
     record {
       done = before;
-      last = a;
+      last = r;
       old = d;
       bytes = w;
       text = text;
       piece = sends.bytes;
-      front = ([], append-nil (before ++ a ∷ []) ∙ sym more);
+      front = ([], append-nil (before ++ r ∷ []) ∙ sym more);
       did = k.did;
-      turn = subst (λ j. Turn (program_of form) form.operation j a d e text) k.count turn;
+      turn = subst (λ j. Turn parts j r d e text) k.count turn;
       cut = sends.which;
       sent = sends.kept;
     }
 
 -- lines behind those at which the output stopped
-pub stopped-more : (form : FirstForm) (lines more : List (List ℕ)) (d : Deeds) (w : List ℕ) → IsStopped form lines d w → IsStopped form (lines ++ more) d w
-stopped-more form lines more d w k = record {
+pub stopped-more : (parts : ProgramParts) (lines more : List (List ℕ)) (d : Deeds) (w : List ℕ) → IsStopped parts lines d w → IsStopped parts (lines ++ more) d w
+stopped-more parts lines more d w k = record {
   done = k.done;
   last = k.last;
   old = k.old;
   bytes = k.bytes;
   text = k.text;
   piece = k.piece;
-  front = IsFront-trans (k.done ++ k.last ∷ []) (postings_by form.operation form.fields lines) (postings_by form.operation form.fields (lines ++ more)) k.front (postings_front form.operation form.fields lines more);
+  front = IsFront-trans (k.done ++ k.last ∷ []) (postings_by lines) (postings_by (lines ++ more)) k.front (postings_front lines more);
   did = k.did;
   turn = k.turn;
   cut = k.cut;
@@ -158,9 +161,9 @@ stopped-more form lines more d w k = record {
 
 -- ---- the lines of a piece
 
-module _ (form : FirstForm) (lines : List (List ℕ)) (xs piece line : List ℕ) (i : ℕ) (all : Bool) (p : ℕ) (d : Deeds) (w : List ℕ)
+module _ (parts : ProgramParts) (lines : List (List ℕ)) (xs piece line : List ℕ) (i : ℕ) (all : Bool) (p : ℕ) (d : Deeds) (w : List ℕ)
     (within : i < length piece) (ends : get_or piece i 0 ≡ 10) (is : line ≡ (split (xs ++ take i piece)).1)
-    (goes : Goes all form ((lines ++ (split (xs ++ take i piece)).0) ++ line ∷ []) p d w) where
+    (goes : Goes all parts ((lines ++ (split (xs ++ take i piece)).0) ++ line ∷ []) p d w) where
   -- the lines so far with the one that ends here
   lines_are : (lines ++ (split (xs ++ take i piece)).0) ++ line ∷ [] ≡ lines ++ (split (xs ++ take (i + 1) piece)).0
   lines_are =
@@ -169,64 +172,71 @@ module _ (form : FirstForm) (lines : List (List ℕ)) (xs piece line : List ℕ)
       ∙ ap (λ l. lines ++ l) (sym (ap (λ q. q.0) (split-take_newline xs piece i within ends)))
 
   -- the line was answered
-  pub line_answered : all ≡ true → IsUnderWay form (lines ++ (split (xs ++ take (i + 1) piece)).0) p d w
-  line_answered went = subst (λ ls. IsUnderWay form ls p d w) lines_are (subst (λ b. Goes b form ((lines ++ (split (xs ++ take i piece)).0) ++ line ∷ []) p d w) went goes)
+  pub line_answered : all ≡ true → IsUnderWay parts (lines ++ (split (xs ++ take (i + 1) piece)).0) p d w
+  line_answered went = subst (λ ls. IsUnderWay parts ls p d w) lines_are (subst (λ b. Goes b parts ((lines ++ (split (xs ++ take i piece)).0) ++ line ∷ []) p d w) went goes)
 
   -- the output stopped
-  pub piece_stopped : all ≡ false → IsStopped form (lines ++ (split (xs ++ piece)).0) d w
+  pub piece_stopped : all ≡ false → IsStopped parts (lines ++ (split (xs ++ piece)).0) d w
   piece_stopped stopped =
       let rest : List (List ℕ) = (split ((split (xs ++ take (i + 1) piece)).1 ++ drop (i + 1) piece)).0 in
-      let here : IsStopped form (lines ++ (split (xs ++ take (i + 1) piece)).0) d w =
-      subst (λ ls. IsStopped form ls d w) lines_are (subst (λ b. Goes b form ((lines ++ (split (xs ++ take i piece)).0) ++ line ∷ []) p d w) stopped goes) in
-      subst (λ ls. IsStopped form ls d w) (append_assoc lines (split (xs ++ take (i + 1) piece)).0 rest ∙ ap (λ l. lines ++ l) (sym (split-take xs piece (i + 1))))
-      (stopped-more form (lines ++ (split (xs ++ take (i + 1) piece)).0) rest d w here)
+      let here : IsStopped parts (lines ++ (split (xs ++ take (i + 1) piece)).0) d w =
+      subst (λ ls. IsStopped parts ls d w) lines_are (subst (λ b. Goes b parts ((lines ++ (split (xs ++ take i piece)).0) ++ line ∷ []) p d w) stopped goes) in
+      subst (λ ls. IsStopped parts ls d w) (append_assoc lines (split (xs ++ take (i + 1) piece)).0 rest ∙ ap (λ l. lines ++ l) (sym (split-take xs piece (i + 1))))
+      (stopped-more parts (lines ++ (split (xs ++ take (i + 1) piece)).0) rest d w here)
 
 -- ---- the pieces of the input
 
-module _ (form : FirstForm) (read piece now line : List ℕ) (all : Bool) (p : ℕ) (d : Deeds) (w : List ℕ)
+module _ (parts : ProgramParts) (read piece now line : List ℕ) (all : Bool) (p : ℕ) (d : Deeds) (w : List ℕ)
     (more : now ≡ read ++ piece) (is : line ≡ (split read).1)
-    (goes : Goes all form ((split read).0 ++ (split (line ++ piece)).0) p d w) where
+    (goes : Goes all parts ((split read).0 ++ (split (line ++ piece)).0) p d w) where
   -- the lines so far with those of the piece
   read_lines : (split read).0 ++ (split (line ++ piece)).0 ≡ (split now).0
   read_lines = ap (λ l. (split read).0 ++ (split (l ++ piece)).0) is ∙ sym (ap (λ q. q.0) (split-append read piece)) ∙ sym (ap (λ l. (split l).0) more)
 
   -- the piece was answered
-  pub piece_answered : all ≡ true → IsUnderWay form (split now).0 p d w
-  piece_answered went = subst (λ ls. IsUnderWay form ls p d w) read_lines (subst (λ b. Goes b form ((split read).0 ++ (split (line ++ piece)).0) p d w) went goes)
+  pub piece_answered : all ≡ true → IsUnderWay parts (split now).0 p d w
+  piece_answered went = subst (λ ls. IsUnderWay parts ls p d w) read_lines (subst (λ b. Goes b parts ((split read).0 ++ (split (line ++ piece)).0) p d w) went goes)
 
   -- the output stopped in it
-  pub read_stopped : all ≡ false → IsStopped form (all_lines now) d w
+  pub read_stopped : all ≡ false → IsStopped parts (all_lines now) d w
   read_stopped stopped =
-      stopped-more form (split now).0 ((split now).1 ∷ []) d w
-      (subst (λ ls. IsStopped form ls d w) read_lines (subst (λ b. Goes b form ((split read).0 ++ (split (line ++ piece)).0) p d w) stopped goes))
+      stopped-more parts (split now).0 ((split now).1 ∷ []) d w
+      (subst (λ ls. IsStopped parts ls d w) read_lines (subst (λ b. Goes b parts ((split read).0 ++ (split (line ++ piece)).0) p d w) stopped goes))
 
 -- the rest behind a piece
 pub line-piece : (read piece now line after : List ℕ) → now ≡ read ++ piece → line ≡ (split read).1 → after ≡ (split (line ++ piece)).1 → after ≡ (split now).1
 line-piece read piece now line after more is e = e ∙ ap (λ l. (split (l ++ piece)).1) is ∙ sym (ap (λ q. q.1) (split-append read piece)) ∙ sym (ap (λ l. (split l).1) more)
 
-module _ (form : FirstForm) (read line : List ℕ) (all : Bool) (p : ℕ) (d : Deeds) (w : List ℕ) (is : line ≡ (split read).1)
-    (goes : Goes all form ((split read).0 ++ line ∷ []) p d w) where
+module _ (parts : ProgramParts) (read line : List ℕ) (all : Bool) (p : ℕ) (d : Deeds) (w : List ℕ) (is : line ≡ (split read).1)
+    (goes : Goes all parts ((split read).0 ++ line ∷ []) p d w) where
   -- the last line was answered
-  pub finished_whole : all ≡ true → IsDone form (all_lines read) d w
+  pub finished_whole : all ≡ true → IsDone parts (all_lines read) d w
   finished_whole went =
-      let k : IsUnderWay form ((split read).0 ++ line ∷ []) p d w = subst (λ b. Goes b form ((split read).0 ++ line ∷ []) p d w) went goes in
-      (subst (λ l. IsUnderWay form ((split read).0 ++ l ∷ []) p d w) is k).did
+      let k : IsUnderWay parts ((split read).0 ++ line ∷ []) p d w = subst (λ b. Goes b parts ((split read).0 ++ line ∷ []) p d w) went goes in
+      (subst (λ l. IsUnderWay parts ((split read).0 ++ l ∷ []) p d w) is k).did
 
   -- the output stopped at it
-  pub finished_stopped : all ≡ false → IsStopped form (all_lines read) d w
+  pub finished_stopped : all ≡ false → IsStopped parts (all_lines read) d w
   finished_stopped stopped =
-      subst (λ l. IsStopped form ((split read).0 ++ l ∷ []) d w) is (subst (λ b. Goes b form ((split read).0 ++ line ∷ []) p d w) stopped goes)
+      subst (λ l. IsStopped parts ((split read).0 ++ l ∷ []) d w) is (subst (λ b. Goes b parts ((split read).0 ++ line ∷ []) p d w) stopped goes)
 
 -- ---- the answer of a line
 
 -- a line that is not blank was done, and its answer went out
-pub line_sent : (r : Result Bool AllocError) (form : FirstForm) (line : List ℕ) (p : ℕ) (d e : Deeds) (w x text sent : List ℕ)
-    → is_blank line ≡ false → p ≢ most_postings → Turn (program_of form) form.operation p (asked_of form.operation form.fields line) d e text
-    → sent ≡ text ++ 10 ∷ [] → IfOk r (λ all. Sends all sent w x)
-    → IfOk r (λ all. (lines : List (List ℕ)) → IsUnderWay form lines p d w → Goes all form (lines ++ line ∷ []) (p + 1) e x)
-line_sent (Ok all) form line p d e w x text sent said room turn is sends =
-    λ lines k. answered all form lines line p d e w x text said room turn (subst (λ t. Sends all t w x) is sends) k
-line_sent (Err why) form line p d e w x text sent said room turn is sends = tt
+pub line_sent : (result : Result Bool AllocError) (parts : ProgramParts) (line : List ℕ) (p : ℕ) (d e : Deeds) (w x : List ℕ) (response : Option (List ℕ)) (text : List ℕ)
+    → response ≡ Some text → is_blank line ≡ false → p ≢ most_postings → Turn parts p (read_of line) d e response
+    → IfOk result (λ all. Sends all (text ++ 10 ∷ []) w x)
+    → IfOk result (λ all. (lines : List (List ℕ)) → IsUnderWay parts lines p d w → Goes all parts (lines ++ line ∷ []) (p + 1) e x)
+line_sent (Ok all) parts line p d e w x response text is said room turn sends =
+    λ lines k. answered all parts lines line p d e w x response said room turn (subst (λ t. Sends all (line_if t) w x) (sym is) sends) k
+line_sent (Err why) parts line p d e w x response text is said room turn sends = tt
+
+-- a line that is not blank was done, and asks for no answer
+pub line_silent : (parts : ProgramParts) (line : List ℕ) (p : ℕ) (d e : Deeds) (w : List ℕ) (response : Option (List ℕ))
+    → response ≡ None → is_blank line ≡ false → p ≢ most_postings → Turn parts p (read_of line) d e response
+    → (lines : List (List ℕ)) → IsUnderWay parts lines p d w → IsUnderWay parts (lines ++ line ∷ []) (p + 1) e w
+line_silent parts line p d e w response none said room turn lines k =
+    answered true parts lines line p d e w w response said room turn (record { bytes = []; which = sym (ap line_if none); kept = sym (append-nil w) }) k
 
 -- ---- the bytes of a piece
 
@@ -235,18 +245,18 @@ line_begins : (xs : List ℕ) → IsOpen xs → split (xs ++ []) ≡ ([], xs)
 line_begins xs h = ap split (append-nil xs) ∙ split-open xs h
 
 -- nothing more is done then
-pub piece_begins : (form : FirstForm) (lines : List (List ℕ)) (xs : List ℕ) (p : ℕ) (d : Deeds) (w : List ℕ) → IsOpen xs
-    → IsUnderWay form lines p d w → IsUnderWay form (lines ++ (split (xs ++ [])).0) p d w
-piece_begins form lines xs p d w h k = subst (λ ls. IsUnderWay form ls p d w) (sym (ap (λ q. lines ++ q.0) (line_begins xs h) ∙ append-nil lines)) k
+pub piece_begins : (parts : ProgramParts) (lines : List (List ℕ)) (xs : List ℕ) (p : ℕ) (d : Deeds) (w : List ℕ) → IsOpen xs
+    → IsUnderWay parts lines p d w → IsUnderWay parts (lines ++ (split (xs ++ [])).0) p d w
+piece_begins parts lines xs p d w h k = subst (λ ls. IsUnderWay parts ls p d w) (sym (ap (λ q. lines ++ q.0) (line_begins xs h) ∙ append-nil lines)) k
 
 -- nor does the line under way change
 pub piece_opens : (xs : List ℕ) → IsOpen xs → xs ≡ (split (xs ++ [])).1
 piece_opens xs h = sym (ap (λ q. q.1) (line_begins xs h))
 
 -- a byte that ends no line does nothing
-pub byte_kept : (form : FirstForm) (lines : List (List ℕ)) (xs piece : List ℕ) (i p : ℕ) (d : Deeds) (w : List ℕ) → i < length piece → get_or piece i 0 ≢ 10
-    → IsUnderWay form (lines ++ (split (xs ++ take i piece)).0) p d w → IsUnderWay form (lines ++ (split (xs ++ take (i + 1) piece)).0) p d w
-byte_kept form lines xs piece i p d w within n k = subst (λ ls. IsUnderWay form ls p d w) (sym (ap (λ q. lines ++ q.0) (split-take_byte xs piece i within n))) k
+pub byte_kept : (parts : ProgramParts) (lines : List (List ℕ)) (xs piece : List ℕ) (i p : ℕ) (d : Deeds) (w : List ℕ) → i < length piece → get_or piece i 0 ≢ 10
+    → IsUnderWay parts (lines ++ (split (xs ++ take i piece)).0) p d w → IsUnderWay parts (lines ++ (split (xs ++ take (i + 1) piece)).0) p d w
+byte_kept parts lines xs piece i p d w within n k = subst (λ ls. IsUnderWay parts ls p d w) (sym (ap (λ q. lines ++ q.0) (split-take_byte xs piece i within n))) k
 
 -- it stands in the line under way
 pub line_grew : (xs piece line after : List ℕ) (i : ℕ) → i < length piece → get_or piece i 0 ≢ 10 → line ≡ (split (xs ++ take i piece)).1

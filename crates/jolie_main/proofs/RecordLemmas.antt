@@ -1,19 +1,18 @@
 -- The record of a run, its bytes and its causes, from how its lines ended.
-use Rattle.std.proofs.Common.{◌≡◌, inl, inr, refl, sym, ap, subst, ◌∙◌, arith, ℕ, List, [], ◌∷◌, ◌++◌, append_assoc, Option, None, Some}
+use Rattle.std.proofs.Common.{◌≡◌, inl, inr, refl, sym, ap, subst, ◌∙◌, arith, ℕ, List, [], ◌∷◌, ◌++◌, append_assoc, Option}
 use Rattle.std.specs.Io.KnownBytes.{Appends, Consumes, IsAtEnd}
-use Rattle.jolie_main.specs.declared.form.FirstForm.{FirstForm}
+use Rattle.behaviour_tree.specs.Data.{ProgramParts}
+use Rattle.jsonrpc_text.specs.declared.message.Read.{Read}
 use Rattle.jolie_main.specs.declared.history.Entry.{Entry}
 use Rattle.jolie_main.specs.declared.history.Act.TheVariants as act
 use Rattle.jolie_main.specs.declared.lines.End.{End}
 use Rattle.jolie_main.specs.declared.lines.End.TheVariants as ends
 use Rattle.jolie_main.specs.declared.record.Traffic.{Traffic}
 use Rattle.jolie_main.specs.declared.record.Record.{Record}
-use Rattle.jolie_main.specs.declared.request.Asked.{Asked}
 use Rattle.jolie_main.specs.Programs.{IsProgram}
-use Rattle.jolie_main.specs.Meaning.{program_of}
 use Rattle.jolie_main.specs.Lines.{all_lines, whole_lines}
 use Rattle.jolie_main.specs.Legal.{IsLegal, first_worker}
-use Rattle.jolie_main.specs.Written.{postings_by, IsCutShort}
+use Rattle.jolie_main.specs.Written.{postings_by, line_if, IsCutShort}
 use Rattle.jolie_main.specs.Turns.{entry, closing_entries, Deeds, Did, one_more}
 use Rattle.jolie_main.specs.Sentences.{HasSessions, AnswersEach, IsStill}
 use Rattle.jolie_main.specs.Ends.{IsFinished, SourceCause, SinkCause, status}
@@ -23,42 +22,42 @@ use Rattle.jolie_main.proofs.DidLaws.{Did-sessions, Did-legal, Did-answered, Did
 use Rattle.jolie_main.proofs.KnownLemmas.{Tells, Appends-nil}
 
 -- what was done, with the lines that it serves, is the record
-recorded_with : (form : FirstForm) (all : List Asked) (deeds : Deeds) (bytes : List ℕ) (s : ℕ) (report : Record) (traffic : Traffic) → Did (program_of form) form.operation all deeds bytes
-    → IsProgram report.program form → report.traffic ≡ traffic ∷ [] → report.history.entries ≡ deeds.history ++ closing_entries → report.sessions ≡ deeds.sessions
-    → ServesLines form s (deeds.history ++ closing_entries) traffic → IsRecord s report
-recorded_with form all deeds bytes s report traffic did program one entries sessions lines = record {
-  form = form;
+recorded_with : (parts : ProgramParts) (all : List Read) (deeds : Deeds) (bytes : List ℕ) (s : ℕ) (report : Record) (traffic : Traffic) → Did parts all deeds bytes
+    → IsProgram report.program parts → report.traffic ≡ traffic ∷ [] → report.history.entries ≡ deeds.history ++ closing_entries → report.sessions ≡ deeds.sessions
+    → ServesLines parts s (deeds.history ++ closing_entries) traffic → IsRecord s report
+recorded_with parts all deeds bytes s report traffic did program one entries sessions lines = record {
+  parts = parts;
   traffic = traffic;
   program = program;
   one_front = one;
-  sessions = subst (λ h. HasSessions (program_of form) h report.sessions) (sym entries) (subst (λ t. HasSessions (program_of form) (deeds.history ++ closing_entries) t) (sym sessions) (Did-sessions did));
-  legal = subst (λ h. IsLegal h) (sym entries) (Did-legal did);
-  answered = subst (λ h. AnswersEach h) (sym entries) (Did-answered did);
-  still = subst (λ h. IsStill (program_of form) h) (sym entries) (Did-still did);
-  lines = subst (λ h. ServesLines form s h traffic) (sym entries) lines;
+  sessions = subst (λ h. HasSessions parts h report.sessions) (sym entries) (subst (λ t. HasSessions parts (deeds.history ++ closing_entries) t) (sym sessions) (Did-sessions did));
+  legal = subst (λ h. IsLegal parts h) (sym entries) (Did-legal did);
+  answered = subst (λ h. AnswersEach parts h) (sym entries) (Did-answered did);
+  still = subst (λ h. IsStill parts h) (sym entries) (Did-still did);
+  lines = subst (λ h. ServesLines parts s h traffic) (sym entries) lines;
 }
 
 -- the record of a run whose lines ended so
-pub recorded : (form : FirstForm) (e : End) (read : List ℕ) (deeds : Deeds) (written : List ℕ) (s : ℕ) (report : Record) → s ≡ status e → IsFinished form e read deeds written
-    → IsProgram report.program form → report.traffic ≡ record { read = read; written = written } ∷ [] → report.history.entries ≡ deeds.history ++ closing_entries → report.sessions ≡ deeds.sessions
+pub recorded : (parts : ProgramParts) (e : End) (read : List ℕ) (deeds : Deeds) (written : List ℕ) (s : ℕ) (report : Record) → s ≡ status e → IsFinished parts e read deeds written
+    → IsProgram report.program parts → report.traffic ≡ record { read = read; written = written } ∷ [] → report.history.entries ≡ deeds.history ++ closing_entries → report.sessions ≡ deeds.sessions
     → Ran s × IsRecord s report
-recorded form ends.Whole read deeds written s report at did program one entries sessions = (
+recorded parts ends.Whole read deeds written s report at did program one entries sessions = (
   inl at,
-  recorded_with form (postings_by form.operation form.fields (all_lines read)) deeds written s report (record { read = read; written = written }) did program one entries sessions
+  recorded_with parts (postings_by (all_lines read)) deeds written s report (record { read = read; written = written }) did program one entries sessions
       (record { whole = λ x. Did-written did; cut = λ x. absurd (omega arith); stopped = λ x. absurd (omega arith) }),
 )
-recorded form ends.Cut read deeds written s report at did program one entries sessions = (
+recorded parts ends.Cut read deeds written s report at did program one entries sessions = (
   inr (inl at),
-  recorded_with form (postings_by form.operation form.fields (whole_lines read)) deeds written s report (record { read = read; written = written }) did program one entries sessions
+  recorded_with parts (postings_by (whole_lines read)) deeds written s report (record { read = read; written = written }) did program one entries sessions
       (record { whole = λ x. absurd (omega arith); cut = λ x. Did-written did; stopped = λ x. absurd (omega arith) }),
 )
-recorded form ends.Stopped read deeds written s report at k program one entries sessions =
+recorded parts ends.Stopped read deeds written s report at k program one entries sessions =
     let did = one_more k.done k.old k.bytes k.last deeds k.text k.did k.turn in
-    let short : IsCutShort form.operation (deeds.history ++ closing_entries) (postings_by form.operation form.fields (all_lines read)) written =
-    subst (λ w. IsCutShort form.operation (deeds.history ++ closing_entries) (postings_by form.operation form.fields (all_lines read)) w) (sym k.sent)
-    (Did-cut (postings_by form.operation form.fields (all_lines read)) k.piece k.did k.turn k.cut k.front) in (
+    let short : IsCutShort parts (deeds.history ++ closing_entries) (postings_by (all_lines read)) written =
+    subst (λ w. IsCutShort parts (deeds.history ++ closing_entries) (postings_by (all_lines read)) w) (sym k.sent)
+    (Did-cut (postings_by (all_lines read)) k.piece k.did k.turn k.cut k.front) in (
       inr (inr at),
-      recorded_with form (k.done ++ k.last ∷ []) deeds (k.bytes ++ k.text ++ 10 ∷ []) s report (record { read = read; written = written }) did program one entries sessions
+      recorded_with parts (k.done ++ k.last ∷ []) deeds (k.bytes ++ line_if k.text) s report (record { read = read; written = written }) did program one entries sessions
           (record { whole = λ x. absurd (omega arith); cut = λ x. absurd (omega arith); stopped = λ x. short }),
     )
 

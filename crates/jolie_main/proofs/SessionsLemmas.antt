@@ -1,20 +1,21 @@
--- The calls of a session in a history that grows, and the events of a session that served its request.
-use Rattle.std.proofs.Common.{◌≡◌, ℕ, ◌<◌, Bool, true, false, nat_eq, if◌then◌else◌, List, [], ◌∷◌, ◌++◌, Contains, refl, sym, ap, subst, ◌∙◌, arith, append_assoc, append-nil, ne_eqb, eq-eqb}
-use Rattle.jolie_trees.specs.Data.{Tree}
+-- The calls of a session in a history that grows, and the events of a session that went from its start to its end.
+use Rattle.std.proofs.Common.{◌≡◌, ℕ, ◌<◌, Bool, true, false, nat_eq, if◌then◌else◌, List, [], ◌∷◌, ◌++◌, refl, sym, ap, subst, ◌∙◌, arith, append_assoc, append-nil, ne_eqb, eq-eqb}
 use Rattle.behaviour_tree.specs.declared.words.Event.{Event}
 use Rattle.behaviour_tree.specs.declared.words.Outcome.{Outcome}
-use Rattle.behaviour_tree.specs.declared.words.Reason.{Reason}
 use Rattle.behaviour_tree.specs.Data.{ProgramParts}
 use Rattle.behaviour_tree.specs.Runs.{start_of}
 use Rattle.jolie_main.specs.declared.history.Entry.{Entry}
 use Rattle.jolie_main.specs.declared.history.Act.TheVariants as act
-use Rattle.jolie_main.specs.declared.history.PostReply.TheVariants as reply
-use Rattle.jolie_main.specs.Messages.{messages, births, has_stopped}
+use Rattle.jolie_main.specs.declared.history.Posted.{Posted}
+use Rattle.jolie_main.specs.declared.history.PostReply.{PostReply}
+use Rattle.jolie_main.specs.declared.session.Lived.{Lived}
+use Rattle.jolie_main.specs.declared.session.Lived.TheVariants as lived
+use Rattle.jolie_main.specs.Messages.{is_request, delivered, queue}
 use Rattle.jolie_main.specs.Legal.{first_worker}
-use Rattle.jolie_main.specs.Sessions.{Placed, is_call_of, calls_from, calls_of_after, calls_of, AreCalls, IsSession}
-use Rattle.jolie_main.specs.Turns.{post_entry, service_entries, closing_entries, IsWholeSession}
-use Rattle.jolie_main.proofs.RepliesLemmas.{IsSeen}
-use Rattle.jolie_main.proofs.LegalLemmas.{message_of, when_adopted, when_taken, when_replied, adopted_serving, serving_queue, serving_message}
+use Rattle.jolie_main.specs.Sessions.{Placed, is_call_of, calls_from, calls_of_after, calls_of, IsMessage, AreCalls, IsSession}
+use Rattle.jolie_main.specs.Turns.{entry, session_entries, session_calls, closing_entries, IsWholeSession}
+use Rattle.jolie_main.proofs.RepliesLemmas.{at_birth}
+use Rattle.jolie_main.proofs.LegalLemmas.{IsServing, IsWaiting, when_adopted, when_taken, when_replied, adopted_serving, serving_queue}
 
 -- a call stands before the later ones
 call_first : (b : Bool) (p : Placed) (xs ys : List Placed) → (if b then p ∷ (xs ++ ys) else (xs ++ ys)) ≡ (if b then p ∷ xs else xs) ++ ys
@@ -38,13 +39,19 @@ calls_of-aside h es s none = calls_of_after-append s [] h es ∙ ap (λ t. calls
 pub no_worker : (s : ℕ) → s < first_worker → nat_eq s first_worker ≡ false
 no_worker s lt = ne_eqb s first_worker (λ e. omega arith)
 
--- a refused post is no call of a session
-pub refused_no_call : (operation : List ℕ) (j : ℕ) (value : Tree) (why : Reason) (s : ℕ) (h : List Entry) → s < first_worker → calls_of_after s h (post_entry operation j value (reply.Refused why) ∷ []) ≡ []
-refused_no_call operation j value why s h lt = rw (no_worker s lt) refl
+-- a post is no call of a session
+pub post_no_call : (s : ℕ) (h : List Entry) (j i : ℕ) (posted : Posted) (r : PostReply) → s < first_worker → calls_of_after s h (entry first_worker (act.Post j i posted r) ∷ []) ≡ []
+post_no_call s h j i posted r lt = rw (no_worker s lt) refl
 
--- serving a request is no call of another session
-pub served_no_call : (operation : List ℕ) (j : ℕ) (value : Tree) (m : ℕ) (o : Outcome) (s : ℕ) (h : List Entry) → s < first_worker → nat_eq s m ≡ false → calls_of_after s h (service_entries operation j value m o) ≡ []
-served_no_call operation j value m o s h lt other = rw (no_worker s lt, other) refl
+-- nor is the entry by which an answer is collected
+pub collect_no_call : (s : ℕ) (h : List Entry) (m : ℕ) (o : Outcome) → s < first_worker → calls_of_after s h (entry first_worker (act.Collect m o) ∷ []) ≡ []
+collect_no_call s h m o lt = rw (no_worker s lt) refl
+
+-- the entries of a session are no calls of another
+pub session_no_call : (s : ℕ) (h : List Entry) (m : ℕ) (how : Lived) → nat_eq s m ≡ false → calls_of_after s h (session_entries m how) ≡ []
+session_no_call s h m (lived.Answered o) other = rw other refl
+session_no_call s h m lived.Silent other = rw other refl
+session_no_call s h m lived.Untaken other = rw other refl
 
 -- the end of a run is no call of a session
 pub closing_no_call : (s : ℕ) (h : List Entry) → s < first_worker → calls_of_after s h closing_entries ≡ []
@@ -54,37 +61,52 @@ closing_no_call s h lt = rw (no_worker s lt) refl
 pub IsSession-same : (parts : ProgramParts) (s : ℕ) (events : List Event) (h h' : List Entry) → calls_of h' s ≡ calls_of h s → IsSession parts 0 h s events → IsSession parts 0 h' s events
 IsSession-same parts s events h h' same k =
     let agrees = k.3 in
-    (k.0, k.1, k.2, record { run = agrees.run; calls = subst (λ c. AreCalls s (calls_from parts 0 (start_of parts 0) k.0) c) (sym same) agrees.calls })
+    (k.0, k.1, k.2, record { run = agrees.run; calls = subst (λ c. AreCalls parts s (calls_from parts 0 (start_of parts 0) k.0) c) (sym same) agrees.calls })
 
--- the calls of a session that serves its request, each with the entries before it
-abbrev pub serving_calls : List ℕ → ℕ → Tree → ℕ → Outcome → List Entry → List Placed
-serving_calls operation j value m o h =
-    record { before = when_adopted operation j value m o h; act = act.Take m }
-    ∷ record { before = when_taken operation j value m o h; act = act.Reply m o }
-    ∷ record { before = when_replied operation j value m o h; act = act.End }
-    ∷ []
+-- the call by which a session takes its message, with the entries before it
+abbrev pub take_call : ℕ → List Entry → Placed
+take_call m h = record { before = when_adopted m h; act = act.Take m }
 
--- they are the session's calls among the entries of its request
-served_calls : (operation : List ℕ) (j : ℕ) (value : Tree) (m : ℕ) (o : Outcome) (h : List Entry) → m < first_worker
-    → calls_of_after m h (service_entries operation j value m o) ≡ serving_calls operation j value m o h
-served_calls operation j value m o h lt = rw (no_worker m lt, eq-eqb m m refl) (refl {a = serving_calls operation j value m o h})
+-- the calls of a session that goes so, each with the entries before it
+abbrev pub serving_calls : ℕ → List Entry → Lived → List Placed
+serving_calls m h (lived.Answered o) =
+    take_call m h ∷ record { before = when_taken m h; act = act.Reply m o } ∷ record { before = when_replied m h o; act = act.End } ∷ []
+serving_calls m h lived.Silent = take_call m h ∷ record { before = when_taken m h; act = act.End } ∷ []
+serving_calls m h lived.Untaken = record { before = when_adopted m h; act = act.End } ∷ []
 
--- the events of a whole session are a session of the history in which it served its request
-pub served_session : (parts : ProgramParts) (operation : List ℕ) (j : ℕ) (value : Tree) (m : ℕ) (events : List Event) (o : Outcome) (h : List Entry)
-    → m ≡ births h → m < first_worker → has_stopped h ≡ false → IsSeen m h false false false false [] → calls_of h m ≡ []
-    → IsWholeSession parts m value events o → IsSession parts 0 (h ++ service_entries operation j value m o) m events
-served_session parts operation j value m events o h last lt running fresh uncalled whole =
-    let now : calls_of (h ++ service_entries operation j value m o) m ≡ calls_of_after m h (service_entries operation j value m o) =
-    calls_of_after-append m [] h (service_entries operation j value m o) ∙ ap (λ t. t ++ calls_of_after m h (service_entries operation j value m o)) uncalled in
-    let adopted = adopted_serving operation j value m o h running fresh in
-    let queued = serving_queue (messages h) (message_of operation value) m (when_adopted operation j value m o h) true false false false [] last adopted refl in
-    let found = serving_message (messages h) (message_of operation value) m (when_adopted operation j value m o h) true false false false [] last adopted in
-    let only : Contains (whole.op ∷ []) whole.op = (0, omega arith, refl) in (
-      whole.steps,
-      whole.last,
-      whole.events_are,
-      record {
-        run = whole.run;
-        calls = rw (whole.calls, now, served_calls operation j value m o h lt) ((refl, only, queued, (message_of operation value, found, refl)), ((refl, refl), (tt, tt)));
-      },
-    )
+-- they are the session's calls among its entries
+session_calls_are : (m : ℕ) (h : List Entry) (how : Lived) → calls_of_after m h (session_entries m how) ≡ serving_calls m h how
+session_calls_are m h (lived.Answered o) = rw (eq-eqb m m refl) (refl {a = serving_calls m h (lived.Answered o)})
+session_calls_are m h lived.Silent = rw (eq-eqb m m refl) (refl {a = serving_calls m h lived.Silent})
+session_calls_are m h lived.Untaken = rw (eq-eqb m m refl) (refl {a = serving_calls m h lived.Untaken})
+
+module _ (parts : ProgramParts) (posted : Posted) (m : ℕ) (h : List Entry) (waiting : IsWaiting parts posted m h) where
+  -- the calls that a whole session makes are its entries
+  whole_calls : (events : List Event) (how : Lived) (whole : IsWholeSession parts m posted events how)
+      → AreCalls parts m (session_calls whole.run.ops m whole.op (delivered parts posted) how) (serving_calls m h how)
+  whole_calls events how whole = by how
+    where
+      adopted : IsServing parts posted m (when_adopted m h) true false false [] (at_birth (is_request parts posted))
+      adopted = adopted_serving parts posted m h waiting
+
+      queued : queue (when_adopted m h) m ≡ m ∷ []
+      queued = serving_queue parts posted m (when_adopted m h) true false false [] (at_birth (is_request parts posted)) adopted refl
+
+      is_message : IsMessage parts (when_adopted m h) m whole.op (delivered parts posted)
+      is_message = record { posted = posted; accepted = adopted.message_is; operation = whole.named; value_is = refl }
+
+      by : (l : Lived) → AreCalls parts m (session_calls whole.run.ops m whole.op (delivered parts posted) l) (serving_calls m h l)
+      by (lived.Answered o) = ((refl, whole.run.among, queued, is_message), ((refl, refl), (tt, tt)))
+      by lived.Silent = ((refl, whole.run.among, queued, is_message), (tt, tt))
+      by lived.Untaken = (tt, tt)
+
+  -- the events of a whole session are a session of the history in which it ran
+  pub whole_session : (events : List Event) (how : Lived) → calls_of h m ≡ [] → IsWholeSession parts m posted events how → IsSession parts 0 (h ++ session_entries m how) m events
+  whole_session events how uncalled whole =
+      let now : calls_of (h ++ session_entries m how) m ≡ serving_calls m h how =
+      calls_of_after-append m [] h (session_entries m how) ∙ ap (λ t. t ++ calls_of_after m h (session_entries m how)) uncalled ∙ session_calls_are m h how in
+      let run = whole.run in
+      let calls : AreCalls parts m (calls_from parts 0 (start_of parts 0) run.steps) (calls_of (h ++ session_entries m how) m) =
+      subst (λ c. AreCalls parts m c (calls_of (h ++ session_entries m how) m)) (sym run.calls)
+      (subst (λ p. AreCalls parts m (session_calls run.ops m whole.op (delivered parts posted) how) p) (sym now) (whole_calls events how whole)) in
+      (run.steps, run.last, run.events_are, record { run = run.run; calls = calls })

@@ -1,25 +1,23 @@
 -- How the lines of a source ended, and why.
 use Rattle.std.specs.Prelude.{◌≡◌, ℕ, List}
 use Rattle.outside_traits.specs.Causes.{Rose}
-use Rattle.jolie_main.specs.declared.form.FirstForm.{FirstForm}
+use Rattle.behaviour_tree.specs.Data.{ProgramParts}
 use Rattle.jolie_main.specs.declared.lines.End.{End}
 use Rattle.jolie_main.specs.declared.lines.End.TheVariants as ends
-use Rattle.jolie_main.specs.Meaning.{program_of}
 use Rattle.jolie_main.specs.Lines.{all_lines, whole_lines}
 use Rattle.jolie_main.specs.Turns.{Deeds, Did}
 use Rattle.jolie_main.specs.Written.{postings_by}
 use Rattle.jolie_main.specs.Progress.{IsStopped}
 
 -- all postings of the lines were done and answered
-abbrev pub IsDone : FirstForm → List (List ℕ) → Deeds → List ℕ → Type 0
-IsDone form lines deeds written =
-    Did (program_of form) form.operation (postings_by form.operation form.fields lines) deeds written
+abbrev pub IsDone : ProgramParts → List (List ℕ) → Deeds → List ℕ → Type 0
+IsDone parts lines deeds written = Did parts (postings_by lines) deeds written
 
 -- the postings of what was read were done and answered: all of them, those of whole lines, or a front
-abbrev pub IsFinished : FirstForm → End → List ℕ → Deeds → List ℕ → Type 0
-IsFinished form ends.Whole read deeds written = IsDone form (all_lines read) deeds written
-IsFinished form ends.Cut read deeds written = IsDone form (whole_lines read) deeds written
-IsFinished form ends.Stopped read deeds written = IsStopped form (all_lines read) deeds written
+abbrev pub IsFinished : ProgramParts → End → List ℕ → Deeds → List ℕ → Type 0
+IsFinished parts ends.Whole read deeds written = IsDone parts (all_lines read) deeds written
+IsFinished parts ends.Cut read deeds written = IsDone parts (whole_lines read) deeds written
+IsFinished parts ends.Stopped read deeds written = IsStopped parts (all_lines read) deeds written
 
 -- the source's count rose where it cut the input, and else stands
 abbrev pub SourceCause : End → ℕ → ℕ → Type 0

@@ -2,7 +2,7 @@
 use Rattle.std.specs.Prelude.{◌≡◌, ◌⊎◌, ℕ, List, [], ◌∷◌, Option, codes}
 use Rattle.outside_traits.specs.Causes.{Rose}
 use Rattle.jolie_ast.specs.declared.tree.Definition.{Definition}
-use Rattle.jolie_main.specs.declared.form.FirstForm.{FirstForm}
+use Rattle.behaviour_tree.specs.Data.{ProgramParts}
 use Rattle.jolie_main.specs.declared.history.Entry.{Entry}
 use Rattle.jolie_main.specs.declared.record.Traffic.{Traffic}
 use Rattle.jolie_main.specs.declared.record.Record.{Record}
@@ -14,7 +14,6 @@ use Rattle.jolie_main.specs.declared.words.Words.TheVariants as words
 use Rattle.jolie_main.specs.Verdicts.{IsAccepted, IsRefusedBy}
 use Rattle.jolie_ast.specs.Printed.{printed_text}
 use Rattle.jolie_main.specs.Programs.{IsProgram, IsNotRunBy}
-use Rattle.jolie_main.specs.Meaning.{program_of}
 use Rattle.jolie_main.specs.Lines.{all_lines, whole_lines}
 use Rattle.jolie_main.specs.Legal.{IsLegal}
 use Rattle.jolie_main.specs.Sentences.{HasSessions, AnswersEach, IsStill}
@@ -30,23 +29,23 @@ Ran status = (status ≡ 0) ⊎ (status ≡ 4) ⊎ (status ≡ 5)
 
 -- What was read was posted line by line and answered line by line: to its end at status 0, without the line that the
 -- source cut at status 4, and up to the answer that the output cut at status 5.
-pub record ServesLines (form : FirstForm) (status : ℕ) (h : List Entry) (traffic : Traffic) : Type 0 where
-  pub whole : status ≡ 0 → IsAnswered form.operation h (postings_by form.operation form.fields (all_lines traffic.read)) traffic.written
-  pub cut : status ≡ 4 → IsAnswered form.operation h (postings_by form.operation form.fields (whole_lines traffic.read)) traffic.written
-  pub stopped : status ≡ 5 → IsCutShort form.operation h (postings_by form.operation form.fields (all_lines traffic.read)) traffic.written
+pub record ServesLines (parts : ProgramParts) (status : ℕ) (h : List Entry) (traffic : Traffic) : Type 0 where
+  pub whole : status ≡ 0 → IsAnswered parts h (postings_by (all_lines traffic.read)) traffic.written
+  pub cut : status ≡ 4 → IsAnswered parts h (postings_by (whole_lines traffic.read)) traffic.written
+  pub stopped : status ≡ 5 → IsCutShort parts h (postings_by (all_lines traffic.read)) traffic.written
 
 -- The record of a run that came to its end: of which program it is, its sessions, its history, its answers and its
 -- bytes.
 pub record IsRecord (status : ℕ) (report : Record) : Type 0 where
-  pub form : FirstForm
+  pub parts : ProgramParts
   pub traffic : Traffic
-  pub program : IsProgram report.program form
+  pub program : IsProgram report.program parts
   pub one_front : report.traffic ≡ traffic ∷ []
-  pub sessions : HasSessions (program_of form) report.history.entries report.sessions
-  pub legal : IsLegal report.history.entries
-  pub answered : AnswersEach report.history.entries
-  pub still : IsStill (program_of form) report.history.entries
-  pub lines : ServesLines form status report.history.entries traffic
+  pub sessions : HasSessions parts report.history.entries report.sessions
+  pub legal : IsLegal parts report.history.entries
+  pub answered : AnswersEach parts report.history.entries
+  pub still : IsStill parts report.history.entries
+  pub lines : ServesLines parts status report.history.entries traffic
 
 -- nothing was recorded
 pub record IsEmptyRecord (report : Record) : Type 0 where

@@ -1,5 +1,5 @@
 -- What a program of the first form means: the parts of a checked program.
-use Rattle.std.specs.Prelude.{◌≡◌, ℕ, true, List, [], ◌∷◌, Option, Some, option_map, codes, slice_get}
+use Rattle.std.specs.Prelude.{ℕ, true, List, [], ◌∷◌, Option, Some, option_map, codes}
 use Rattle.jolie_trees.specs.declared.root.Root.TheVariants as root
 use Rattle.behaviour_tree.specs.declared.types.RootKind.TheVariants as kind
 use Rattle.behaviour_tree.specs.declared.expr.SumOp.{SumOp}
@@ -7,7 +7,6 @@ use Rattle.behaviour_tree.specs.declared.expr.SumOp.TheVariants as sums
 use Rattle.behaviour_tree.specs.declared.expr.MulOp.TheVariants as products
 use Rattle.behaviour_tree.specs.declared.program.Execution.TheVariants.{Concurrent}
 use Rattle.behaviour_tree.specs.Data.{TypeTree, plain, named, TypeFields, no_type_fields, type_field, PathTree, here, step, Exp, constant, at_path, sum, product, SumParts, no_sum_parts, sum_part, MulParts, no_mul_parts, mul_part, Proc, nothing, assign, choice, no_branches, request, OperationPart, InterfacePart, PortPart, ServicePart, ProgramParts}
-use Rattle.behaviour_tree.specs.Built.{is_fixed_target}
 use Rattle.jolie_main.specs.declared.formula.Sign.{Sign}
 use Rattle.jolie_main.specs.declared.formula.Sign.TheVariants as sign
 use Rattle.jolie_main.specs.declared.formula.Formula.{Formula}
@@ -127,16 +126,3 @@ program_of f = record {
   services = service_of f ∷ [];
   names = standard_names;
 }
-
--- The first service waits for one request and answers it after one assignment.
-pub record IsFirstProgram (parts : ProgramParts) : Type 0 where
-  pub service : ServicePart
-  pub first : slice_get parts.services 0 ≡ Some service
-  pub target : Option PathTree
-  pub reply : Option PathTree
-  pub path : PathTree
-  pub value : Exp
-  pub no_init : service.init ≡ nothing
-  pub one_input : service.main ≡ choice (request 0 target reply (assign path value) nothing no_branches)
-  pub fixed_target : is_fixed_target target ≡ true
-  pub fixed_reply : is_fixed_target reply ≡ true

@@ -1,14 +1,47 @@
 -- The messages that a history accepted, and what becomes of them, as filters over the whole list of entries.
-use Rattle.std.specs.Prelude.{ℕ, ◌+◌, ◌*◌, Bool, true, false, not, ◌&&◌, List, [], ◌∷◌, length, Option, None, Some, option_map, nat_eq, nat_lt, if◌then◌else◌, sum_by}
+use Rattle.std.specs.Prelude.{ℕ, ◌+◌, ◌*◌, Bool, true, false, not, ◌&&◌, List, [], ◌∷◌, length, Option, None, Some, is_some, option_map, option_and_then, nat_eq, nat_lt, if◌then◌else◌, sum_by, slice_get}
 use Rattle.std.specs.List.{list_any, filter_map}
 use Rattle.jolie_trees.specs.Data.{Tree}
 use Rattle.jolie_trees.specs.Trees.{size, text_bytes}
 use Rattle.behaviour_tree.specs.declared.words.Outcome.{Outcome}
 use Rattle.behaviour_tree.specs.declared.words.Outcome.TheVariants as outcome
+use Rattle.behaviour_tree.specs.Data.{TypeTree, OperationPart, ProgramParts}
+use Rattle.behaviour_tree.specs.Conforms.{wide}
+use Rattle.behaviour_tree.specs.Operations.{operation_at, operation_named}
 use Rattle.jolie_main.specs.declared.history.Entry.{Entry}
 use Rattle.jolie_main.specs.declared.history.Act.TheVariants as act
 use Rattle.jolie_main.specs.declared.history.Posted.{Posted}
 use Rattle.jolie_main.specs.declared.history.PostReply.TheVariants as reply
+
+-- ---- what is asked
+
+-- the number of the operation of a name of the first service, where it has one
+abbrev pub number_of : ProgramParts → List ℕ → Option ℕ
+number_of parts name = operation_named parts 0 name
+
+-- the operation of a name of the first service, where it has one
+abbrev pub operation_of : ProgramParts → List ℕ → Option OperationPart
+operation_of parts name = option_and_then (operation_at parts 0) (number_of parts name)
+
+-- whether an operation asks for an answer
+abbrev pub asks_answer : Option OperationPart → Bool
+asks_answer None = false
+asks_answer (Some o) = is_some o.response
+
+-- whether a message is a request: its operation has a response
+abbrev pub is_request : ProgramParts → Posted → Bool
+is_request parts posted = asks_answer (operation_of parts posted.op)
+
+-- the value as its session takes it: widened by the type of the operation's request
+abbrev pub taken_as : ProgramParts → Option OperationPart → Tree → Tree
+taken_as parts None v = v
+taken_as parts (Some o) v = wide parts.types v o.request
+
+-- the value that lies in the box
+abbrev pub delivered : ProgramParts → Posted → Tree
+delivered parts posted = taken_as parts (operation_of parts posted.op) posted.value
+
+-- ---- the messages
 
 -- the message that an entry accepted
 abbrev pub accepted_in : Entry → Option Posted
@@ -34,6 +67,10 @@ posters h = filter_map poster_in h
 abbrev pub births : List Entry → ℕ
 births h = length (messages h)
 
+-- whether the message of a number was accepted and is a request
+abbrev pub was_request : ProgramParts → List Entry → ℕ → Bool
+was_request parts h m = elim (slice_get (messages h) m) [ None ↦ false | Some posted ↦ is_request parts posted ]
+
 -- the weight of a value: 8 for each node, and the bytes of its texts and names
 abbrev pub weight : Tree → ℕ
 weight t = 8 * size t + text_bytes t
@@ -55,6 +92,8 @@ entry_weight e = elim e.act [
 -- the weight of all accepted values and replies
 abbrev pub total_weight : List Entry → ℕ
 total_weight h = sum_by entry_weight h
+
+-- ---- what becomes of them
 
 -- an entry by which the session was adopted
 abbrev pub adopts : ℕ → Entry → Bool

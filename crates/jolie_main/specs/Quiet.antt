@@ -1,5 +1,6 @@
 -- A record in which nothing is left to do, at its end and before each posting.
-use Rattle.std.specs.Prelude.{◌≡◌, ◌≢◌, ℕ, ◌<◌, true, List, [], ◌∷◌, ◌++◌, Some, if◌then◌else◌}
+use Rattle.std.specs.Prelude.{◌≡◌, ◌≢◌, ℕ, ◌<◌, Bool, true, false, List, [], ◌∷◌, ◌++◌, Some, nat_eq, if◌then◌else◌}
+use Rattle.std.specs.List.{list_any}
 use Rattle.behaviour_tree.specs.declared.words.Need.{Need}
 use Rattle.behaviour_tree.specs.declared.words.Need.TheVariants as need
 use Rattle.behaviour_tree.specs.declared.words.Given.{Given}
@@ -38,11 +39,15 @@ pub record IsQuiet (parts : ProgramParts) (service : ℕ) (h : List Entry) : Typ
   pub adopted : (s : ℕ) → s < births h → was_adopted s h ≡ true
   pub idle : (s : ℕ) → ¬ CanAct parts service h s
 
--- the entries before each post
+-- a post for this posting
+abbrev pub posts_for : ℕ → Entry → Bool
+posts_for j e = elim e.act [ act.Post posting index posted r ↦ nat_eq j posting | _ ↦ false ]
+
+-- the entries before the first post of each posting
 abbrev pub before_posts : List Entry → List Entry → List (List Entry)
 before_posts h [] = []
 before_posts h (e ∷ es) =
     elim e.act [
-      | act.Post posting index posted r ↦ h ∷ before_posts (h ++ e ∷ []) es
+      | act.Post posting index posted r ↦ (if list_any (posts_for posting) h then before_posts (h ++ e ∷ []) es else h ∷ before_posts (h ++ e ∷ []) es)
       | _ ↦ before_posts (h ++ e ∷ []) es
     ]

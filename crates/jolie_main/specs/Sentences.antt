@@ -15,9 +15,9 @@ pub record HasSessions (parts : ProgramParts) (h : List Entry) (sessions : List 
   pub all : length sessions ≡ births h
   pub each : (s : ℕ) (events : List Event) → slice_get sessions s ≡ Some events → IsSession parts 0 h s events
 
--- each accepted request has exactly one answer
-abbrev pub AnswersEach : List Entry → Type 0
-AnswersEach h = (m : ℕ) → m < births h → (o : Outcome) × (answers h m ≡ o ∷ [])
+-- each accepted message has exactly one answer
+abbrev pub AnswersEach : ProgramParts → List Entry → Type 0
+AnswersEach parts h = (m : ℕ) → m < births h → (o : Outcome) × (answers parts h m ≡ o ∷ [])
 
 -- At the end and before each posting nothing was left to do.
 pub record IsStill (parts : ProgramParts) (h : List Entry) : Type 0 where

@@ -13,7 +13,7 @@ use Rattle.jolie_main.specs.declared.history.Entry.{Entry}
 use Rattle.jolie_main.specs.declared.history.Act.{Act}
 use Rattle.jolie_main.specs.declared.history.Act.TheVariants as act
 use Rattle.jolie_main.specs.declared.history.Posted.{Posted}
-use Rattle.jolie_main.specs.Messages.{messages, queue}
+use Rattle.jolie_main.specs.Messages.{messages, queue, number_of, delivered}
 
 -- a call of the office that an event made: what it asked and what it was given
 pub record Call : Type 0 where
@@ -64,28 +64,31 @@ calls_of_after s h (e ∷ es) =
 abbrev pub calls_of : List Entry → ℕ → List Placed
 calls_of h s = calls_of_after s [] h
 
--- the message of a number has this value
-abbrev pub IsMessage : List Entry → ℕ → Tree → Type 0
-IsMessage h m value = (posted : Posted) × (slice_get (messages h) m ≡ Some posted) × (posted.value ≡ value)
+-- the message of a number is of this operation, and this value lies in the box
+pub record IsMessage (parts : ProgramParts) (h : List Entry) (m op : ℕ) (value : Tree) : Type 0 where
+  pub posted : Posted
+  pub accepted : slice_get (messages h) m ≡ Some posted
+  pub operation : number_of parts posted.op ≡ Some op
+  pub value_is : delivered parts posted ≡ value
 
 -- The call that the event made is the entry's call, and the gift is what the entries before it give.
-abbrev pub IsCall : ℕ → Need → Given → List Entry → Act → Type 0
-IsCall s (need.Take ops) (given.Mail m op value) h (act.Take m') = (m ≡ m') × Contains ops op × (queue h s ≡ m ∷ []) × IsMessage h m value
-IsCall s (need.Reply m o) given.Nothing h (act.Reply m' o') = (m ≡ m') × (o ≡ o')
-IsCall s need.Finish given.Nothing h act.End = Unit {0}
-IsCall s n g h a = ⊥
+abbrev pub IsCall : ProgramParts → ℕ → Need → Given → List Entry → Act → Type 0
+IsCall parts s (need.Take ops) (given.Mail m op value) h (act.Take m') = (m ≡ m') × Contains ops op × (queue h s ≡ m ∷ []) × IsMessage parts h m op value
+IsCall parts s (need.Reply m o) given.Nothing h (act.Reply m' o') = (m ≡ m') × (o ≡ o')
+IsCall parts s need.Finish given.Nothing h act.End = Unit {0}
+IsCall parts s n g h a = ⊥
 
 -- the calls of the events are the entries, one for one and in order
-abbrev pub AreCalls : ℕ → List Call → List Placed → Type 0
-AreCalls s [] [] = Unit {0}
-AreCalls s (c ∷ calls) (p ∷ placed) = IsCall s c.need c.gift p.before p.act × AreCalls s calls placed
-AreCalls s calls placed = ⊥
+abbrev pub AreCalls : ProgramParts → ℕ → List Call → List Placed → Type 0
+AreCalls parts s [] [] = Unit {0}
+AreCalls parts s (c ∷ calls) (p ∷ placed) = IsCall parts s c.need c.gift p.before p.act × AreCalls parts s calls placed
+AreCalls parts s calls placed = ⊥
 
 -- The steps are a run of the service that ends at this configuration, and what they asked of the office is what the
 -- history has of the session.
 pub record Agrees (parts : ProgramParts) (service : ℕ) (h : List Entry) (s : ℕ) (steps : List TakenStep) (last : Config) : Type 0 where
   pub run : RunsTo parts service steps last
-  pub calls : AreCalls s (calls_from parts service (start_of parts service) steps) (calls_of h s)
+  pub calls : AreCalls parts s (calls_from parts service (start_of parts service) steps) (calls_of h s)
 
 -- The session's events are a run of its service that agrees with the history.
 abbrev pub IsSession : ProgramParts → ℕ → List Entry → ℕ → List Event → Type 0

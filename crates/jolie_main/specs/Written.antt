@@ -1,34 +1,36 @@
 -- What a list of lines posts, and what is written for it.
-use Rattle.std.specs.Prelude.{◌≡◌, ◌≢◌, ℕ, ◌+◌, List, [], ◌∷◌, ◌++◌, map, length, take, Option, None, Some, nat_eq, if◌then◌else◌}
+use Rattle.std.specs.Prelude.{◌≡◌, ◌≢◌, ℕ, ◌+◌, Bool, true, false, List, [], ◌∷◌, ◌++◌, map, length, take, Option, None, Some, option_and_then, unwrap_or, Result, Ok, Err, nat_eq, ◌&&◌, if◌then◌else◌}
 use Rattle.std.specs.List.{filter_map}
 use Rattle.jolie_trees.specs.Data.{Tree}
 use Rattle.behaviour_tree.specs.declared.words.Outcome.{Outcome}
 use Rattle.behaviour_tree.specs.declared.words.Outcome.TheVariants as outcome
+use Rattle.behaviour_tree.specs.Data.{TypeTree, undefined, OperationPart, ProgramParts}
+use Rattle.jsonrpc_text.specs.declared.message.Id.{Id}
+use Rattle.jsonrpc_text.specs.declared.message.Id.TheVariants as id
+use Rattle.jsonrpc_text.specs.declared.message.ReadCall.{ReadCall}
+use Rattle.jsonrpc_text.specs.declared.message.Read.{Read}
+use Rattle.jsonrpc_text.specs.Posted.{posted as read_of}
+use Rattle.jsonrpc_text.specs.Responses.{answer, early_answer, batch}
 use Rattle.jolie_main.specs.declared.history.Entry.{Entry}
 use Rattle.jolie_main.specs.declared.history.Act.TheVariants as act
 use Rattle.jolie_main.specs.declared.history.Posted.{Posted}
 use Rattle.jolie_main.specs.declared.history.PostReply.{PostReply}
 use Rattle.jolie_main.specs.declared.history.PostReply.TheVariants as reply
-use Rattle.jolie_main.specs.declared.request.Asked.{Asked}
-use Rattle.jolie_main.specs.declared.request.Asked.TheVariants as asked
-use Rattle.jolie_main.specs.Requests.{asked_of}
 use Rattle.jolie_main.specs.Lines.{said_lines}
-use Rattle.jolie_main.specs.Answers.{said, not_built_text}
+use Rattle.jolie_main.specs.Messages.{operation_of}
 use Rattle.jolie_main.specs.Replies.{answer_of}
 
--- what the lines that are not blank ask, in order; each is a posting, numbered from 0
-abbrev pub asked_by : List ℕ → List (List ℕ) → List (List ℕ) → List Asked
-asked_by operation fields lines = map (asked_of operation fields) (said_lines lines)
+-- ---- what is posted
 
 -- the most postings of a run: the lines behind them are passed over
 abbrev pub most_postings : ℕ
 most_postings = 4294967295
 
--- the postings of lines
-abbrev pub postings_by : List ℕ → List (List ℕ) → List (List ℕ) → List Asked
-postings_by operation fields lines = take most_postings (asked_by operation fields lines)
+-- the postings of lines: what each line that is not blank posts, in order, numbered from 0
+abbrev pub postings_by : List (List ℕ) → List Read
+postings_by lines = take most_postings (map read_of (said_lines lines))
 
--- a post: its posting, its place there, and the message
+-- a post: its posting, its call there, and the message
 pub record Post : Type 0 where
   pub posting : ℕ
   pub index : ℕ
@@ -45,20 +47,30 @@ post_in e = elim e.act [
 abbrev pub posts : List Entry → List Post
 posts h = filter_map post_in h
 
--- the post of a request to the one operation of the first service
-abbrev pub post_of : List ℕ → ℕ → Tree → Post
-post_of operation j value = record { posting = j; index = 0; posted = record { service = 0; op = operation; value = value } }
+-- a message to an operation of the first service
+abbrev pub message_to : List ℕ × Tree → Posted
+message_to w = record { service = 0; op = w.0; value = w.1 }
+
+-- the post that a call asks for, none where it was refused before
+abbrev pub post_of : ℕ → ℕ → ReadCall → List Post
+post_of j i c = elim c.what [ Ok w ↦ record { posting = j; index = i; posted = message_to w } ∷ [] | Err early ↦ [] ]
+
+-- the posts of the calls of posting j, the first of which has the number i
+abbrev pub posts_of : ℕ → ℕ → List ReadCall → List Post
+posts_of j i [] = []
+posts_of j i (c ∷ cs) = post_of j i c ++ posts_of j (i + 1) cs
 
 -- the posts that postings ask for, the first having the number j
-abbrev pub posts_from : List ℕ → ℕ → List Asked → List Post
-posts_from operation j [] = []
-posts_from operation j (asked.Request id value ∷ rest) = post_of operation j value ∷ posts_from operation (j + 1) rest
-posts_from operation j (asked.NotBuilt ∷ rest) = posts_from operation (j + 1) rest
+abbrev pub posts_from : ℕ → List Read → List Post
+posts_from j [] = []
+posts_from j (r ∷ rest) = posts_of j 0 r.calls ++ posts_from (j + 1) rest
 
--- the reply of an entry to a posting
-abbrev pub reply_in : ℕ → Entry → Option PostReply
-reply_in j e = elim e.act [
-  | act.Post posting index posted r ↦ (if nat_eq j posting then Some r else None)
+-- ---- what is answered
+
+-- the reply of an entry to call i of posting j
+abbrev pub reply_in : ℕ → ℕ → Entry → Option PostReply
+reply_in j i e = elim e.act [
+  | act.Post posting index posted r ↦ (if nat_eq j posting && nat_eq i index then Some r else None)
   | _ ↦ None
 ]
 
@@ -67,30 +79,75 @@ abbrev pub first_of : {A : Type 0} → List A → Option A
 first_of [] = None
 first_of (x ∷ xs) = Some x
 
--- the reply to a posting
-abbrev pub reply_to : List Entry → ℕ → Option PostReply
-reply_to h j = first_of (filter_map (reply_in j) h)
+-- the reply to call i of posting j
+abbrev pub reply_to : List Entry → ℕ → ℕ → Option PostReply
+reply_to h j i = first_of (filter_map (reply_in j i) h)
 
--- what is said to a request that was accepted: the answer of its message
-abbrev pub said_if : ℕ → Option Outcome → List ℕ
-said_if id None = []
-said_if id (Some o) = said id o
+-- the type of the answers of an operation; where it has none, or is not there, anything
+abbrev pub answer_type : Option OperationPart → TypeTree
+answer_type None = undefined
+answer_type (Some o) = unwrap_or o.response undefined
 
--- the text for a reply to a post
-abbrev pub text_for : List Entry → ℕ → Option PostReply → List ℕ
-text_for h id None = []
-text_for h id (Some (reply.Accepted m)) = said_if id (answer_of h m)
-text_for h id (Some (reply.Refused reason)) = said id (outcome.Refused reason)
+-- the text that says how a call of an operation ended
+abbrev pub said : ProgramParts → List ℕ → Id → Outcome → List ℕ
+said parts op i o = answer parts.types (answer_type (operation_of parts op)) i o
 
--- the text of posting j
-abbrev pub text_of : List Entry → ℕ → Asked → List ℕ
-text_of h j asked.NotBuilt = not_built_text
-text_of h j (asked.Request id value) = text_for h id (reply_to h j)
+-- what is said of a message once it has an answer
+abbrev pub said_if : ProgramParts → List ℕ → Id → Option Outcome → List (List ℕ)
+said_if parts op i None = []
+said_if parts op i (Some o) = said parts op i o ∷ []
 
--- the texts of postings, each with its line end, the first having the number j
-abbrev pub texts_from : List Entry → ℕ → List Asked → List ℕ
-texts_from h j [] = []
-texts_from h j (a ∷ rest) = text_of h j a ++ 10 ∷ texts_from h (j + 1) rest
+-- what is said of a reply to a post: the answer of its message, or the refusal
+abbrev pub said_of : ProgramParts → List Entry → List ℕ → Id → Option PostReply → List (List ℕ)
+said_of parts h op i None = []
+said_of parts h op i (Some (reply.Accepted m)) = said_if parts op i (answer_of parts h m)
+said_of parts h op i (Some (reply.Refused reason)) = said parts op i (outcome.Refused reason) ∷ []
+
+-- whether a call asks for a response: a notification does not
+abbrev pub has_id : Id → Bool
+has_id id.None = false
+has_id id.Null = true
+has_id (id.Int z) = true
+has_id (id.Big n) = true
+has_id (id.Text s) = true
+
+-- what is said of call i of posting j
+abbrev pub said_to : ProgramParts → List Entry → ℕ → ℕ → ReadCall → List (List ℕ)
+said_to parts h j i c = elim c.what [ Ok w ↦ said_of parts h w.0 c.id (reply_to h j i) | Err early ↦ early_answer c.id early ∷ [] ]
+
+-- the text of call i of posting j, none for a notification
+abbrev pub text_of : ProgramParts → List Entry → ℕ → ℕ → ReadCall → List (List ℕ)
+text_of parts h j i c = if has_id c.id then said_to parts h j i c else []
+
+-- the texts of the calls of posting j, in order, the first of which has the number i
+abbrev pub texts_of : ProgramParts → List Entry → ℕ → ℕ → List ReadCall → List (List ℕ)
+texts_of parts h j i [] = []
+texts_of parts h j i (c ∷ cs) = text_of parts h j i c ++ texts_of parts h j (i + 1) cs
+
+-- the response that texts make, none where there are none
+abbrev pub response_of : Bool → List (List ℕ) → Option (List ℕ)
+response_of is_batch [] = None
+response_of is_batch (t ∷ ts) = Some (if is_batch then batch (t ∷ ts) else t)
+
+-- the response to posting j
+abbrev pub response : ProgramParts → List Entry → ℕ → Read → Option (List ℕ)
+response parts h j r = response_of r.batch (texts_of parts h j 0 r.calls)
+
+-- a response with its line end, where there is one
+abbrev pub line_if : Option (List ℕ) → List ℕ
+line_if None = []
+line_if (Some text) = text ++ 10 ∷ []
+
+-- what is written for posting j
+abbrev pub line_of : ProgramParts → List Entry → ℕ → Read → List ℕ
+line_of parts h j r = line_if (response parts h j r)
+
+-- what is written for postings, the first having the number j
+abbrev pub lines_from : ProgramParts → List Entry → ℕ → List Read → List ℕ
+lines_from parts h j [] = []
+lines_from parts h j (r ∷ rest) = line_of parts h j r ++ lines_from parts h (j + 1) rest
+
+-- ---- a run
 
 -- xs stands at the front of ys
 abbrev pub IsFront : {A : Type 0} → List A → List A → Type 0
@@ -101,17 +158,17 @@ abbrev pub IsProperFront : {A : Type 0} → List A → List A → Type 0
 IsProperFront {A} xs ys = (rest : List A) × (rest ≢ []) × (xs ++ rest ≡ ys)
 
 -- All that was asked was posted in order and answered in order.
-pub record IsAnswered (operation : List ℕ) (h : List Entry) (all : List Asked) (written : List ℕ) : Type 0 where
-  pub posted : posts h ≡ posts_from operation 0 all
-  pub answered : written ≡ texts_from h 0 all
+pub record IsAnswered (parts : ProgramParts) (h : List Entry) (all : List Read) (written : List ℕ) : Type 0 where
+  pub posted : posts h ≡ posts_from 0 all
+  pub answered : written ≡ lines_from parts h 0 all
 
 -- The output stopped inside or before the answer of a posting: those before it are answered, and those after it were
 -- not posted.
-pub record IsCutShort (operation : List ℕ) (h : List Entry) (all : List Asked) (written : List ℕ) : Type 0 where
-  pub done : List Asked
-  pub last : Asked
+pub record IsCutShort (parts : ProgramParts) (h : List Entry) (all : List Read) (written : List ℕ) : Type 0 where
+  pub done : List Read
+  pub last : Read
   pub piece : List ℕ
   pub front : IsFront (done ++ last ∷ []) all
-  pub posted : posts h ≡ posts_from operation 0 (done ++ last ∷ [])
-  pub cut : IsProperFront piece (text_of h (length done) last ++ 10 ∷ [])
-  pub answered : written ≡ texts_from h 0 done ++ piece
+  pub posted : posts h ≡ posts_from 0 (done ++ last ∷ [])
+  pub cut : IsProperFront piece (line_of parts h (length done) last)
+  pub answered : written ≡ lines_from parts h 0 done ++ piece

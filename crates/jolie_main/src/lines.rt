@@ -3,16 +3,18 @@ ghost use Rattle.std.specs.Io.KnownBytes.{Appends, Consumes, IsAtEnd};
 ghost use Rattle.outside_traits.specs.Causes.{Rose};
 ghost use Rattle.behaviour_tree.specs.PartsView.{parts_of};
 ghost use Rattle.jolie_main.specs.Lines.{split, is_blank as blank, IsOpen};
-ghost use Rattle.jolie_main.specs.Meaning.{program_of, IsFirstProgram};
+ghost use Rattle.jolie_main.specs.BuiltPrograms.{IsBuiltProgram};
 ghost use Rattle.jolie_main.specs.Deeds.{deeds_of};
+ghost use Rattle.jolie_main.specs.Messages.{births};
 ghost use Rattle.jolie_main.specs.Turns.{no_deeds};
 ghost use Rattle.jolie_main.specs.Progress.{IsUnderWay, Goes, Sends, AllOrFault};
 ghost use Rattle.jolie_main.specs.Ends.{IsFinished, SourceCause, SinkCause};
 ghost use Rattle.jolie_main.specs.declared.lines.End.TheVariants as ends;
 
 use crate::office::Office;
-use crate::turn::{Built, Deeds, take_turn};
-use jolie_trees::Bytes;
+use crate::turn::{Deeds, take_turn};
+use behaviour_tree::Program;
+use jolie_trees::{Bytes, Text};
 use outside_traits::{Sink, Source};
 use sqlite_items::Items;
 use std::alloc::{AllocError, Global};
@@ -64,16 +66,15 @@ pub enum End {
 /// Answers the lines of a source, until it ends or one of the two fails. It says how that was, and what was read.
 pub fn answer_lines<S: Source, K: Sink>(
     alloc: Global,
-    built: &Built,
+    program: &Program,
     input: &mut S,
     output: &mut K,
     progress: &mut Progress,
 ) -> Result<(End, Bytes), AllocError>
-    requires meant { parts_of built.now.program ≡ program_of built.now.form }
-    requires first { IsFirstProgram (program_of built.now.form) }
+    requires built { IsBuiltProgram (parts_of program.now) }
     requires begins { progress.old.line.items ≡ [] }
-    requires nothing_yet { IsUnderWay built.now.form [] progress.old.postings (deeds_of progress.old.deeds) progress.old.written }
-    ensures served { IfOk result (λ e. IsFinished built.now.form e.0 e.1 (deeds_of progress.new.deeds) progress.new.written) }
+    requires nothing_yet { IsUnderWay (parts_of program.now) [] progress.old.postings (deeds_of progress.old.deeds) progress.old.written }
+    ensures served { IfOk result (λ e. IsFinished (parts_of program.now) e.0 e.1 (deeds_of progress.new.deeds) progress.new.written) }
     ensures read { IfOk result (λ e. Consumes (S.left input.old) (S.left input.new) e.1) }
     ensures end { IfOk result (λ e. e.0 ≡ ends.Whole → IsAtEnd (S.left input.new)) }
     ensures written { OnOk result ((start : Option (List ℕ)) → Appends start (K.taken output.old) progress.old.written → Appends start (K.taken output.new) progress.new.written) }
@@ -87,7 +88,7 @@ pub fn answer_lines<S: Source, K: Sink>(
             Err(_) => break End::Cut,
             Ok(0) => {
                 let line = mem::replace(&mut progress.line, Vec::new(alloc));
-                break if answer_line(alloc, built, &line, output, progress)? {
+                break if answer_line(alloc, program, &line, output, progress)? {
                     End::Whole
                 } else {
                     End::Stopped
@@ -96,7 +97,7 @@ pub fn answer_lines<S: Source, K: Sink>(
             Ok(count) => {
                 let piece = &buffer[..count];
                 read.extend_from_slice(piece)?;
-                if !take_piece(alloc, built, piece, output, progress)? {
+                if !take_piece(alloc, program, piece, output, progress)? {
                     break End::Stopped;
                 }
             }
@@ -108,16 +109,16 @@ pub fn answer_lines<S: Source, K: Sink>(
 /// Answers each line that ends in a piece of the input. It says whether the output took all.
 fn take_piece<K: Sink>(
     alloc: Global,
-    built: &Built,
+    program: &Program,
     piece: &[u8],
     output: &mut K,
     progress: &mut Progress,
 ) -> Result<bool, AllocError>
-    requires meant { parts_of built.now.program ≡ program_of built.now.form }
-    requires first { IsFirstProgram (program_of built.now.form) }
+    requires built { IsBuiltProgram (parts_of program.now) }
+    requires settled { length progress.old.deeds.sessions ≡ births progress.old.deeds.history }
     requires is_open { IsOpen progress.old.line.items }
-    ensures goes { IfOk result (λ all. (lines : List (List ℕ)) → IsUnderWay built.now.form lines progress.old.postings (deeds_of progress.old.deeds) progress.old.written
-        → Goes all built.now.form (lines ++ (split (progress.old.line.items ++ piece.now)).0) progress.new.postings (deeds_of progress.new.deeds) progress.new.written) }
+    ensures goes { IfOk result (λ all. (lines : List (List ℕ)) → IsUnderWay (parts_of program.now) lines progress.old.postings (deeds_of progress.old.deeds) progress.old.written
+        → Goes all (parts_of program.now) (lines ++ (split (progress.old.line.items ++ piece.now)).0) progress.new.postings (deeds_of progress.new.deeds) progress.new.written) }
     ensures line { IfOk result (λ all. IsTrue all → progress.new.line.items ≡ (split (progress.old.line.items ++ piece.now)).1) }
     ensures written { OnOk result ((start : Option (List ℕ)) → Appends start (K.taken output.old) progress.old.written → Appends start (K.taken output.new) progress.new.written) }
     ensures cause { IfOk result (λ all. AllOrFault all (K.faults output.old) (K.faults output.new)) }
@@ -125,7 +126,7 @@ fn take_piece<K: Sink>(
     for byte in piece {
         if *byte == b'\n' {
             let line = mem::replace(&mut progress.line, Vec::new(alloc));
-            if !answer_line(alloc, built, &line, output, progress)? {
+            if !answer_line(alloc, program, &line, output, progress)? {
                 return Ok(false);
             }
         } else {
@@ -138,15 +139,16 @@ fn take_piece<K: Sink>(
 /// Does what one line asks, unless it is blank, and writes its answer. It says whether the output took all.
 fn answer_line<K: Sink>(
     alloc: Global,
-    built: &Built,
+    program: &Program,
     line: &[u8],
     output: &mut K,
     progress: &mut Progress,
 ) -> Result<bool, AllocError>
-    requires meant { parts_of built.now.program ≡ program_of built.now.form }
-    requires first { IsFirstProgram (program_of built.now.form) }
-    ensures goes { IfOk result (λ all. (lines : List (List ℕ)) → IsUnderWay built.now.form lines progress.old.postings (deeds_of progress.old.deeds) progress.old.written
-        → Goes all built.now.form (lines ++ line.now ∷ []) progress.new.postings (deeds_of progress.new.deeds) progress.new.written) }
+    requires built { IsBuiltProgram (parts_of program.now) }
+    requires settled { length progress.old.deeds.sessions ≡ births progress.old.deeds.history }
+    ensures goes { IfOk result (λ all. (lines : List (List ℕ)) → IsUnderWay (parts_of program.now) lines progress.old.postings (deeds_of progress.old.deeds) progress.old.written
+        → Goes all (parts_of program.now) (lines ++ line.now ∷ []) progress.new.postings (deeds_of progress.new.deeds) progress.new.written) }
+    ensures settled { OnOk result (length progress.new.deeds.sessions ≡ births progress.new.deeds.history) }
     ensures line { OnOk result (progress.new.line.items ≡ progress.old.line.items) }
     ensures written { OnOk result ((start : Option (List ℕ)) → Appends start (K.taken output.old) progress.old.written → Appends start (K.taken output.new) progress.new.written) }
     ensures cause { IfOk result (λ all. AllOrFault all (K.faults output.old) (K.faults output.new)) }
@@ -154,10 +156,29 @@ fn answer_line<K: Sink>(
     if is_blank(line) || progress.postings == u32::MAX {
         return Ok(true);
     }
-    let mut text = take_turn(alloc, built, progress.postings, line, &mut progress.deeds)?;
+    let response = take_turn(alloc, program, progress.postings, line, &mut progress.deeds)?;
     progress.postings += 1;
-    text.push('\n')?;
-    write_text(output, text.as_bytes(), &mut progress.written)
+    match response {
+        Some(text) => write_line(alloc, &text, output, &mut progress.written),
+        None => Ok(true),
+    }
+}
+
+/// Writes a text and a line end. It says whether the output took all of it.
+fn write_line<K: Sink>(
+    alloc: Global,
+    text: &Text,
+    output: &mut K,
+    written: &mut Bytes,
+) -> Result<bool, AllocError>
+    ensures sends { IfOk result (λ all. Sends all (text.now ++ 10 ∷ []) written.old written.new) }
+    ensures told { OnOk result ((start : Option (List ℕ)) → Appends start (K.taken output.old) written.old → Appends start (K.taken output.new) written.new) }
+    ensures cause { IfOk result (λ all. AllOrFault all (K.faults output.old) (K.faults output.new)) }
+{
+    let mut line = String::new(alloc);
+    line.push_str(text.as_str())?;
+    line.push('\n')?;
+    write_text(output, line.as_bytes(), written)
 }
 
 fn is_blank(line: &[u8]) -> bool

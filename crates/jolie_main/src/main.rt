@@ -1,20 +1,21 @@
 //! Checks and prints a text of Jolie, or runs its service over lines of JSON-RPC.
 #![tactic(auto)]
 
-mod answer;
 mod form;
 mod formula;
 mod history;
-mod laws;
 mod lines;
+mod mail;
 mod meaning;
 mod office;
 mod record;
 mod refusal;
-mod request;
+mod respond;
 mod say;
+mod serving;
 mod session;
 mod show;
+mod starting;
 #[cfg(test)]
 mod tests;
 mod top;

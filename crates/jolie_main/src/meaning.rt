@@ -3,7 +3,8 @@ ghost use Rattle.behaviour_tree.specs.PartsView.{parts_of, parts_view, operation
 ghost use Rattle.behaviour_tree.specs.View as view;
 ghost use Rattle.behaviour_tree.specs.View.{type_view, expr_view, sum_part_view, mul_part_view, path_view, behaviour_view};
 ghost use Rattle.jolie_main.specs.Meaning as meaning;
-ghost use Rattle.jolie_main.specs.Meaning.{program_of, path_of, expression_of, term_of, factor_of, IsFirstProgram};
+ghost use Rattle.jolie_main.specs.BuiltPrograms.{IsBuiltProgram};
+ghost use Rattle.jolie_main.specs.Meaning.{program_of, path_of, expression_of, term_of, factor_of};
 
 use crate::form::FirstForm;
 use crate::formula::{Factor, Formula, Sign, Term};
@@ -29,10 +30,10 @@ const STANDARD_NAMES: [&str; 9] = [
 ];
 
 /// The program that a text of the first form means.
-#[tactic(auto, using(crate::proofs::FirstProgramLemmas::first_program))]
+#[tactic(auto, using(crate::proofs::FirstProgramLemmas::first_is_built))]
 pub fn program_of_form(alloc: Global, form: &FirstForm) -> Result<Program, AllocError>
     ensures meant { IfOk result (λ program. parts_of program ≡ program_of form.now) }
-    ensures first { IsFirstProgram (program_of form.now) }
+    ensures built { IsBuiltProgram (program_of form.now) }
 {
     let mut types = Vec::new(alloc);
     types.push(request_type(alloc, form.fields.as_slice())?)?;

@@ -1,15 +1,19 @@
-ghost use Rattle.std.specs.Prelude.{◌≡◌, ◌++◌, ◌∷◌, [], IfOk, OnOk, OnErr};
+ghost use Rattle.std.specs.Prelude.{◌≡◌, ◌++◌, ◌∷◌, [], IfOk, OnOk, OnErr, option_map};
+ghost use Rattle.std.specs.Option.{option_copied};
+ghost use Rattle.behaviour_tree.specs.PartsView.{operation_view, parts_of};
 ghost use Rattle.jolie_main.specs.declared.history.Act.TheVariants as acts;
 ghost use Rattle.jolie_main.specs.Legal.{first_worker};
-ghost use Rattle.jolie_main.specs.Route.{routed, is_full as full};
+ghost use Rattle.jolie_main.specs.Route.{routed, routed_to, started, is_full as full};
 ghost use Rattle.jolie_main.specs.Turns.{entry};
-ghost use Rattle.jolie_main.specs.Messages.{weight as tree_weight, outcome_weight as outcome_weight_of};
+ghost use Rattle.jolie_main.specs.Messages.{births, operation_of, weight as tree_weight, outcome_weight as outcome_weight_of};
 ghost use Rattle.jolie_trees.specs.Data.{Tree};
 ghost use Rattle.jolie_trees.specs.Limits.{in_u64};
 
 use crate::history::{Act, Entry, History, PostReply, Posted};
-use behaviour_tree::{Outcome, Reason};
+use crate::starting::starts;
+use behaviour_tree::{Operation, Outcome, Program, Reason};
 use jolie_trees::Tree;
+use message_types::conforms;
 use sqlite_items::Items;
 use std::alloc::{AllocError, Global};
 use std::marker::Model;
@@ -24,7 +28,7 @@ const MOST_SESSIONS: u32 = 4096;
 
 const MOST_WEIGHT: u64 = 67_108_864;
 
-/// The office of a program with one operation: it routes messages and keeps the history, as which contracts see it.
+/// The office of a program: it routes messages and keeps the history, as which contracts see it.
 #[derive(Drop)]
 pub struct Office {
     entries: Items<Entry>,
@@ -49,7 +53,7 @@ impl Model for Office {
     ghost invariant = { λ o. (o.accepted ≡ births o.entries) × (o.weight ≡ in_u64 (total_weight o.entries)) };
 }
 
-#[tactic(auto, using(crate::proofs::MessagesLemmas::births_more, crate::proofs::MessagesLemmas::weight_more, crate::proofs::MessagesLemmas::room_left))]
+#[tactic(auto, using(crate::proofs::OfficeLemmas::births_more, crate::proofs::OfficeLemmas::weight_more))]
 impl Office {
     pub fn new(alloc: Global) -> Office
         ensures { result ≡ [] }
@@ -61,32 +65,81 @@ impl Office {
         }
     }
 
-    /// Takes a message of a posting, or refuses it where the run is full.
-    pub fn post(&mut self, posting: u32, posted: Posted) -> Result<PostReply, AllocError>
-        ensures reply { IfOk result (λ reply. reply ≡ routed self.old posted.value) }
-        ensures added { IfOk result (λ reply. self.new ≡ self.old ++ entry first_worker (acts.Post posting 0 posted reply) ∷ []) }
+    /// How many sessions were born.
+    pub fn births(&self) -> u32
+        ensures { result ≡ births self.now }
+    {
+        self.accepted
+    }
+
+    /// Takes a message as a call of a posting, or refuses it by name.
+    pub fn post(
+        &mut self,
+        program: &Program,
+        posting: u32,
+        index: u32,
+        posted: Posted,
+    ) -> Result<PostReply, AllocError>
+        ensures reply { IfOk result (λ reply. reply ≡ routed (parts_of program.now) self.old posted) }
+        ensures added { IfOk result (λ reply. self.new ≡ self.old ++ entry first_worker (acts.Post posting index posted reply) ∷ []) }
         ensures err { OnErr result (self.new ≡ self.old) }
     {
         let weight = weight_of(&posted.value);
-        if self.is_full(weight) {
-            let reply = PostReply::Refused(Reason::RunFull);
-            self.entries.push(post_entry(posting, posted, reply))?;
-            return Ok(reply);
+        let reply = self.route(program, weight, &posted);
+        self.entries.push(Entry {
+            actor: WORKER,
+            act: Act::Post {
+                posting,
+                index,
+                posted,
+                reply,
+            },
+        })?;
+        if let PostReply::Accepted(_) = reply {
+            self.accepted += 1;
+            self.weight = self.weight.saturating_add(weight);
         }
-        let reply = PostReply::Accepted(self.accepted);
-        self.entries.push(post_entry(posting, posted, reply))?;
-        self.accepted += 1;
-        self.weight = self.weight.saturating_add(weight);
         Ok(reply)
     }
 
-    /// No message of this weight is taken any more.
+    /// Where a message of this weight goes: the first refusal that there is, or the next session.
+    fn route(&self, program: &Program, weight: u64, posted: &Posted) -> PostReply
+        requires { weight ≡ in_u64 (tree_weight posted.now.value) }
+        ensures { result ≡ routed (parts_of program.now) self.now posted.now }
+    {
+        if self.is_full(weight) {
+            return PostReply::Refused(Reason::RunFull);
+        }
+        match operation_of(program, posted.op.as_str()) {
+            None => PostReply::Refused(Reason::UnknownOperation),
+            Some(operation) => {
+                if conforms(&posted.value, &operation.request, program) {
+                    self.started(starts(program, posted.op.as_str()))
+                } else {
+                    PostReply::Refused(Reason::NotConforming)
+                }
+            }
+        }
+    }
+
+    /// The next session for a message to a starting operation, while one may be born.
+    fn started(&self, is_starting: bool) -> PostReply
+        ensures { result ≡ started self.now is_starting }
+    {
+        if !is_starting {
+            PostReply::Refused(Reason::Correlation)
+        } else if self.accepted >= MOST_SESSIONS {
+            PostReply::Refused(Reason::RunFull)
+        } else {
+            PostReply::Accepted(self.accepted)
+        }
+    }
+
+    /// No message, or none of this weight, is taken any more.
     fn is_full(&self, weight: u64) -> bool
         ensures { (value : Tree) → weight ≡ in_u64 (tree_weight value) → result ≡ full self.now value }
     {
-        self.accepted >= MOST_MESSAGES
-            || self.weight.saturating_add(weight) > MOST_WEIGHT
-            || self.accepted >= MOST_SESSIONS
+        self.accepted >= MOST_MESSAGES || self.weight.saturating_add(weight) > MOST_WEIGHT
     }
 
     /// The session begins its work.
@@ -182,19 +235,12 @@ impl Office {
     }
 }
 
-/// The entry of a post by the worker.
-fn post_entry(posting: u32, posted: Posted, reply: PostReply) -> Entry
-    ensures { result ≡ entry first_worker (acts.Post posting 0 posted reply) }
+/// The operation of a name of the first service.
+pub fn operation_of<'a>(program: &'a Program, name: &str) -> Option<&'a Operation>
+    ensures { option_map operation_view (option_copied result) ≡ operation_of (parts_of program.now) name.now }
 {
-    Entry {
-        actor: WORKER,
-        act: Act::Post {
-            posting,
-            index: 0,
-            posted,
-            reply,
-        },
-    }
+    let number = program.operation_named(0, name)?;
+    program.operation(0, number)
 }
 
 /// The weight of a value, the last value of its type where it would be more.

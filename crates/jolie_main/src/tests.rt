@@ -1,15 +1,13 @@
 ghost use Rattle.std.specs.Prelude.{◌≡◌};
 ghost use Rattle.behaviour_tree.specs.PartsView.{parts_of};
-ghost use Rattle.jolie_main.specs.Meaning.{IsFirstProgram};
+ghost use Rattle.behaviour_tree.specs.Built.{IsBuiltService};
+ghost use Rattle.jolie_main.specs.BuiltPrograms.{IsBuiltProgram};
 ghost use Rattle.term_session.specs.Sessions.{service_of};
 
-use crate::form::FirstForm;
-use crate::meaning::program_of_form;
 use crate::record::Ended;
-use crate::request::{Asked, read_line};
 use crate::top::{program_in, run};
 use behaviour_tree::{Event, Events, Given, Kind, Program};
-use jolie_trees::Tree;
+use jolie_trees::{Root, Text, Tree};
 use outside_traits::{Script, ScriptedFiles, ScriptedSink, ScriptedSource};
 use sqlite_items::Items;
 use std::alloc::{AllocError, Global};
@@ -33,6 +31,70 @@ const SERVICE_TURNED: &str = "// twice\n\
 /// A file of no form that runs, as it is printed but for the line feed.
 const OTHER: &str = "service S { main { a = 1 ; b = 2 | c = 3 } }";
 
+/// The operation that the examples of the format call.
+const SUBTRACT: &str = "type Pair: void { minuend: int subtrahend: int }\n\
+    interface SubtractI { RequestResponse: subtract(Pair)(int) }\n\
+    service Subtract {\n  execution: concurrent\n  \
+    inputPort In { location: \"socket://localhost:8000\" protocol: jsonrpc interfaces: SubtractI }\n  \
+    main { subtract(x)(y) { y = x.minuend - x.subtrahend } }\n}\n";
+
+/// The examples of JSON-RPC 2.0 over that operation, and what they are answered.
+const EXAMPLES: [(&str, &str); 14] = [
+    (
+        r#"{"jsonrpc":"2.0","method":"subtract","params":{"subtrahend":23,"minuend":42},"id":3}"#,
+        r#"{"id":3,"jsonrpc":"2.0","result":19}"#,
+    ),
+    (
+        r#"{"jsonrpc":"2.0","method":"subtract","params":{"minuend":42,"subtrahend":23},"id":4}"#,
+        r#"{"id":4,"jsonrpc":"2.0","result":19}"#,
+    ),
+    (
+        r#"{"jsonrpc":"2.0","method":"subtract","params":[42,23],"id":1}"#,
+        r#"{"error":{"code":-32602,"message":"Invalid params"},"id":1,"jsonrpc":"2.0"}"#,
+    ),
+    (
+        r#"{"jsonrpc":"2.0","method":"update","params":[1,2,3,4,5]}"#,
+        "",
+    ),
+    (r#"{"jsonrpc":"2.0","method":"foobar"}"#, ""),
+    (
+        r#"{"jsonrpc":"2.0","method":"foobar","id":"1"}"#,
+        r#"{"error":{"code":-32601,"message":"Method not found"},"id":"1","jsonrpc":"2.0"}"#,
+    ),
+    (
+        r#"{"jsonrpc":"2.0","method":"foobar,"params":"bar","baz]"#,
+        r#"{"error":{"code":-32700,"message":"Parse error"},"id":null,"jsonrpc":"2.0"}"#,
+    ),
+    (
+        r#"{"jsonrpc":"2.0","method":1,"params":"bar"}"#,
+        r#"{"error":{"code":-32600,"message":"Invalid Request"},"id":null,"jsonrpc":"2.0"}"#,
+    ),
+    (
+        r#"[{"jsonrpc":"2.0","method":"subtract","params":{"minuend":1,"subtrahend":2},"id":"1"},{"jsonrpc":"2.0","method""#,
+        r#"{"error":{"code":-32700,"message":"Parse error"},"id":null,"jsonrpc":"2.0"}"#,
+    ),
+    (
+        "[]",
+        r#"{"error":{"code":-32600,"message":"Invalid Request"},"id":null,"jsonrpc":"2.0"}"#,
+    ),
+    (
+        "[1]",
+        r#"[{"error":{"code":-32600,"message":"Invalid Request"},"id":null,"jsonrpc":"2.0"}]"#,
+    ),
+    (
+        "[1,2]",
+        r#"[{"error":{"code":-32600,"message":"Invalid Request"},"id":null,"jsonrpc":"2.0"},{"error":{"code":-32600,"message":"Invalid Request"},"id":null,"jsonrpc":"2.0"}]"#,
+    ),
+    (
+        r#"[{"jsonrpc":"2.0","method":"subtract","params":{"minuend":7,"subtrahend":0},"id":"1"},{"jsonrpc":"2.0","method":"subtract","params":{"minuend":1,"subtrahend":7}},{"jsonrpc":"2.0","method":"subtract","params":{"minuend":42,"subtrahend":23},"id":"2"},{"foo":"boo"},{"jsonrpc":"2.0","method":"foo.get","params":{"name":"myself"},"id":"5"},{"jsonrpc":"2.0","method":"subtract","id":"9"}]"#,
+        r#"[{"id":"1","jsonrpc":"2.0","result":7},{"id":"2","jsonrpc":"2.0","result":19},{"error":{"code":-32600,"message":"Invalid Request"},"id":null,"jsonrpc":"2.0"},{"error":{"code":-32601,"message":"Method not found"},"id":"5","jsonrpc":"2.0"},{"error":{"code":-32602,"message":"Invalid params"},"id":"9","jsonrpc":"2.0"}]"#,
+    ),
+    (
+        r#"[{"jsonrpc":"2.0","method":"notify_sum","params":[{"a":1}]},{"jsonrpc":"2.0","method":"subtract","params":{"minuend":1,"subtrahend":7}}]"#,
+        "",
+    ),
+];
+
 const LINE: &str = "{\"jsonrpc\":\"2.0\",\"method\":\"twice\",\"params\":{\"n\":21},\"id\":1}\n";
 
 const ANSWER: &str = "{\"id\":1,\"jsonrpc\":\"2.0\",\"result\":42}\n";
@@ -49,13 +111,50 @@ const UNKNOWN_COMMAND: &str = "error: unrecognized subcommand 'walk'\n\n\
     Usage: roqsulei <COMMAND>\n\n\
     For more information, try '--help'.\n";
 
+/// Lines over the service of one operation, and what they are answered.
+const LINES: [(&str, &str); 9] = [
+    (
+        r#"{"jsonrpc":"2.0","method":"twice","params":{"n":2147483648},"id":1}"#,
+        r#"{"error":{"code":-32602,"message":"Invalid params"},"id":1,"jsonrpc":"2.0"}"#,
+    ),
+    (
+        r#"{"jsonrpc":"2.0","method":"twice","params":{"n":1.5},"id":1}"#,
+        r#"{"error":{"code":-32602,"message":"Invalid params"},"id":1,"jsonrpc":"2.0"}"#,
+    ),
+    (
+        r#"{"jsonrpc":"2.0","method":"twice","params":{"n":9223372036854775808},"id":1}"#,
+        r#"{"error":{"code":-32602,"message":"Invalid params"},"id":1,"jsonrpc":"2.0"}"#,
+    ),
+    (
+        r#"{"jsonrpc":"2.0","method":"twice","id":1}"#,
+        r#"{"error":{"code":-32602,"message":"Invalid params"},"id":1,"jsonrpc":"2.0"}"#,
+    ),
+    (
+        "{",
+        r#"{"error":{"code":-32700,"message":"Parse error"},"id":null,"jsonrpc":"2.0"}"#,
+    ),
+    (r#"{"jsonrpc":"2.0","method":"no"}"#, ""),
+    (
+        r#"{"jsonrpc":"2.0","method":"no","params":{},"id":2}"#,
+        r#"{"error":{"code":-32601,"message":"Method not found"},"id":2,"jsonrpc":"2.0"}"#,
+    ),
+    (
+        r#"[{"jsonrpc":"2.0","method":"twice","params":[{"n":1}],"id":"a"},1]"#,
+        r#"[{"id":"a","jsonrpc":"2.0","result":2},{"error":{"code":-32600,"message":"Invalid Request"},"id":null,"jsonrpc":"2.0"}]"#,
+    ),
+    (
+        r#"{"jsonrpc":"2.0","method":"twice","params":{"n":2147483647},"id":1}"#,
+        r#"{"error":{"code":-32000,"data":null,"message":"ExprFault"},"id":1,"jsonrpc":"2.0"}"#,
+    ),
+];
+
 const BLANKS_BETWEEN: &str =
     "{\"jsonrpc\":\"2.0\",\"method\":\"twice\",\"params\":{\"n\":21},\"id\":1}\n \t\r\n\
     nonsense\n[]\n{\"jsonrpc\":\"2.0\",\"method\":\"twice\",\"params\":{\"n\":21},\"id\":1}\n";
 
 const ANSWERS_BETWEEN: &str = "{\"id\":1,\"jsonrpc\":\"2.0\",\"result\":42}\n\
-    {\"error\":{\"code\":-32099,\"message\":\"not built\"},\"id\":null,\"jsonrpc\":\"2.0\"}\n\
-    {\"error\":{\"code\":-32099,\"message\":\"not built\"},\"id\":null,\"jsonrpc\":\"2.0\"}\n\
+    {\"error\":{\"code\":-32700,\"message\":\"Parse error\"},\"id\":null,\"jsonrpc\":\"2.0\"}\n\
+    {\"error\":{\"code\":-32600,\"message\":\"Invalid Request\"},\"id\":null,\"jsonrpc\":\"2.0\"}\n\
     {\"id\":1,\"jsonrpc\":\"2.0\",\"result\":42}\n";
 
 /// No call has this number.
@@ -249,6 +348,34 @@ fn blank_lines_are_passed_over_and_others_answered(rt: HostRuntime) -> Result<()
             ANSWERS_BETWEEN
         )?
     );
+    Ok(())
+}
+
+/// Whether a program answers a line so.
+fn answers(
+    alloc: Global,
+    file: &'static str,
+    line: &'static str,
+    answer: &str,
+) -> Result<bool, Fail> {
+    let row = Run { file, ..calm(line) };
+    let (ended, written, noted) = ran(alloc, row)?;
+    Ok(ended.status == 0 && written.trim_end() == answer && noted.is_empty())
+}
+
+#[test]
+fn each_line_has_its_answer(rt: HostRuntime) -> Result<(), Fail> {
+    for (line, answer) in LINES {
+        assert!(rt; answers(rt.alloc(), SERVICE, line, answer)?, "{line}");
+    }
+    Ok(())
+}
+
+#[test]
+fn the_examples_of_the_format_have_their_answers(rt: HostRuntime) -> Result<(), Fail> {
+    for (line, answer) in EXAMPLES {
+        assert!(rt; answers(rt.alloc(), SUBTRACT, line, answer)?, "{line}");
+    }
     Ok(())
 }
 
@@ -515,7 +642,7 @@ fn note_event(
     given: Given,
     events: &mut Events,
 ) -> Result<(), Fail>
-    requires first { IsFirstProgram (parts_of program.now) }
+    requires built { IsBuiltService (parts_of program.now) 0 }
     requires service { service_of session.old ≡ 0 }
     ensures service { service_of session.new ≡ 0 }
 {
@@ -525,57 +652,71 @@ fn note_event(
     Ok(())
 }
 
-/// The events of a session, from its start until it ended and no strand is enabled.
-fn session_events(alloc: Global, program: &Program, value: Tree) -> Result<Events, Fail>
-    requires first { IsFirstProgram (parts_of program.now) }
+/// Does four further steps of strand 0, one more than there are.
+fn note_further(
+    session: &mut TermSession,
+    program: &Program,
+    events: &mut Events,
+) -> Result<(), Fail>
+    requires built { IsBuiltService (parts_of program.now) 0 }
+    requires service { service_of session.old ≡ 0 }
+{
+    note_event(session, program, Given::Nothing, events)?;
+    note_event(session, program, Given::Nothing, events)?;
+    note_event(session, program, Given::Nothing, events)?;
+    note_event(session, program, Given::Nothing, events)
+}
+
+/// The events of a session that takes message 0 of operation 0 and goes on.
+fn noted(
+    alloc: Global,
+    session: &mut TermSession,
+    program: &Program,
+    value: Tree,
+) -> Result<Events, Fail>
+    requires built { IsBuiltService (parts_of program.now) 0 }
+    requires service { service_of session.old ≡ 0 }
 {
     let mut events = Items::new(alloc);
-    let mut session = TermSession::start(alloc, program, 0)?;
     let mail = Given::Mail {
         message: 0,
         op: 0,
         value,
     };
-    note_event(&mut session, program, mail, &mut events)?;
-    note_event(&mut session, program, Given::Nothing, &mut events)?;
-    note_event(&mut session, program, Given::Nothing, &mut events)?;
-    if session.ended() || session.enabled(program)?.as_slice() != [0].as_slice() {
-        return Ok(Items::new(alloc));
-    }
-    note_event(&mut session, program, Given::Nothing, &mut events)?;
-    if !session.ended() || !session.enabled(program)?.is_empty() {
-        return Ok(Items::new(alloc));
-    }
-    note_event(&mut session, program, Given::Nothing, &mut events)?;
+    note_event(session, program, mail, &mut events)?;
+    note_further(session, program, &mut events)?;
     Ok(events)
 }
 
-/// The service of the example, none where it is not read.
-fn example(alloc: Global) -> Result<Option<FirstForm>, Fail> {
-    match program_in(alloc, SERVICE.as_bytes())? {
-        Ok(form) => Ok(Some(form)),
-        Err(_) => Ok(None),
-    }
+/// The events of a session of a program.
+#[tactic(auto, using(crate::proofs::BuiltLemmas::some_service))]
+fn session_events(alloc: Global, program: &Program, value: Tree) -> Result<Events, Fail>
+    requires built { IsBuiltProgram (parts_of program.now) }
+{
+    let mut session = TermSession::start(alloc, program, 0)?;
+    noted(alloc, &mut session, program, value)
 }
 
-/// The events of the session that a line starts.
-fn events_of_line(alloc: Global, line: &str) -> Result<Events, Fail> {
+/// A tree with one child, an int under `n`.
+fn one_int(alloc: Global, n: i32) -> Result<Tree, AllocError> {
+    let name = Text::new(alloc, "n")?;
+    let mut tree = Tree::void(alloc);
+    tree.push(&name, Tree::of_root(alloc, Root::Int(n)))?;
+    Ok(tree)
+}
+
+/// The events of a session of a program that takes an int, none where the text is no program that runs.
+fn events_of(alloc: Global, file: &str, n: i32) -> Result<Events, Fail> {
     let nothing = Items::new(alloc);
-    let Some(form) = example(alloc)? else {
-        return Ok(nothing);
-    };
-    match read_line(alloc, &form, line.as_bytes())? {
-        Asked::NotBuilt => Ok(nothing),
-        Asked::Request { id: _, value } => {
-            let program = program_of_form(alloc, &form)?;
-            session_events(alloc, &program, value)
-        }
+    match program_in(alloc, file.as_bytes())? {
+        Ok(program) => session_events(alloc, &program, one_int(alloc, n)?),
+        Err(_) => Ok(nothing),
     }
 }
 
 #[test]
 fn a_session_tells_its_events(rt: HostRuntime) -> Result<(), Fail> {
-    let events = events_of_line(rt.alloc(), LINE)?;
+    let events = events_of(rt.alloc(), SERVICE, 21)?;
     // The request comes in, the assignment is done, the answer is given.
     assert_eq!(rt;
         events.as_slice(),
@@ -592,7 +733,7 @@ fn a_session_tells_its_events(rt: HostRuntime) -> Result<(), Fail> {
 
 #[test]
 fn a_fault_that_nobody_catches_is_the_answer(rt: HostRuntime) -> Result<(), Fail> {
-    let events = events_of_line(rt.alloc(), LARGE_LINE)?;
+    let events = events_of(rt.alloc(), SERVICE, 2_147_483_647)?;
     // The assignment has the fault ExprFault, number 5, and main, number 8, does not catch it.
     assert_eq!(rt;
         events.as_slice(),
@@ -610,10 +751,9 @@ fn a_fault_that_nobody_catches_is_the_answer(rt: HostRuntime) -> Result<(), Fail
 #[test]
 fn a_program_knows_its_operation(rt: HostRuntime) -> Result<(), Fail> {
     let alloc = rt.alloc();
-    let Some(form) = example(alloc)? else {
+    let Ok(first) = program_in(alloc, SERVICE.as_bytes())? else {
         panic!(rt; "the example is not read");
     };
-    let first = program_of_form(alloc, &form)?;
     let program = first.again()?;
     assert_eq!(rt; program.operation_named(0, "twice"), Some(0));
     assert_eq!(rt; program.operation_named(0, "thrice"), None);

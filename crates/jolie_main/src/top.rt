@@ -1,5 +1,6 @@
 ghost use Rattle.std.specs.Prelude.{◌≡◌, IfOk, MatchResult};
 ghost use Rattle.jolie_main.specs.declared.words.Words.{Words as Said};
+ghost use Rattle.behaviour_tree.specs.PartsView.{parts_of};
 ghost use Rattle.jolie_main.specs.Commands.{spelled, IsUnderstood};
 ghost use Rattle.jolie_main.specs.Verdicts.{line_of};
 ghost use Rattle.jolie_main.specs.Programs.{IsProgram, IsNotRunBy};
@@ -8,16 +9,17 @@ ghost use Rattle.jolie_main.specs.Headline.{Promises, Obeys, Runs, Ran, IsRecord
 ghost use Rattle.jolie_main.specs.Ends.{status};
 ghost use Rattle.jolie_main.specs.Closing.{HasBytes, HasOwnCauses};
 
-use crate::form::{FirstForm, first_form};
+use crate::form::first_form;
 use crate::lines::{End, Progress, answer_lines};
 use crate::meaning::program_of_form;
 use crate::record::{Ended, Record, Traffic};
 use crate::refusal::Refusal;
 use crate::say::{answer, rebuke, refuse, without_record};
 use crate::show::{check_text, print_text};
-use crate::turn::{Built, Deeds};
+use crate::turn::Deeds;
 use crate::verdict::{Verdict, verdict_of};
 use crate::words::{Action, Command, Words, understood};
+use behaviour_tree::Program;
 use jolie_trees::Bytes;
 use outside_traits::{CallError, Files, Sink, Source};
 use sqlite_items::Items;
@@ -87,21 +89,21 @@ fn run_text<S: Source, K: Sink>(
         (stream (K.taken output.old) (K.faults output.old)) (stream (K.taken output.new) (K.faults output.new))) }
 {
     match program_in(alloc, &text)? {
-        Ok(form) => run_program(alloc, Bytes::from_vec(text), form, input, output),
+        Ok(program) => run_program(alloc, Bytes::from_vec(text), &program, input, output),
         Err(refusal) => refuse(alloc, &refusal, output),
     }
 }
 
 /// The program that a text is, or why it is none that runs.
-pub fn program_in(alloc: Global, text: &[u8]) -> Result<Result<FirstForm, Refusal>, AllocError>
-    ensures { IfOk result (λ found. MatchResult found (λ form. IsProgram text.now form) (λ refusal. IsNotRunBy text.now (line_of refusal))) }
+pub fn program_in(alloc: Global, text: &[u8]) -> Result<Result<Program, Refusal>, AllocError>
+    ensures { IfOk result (λ found. MatchResult found (λ program. IsProgram text.now (parts_of program)) (λ refusal. IsNotRunBy text.now (line_of refusal))) }
 {
     let file = match verdict_of(alloc, text)? {
         Verdict::File(file) => file,
         Verdict::Refused(refusal) => return Ok(Err(refusal)),
     };
     match first_form(alloc, file.definitions())? {
-        Some(form) => Ok(Ok(form)),
+        Some(form) => Ok(Ok(program_of_form(alloc, &form)?)),
         None => Ok(Err(Refusal::of_form())),
     }
 }
@@ -110,20 +112,18 @@ pub fn program_in(alloc: Global, text: &[u8]) -> Result<Result<FirstForm, Refusa
 fn run_program<S: Source, K: Sink>(
     alloc: Global,
     text: Bytes,
-    form: FirstForm,
+    program: &Program,
     input: &mut S,
     output: &mut K,
 ) -> Result<Ended, AllocError>
-    requires { IsProgram text form }
+    requires { IsProgram text (parts_of program.now) }
     ensures record { IfOk result (λ ended. Ran ended.status × IsRecord ended.status ended.report) }
     ensures program { IfOk result (λ ended. ended.report.program ≡ text) }
     ensures traffic { IfOk result (λ ended. HasBytes ended.status ended.report (S.left input.old) (S.left input.new) (K.taken output.old) (K.taken output.new)) }
     ensures causes { IfOk result (λ ended. HasOwnCauses ended.status (S.faults input.old) (S.faults input.new) (K.faults output.old) (K.faults output.new)) }
 {
-    let program = program_of_form(alloc, &form)?;
-    let built = Built { form, program };
     let mut progress = Progress::new(alloc);
-    let (end, read) = answer_lines(alloc, &built, input, output, &mut progress)?;
+    let (end, read) = answer_lines(alloc, program, input, output, &mut progress)?;
     let Progress {
         line: _,
         postings: _,

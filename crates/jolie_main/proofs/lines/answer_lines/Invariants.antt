@@ -1,5 +1,6 @@
 use Rattle.std.proofs.Common.{◌≡◌, ◌-◌, ◌^◌, vec_len}
 use Rattle.std.specs.Io.KnownBytes.{Consumes}
+use Rattle.behaviour_tree.specs.PartsView.{parts_of}
 use Rattle.jolie_main.specs.Lines.{split}
 use Rattle.jolie_main.specs.Deeds.{deeds_of}
 use Rattle.jolie_main.specs.Progress.{IsUnderWay}
@@ -8,7 +9,7 @@ use Rattle.jolie_main.proofs.lines.answer_lines.Given as goal
 
 abbrev pub invariant-loop-read : goal.invariant-loop-read
 invariant-loop-read g l = record {
-  goes : IsUnderWay l.built.form (split l.read.items).0 l.progress.postings (deeds_of l.progress.deeds) l.progress.written;
+  goes : IsUnderWay (parts_of l.program) (split l.read.items).0 l.progress.postings (deeds_of l.progress.deeds) l.progress.written;
   line : l.progress.line.items ≡ (split l.read.items).1;
   given : Consumes (g.S.Source.left l.fn.input) (g.S.Source.left l.input) l.read.items;
   told : Tells (g.K.Sink.taken l.fn.output) l.fn.progress.written (g.K.Sink.taken l.output) l.progress.written;
