@@ -8,8 +8,6 @@ mod eval_error;
 mod evaluate;
 mod number;
 mod operator;
-#[cfg(test)]
-mod tests;
 mod text;
 
 pub use answer::{eval, path, truth};

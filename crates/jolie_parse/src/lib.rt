@@ -19,8 +19,6 @@ mod service;
 mod simple;
 mod stop;
 mod taken;
-#[cfg(test)]
-mod tests;
 mod types;
 mod word;
 

@@ -15,8 +15,6 @@ mod number;
 mod reserved;
 mod sign;
 mod string;
-#[cfg(test)]
-mod tests;
 mod token;
 mod utf8;
 mod word;

@@ -11,8 +11,6 @@ mod growth;
 mod measure;
 mod push;
 mod set;
-#[cfg(test)]
-mod tests;
 mod undef;
 
 use crate::path::{Path, Step};

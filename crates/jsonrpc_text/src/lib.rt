@@ -6,8 +6,6 @@ mod from_json;
 mod laws;
 mod message;
 mod read;
-#[cfg(test)]
-mod tests;
 mod to_json;
 
 pub use answer::{answer_text, batch_text, early_text};

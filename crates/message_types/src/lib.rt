@@ -5,8 +5,6 @@ mod breach;
 mod conform;
 mod laws;
 mod shape;
-#[cfg(test)]
-mod tests;
 mod widening;
 
 pub use breach::first_breach;

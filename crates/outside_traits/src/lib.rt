@@ -9,8 +9,6 @@ mod memory;
 mod script;
 mod scripted;
 mod system;
-#[cfg(test)]
-mod tests;
 mod traits;
 
 pub use calm::{CalmFiles, CalmSink, CalmSource};

@@ -1,6 +1,6 @@
-use crate::{conforms, first_breach, widen};
 use behaviour_tree::{Field, Parts, Program, RootKind, TypeDef};
 use jolie_trees::{Path, Root, Text, Tree};
+use message_types::{conforms, first_breach, widen};
 use std::alloc::{AllocError, Global};
 use std::process::Abort;
 use std::test::Fail;

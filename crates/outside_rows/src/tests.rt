@@ -1,7 +1,6 @@
-use crate::errors::{CallError, Failed};
-use crate::{
-    CalmFiles, CalmSink, CalmSource, Files, Inputs, Outputs, Script, ScriptedFiles, ScriptedSink,
-    ScriptedSource, Sink, Source, Storage,
+use outside_traits::{
+    CallError, CalmFiles, CalmSink, CalmSource, Failed, Files, Inputs, Outputs, Script,
+    ScriptedFiles, ScriptedSink, ScriptedSource, Sink, Source, Storage,
 };
 use std::test::Fail;
 

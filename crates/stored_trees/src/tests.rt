@@ -1,8 +1,4 @@
-use super::Tree;
-use crate::path::{Path, Step};
-use crate::root::Root;
-use crate::set_error::SetError;
-use crate::text::Text;
+use jolie_trees::{Path, Root, SetError, Step, Text, Tree};
 use sqlite_items::Items;
 use std::alloc::{AllocError, Global};
 use std::test::Fail;

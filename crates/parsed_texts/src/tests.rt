@@ -1,5 +1,5 @@
-use crate::parsing::parse;
 use jolie_ast::print;
+use jolie_parse::parse;
 use jolie_tokens::lex;
 use jolie_trees::Text;
 use std::alloc::{AllocError, Global};

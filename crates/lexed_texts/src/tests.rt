@@ -1,6 +1,4 @@
-use crate::lexing::lex;
-use crate::reserved::is_reserved;
-use crate::token::{Token, TokenKind};
+use jolie_tokens::{Token, TokenKind, is_reserved, lex};
 use std::alloc::{AllocError, Global};
 use std::process::Abort;
 use std::test::Fail;

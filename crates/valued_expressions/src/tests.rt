@@ -1,7 +1,7 @@
-use crate::{EvalError, compare, eval, path, truth};
 use behaviour_tree::{
     CastKind, CompareOp, Expr, Member, MulOp, MulPart, PathExpr, PathStep, SumOp, SumPart,
 };
+use jolie_expr::{EvalError, compare, eval, path, truth};
 use jolie_trees::{Path, Root, Step, Text, Tree};
 use sqlite_items::Items;
 use std::alloc::{AllocError, Global};

@@ -1,6 +1,6 @@
-use crate::{Early, Id, Read, ReadCall, answer_text, batch_text, early_text, read_message};
 use behaviour_tree::{Field, Outcome, Parts, Program, Reason, RootKind, TypeDef};
 use jolie_trees::{Root, Text, Tree};
+use jsonrpc_text::{Early, Id, Read, ReadCall, answer_text, batch_text, early_text, read_message};
 use std::alloc::{AllocError, Global};
 use std::process::Abort;
 use std::test::Fail;

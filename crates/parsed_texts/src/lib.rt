@@ -1,0 +1,5 @@
+//! Tables of texts that are read, printed again and refused.
+#![tactic(auto)]
+
+#[cfg(test)]
+mod tests;

@@ -1,0 +1,5 @@
+//! Tables of trees and types.
+#![tactic(auto)]
+
+#[cfg(test)]
+mod tests;
