@@ -1,0 +1,103 @@
+-- Laws of what the checker keeps of the ports, the operations and the variables of a service.
+use Rattle.std.proofs.Common.{◌≡◌, ℕ, zero, suc, Bool, true, false, ◌+◌, ◌<◌, arith, List, [], ◌∷◌, ◌++◌, map, flat_map, length, get_or, take, refl, ap, sym, ◌∙◌, append_assoc, append-nil}
+use Rattle.std.specs.List.{filter_map}
+use Rattle.std.specs.Option.{option_to_list}
+use Rattle.std.proofs.lemmas.List.{map-append, length-map, length-take-le, take_more}
+use Rattle.jolie_ast.specs.declared.name.Name.{Name}
+use Rattle.jolie_ast.specs.declared.interface.Interface.{Interface}
+use Rattle.jolie_ast.specs.declared.service.Clause.{Clause}
+use Rattle.jolie_ast.specs.declared.service.Port.{Port}
+use Rattle.jolie_ast.specs.declared.service.Service.{Service}
+use Rattle.service_check.specs.declared.numbers.NumberedPort as kept
+use Rattle.service_check.specs.declared.sides.SidedPort.{SidedPort}
+use Rattle.service_check.specs.Behaviours.{NumberedPort, Numbering}
+use Rattle.service_check.specs.Files.{Operation, Sided, each_once, input_operations, input_port_in, port_in, port_operations, set_in}
+use Rattle.service_check.specs.Mentioned.{with_texts}
+use Rattle.service_check.specs.Numbers.{named_ports}
+use Rattle.service_check.specs.Outlets.{sided, outlet_names, outlets, outlets_from, input_operations_among, operations_among, port_texts, set_texts, names_in_set, texts_in}
+use Rattle.service_check.specs.Programs.{numbered_from, numbering, texts_of}
+use Rattle.service_check.specs.SetRules.{variables_of}
+use Rattle.service_check.proofs.Firsts.{once_taken}
+use Rattle.service_check.proofs.Gathered.{all_of_found}
+use Rattle.service_check.proofs.Operations.{each_mapped, mapped_each}
+
+-- ---- ports
+
+-- a port that may be kept, and those behind it
+pub kept_named : (b : Bool) (name : List ℕ) (k : kept.NumberedPort) (ns : List (List ℕ)) (ks : List kept.NumberedPort) (rest : List NumberedPort) → named_ports ns ks ≡ rest
+    → named_ports ((elim b as (λ _. List (List ℕ)) [ true ↦ [] | false ↦ name ∷ [] ]) ++ ns) ((elim b as (λ _. List kept.NumberedPort) [ true ↦ [] | false ↦ k ∷ [] ]) ++ ks)
+    ≡ (elim b as (λ _. List NumberedPort) [ true ↦ [] | false ↦ record { name = name; number = k.number; operations = k.operations } ∷ [] ]) ++ rest
+kept_named true name k ns ks rest e = e
+kept_named false name k ns ks rest e = ap (λ ps. record { name = name; number = k.number; operations = k.operations } ∷ ps) e
+
+-- the ports that are kept are those that are numbered
+pub all_numbered : (interfaces : List Interface) (n : ℕ) (ps : List Sided) → named_ports (flat_map outlet_names ps) (outlets_from interfaces n ps) ≡ numbered_from interfaces n ps
+all_numbered interfaces n [] = refl
+all_numbered interfaces n (p ∷ ps) =
+    kept_named p.input p.port.name.text (record { number = n; operations = texts_of (port_operations interfaces p.port) }) (flat_map outlet_names ps) (outlets_from interfaces (suc n) ps) (numbered_from interfaces (suc n) ps)
+    (all_numbered interfaces (suc n) ps)
+
+pub ports_numbered : (interfaces : List Interface) (sides : List SidedPort) → named_ports (flat_map (λ s. outlet_names (sided s)) sides) (outlets_from interfaces 0 (map sided sides)) ≡ numbered_from interfaces 0 (map sided sides)
+ports_numbered interfaces sides =
+    ap (λ ns. named_ports ns (outlets_from interfaces 0 (map sided sides))) (sym (each_mapped outlet_names sided sides))
+    ∙ all_numbered interfaces 0 (map sided sides)
+
+-- one port more
+pub outlets_more : (interfaces : List Interface) (n : ℕ) (ps : List Sided) (p : Sided) → outlets_from interfaces n (ps ++ p ∷ []) ≡ outlets_from interfaces n ps ++ outlets interfaces (n + length ps) p
+outlets_more interfaces n [] p =
+    let same : n ≡ n + 0 = omega arith in
+    append-nil (outlets interfaces n p) ∙ ap (λ m. outlets interfaces m p) same
+outlets_more interfaces n (x ∷ xs) p =
+    let same : suc n + length xs ≡ n + suc (length xs) = omega arith in
+    ap (λ rest. outlets interfaces n x ++ rest) (outlets_more interfaces (suc n) xs p)
+    ∙ sym (append_assoc (outlets interfaces n x) (outlets_from interfaces (suc n) xs) (outlets interfaces (suc n + length xs) p))
+    ∙ ap (λ m. (outlets interfaces n x ++ outlets_from interfaces (suc n) xs) ++ outlets interfaces m p) same
+
+-- the place of a port among those before
+pub port_place : (sides : List SidedPort) (i : ℕ) → i < length sides → 0 + length (map sided (take i sides)) ≡ i
+port_place sides i below = omega (arith, length-map (take i sides) sided, length-take-le i sides (omega (arith, below)))
+
+-- a turn of a loop over ports
+pub outlets_turn : (interfaces : List Interface) (k1 k2 : List kept.NumberedPort) (sides : List SidedPort) (i : ℕ) (s : SidedPort) → i < length sides → s ≡ get_or sides i s
+    → k1 ≡ outlets_from interfaces 0 (map sided (take i sides)) → k2 ≡ k1 ++ outlets interfaces i (sided s) → k2 ≡ outlets_from interfaces 0 (map sided (take (i + 1) sides))
+outlets_turn interfaces k1 k2 sides i s below item before turn =
+    turn
+    ∙ ap (λ k. k ++ outlets interfaces i (sided s)) before
+    ∙ ap (λ m. outlets_from interfaces 0 (map sided (take i sides)) ++ outlets interfaces m (sided s)) (sym (port_place sides i below))
+    ∙ sym (outlets_more interfaces 0 (map sided (take i sides)) (sided s))
+    ∙ ap (outlets_from interfaces 0) (sym (map-append sided (take i sides) (s ∷ [])))
+    ∙ ap (λ y. outlets_from interfaces 0 (map sided (take i sides ++ y ∷ []))) item
+    ∙ ap (λ ss. outlets_from interfaces 0 (map sided ss)) (sym (take_more sides i s below))
+
+-- ---- operations and variables
+
+-- the operations of the input ports, each once
+pub inputs_taken : (interfaces : List Interface) (clauses : List Clause)
+    → with_texts [] (flat_map (λ c. flat_map (port_texts interfaces) (option_to_list (input_port_in c))) clauses) ≡ texts_of (each_once (input_operations_among interfaces clauses))
+inputs_taken interfaces clauses =
+    ap (with_texts [])
+    (all_of_found (port_texts interfaces) input_port_in clauses
+    ∙ sym (mapped_each (λ (o : Operation). o.name.text) (λ (p : Port). operations_among interfaces p.interfaces) (filter_map input_port_in clauses)))
+    ∙ once_taken (input_operations_among interfaces clauses)
+
+-- the variables of the sets
+pub variables_named : (clauses : List Clause) → flat_map (λ c. flat_map set_texts (option_to_list (set_in c))) clauses ≡ texts_in (flat_map names_in_set (filter_map set_in clauses))
+variables_named clauses =
+    all_of_found set_texts set_in clauses
+    ∙ sym (mapped_each (λ (n : Name). n.text) names_in_set (filter_map set_in clauses))
+
+-- ---- all together
+
+-- what the processes of a service name by numbers, of its parts
+abbrev pub numbered_by : List (List ℕ) → List NumberedPort → ℕ → List (List ℕ) → List (List ℕ) → Numbering
+numbered_by inputs ports console variables names = record { inputs = inputs; ports = ports; console = console; variables = variables; names = names }
+
+pub numbering_made : (inputs : List (List ℕ)) (ports : List NumberedPort) (console : ℕ) (variables : List (List ℕ)) (interfaces : List Interface) (s : Service)
+    → inputs ≡ texts_of (input_operations interfaces s) → ports ≡ numbered_from interfaces zero (filter_map port_in s.clauses)
+    → console ≡ length (filter_map port_in s.clauses) → variables ≡ map (λ (n : Name). n.text) (variables_of s)
+    → (names : List (List ℕ)) → numbered_by inputs ports console variables names ≡ numbering interfaces names s
+numbering_made inputs ports console variables interfaces s same_inputs same_ports same_console same_variables names =
+    ap (λ x. numbered_by x ports console variables names) same_inputs
+    ∙ ap (λ x. numbered_by (texts_of (input_operations interfaces s)) x console variables names) same_ports
+    ∙ ap (λ x. numbered_by (texts_of (input_operations interfaces s)) (numbered_from interfaces zero (filter_map port_in s.clauses)) x variables names) same_console
+    ∙ ap (λ x. numbered_by (texts_of (input_operations interfaces s)) (numbered_from interfaces zero (filter_map port_in s.clauses)) (length (filter_map port_in s.clauses)) x names) same_variables

@@ -1,0 +1,17 @@
+use Rattle.std.proofs.Common.{[], ap, ◌∙◌, arith, flat_map}
+use Rattle.std.proofs.lemmas.List.{take_all}
+use Rattle.std.specs.Option.{option_to_list}
+use Rattle.service_check.specs.Files.{interface_in}
+use Rattle.service_check.proofs.Appended.{adding_turn}
+use Rattle.service_check.proofs.Filtered.{all_found}
+use Rattle.service_check.proofs.files.interfaces_of.Goals as goal
+
+pub loop-definition-preserved : goal.loop-definition-preserved
+loop-definition-preserved c =
+    adding_turn (λ d. option_to_list (interface_in d)) [] c.loop-definition.interfaces c.in_ok-interfaces.interfaces c.args.file.now c.loop-definition.definition-index c.definition-item.result c.loop-definition-test.true c.definition-item.is c.loop-definition.invariant c.in_ok-interfaces.ensures
+
+pub returns : goal.returns
+returns c =
+    c.loop-definition.invariant
+    ∙ ap (flat_map (λ d. option_to_list (interface_in d))) (take_all c.loop-definition.definition-index c.args.file.now (omega arith))
+    ∙ all_found interface_in c.args.file.now

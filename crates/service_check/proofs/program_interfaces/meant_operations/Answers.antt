@@ -1,0 +1,18 @@
+use Rattle.std.proofs.Common.{rules, [], map, flat_map, ap, sym, ◌∙◌}
+use Rattle.std.proofs.lemmas.List.{take_all}
+use Rattle.behaviour_tree.specs.PartsView.{operation_view}
+use Rattle.service_check.specs.Files.{group_operations}
+use Rattle.service_check.specs.Programs.{meant_operation}
+use Rattle.service_check.proofs.Appended.{adding_turn}
+use Rattle.service_check.proofs.Operations.{mapped_each}
+use Rattle.service_check.proofs.program_interfaces.meant_operations.Goals as goal
+
+pub loop-group-preserved : goal.loop-group-preserved
+loop-group-preserved c =
+    adding_turn (λ g. map (meant_operation c.args.types.now c.args.names.now) (group_operations g)) [] (map operation_view c.loop-group.operations.items) (map operation_view c.add_group.new.meant.items) c.args.groups.now c.loop-group.group-index c.group-item.result c.loop-group-test.true c.group-item.is c.loop-group.invariant c.in_ok-add_group.ensures
+
+pub returns : goal.returns
+returns c =
+    c.loop-group.invariant
+    ∙ ap (flat_map (λ g. map (meant_operation c.args.types.now c.args.names.now) (group_operations g))) (take_all c.loop-group.group-index c.args.groups.now (search rules))
+    ∙ sym (mapped_each (meant_operation c.args.types.now c.args.names.now) group_operations c.args.groups.now)

@@ -1,0 +1,17 @@
+use Rattle.std.proofs.Common.{ap, sym, ◌∙◌, arith, flat_map}
+use Rattle.std.proofs.lemmas.List.{take_all}
+use Rattle.service_check.specs.Clauses.{definition_refused}
+use Rattle.service_check.specs.Least.{joined}
+use Rattle.service_check.proofs.FileRefusals.{services_found}
+use Rattle.service_check.proofs.Joined.{turn_of}
+use Rattle.service_check.proofs.refusals.services_refused.Goals as goal
+
+pub loop-definition-preserved : goal.loop-definition-preserved
+loop-definition-preserved c =
+    turn_of (definition_refused c.args.types.now c.args.interfaces.now c.args.locations.now) c.args.least.now c.loop-definition.least c.definition_refused.new.least c.args.file.now c.loop-definition.definition-index c.definition-item.result c.loop-definition-test.true c.definition-item.is c.loop-definition.invariant (c.in_ok-definition_refused.ensures)
+
+pub returns : goal.returns
+returns c =
+    c.loop-definition.invariant
+    ∙ ap (λ ds. joined c.args.least.now (flat_map (definition_refused c.args.types.now c.args.interfaces.now c.args.locations.now) ds)) (take_all c.loop-definition.definition-index c.args.file.now (omega arith))
+    ∙ ap (joined c.args.least.now) (sym (services_found c.args.types.now c.args.interfaces.now c.args.locations.now c.args.file.now))

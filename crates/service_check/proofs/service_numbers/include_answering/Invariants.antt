@@ -1,0 +1,8 @@
+use Rattle.std.proofs.Common.{◌≡◌, ◌++◌, map, take}
+use Rattle.jolie_ast.specs.declared.interface.RequestResponse.{RequestResponse}
+use Rattle.service_check.specs.Files.{Operation, answering}
+use Rattle.service_check.specs.Mentioned.{with_texts}
+use Rattle.service_check.proofs.service_numbers.include_answering.Given as goal
+
+abbrev pub invariant-loop-operation : goal.invariant-loop-operation
+invariant-loop-operation l = l.texts ≡ with_texts l.initial.texts (map (λ (o : RequestResponse). o.name.text) (take l.operation-index l.operations))

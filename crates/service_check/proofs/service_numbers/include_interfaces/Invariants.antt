@@ -1,0 +1,9 @@
+use Rattle.std.proofs.Common.{◌≡◌, ◌++◌, flat_map, take}
+use Rattle.jolie_ast.specs.declared.name.Name.{Name}
+use Rattle.service_check.specs.Files.{Operation, operations_named}
+use Rattle.service_check.specs.Programs.{texts_of}
+use Rattle.service_check.specs.Mentioned.{with_texts}
+use Rattle.service_check.proofs.service_numbers.include_interfaces.Given as goal
+
+abbrev pub invariant-loop-name : goal.invariant-loop-name
+invariant-loop-name l = l.texts ≡ with_texts l.initial.texts (flat_map (λ n. texts_of (operations_named l.interfaces n.text)) (take l.name-index l.names))

@@ -1,0 +1,8 @@
+use Rattle.std.proofs.Common.{◌≡◌, ◌++◌, flat_map, take}
+use Rattle.service_check.specs.Files.{Operation, group_operations}
+use Rattle.service_check.specs.Programs.{texts_of}
+use Rattle.service_check.specs.Mentioned.{with_texts}
+use Rattle.service_check.proofs.service_numbers.include_operations.Given as goal
+
+abbrev pub invariant-loop-group : goal.invariant-loop-group
+invariant-loop-group l = l.texts ≡ with_texts l.initial.texts (flat_map (λ g. texts_of (group_operations g)) (take l.group-index l.group-items))

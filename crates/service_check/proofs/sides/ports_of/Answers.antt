@@ -1,0 +1,18 @@
+use Rattle.std.proofs.Common.{rules, [], map, flat_map, ap, ◌∙◌}
+use Rattle.std.specs.Option.{option_to_list}
+use Rattle.std.proofs.lemmas.List.{take_all}
+use Rattle.service_check.specs.Files.{port_in}
+use Rattle.service_check.specs.Outlets.{sided}
+use Rattle.service_check.proofs.Appended.{adding_turn}
+use Rattle.service_check.proofs.Filtered.{all_found}
+use Rattle.service_check.proofs.sides.ports_of.Goals as goal
+
+pub loop-clause-preserved : goal.loop-clause-preserved
+loop-clause-preserved c =
+    adding_turn (λ x. option_to_list (port_in x)) [] (map sided c.loop-clause.ports.items) (map sided c.add_port.new.ports.items) c.args.clauses.now c.loop-clause.clause-index c.clause-item.result c.loop-clause-test.true c.clause-item.is c.loop-clause.invariant c.in_ok-add_port.ensures
+
+pub returns : goal.returns
+returns c =
+    c.loop-clause.invariant
+    ∙ ap (flat_map (λ x. option_to_list (port_in x))) (take_all c.loop-clause.clause-index c.args.clauses.now (search rules))
+    ∙ all_found port_in c.args.clauses.now

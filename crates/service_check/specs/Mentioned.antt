@@ -1,0 +1,186 @@
+-- The faults and scopes of a file, in the order of the text.
+use Rattle.std.specs.Prelude.{ℕ, List, [], ◌∷◌, ◌++◌, map, flat_map, codes, if◌then◌else◌, Option, None, Some, unwrap_or}
+use Rattle.jolie_ast.specs.declared.interface.Fault.{Fault}
+use Rattle.jolie_ast.specs.declared.service.Clause.{Clause}
+use Rattle.jolie_ast.specs.declared.service.Clause.TheVariants as clause
+use Rattle.jolie_ast.specs.declared.tree.Definition.{Definition}
+use Rattle.jolie_ast.specs.declared.tree.Definition.TheVariants as definition
+use Rattle.jolie_ast.specs.declared.process.HandlerKey.{HandlerKey}
+use Rattle.jolie_ast.specs.declared.process.HandlerKey.TheVariants as key
+use Rattle.jolie_ast.specs.declared.process.Otherwise.TheOpen.{Answer-F, Block-F, Branch-F, Handler-F, If-F, Input-F, Otherwise-F, Process-F, Reply-F}
+use Rattle.jolie_ast.specs.declared.process.Otherwise.TheFolds.{fold-Answer, fold-Block, fold-Branch, fold-Handler, fold-If, fold-Input, fold-Otherwise, fold-Process, fold-Reply}
+use Rattle.jolie_ast.specs.declared.process.Answer.{Answer}
+use Rattle.jolie_ast.specs.declared.process.Block.{Block}
+use Rattle.jolie_ast.specs.declared.process.Branch.{Branch}
+use Rattle.jolie_ast.specs.declared.process.Handler.{Handler}
+use Rattle.jolie_ast.specs.declared.process.If.{If}
+use Rattle.jolie_ast.specs.declared.process.Input.{Input}
+use Rattle.jolie_ast.specs.declared.process.Otherwise.{Otherwise}
+use Rattle.jolie_ast.specs.declared.process.Process.{Process}
+use Rattle.jolie_ast.specs.declared.process.Reply.{Reply}
+use Rattle.service_check.specs.Repeated.{firsts, is_in}
+use Rattle.service_check.specs.Files.{Operation, operations_in}
+
+-- texts
+abbrev pub Texts : Type 0
+Texts = List (List ℕ)
+
+-- the texts of a part that may be there
+abbrev pub maybe : Option Texts → Texts
+maybe part = unwrap_or part []
+
+-- the texts of parts
+abbrev pub all : List Texts → Texts
+all parts = flat_map (λ texts. texts) parts
+
+-- the texts of parts that may be there
+abbrev pub maybe_all : Option (List Texts) → Texts
+maybe_all None = []
+maybe_all (Some parts) = all parts
+
+-- the fault that a handler stands under; `this` is no name
+abbrev pub key_texts : HandlerKey → Texts
+key_texts (key.This at) = []
+key_texts (key.Named n) = n.text ∷ []
+
+-- one level of a process: a scope, a throw and a compensation name one
+abbrev pub process_level : Process-F Texts Texts Texts Texts Texts Texts Texts Texts Texts → Texts
+process_level (Process-F.«Process::Nothing» at) = []
+process_level (Process-F.Assign path assignment) = []
+process_level (Process-F.Undef at path) = []
+process_level (Process-F.Correlate at variable value) = []
+process_level (Process-F.If conditional) = conditional
+process_level (Process-F.While at test body) = body
+process_level (Process-F.For at path first test stepped step body) = body
+process_level (Process-F.Input input) = input
+process_level (Process-F.Choice at branches) = all branches
+process_level (Process-F.Output operation port value answer) = maybe answer
+process_level (Process-F.Scope at name body) = name.text ∷ body
+process_level (Process-F.Install at handlers) = all handlers
+process_level (Process-F.Throw at fault value) = fault.text ∷ []
+process_level (Process-F.Compensate at scope) = scope.text ∷ []
+process_level (Process-F.InnerHandler at) = []
+process_level (Process-F.Block block) = block
+process_level (Process-F.Sequence statements) = all statements
+process_level (Process-F.Parallel members) = all members
+
+-- one level of what an `if` does where its test fails
+abbrev pub otherwise_level : Otherwise-F Texts Texts Texts Texts Texts Texts Texts Texts Texts → Texts
+otherwise_level Otherwise-F.«Otherwise::Nothing» = []
+otherwise_level (Otherwise-F.ElseIf conditional) = conditional
+otherwise_level (Otherwise-F.Else block) = block
+
+-- one level of what an output awaits
+abbrev pub answer_level : Answer-F Texts Texts Texts Texts Texts Texts Texts Texts Texts → Texts
+answer_level a = maybe_all a.handlers
+
+-- one level of a handler: its key and then what stands in it
+abbrev pub handler_level : Handler-F Texts Texts Texts Texts Texts Texts Texts Texts Texts → Texts
+handler_level h = key_texts h.key ++ h.body
+
+-- one level of a block
+abbrev pub block_level : Block-F Texts Texts Texts Texts Texts Texts Texts Texts Texts → Texts
+block_level b = maybe b.body
+
+-- one level of a branch
+abbrev pub branch_level : Branch-F Texts Texts Texts Texts Texts Texts Texts Texts Texts → Texts
+branch_level b = b.input ++ b.after
+
+-- one level of an `if`
+abbrev pub if_level : If-F Texts Texts Texts Texts Texts Texts Texts Texts Texts → Texts
+if_level i = i.body ++ i.otherwise
+
+-- one level of an input
+abbrev pub input_level : Input-F Texts Texts Texts Texts Texts Texts Texts Texts Texts → Texts
+input_level i = maybe i.reply
+
+-- one level of a reply part
+abbrev pub reply_level : Reply-F Texts Texts Texts Texts Texts Texts Texts Texts Texts → Texts
+reply_level r = r.body
+
+-- what a block names
+unfoldable pub block_texts : Block → Texts
+block_texts = fold-Block Texts Texts Texts Texts Texts Texts Texts Texts Texts
+    otherwise_level process_level answer_level block_level branch_level handler_level if_level input_level reply_level
+
+-- what a process names
+unfoldable pub process_texts : Process → Texts
+process_texts = fold-Process Texts Texts Texts Texts Texts Texts Texts Texts Texts
+    otherwise_level process_level answer_level block_level branch_level handler_level if_level input_level reply_level
+
+-- what an `if` names
+unfoldable pub conditional_texts : If → Texts
+conditional_texts = fold-If Texts Texts Texts Texts Texts Texts Texts Texts Texts
+    otherwise_level process_level answer_level block_level branch_level handler_level if_level input_level reply_level
+
+-- what stands in what follows an `if` names
+unfoldable pub otherwise_texts : Otherwise → Texts
+otherwise_texts = fold-Otherwise Texts Texts Texts Texts Texts Texts Texts Texts Texts
+    otherwise_level process_level answer_level block_level branch_level handler_level if_level input_level reply_level
+
+-- what an input names
+unfoldable pub input_texts : Input → Texts
+input_texts = fold-Input Texts Texts Texts Texts Texts Texts Texts Texts Texts
+    otherwise_level process_level answer_level block_level branch_level handler_level if_level input_level reply_level
+
+-- what a reply part names
+unfoldable pub reply_texts : Reply → Texts
+reply_texts = fold-Reply Texts Texts Texts Texts Texts Texts Texts Texts Texts
+    otherwise_level process_level answer_level block_level branch_level handler_level if_level input_level reply_level
+
+-- what a branch names
+unfoldable pub branch_texts : Branch → Texts
+branch_texts = fold-Branch Texts Texts Texts Texts Texts Texts Texts Texts Texts
+    otherwise_level process_level answer_level block_level branch_level handler_level if_level input_level reply_level
+
+-- what an answer to an output names
+unfoldable pub answer_texts : Answer → Texts
+answer_texts = fold-Answer Texts Texts Texts Texts Texts Texts Texts Texts Texts
+    otherwise_level process_level answer_level block_level branch_level handler_level if_level input_level reply_level
+
+-- what a handler names
+unfoldable pub handler_texts : Handler → Texts
+handler_texts = fold-Handler Texts Texts Texts Texts Texts Texts Texts Texts Texts
+    otherwise_level process_level answer_level block_level branch_level handler_level if_level input_level reply_level
+
+-- what a clause names
+abbrev pub clause_texts : Clause → Texts
+clause_texts (clause.Init at body) = block_texts body
+clause_texts (clause.Main at body) = block_texts body
+clause_texts (clause.Execution at execution) = []
+clause_texts (clause.InputPort port) = []
+clause_texts (clause.OutputPort port) = []
+clause_texts (clause.CorrelationSet at variables) = []
+
+-- the name of a fault
+abbrev pub fault_text : Fault → List ℕ
+fault_text f = f.name.text
+
+-- the faults that an operation throws
+abbrev pub thrown_by : Operation → Texts
+thrown_by o = map fault_text o.throws
+
+-- what a definition names: the faults of an interface's operations, and what the processes of a service name
+abbrev pub definition_texts : Definition → Texts
+definition_texts (definition.Type ty) = []
+definition_texts (definition.Interface i) = flat_map thrown_by (operations_in i)
+definition_texts (definition.Service s) = flat_map clause_texts s.clauses
+
+-- texts and one more, where it is not among them
+unfoldable pub with_text : Texts → List ℕ → Texts
+with_text texts text = if is_in text texts then texts else texts ++ text ∷ []
+
+-- texts and further ones, each where it is not among those before
+abbrev pub with_texts : Texts → Texts → Texts
+with_texts texts [] = texts
+with_texts texts (t ∷ ts) = with_texts (with_text texts t) ts
+
+-- the standard faults and main, by which the names begin
+unfoldable pub standard : Texts
+standard =
+    codes "IOException" ∷ codes "TypeMismatch" ∷ codes "CorrelationError" ∷ codes "Refused" ∷ codes "UndeclaredFault"
+    ∷ codes "ExprFault" ∷ codes "HandlerTooLarge" ∷ codes "StoreTooLarge" ∷ codes "main" ∷ []
+
+-- the names of a file: the standard ones, and then each other once, in the order of the text
+unfoldable pub names_of : List Definition → Texts
+names_of file = firsts (standard ++ flat_map definition_texts file)

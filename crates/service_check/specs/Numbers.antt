@@ -1,0 +1,28 @@
+-- What the processes of a service name by numbers, as the checker keeps it.
+use Rattle.std.specs.Prelude.{◌≡◌, ℕ, List, [], ◌∷◌, Option, option_and_then}
+use Rattle.std.specs.List.{slice_get}
+use Rattle.service_check.specs.declared.numbers.NumberedPort as kept
+use Rattle.service_check.specs.declared.numbers.Numbers.{Numbers}
+use Rattle.service_check.specs.declared.numbers.Outlet.{Outlet}
+use Rattle.service_check.specs.declared.numbers.Ports.{Ports}
+use Rattle.service_check.specs.Behaviours.{NumberedPort, Numbering}
+use Rattle.service_check.specs.Files.{place_in}
+use Rattle.service_check.specs.Repeated.{place_of}
+
+-- output ports with their names
+abbrev pub named_ports : List (List ℕ) → List kept.NumberedPort → List NumberedPort
+named_ports [] ports = []
+named_ports (n ∷ ns) [] = []
+named_ports (n ∷ ns) (p ∷ ps) = record { name = n; number = p.number; operations = p.operations } ∷ named_ports ns ps
+
+-- the port that is kept at the place of a name
+abbrev pub port_kept : Ports → List ℕ → Option kept.NumberedPort
+port_kept ports name = option_and_then (λ place. slice_get ports.numbered.items place) (place_of ports.names name)
+
+-- the numbers of a service, with the names of the file
+abbrev pub numbering_of : Numbers → List (List ℕ) → Numbering
+numbering_of n names = record { inputs = n.inputs; ports = named_ports n.ports.names n.ports.numbered.items; console = n.console; variables = n.variables; names = names }
+
+-- an operation of an output port by the numbers of both
+abbrev pub IsOutlet : Outlet → NumberedPort → List ℕ → Type 0
+IsOutlet o port operation = (o.port ≡ port.number) × (o.op ≡ place_in port.operations operation)

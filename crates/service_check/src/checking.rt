@@ -1,0 +1,21 @@
+ghost use Rattle.service_check.specs.Answers.{Checks};
+
+use crate::program::parts_of_file;
+use crate::refusal::CheckError;
+use crate::refusals::first_refusal;
+use behaviour_tree::Program;
+use jolie_ast::Ast;
+use std::alloc::Global;
+
+/// The program of a file, or the first of its refusals: that with the least place, at a tie the first in the order of
+/// `CheckName`.
+pub fn check(alloc: Global, ast: &Ast) -> Result<Program, CheckError>
+    ensures { Checks ast.now result }
+{
+    let file = ast.definitions();
+    if let Some(refusal) = first_refusal(alloc, file)? {
+        return Err(CheckError::Refused(refusal.name, refusal.at));
+    }
+    let parts = parts_of_file(alloc, file)?;
+    Ok(Program::new(alloc, parts)?)
+}

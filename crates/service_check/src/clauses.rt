@@ -1,0 +1,112 @@
+ghost use Rattle.std.specs.Prelude.{◌≡◌, ◌++◌, OnOk, map, option_map};
+ghost use Rattle.std.specs.List.{filter_map};
+ghost use Rattle.std.specs.Option.{option_copied};
+ghost use Rattle.jolie_ast.specs.declared.name.Name.{Name};
+ghost use Rattle.service_check.specs.Files.{Sided, execution_in, execution_of, first_there, input_port_in, is_concurrent, output_port_in, port_in, set_in};
+
+use crate::names::Names;
+use jolie_ast::{Clause, CorrelationVariable, Execution, Name, Port, Service};
+use std::alloc::AllocError;
+
+/// A clause, if it is a port.
+pub fn port_in(clause: &Clause) -> Option<&Port>
+    ensures { option_copied result ≡ option_map (λ (p : Sided). p.port) (port_in clause.now) }
+{
+    match clause {
+        Clause::InputPort(port) => Some(port),
+        Clause::OutputPort(port) => Some(port),
+        Clause::Execution { .. } => None,
+        Clause::CorrelationSet { .. } => None,
+        Clause::Init { .. } => None,
+        Clause::Main { .. } => None,
+    }
+}
+
+/// A clause, if it is an input port.
+pub fn input_port_in(clause: &Clause) -> Option<&Port>
+    ensures { option_copied result ≡ input_port_in clause.now }
+{
+    match clause {
+        Clause::InputPort(port) => Some(port),
+        Clause::OutputPort(_) => None,
+        Clause::Execution { .. } => None,
+        Clause::CorrelationSet { .. } => None,
+        Clause::Init { .. } => None,
+        Clause::Main { .. } => None,
+    }
+}
+
+/// A clause, if it is an output port.
+pub fn output_port_in(clause: &Clause) -> Option<&Port>
+    ensures { option_copied result ≡ output_port_in clause.now }
+{
+    match clause {
+        Clause::InputPort(_) => None,
+        Clause::OutputPort(port) => Some(port),
+        Clause::Execution { .. } => None,
+        Clause::CorrelationSet { .. } => None,
+        Clause::Init { .. } => None,
+        Clause::Main { .. } => None,
+    }
+}
+
+/// A clause, if it is a correlation set.
+pub fn set_in(clause: &Clause) -> Option<&[CorrelationVariable]>
+    ensures { option_copied result ≡ set_in clause.now }
+{
+    match clause {
+        Clause::InputPort(_) => None,
+        Clause::OutputPort(_) => None,
+        Clause::Execution { .. } => None,
+        Clause::CorrelationSet { variables, .. } => Some(variables.as_slice()),
+        Clause::Init { .. } => None,
+        Clause::Main { .. } => None,
+    }
+}
+
+/// Whether the sessions of a service run beside each other: one runs alone where nothing is said.
+pub fn is_concurrent(service: &Service) -> bool
+    ensures { result ≡ is_concurrent (execution_of service.now) }
+{
+    match said_execution(service.clauses.as_slice()) {
+        Some(Execution::Concurrent) => true,
+        Some(Execution::Single) => false,
+        None => false,
+    }
+}
+
+/// How the sessions of a service are run, if it is said.
+pub fn said_execution(clauses: &[Clause]) -> Option<Execution>
+    ensures { result ≡ first_there (filter_map execution_in clauses.now) }
+{
+    for clause in clauses {
+        if let Some(execution) = execution_in(clause) {
+            return Some(execution);
+        }
+    }
+    None
+}
+
+/// A clause, if it says how sessions are run.
+fn execution_in(clause: &Clause) -> Option<Execution>
+    ensures { result ≡ execution_in clause.now }
+{
+    match clause {
+        Clause::InputPort(_) => None,
+        Clause::OutputPort(_) => None,
+        Clause::Execution { execution, .. } => Some(*execution),
+        Clause::CorrelationSet { .. } => None,
+        Clause::Init { .. } => None,
+        Clause::Main { .. } => None,
+    }
+}
+
+/// Adds the texts of names behind the others.
+pub fn add_names<'a>(names: &'a [Name], texts: &mut Names<'a>) -> Result<(), AllocError>
+    ensures { OnOk result (texts.new ≡ texts.old ++ map (λ (n : Name). n.text) names.now) }
+{
+    for name in names {
+        texts.add(name.text.as_str())?;
+    }
+    Ok(())
+}

@@ -1,0 +1,223 @@
+ghost use Rattle.std.specs.Prelude.{◌≡◌, map, option_map, IfOk};
+ghost use Rattle.behaviour_tree.specs.View.{expr_view, member_view, mul_part_view, path_view, step_view, sum_part_view};
+ghost use Rattle.service_check.specs.Expressions.{cast_kind, compare_op, meant_expr, meant_factor, meant_form, meant_if_written, meant_member, meant_path, meant_place, meant_term, mul_op, sum_op};
+
+use behaviour_tree::{
+    CastKind, CompareOp, Expr, Member, MulOp, MulPart, PathExpr, PathStep, SumOp, SumPart,
+};
+use jolie_ast::{
+    Additive, CastTarget, Comparison, ExprForm, Factor, Multiplicative, Path, Step, Term,
+};
+use jolie_trees::Root;
+use std::alloc::{AllocError, Global};
+
+pub fn sum_op(operator: Additive) -> SumOp
+    ensures { result ≡ sum_op operator }
+{
+    match operator {
+        Additive::Plus => SumOp::Plus,
+        Additive::Minus => SumOp::Minus,
+    }
+}
+
+fn mul_op(operator: Multiplicative) -> MulOp
+    ensures { result ≡ mul_op operator }
+{
+    match operator {
+        Multiplicative::Times => MulOp::Times,
+        Multiplicative::Divide => MulOp::Over,
+        Multiplicative::Remainder => MulOp::Rest,
+    }
+}
+
+fn compare_op(comparison: Comparison) -> CompareOp
+    ensures { result ≡ compare_op comparison }
+{
+    match comparison {
+        Comparison::Equal => CompareOp::Equal,
+        Comparison::NotEqual => CompareOp::Unequal,
+        Comparison::Less => CompareOp::Less,
+        Comparison::AtMost => CompareOp::AtMost,
+        Comparison::Greater => CompareOp::More,
+        Comparison::AtLeast => CompareOp::AtLeast,
+    }
+}
+
+fn cast_kind(target: CastTarget) -> CastKind
+    ensures { result ≡ cast_kind target }
+{
+    match target {
+        CastTarget::Int => CastKind::Int,
+        CastTarget::Long => CastKind::Long,
+        CastTarget::Str => CastKind::Text,
+    }
+}
+
+/// The expression that an expression of the text means.
+#[cycle(expression)]
+#[tactic(auto, using(crate::proofs::MeantExpressions::expr_is))]
+pub fn meant_expr(alloc: Global, expr: &jolie_ast::Expr) -> Result<Expr, AllocError>
+    ensures { IfOk result (λ e. expr_view e ≡ meant_expr expr.now) }
+{
+    meant_form(alloc, &expr.form)
+}
+
+#[cycle(expression)]
+fn meant_form(alloc: Global, form: &ExprForm) -> Result<Expr, AllocError>
+    ensures { IfOk result (λ e. expr_view e ≡ meant_form form.now) }
+{
+    match form {
+        ExprForm::Int(n) => Ok(Expr::Value(Root::Int(*n))),
+        ExprForm::Long(n) => Ok(Expr::Value(Root::Long(*n))),
+        ExprForm::Str(text) => Ok(Expr::Value(Root::Text(text.copied()?))),
+        ExprForm::Bool(b) => Ok(Expr::Value(Root::Bool(*b))),
+        ExprForm::Path(path) => Ok(Expr::Path(meant_path(alloc, path)?)),
+        ExprForm::Size(path) => Ok(Expr::Count(meant_path(alloc, path)?)),
+        ExprForm::IsDefined(path) => Ok(Expr::IsDefined(meant_path(alloc, path)?)),
+        ExprForm::Cast { target, operand } => Ok(Expr::Cast {
+            to: cast_kind(*target),
+            value: meant_operand(alloc, operand.get())?,
+        }),
+        ExprForm::Literal(members) => Ok(Expr::Literal(meant_members(alloc, members.as_slice())?)),
+        ExprForm::Minus(operand) => Ok(Expr::Minus(meant_operand(alloc, operand.get())?)),
+        ExprForm::Not(operand) => Ok(Expr::Not(meant_operand(alloc, operand.get())?)),
+        ExprForm::Product { first, rest } => Ok(Expr::Product {
+            first: meant_operand(alloc, first.get())?,
+            rest: meant_factors(alloc, rest.as_slice())?,
+        }),
+        ExprForm::Sum { first, rest } => Ok(Expr::Sum {
+            first: meant_operand(alloc, first.get())?,
+            rest: meant_terms(alloc, rest.as_slice())?,
+        }),
+        ExprForm::Compare {
+            left,
+            comparison,
+            right,
+        } => Ok(Expr::Compare {
+            left: meant_operand(alloc, left.get())?,
+            op: compare_op(*comparison),
+            right: meant_operand(alloc, right.get())?,
+        }),
+        ExprForm::And(operands) => Ok(Expr::And(meant_exprs(alloc, operands.as_slice())?)),
+        ExprForm::Or(operands) => Ok(Expr::Or(meant_exprs(alloc, operands.as_slice())?)),
+    }
+}
+
+#[cycle(expression)]
+fn meant_operand(alloc: Global, expr: &jolie_ast::Expr) -> Result<Box<Expr>, AllocError>
+    ensures { IfOk result (λ b. expr_view b.value ≡ meant_expr expr.now) }
+{
+    let operand = meant_expr(alloc, expr)?;
+    Ok(Box::new(alloc, operand)?)
+}
+
+#[cycle(expression)]
+fn meant_exprs(alloc: Global, exprs: &[jolie_ast::Expr]) -> Result<Vec<Expr>, AllocError>
+    ensures { IfOk result (λ v. map expr_view v.items ≡ map meant_expr exprs.now) }
+{
+    let mut meant = Vec::new(alloc);
+    for expr in exprs {
+        meant.push(meant_expr(alloc, expr)?)?;
+    }
+    Ok(meant)
+}
+
+#[cycle(expression)]
+fn meant_factors(alloc: Global, factors: &[Factor]) -> Result<Vec<MulPart>, AllocError>
+    ensures { IfOk result (λ v. map mul_part_view v.items ≡ map meant_factor factors.now) }
+{
+    let mut meant = Vec::new(alloc);
+    for factor in factors {
+        meant.push(meant_factor(alloc, factor)?)?;
+    }
+    Ok(meant)
+}
+
+#[cycle(expression)]
+fn meant_factor(alloc: Global, factor: &Factor) -> Result<MulPart, AllocError>
+    ensures { IfOk result (λ p. mul_part_view p ≡ meant_factor factor.now) }
+{
+    Ok(MulPart {
+        op: mul_op(factor.operator),
+        value: meant_expr(alloc, &factor.operand)?,
+    })
+}
+
+#[cycle(expression)]
+fn meant_terms(alloc: Global, terms: &[Term]) -> Result<Vec<SumPart>, AllocError>
+    ensures { IfOk result (λ v. map sum_part_view v.items ≡ map meant_term terms.now) }
+{
+    let mut meant = Vec::new(alloc);
+    for term in terms {
+        meant.push(meant_term(alloc, term)?)?;
+    }
+    Ok(meant)
+}
+
+#[cycle(expression)]
+fn meant_term(alloc: Global, term: &Term) -> Result<SumPart, AllocError>
+    ensures { IfOk result (λ p. sum_part_view p ≡ meant_term term.now) }
+{
+    Ok(SumPart {
+        op: sum_op(term.operator),
+        value: meant_expr(alloc, &term.operand)?,
+    })
+}
+
+#[cycle(expression)]
+fn meant_members(alloc: Global, members: &[jolie_ast::Member]) -> Result<Vec<Member>, AllocError>
+    ensures { IfOk result (λ v. map member_view v.items ≡ map meant_member members.now) }
+{
+    let mut meant = Vec::new(alloc);
+    for member in members {
+        meant.push(meant_member(alloc, member)?)?;
+    }
+    Ok(meant)
+}
+
+#[cycle(expression)]
+fn meant_member(alloc: Global, member: &jolie_ast::Member) -> Result<Member, AllocError>
+    ensures { IfOk result (λ m. member_view m ≡ meant_member member.now) }
+{
+    Ok(Member {
+        name: member.name.text.copied()?,
+        value: meant_expr(alloc, &member.value)?,
+    })
+}
+
+/// The path that a path of the text means.
+#[cycle(expression)]
+pub fn meant_path(alloc: Global, path: &Path) -> Result<PathExpr, AllocError>
+    ensures { IfOk result (λ p. path_view p ≡ meant_path path.now) }
+{
+    let mut steps = Vec::new(alloc);
+    steps.push(meant_place(alloc, &path.first)?)?;
+    for step in path.rest.as_slice() {
+        steps.push(meant_place(alloc, step)?)?;
+    }
+    Ok(PathExpr { steps })
+}
+
+#[cycle(expression)]
+fn meant_place(alloc: Global, step: &Step) -> Result<PathStep, AllocError>
+    ensures { IfOk result (λ s. step_view s ≡ meant_place step.now) }
+{
+    let name = step.name.text.copied()?;
+    match &step.index {
+        None => Ok(PathStep { name, index: None }),
+        Some(index) => Ok(PathStep {
+            name,
+            index: Some(meant_expr(alloc, index.get())?),
+        }),
+    }
+}
+
+/// An expression that may be left out, which is void then.
+pub fn meant_if_written(alloc: Global, expr: &Option<jolie_ast::Expr>) -> Result<Expr, AllocError>
+    ensures { IfOk result (λ e. expr_view e ≡ meant_if_written expr.now) }
+{
+    match expr {
+        None => Ok(Expr::Value(Root::Void)),
+        Some(expr) => meant_expr(alloc, expr),
+    }
+}

@@ -1,0 +1,224 @@
+ghost use Rattle.std.specs.Prelude.{◌≡◌, ◌++◌, IfOk, OnOk, flat_map, is_some, map, option_map};
+ghost use Rattle.std.specs.List.{list_any};
+ghost use Rattle.std.specs.Option.{option_to_list};
+ghost use Rattle.jolie_ast.specs.declared.interface.Interface.{Interface};
+ghost use Rattle.jolie_ast.specs.declared.service.Port.{Port};
+ghost use Rattle.jolie_ast.specs.declared.service.Service.{Service};
+ghost use Rattle.jolie_ast.specs.declared.types.TypeDefinition.{TypeDefinition};
+ghost use Rattle.service_check.specs.declared.refusal.CheckName.TheVariants.{DuplicateName};
+ghost use Rattle.service_check.specs.Files.{input_port_in, interface_in, interfaces_of, service_in, services_of, type_in, types_of};
+ghost use Rattle.service_check.specs.Least.{joined, refused};
+ghost use Rattle.service_check.specs.Refusals.{locations_in, names_refused, no_service};
+ghost use Rattle.service_check.specs.Repeated.{as_name, repeated};
+
+use crate::least::Least;
+use crate::refusal::CheckName;
+use crate::repeated::{Mention, repeated_refused};
+use jolie_ast::{Clause, Definition, Service};
+use std::alloc::{AllocError, Global};
+
+/// A file without a service, at its beginning.
+#[tactic(auto, using(crate::proofs::FileNames::without_service))]
+pub fn no_service(file: &[Definition], least: &mut Least)
+    ensures { least.new ≡ joined least.old (no_service (services_of file.now)) }
+{
+    let is_without = !has_service(file);
+    least.offer_if(is_without, CheckName::NoStart, 0);
+}
+
+fn has_service(file: &[Definition]) -> bool
+    ensures { result ≡ list_any (λ d. is_some (service_in d)) file.now }
+{
+    file.iter().any(|definition| is_service(definition))
+}
+
+fn is_service(definition: &Definition) -> bool
+    ensures { result ≡ is_some (service_in definition.now) }
+{
+    match definition {
+        Definition::Type(_) => false,
+        Definition::Interface(_) => false,
+        Definition::Service(_) => true,
+    }
+}
+
+/// Names of types, interfaces and services that stand a second time, and locations of input ports that do.
+#[tactic(auto, using(crate::proofs::Joined::joined_append))]
+pub fn names_refused(
+    alloc: Global,
+    file: &[Definition],
+    least: &mut Least,
+) -> Result<(), AllocError>
+    ensures { OnOk result (least.new ≡ joined least.old (names_refused file.now)) }
+{
+    type_names_refused(alloc, file, least)?;
+    interface_names_refused(alloc, file, least)?;
+    service_names_refused(alloc, file, least)?;
+    locations_refused(alloc, file, least)
+}
+
+fn type_names_refused(
+    alloc: Global,
+    file: &[Definition],
+    least: &mut Least,
+) -> Result<(), AllocError>
+    ensures { OnOk result (least.new ≡ joined least.old (refused DuplicateName (repeated (map (λ (t : TypeDefinition). t.name) (types_of file.now))))) }
+{
+    let names = type_names(alloc, file)?;
+    repeated_refused(alloc, names.as_slice(), least)
+}
+
+fn type_names(alloc: Global, file: &[Definition]) -> Result<Vec<Mention<'_>>, AllocError>
+    ensures { IfOk result (λ names. names.items ≡ map (λ (t : TypeDefinition). t.name) (types_of file.now)) }
+{
+    let mut names = Vec::new(alloc);
+    for definition in file {
+        add_found(type_name(definition), &mut names)?;
+    }
+    Ok(names)
+}
+
+fn type_name(definition: &Definition) -> Option<Mention<'_>>
+    ensures { result ≡ option_map (λ (t : TypeDefinition). t.name) (type_in definition.now) }
+{
+    match definition {
+        Definition::Type(ty) => Some(Mention::name(&ty.name)),
+        Definition::Interface(_) => None,
+        Definition::Service(_) => None,
+    }
+}
+
+/// Adds a name, if there is one.
+fn add_found<'a>(found: Option<Mention<'a>>, names: &mut Vec<Mention<'a>>) -> Result<(), AllocError>
+    ensures { OnOk result (names.new.items ≡ names.old.items ++ option_to_list found.entry) }
+{
+    match found {
+        Some(name) => {
+            names.push(name)?;
+            Ok(())
+        }
+        None => Ok(()),
+    }
+}
+
+fn interface_names_refused(
+    alloc: Global,
+    file: &[Definition],
+    least: &mut Least,
+) -> Result<(), AllocError>
+    ensures { OnOk result (least.new ≡ joined least.old (refused DuplicateName (repeated (map (λ (i : Interface). i.name) (interfaces_of file.now))))) }
+{
+    let names = interface_names(alloc, file)?;
+    repeated_refused(alloc, names.as_slice(), least)
+}
+
+fn interface_names(alloc: Global, file: &[Definition]) -> Result<Vec<Mention<'_>>, AllocError>
+    ensures { IfOk result (λ names. names.items ≡ map (λ (i : Interface). i.name) (interfaces_of file.now)) }
+{
+    let mut names = Vec::new(alloc);
+    for definition in file {
+        add_found(interface_name(definition), &mut names)?;
+    }
+    Ok(names)
+}
+
+fn interface_name(definition: &Definition) -> Option<Mention<'_>>
+    ensures { result ≡ option_map (λ (i : Interface). i.name) (interface_in definition.now) }
+{
+    match definition {
+        Definition::Interface(interface) => Some(Mention::name(&interface.name)),
+        Definition::Type(_) => None,
+        Definition::Service(_) => None,
+    }
+}
+
+fn service_names_refused(
+    alloc: Global,
+    file: &[Definition],
+    least: &mut Least,
+) -> Result<(), AllocError>
+    ensures { OnOk result (least.new ≡ joined least.old (refused DuplicateName (repeated (map (λ (s : Service). s.name) (services_of file.now))))) }
+{
+    let names = service_names(alloc, file)?;
+    repeated_refused(alloc, names.as_slice(), least)
+}
+
+fn service_names(alloc: Global, file: &[Definition]) -> Result<Vec<Mention<'_>>, AllocError>
+    ensures { IfOk result (λ names. names.items ≡ map (λ (s : Service). s.name) (services_of file.now)) }
+{
+    let mut names = Vec::new(alloc);
+    for definition in file {
+        add_found(service_name(definition), &mut names)?;
+    }
+    Ok(names)
+}
+
+fn service_name(definition: &Definition) -> Option<Mention<'_>>
+    ensures { result ≡ option_map (λ (s : Service). s.name) (service_in definition.now) }
+{
+    match definition {
+        Definition::Service(service) => Some(Mention::name(&service.name)),
+        Definition::Type(_) => None,
+        Definition::Interface(_) => None,
+    }
+}
+
+fn locations_refused(
+    alloc: Global,
+    file: &[Definition],
+    least: &mut Least,
+) -> Result<(), AllocError>
+    ensures { OnOk result (least.new ≡ joined least.old (refused DuplicateName (repeated (flat_map locations_in (services_of file.now))))) }
+{
+    let locations = locations(alloc, file)?;
+    repeated_refused(alloc, locations.as_slice(), least)
+}
+
+/// The locations of the input ports of a file.
+fn locations(alloc: Global, file: &[Definition]) -> Result<Vec<Mention<'_>>, AllocError>
+    ensures { IfOk result (λ locations. locations.items ≡ flat_map locations_in (services_of file.now)) }
+{
+    let mut locations = Vec::new(alloc);
+    for definition in file {
+        add_locations_of(definition, &mut locations)?;
+    }
+    Ok(locations)
+}
+
+fn add_locations_of<'a>(
+    definition: &'a Definition,
+    locations: &mut Vec<Mention<'a>>,
+) -> Result<(), AllocError>
+    ensures { OnOk result (locations.new.items ≡ locations.old.items ++ flat_map locations_in (option_to_list (service_in definition.now))) }
+{
+    match definition {
+        Definition::Service(service) => add_locations(service, locations),
+        Definition::Type(_) => Ok(()),
+        Definition::Interface(_) => Ok(()),
+    }
+}
+
+fn add_locations<'a>(
+    service: &'a Service,
+    locations: &mut Vec<Mention<'a>>,
+) -> Result<(), AllocError>
+    ensures { OnOk result (locations.new.items ≡ locations.old.items ++ locations_in service.now) }
+{
+    for clause in service.clauses.as_slice() {
+        add_found(location(clause), locations)?;
+    }
+    Ok(())
+}
+
+fn location(clause: &Clause) -> Option<Mention<'_>>
+    ensures { result ≡ option_map (λ (p : Port). as_name p.location) (input_port_in clause.now) }
+{
+    match clause {
+        Clause::InputPort(port) => Some(Mention::quoted(&port.location)),
+        Clause::OutputPort(_) => None,
+        Clause::Execution { .. } => None,
+        Clause::CorrelationSet { .. } => None,
+        Clause::Init { .. } => None,
+        Clause::Main { .. } => None,
+    }
+}

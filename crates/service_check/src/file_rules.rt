@@ -1,0 +1,87 @@
+ghost use Rattle.std.specs.Prelude.{◌≡◌, ◌++◌, OnOk, flat_map};
+ghost use Rattle.std.specs.Option.{option_to_list};
+ghost use Rattle.service_check.specs.Files.{interface_in, interfaces_of, type_in, types_of};
+ghost use Rattle.service_check.specs.InterfaceRules.{interface_refused};
+ghost use Rattle.service_check.specs.Least.{joined};
+ghost use Rattle.service_check.specs.TypeRules.{type_refused};
+
+use crate::circles::Circles;
+use crate::interface_rules::interface_refused;
+use crate::least::Least;
+use crate::tables::Types;
+use crate::type_rules::type_refused;
+use jolie_ast::Definition;
+use std::alloc::{AllocError, Global};
+
+/// What is refused of the types and the interfaces of a file.
+#[tactic(auto, using(crate::proofs::Joined::joined_append))]
+pub fn file_parts_refused(
+    alloc: Global,
+    types: &Types,
+    file: &[Definition],
+    least: &mut Least,
+) -> Result<(), AllocError>
+    ensures { OnOk result (least.new ≡ joined least.old (flat_map (type_refused types.now) (types_of file.now) ++ flat_map (interface_refused types.now) (interfaces_of file.now))) }
+{
+    types_refused(alloc, types, file, least)?;
+    interfaces_refused(alloc, types, file, least)
+}
+
+fn types_refused(
+    alloc: Global,
+    types: &Types,
+    file: &[Definition],
+    least: &mut Least,
+) -> Result<(), AllocError>
+    ensures { OnOk result (least.new ≡ joined least.old (flat_map (type_refused types.now) (types_of file.now))) }
+{
+    let circles = Circles::of(alloc, types)?;
+    for definition in file {
+        defined_type_refused(alloc, &circles, definition, least)?;
+    }
+    Ok(())
+}
+
+fn defined_type_refused(
+    alloc: Global,
+    circles: &Circles,
+    definition: &Definition,
+    least: &mut Least,
+) -> Result<(), AllocError>
+    ensures { OnOk result (least.new ≡ joined least.old (flat_map (type_refused circles.now) (option_to_list (type_in definition.now)))) }
+{
+    match definition {
+        Definition::Type(ty) => type_refused(alloc, circles, ty, least),
+        Definition::Interface(_) => Ok(()),
+        Definition::Service(_) => Ok(()),
+    }
+}
+
+fn interfaces_refused(
+    alloc: Global,
+    types: &Types,
+    file: &[Definition],
+    least: &mut Least,
+) -> Result<(), AllocError>
+    ensures { OnOk result (least.new ≡ joined least.old (flat_map (interface_refused types.now) (interfaces_of file.now))) }
+{
+    for definition in file {
+        defined_interface_refused(alloc, types, definition, least)?;
+    }
+    Ok(())
+}
+
+fn defined_interface_refused(
+    alloc: Global,
+    types: &Types,
+    definition: &Definition,
+    least: &mut Least,
+) -> Result<(), AllocError>
+    ensures { OnOk result (least.new ≡ joined least.old (flat_map (interface_refused types.now) (option_to_list (interface_in definition.now)))) }
+{
+    match definition {
+        Definition::Interface(interface) => interface_refused(alloc, types, interface, least),
+        Definition::Type(_) => Ok(()),
+        Definition::Service(_) => Ok(()),
+    }
+}

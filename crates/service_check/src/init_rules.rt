@@ -1,0 +1,88 @@
+ghost use Rattle.std.specs.Prelude.{◌≡◌, map};
+ghost use Rattle.service_check.specs.InitRules.{no_assignment, no_assignments};
+ghost use Rattle.service_check.specs.Least.{joined};
+ghost use Rattle.service_check.specs.ServiceRules.{assigns, first_place, init_refused, place_of, statements_of};
+
+use crate::least::Least;
+use crate::refusal::CheckName;
+use jolie_ast::{Block, Process};
+
+/// The statements of init have to be assignments.
+pub fn init_refused(body: &Block, least: &mut Least)
+    ensures { least.new ≡ joined least.old (init_refused body.now) }
+{
+    if let Some(process) = &body.body {
+        no_assignments_in(process.get(), least);
+    }
+}
+
+/// The same of the statements of a process.
+fn no_assignments_in(process: &Process, least: &mut Least)
+    ensures { least.new ≡ joined least.old (no_assignments (statements_of process.now)) }
+{
+    match process {
+        Process::Sequence(statements) => no_assignments(statements.as_slice(), least),
+        _ => no_assignment(process, least),
+    }
+}
+
+fn no_assignments(statements: &[Process], least: &mut Least)
+    ensures { least.new ≡ joined least.old (no_assignments statements.now) }
+{
+    for statement in statements {
+        no_assignment(statement, least);
+    }
+}
+
+/// A statement of init that is no assignment.
+fn no_assignment(statement: &Process, least: &mut Least)
+    ensures { least.new ≡ joined least.old (no_assignment statement.now) }
+{
+    let is_wrong = !assigns(statement);
+    least.offer_if(is_wrong, CheckName::InitNotAssignment, place_of(statement));
+}
+
+fn assigns(process: &Process) -> bool
+    ensures { result ≡ assigns process.now }
+{
+    matches!(process, Process::Assign { .. })
+}
+
+/// The place of the first token of a process.
+#[cycle(place)]
+#[tactic(auto, using(crate::proofs::Places::nothing_place, crate::proofs::Places::assign_place, crate::proofs::Places::undef_place, crate::proofs::Places::correlate_place, crate::proofs::Places::if_place, crate::proofs::Places::while_place, crate::proofs::Places::for_place, crate::proofs::Places::input_place, crate::proofs::Places::choice_place, crate::proofs::Places::output_place, crate::proofs::Places::scope_place, crate::proofs::Places::install_place, crate::proofs::Places::throw_place, crate::proofs::Places::compensate_place, crate::proofs::Places::inner_handler_place, crate::proofs::Places::block_place, crate::proofs::Places::sequence_place, crate::proofs::Places::parallel_place))]
+fn place_of(process: &Process) -> u32
+    ensures { result ≡ place_of process.now }
+{
+    match process {
+        Process::Nothing(at) => *at,
+        Process::Assign { path, .. } => path.first.name.at,
+        Process::Undef { at, .. } => *at,
+        Process::Correlate { at, .. } => *at,
+        Process::If(conditional) => conditional.at,
+        Process::While { at, .. } => *at,
+        Process::For { at, .. } => *at,
+        Process::Input(input) => input.operation.at,
+        Process::Choice { at, .. } => *at,
+        Process::Output { operation, .. } => operation.at,
+        Process::Scope { at, .. } => *at,
+        Process::Install { at, .. } => *at,
+        Process::Throw { at, .. } => *at,
+        Process::Compensate { at, .. } => *at,
+        Process::InnerHandler(at) => *at,
+        Process::Block(block) => block.at,
+        Process::Sequence(statements) => first_place(statements.as_slice()),
+        Process::Parallel(members) => first_place(members.as_slice()),
+    }
+}
+
+/// The place of the first of several processes.
+#[cycle(place)]
+fn first_place(processes: &[Process]) -> u32
+    ensures { result ≡ first_place (map place_of processes.now) }
+{
+    match processes {
+        [first, ..] => place_of(first),
+        [] => 0,
+    }
+}

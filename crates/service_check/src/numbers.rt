@@ -1,0 +1,103 @@
+ghost use Rattle.std.specs.Prelude.{◌≡◌, [], IfOk};
+ghost use Rattle.std.specs.Option.{option_copied};
+ghost use Rattle.service_check.specs.Behaviours.{console_port, meant_port};
+ghost use Rattle.service_check.specs.Files.{place_in};
+ghost use Rattle.service_check.specs.Numbers.{IsOutlet, numbering_of, port_kept};
+
+use crate::names::Names;
+use crate::port_rules::CONSOLE;
+use std::alloc::AllocError;
+
+/// An output port by its number, with its operations.
+#[derive(Drop)]
+pub struct NumberedPort<'a> {
+    pub number: u32,
+    pub operations: Names<'a>,
+}
+
+/// The output ports of a service in order, looked up by their names.
+#[derive(Drop)]
+pub struct Ports<'a> {
+    pub names: Names<'a>,
+    pub numbered: Vec<NumberedPort<'a>>,
+}
+
+/// What the processes of a service name by numbers, beside the names of the file.
+#[derive(Drop)]
+pub struct Numbers<'a> {
+    pub inputs: Names<'a>,
+    pub ports: Ports<'a>,
+    /// The number of the port that every service has.
+    pub console: u32,
+    pub variables: Names<'a>,
+}
+
+/// An operation of an output port, by the numbers of both.
+#[derive(Clone, Copy)]
+pub struct Outlet {
+    pub port: u32,
+    pub op: u32,
+}
+
+impl<'a> Ports<'a> {
+    /// The port of a name.
+    fn get(&self, name: &str) -> Option<&NumberedPort<'a>>
+        ensures { option_copied result ≡ port_kept self.now name.now }
+    {
+        match self.names.place(name) {
+            Some(place) => self.numbered.get(place),
+            None => None,
+        }
+    }
+}
+
+impl<'a> Numbers<'a> {
+    /// The operation of an output port, where a service has no other of that name its console.
+    #[tactic(auto, using(crate::proofs::Outlets::port_found))]
+    pub fn outlet(&self, port: &str, operation: &str) -> Result<Outlet, AllocError>
+        ensures { IfOk result (λ o. IsOutlet o (meant_port (numbering_of self.now []) port.now) operation.now) }
+    {
+        if port == CONSOLE {
+            return Ok(self.console_outlet(operation));
+        }
+        match self.ports.get(port) {
+            Some(port) => Ok(Outlet {
+                port: port.number,
+                op: number(&port.operations, operation)?,
+            }),
+            None => Ok(self.console_outlet(operation)),
+        }
+    }
+
+    /// An operation of the port that every service has.
+    fn console_outlet(&self, operation: &str) -> Outlet
+        ensures { IsOutlet result (console_port (numbering_of self.now [])) operation.now }
+    {
+        let op = if operation == "println" { 0 } else { 1 };
+        Outlet {
+            port: self.console,
+            op,
+        }
+    }
+}
+
+/// The place of a text among others as a number of the program.
+#[tactic(auto, using(crate::proofs::Outlets::counted_there, crate::proofs::Outlets::counted_missing))]
+pub fn number(names: &Names<'_>, text: &str) -> Result<u32, AllocError>
+    ensures { IfOk result (λ n. n ≡ place_in names.now text.now) }
+{
+    match names.place(text) {
+        Some(place) => fitting(place),
+        None => fitting(names.len()),
+    }
+}
+
+/// A number of the program, where it has few enough parts.
+pub fn fitting(place: usize) -> Result<u32, AllocError>
+    ensures { IfOk result (λ n. n ≡ place) }
+{
+    match u32::try_from(place) {
+        Ok(number) => Ok(number),
+        Err(_) => Err(AllocError),
+    }
+}

@@ -1,0 +1,285 @@
+ghost use Rattle.std.specs.Prelude.{◌≡◌, ◌++◌, ◌∷◌, map, IfOk, OnOk};
+ghost use Rattle.std.specs.List.{filter_map};
+ghost use Rattle.std.specs.Option.{option_copied, option_to_list};
+ghost use Rattle.behaviour_tree.specs.PartsView.{alias_view, port_view, service_view, set_view, variable_view};
+ghost use Rattle.service_check.specs.Files.{first_there, init_in, main_in, place_in, service_in, services_of, set_in};
+ghost use Rattle.service_check.specs.Outlets.{said_execution, sided, texts_in};
+ghost use Rattle.service_check.specs.Programs.{meant_alias, meant_execution, meant_port_part, meant_service, meant_set, meant_variable};
+
+use crate::behaviours::meant_if_there;
+use crate::clauses::said_execution;
+use crate::names::Names;
+use crate::numbers::number;
+use crate::service_numbers::numbers_of;
+use crate::sides::{SidedPort, ports_of};
+use crate::tables::Interfaces;
+use behaviour_tree::{Alias, CorrelationSet, Execution, Port, Service, SetVariable};
+use jolie_ast::{Block, Clause, CorrelationVariable, Definition, Name};
+use jolie_trees::Text;
+use std::alloc::{AllocError, Global};
+
+/// The services of a file, in order.
+#[tactic(auto, using(crate::proofs::Gathered::each_found))]
+pub fn meant_services<'a>(
+    alloc: Global,
+    file: &'a [Definition],
+    interfaces: &Interfaces<'a>,
+    types: &Names<'_>,
+    names: &Names<'_>,
+) -> Result<Vec<Service>, AllocError>
+    ensures { IfOk result (λ v. map service_view v.items ≡ map (meant_service interfaces.now types.now names.now) (services_of file.now)) }
+{
+    let mut meant = Vec::new(alloc);
+    for definition in file {
+        add_service(alloc, definition, interfaces, types, names, &mut meant)?;
+    }
+    Ok(meant)
+}
+
+/// Adds the service that a definition is, if it is one.
+fn add_service<'a>(
+    alloc: Global,
+    definition: &'a Definition,
+    interfaces: &Interfaces<'a>,
+    types: &Names<'_>,
+    names: &Names<'_>,
+    meant: &mut Vec<Service>,
+) -> Result<(), AllocError>
+    ensures { OnOk result (map service_view meant.new.items ≡ map service_view meant.old.items ++ map (meant_service interfaces.now types.now names.now) (option_to_list (service_in definition.now))) }
+{
+    match definition {
+        Definition::Service(service) => {
+            meant.push(meant_service(alloc, service, interfaces, types, names)?)?;
+            Ok(())
+        }
+        Definition::Type(_) => Ok(()),
+        Definition::Interface(_) => Ok(()),
+    }
+}
+
+fn meant_service<'a>(
+    alloc: Global,
+    service: &'a jolie_ast::Service,
+    interfaces: &Interfaces<'a>,
+    types: &Names<'_>,
+    names: &Names<'_>,
+) -> Result<Service, AllocError>
+    ensures { IfOk result (λ s. service_view s ≡ meant_service interfaces.now types.now names.now service.now) }
+{
+    let clauses = service.clauses.as_slice();
+    let sides = ports_of(alloc, clauses)?;
+    let numbers = numbers_of(alloc, service, sides.as_slice(), interfaces)?;
+    let init = meant_if_there(alloc, init_of(clauses), &numbers, names)?;
+    let main = meant_if_there(alloc, main_of(clauses), &numbers, names)?;
+    Ok(Service {
+        name: service.name.text.copied()?,
+        execution: execution_of(clauses),
+        ports: meant_ports(alloc, sides.as_slice(), interfaces.names())?,
+        sets: meant_sets(alloc, clauses, types)?,
+        init,
+        main,
+    })
+}
+
+// ---- clauses
+
+/// What a service does at its start.
+#[tactic(auto, using(crate::proofs::FirstFound::found_here, crate::proofs::FirstFound::found_nowhere))]
+fn init_of(clauses: &[Clause]) -> Option<&Block>
+    ensures { option_copied result ≡ first_there (filter_map init_in clauses.now) }
+{
+    for clause in clauses {
+        if let Clause::Init { body, .. } = clause {
+            return Some(body);
+        }
+    }
+    None
+}
+
+/// What a service does after its start.
+#[tactic(auto, using(crate::proofs::FirstFound::found_here, crate::proofs::FirstFound::found_nowhere))]
+fn main_of(clauses: &[Clause]) -> Option<&Block>
+    ensures { option_copied result ≡ first_there (filter_map main_in clauses.now) }
+{
+    for clause in clauses {
+        if let Clause::Main { body, .. } = clause {
+            return Some(body);
+        }
+    }
+    None
+}
+
+/// How the sessions are run: one alone where nothing is said.
+fn execution_of(clauses: &[Clause]) -> Execution
+    ensures { result ≡ meant_execution (said_execution clauses.now) }
+{
+    match said_execution(clauses) {
+        Some(execution) => meant_execution(execution),
+        None => Execution::Single,
+    }
+}
+
+fn meant_execution(execution: jolie_ast::Execution) -> Execution
+    ensures { result ≡ meant_execution execution }
+{
+    match execution {
+        jolie_ast::Execution::Concurrent => Execution::Concurrent,
+        jolie_ast::Execution::Single => Execution::Single,
+    }
+}
+
+// ---- ports
+
+/// The ports of a service, with their interfaces by number.
+#[tactic(auto, using(crate::proofs::Operations::mapped_twice))]
+fn meant_ports(
+    alloc: Global,
+    sides: &[SidedPort<'_>],
+    interfaces: &Names<'_>,
+) -> Result<Vec<Port>, AllocError>
+    ensures { IfOk result (λ v. map port_view v.items ≡ map (meant_port_part interfaces.now) (map sided sides.now)) }
+{
+    let mut meant = Vec::new(alloc);
+    for side in sides {
+        meant.push(meant_port(alloc, side, interfaces)?)?;
+    }
+    Ok(meant)
+}
+
+fn meant_port(
+    alloc: Global,
+    side: &SidedPort<'_>,
+    interfaces: &Names<'_>,
+) -> Result<Port, AllocError>
+    ensures { IfOk result (λ p. port_view p ≡ meant_port_part interfaces.now (sided side.now)) }
+{
+    let port = side.port;
+    let name = port.name.text.copied()?;
+    let location = port.location.text.copied()?;
+    Ok(Port {
+        name,
+        input: side.input,
+        location,
+        interfaces: places_in(alloc, port.interfaces.as_slice(), interfaces)?,
+    })
+}
+
+/// The places of names among texts.
+fn places_in(alloc: Global, names: &[Name], among: &Names<'_>) -> Result<Vec<u32>, AllocError>
+    ensures { IfOk result (λ v. v.items ≡ map (place_in among.now) (texts_in names.now)) }
+{
+    let mut places = Vec::new(alloc);
+    for name in names {
+        places.push(number(among, name.text.as_str())?)?;
+    }
+    Ok(places)
+}
+
+// ---- sets
+
+/// The correlation sets of a service.
+#[tactic(auto, using(crate::proofs::Gathered::each_found))]
+fn meant_sets(
+    alloc: Global,
+    clauses: &[Clause],
+    types: &Names<'_>,
+) -> Result<Vec<CorrelationSet>, AllocError>
+    ensures { IfOk result (λ v. map set_view v.items ≡ map (meant_set types.now) (filter_map set_in clauses.now)) }
+{
+    let mut meant = Vec::new(alloc);
+    for clause in clauses {
+        add_set(alloc, clause, types, &mut meant)?;
+    }
+    Ok(meant)
+}
+
+/// Adds the correlation set that a clause is, if it is one.
+fn add_set(
+    alloc: Global,
+    clause: &Clause,
+    types: &Names<'_>,
+    meant: &mut Vec<CorrelationSet>,
+) -> Result<(), AllocError>
+    ensures { OnOk result (map set_view meant.new.items ≡ map set_view meant.old.items ++ map (meant_set types.now) (option_to_list (set_in clause.now))) }
+{
+    match clause {
+        Clause::CorrelationSet { variables, .. } => {
+            let variables = meant_variables(alloc, variables.as_slice(), types)?;
+            meant.push(CorrelationSet { variables })?;
+            Ok(())
+        }
+        Clause::Execution { .. } => Ok(()),
+        Clause::InputPort(_) => Ok(()),
+        Clause::OutputPort(_) => Ok(()),
+        Clause::Init { .. } => Ok(()),
+        Clause::Main { .. } => Ok(()),
+    }
+}
+
+fn meant_variables(
+    alloc: Global,
+    variables: &[CorrelationVariable],
+    types: &Names<'_>,
+) -> Result<Vec<SetVariable>, AllocError>
+    ensures { IfOk result (λ v. map variable_view v.items ≡ map (meant_variable types.now) variables.now) }
+{
+    let mut meant = Vec::new(alloc);
+    for variable in variables {
+        meant.push(meant_variable(alloc, variable, types)?)?;
+    }
+    Ok(meant)
+}
+
+fn meant_variable(
+    alloc: Global,
+    variable: &CorrelationVariable,
+    types: &Names<'_>,
+) -> Result<SetVariable, AllocError>
+    ensures { IfOk result (λ v. variable_view v ≡ meant_variable types.now variable.now) }
+{
+    let name = variable.name.text.copied()?;
+    Ok(SetVariable {
+        name,
+        aliases: meant_aliases(alloc, variable.aliases.as_slice(), types)?,
+    })
+}
+
+fn meant_aliases(
+    alloc: Global,
+    aliases: &[jolie_ast::Alias],
+    types: &Names<'_>,
+) -> Result<Vec<Alias>, AllocError>
+    ensures { IfOk result (λ v. map alias_view v.items ≡ map (meant_alias types.now) aliases.now) }
+{
+    let mut meant = Vec::new(alloc);
+    for alias in aliases {
+        meant.push(meant_alias(alloc, alias, types)?)?;
+    }
+    Ok(meant)
+}
+
+fn meant_alias(
+    alloc: Global,
+    alias: &jolie_ast::Alias,
+    types: &Names<'_>,
+) -> Result<Alias, AllocError>
+    ensures { IfOk result (λ a. alias_view a ≡ meant_alias types.now alias.now) }
+{
+    let ty = number(types, alias.ty.text.as_str())?;
+    Ok(Alias {
+        ty,
+        path: alias_path(alloc, alias)?,
+    })
+}
+
+/// The fields that lead to a value.
+fn alias_path(alloc: Global, alias: &jolie_ast::Alias) -> Result<Vec<Text>, AllocError>
+    ensures { IfOk result (λ v. v.items ≡ texts_in (alias.now.first ∷ alias.now.rest)) }
+{
+    let mut path = Vec::new(alloc);
+    path.push(alias.first.text.copied()?)?;
+    for name in alias.rest.as_slice() {
+        path.push(name.text.copied()?)?;
+    }
+    Ok(path)
+}
