@@ -1,0 +1,110 @@
+#!/bin/sh
+# Times the reading of a line of 6,000 and of one of 60,000 bytes, and the writing of an answer with the same tree, and prints
+# the times and their ratios, each of which is to be at most 12. It runs in a folder of its own, outside the gate: bench/lines.sh
+set -eu
+top=$(cd "$(dirname "$0")/.." && pwd)
+work=$(mktemp -d)
+trap 'rm -rf "$work"' EXIT
+
+mkdir -p "$work/crates/line_times/src"
+cp -r "$top/crates/jolie_trees" "$top/crates/behaviour_tree" "$top/crates/jsonrpc_text" "$work/crates/"
+rm -rf "$work"/crates/*/out
+cat > "$work/crates.txt" <<'END'
+jolie_trees: sqlite_items thiserror
+behaviour_tree: jolie_trees sqlite_items
+jsonrpc_text: behaviour_tree jolie_trees sqlite_items serde_json
+line_times: jsonrpc_text behaviour_tree jolie_trees
+END
+cat > "$work/crates/line_times/src/main.rt" <<'END'
+//! The times of reading the line that the argument names and of writing an answer with its params, in microseconds, and the
+//! bytes of both.
+#![tactic(auto)]
+
+use behaviour_tree::{Outcome, Parts, Program, TypeDef};
+use jolie_trees::{Text, Tree};
+use jsonrpc_text::{Id, Read, answer_text, read_message};
+use std::alloc::{AllocError, Global};
+use std::time::Instant;
+use std::{env, fs, io};
+
+fn main(rt: HostRuntime) -> io::Result<()> {
+    for path in env::args(&rt)?.skip(1) {
+        let line = fs::read_to_string(&rt, path.as_str())?;
+        let alloc = rt.alloc();
+        let start = Instant::now(&rt)?;
+        let read = read_message(alloc, line.as_bytes());
+        let reading = start.elapsed(&rt)?.as_micros();
+        let Ok(outcome) = read.and_then(|read| outcome_of(alloc, &read)) else {
+            println!(rt; "out of memory")?;
+            continue;
+        };
+        let Ok(program) = nothing(alloc) else {
+            println!(rt; "out of memory")?;
+            continue;
+        };
+        let start = Instant::now(&rt)?;
+        let text = answer_text(alloc, &Id::Int(1), &outcome, &TypeDef::Undefined, &program);
+        let writing = start.elapsed(&rt)?.as_micros();
+        match text {
+            Ok(text) => {
+                let (read, written) = (line.len(), text.len());
+                println!(rt; "{reading} {writing} {read} {written}")?;
+            }
+            Err(_) => println!(rt; "out of memory")?,
+        }
+    }
+    Ok(())
+}
+
+/// The params of the first call as a value.
+fn outcome_of(alloc: Global, read: &Read) -> Result<Outcome, AllocError> {
+    for call in read.calls.as_slice() {
+        if let Ok(what) = &call.what {
+            return Ok(Outcome::Value(what.1.copied()?));
+        }
+    }
+    Ok(Outcome::Value(Tree::void(alloc)))
+}
+
+/// A program without parts.
+fn nothing(alloc: Global) -> Result<Program, AllocError> {
+    Program::new(
+        alloc,
+        Parts {
+            types: Vec::new(alloc),
+            interfaces: Vec::new(alloc),
+            services: Vec::new(alloc),
+            names: Vec::new(alloc),
+        },
+    )
+}
+END
+
+# A line of an order with so many lines in it.
+line() {
+    printf '{"jsonrpc":"2.0","method":"order","params":{"line":['
+    for number in $(seq "$1"); do
+        [ "$number" = 1 ] || printf ','
+        printf '{"id":"item%05d","price":%d}' "$number" "$((1000 + number))"
+    done
+    printf ']},"id":1}'
+}
+line 187 > "$work/short.txt"
+line 1880 > "$work/long.txt"
+
+cd "$work/crates/line_times"
+rt run -- "$work/short.txt" > "$work/log" 2>&1 || { cat "$work/log" >&2; exit 1; }
+
+# Each run is a process of its own; the least of 40 times counts.
+least() {
+    for _ in $(seq 40); do
+        "$work/crates/line_times/out/line_times" "$1" | cut -d ' ' -f "$2"
+    done | sort -n | head -1
+}
+bytes=$(wc -c < "$work/short.txt")
+more=$(wc -c < "$work/long.txt")
+echo "$(least "$work/short.txt" 1) $(least "$work/long.txt" 1) $(least "$work/short.txt" 2) $(least "$work/long.txt" 2) $bytes $more" | awk '{
+    printf "reading: %.2f ms of %d bytes, %.2f ms of %d bytes, ratio %.1f (at most 12)\n", $1 / 1000, $5, $2 / 1000, $6, $2 / $1
+    printf "writing: %.2f ms, %.2f ms, ratio %.1f (at most 12)\n", $3 / 1000, $4 / 1000, $4 / $3
+    exit !($2 <= 12 * $1 && $4 <= 12 * $3)
+}'
