@@ -14,8 +14,8 @@ jolie_trees: sqlite_items thiserror
 tree_times: jolie_trees sqlite_items
 END
 cat > "$work/crates/tree_times/src/main.rt" <<'END'
-//! The times of 10,000 `get` and of 10,000 `set` in an order of as many lines as the argument says, each with an id and a
-//! price, in microseconds, and how many nodes the order has.
+//! The time of 10,000 `get`, or with a second word of 10,000 `set`, in an order of as many lines as the first word says, each with
+//! an id and a price, in microseconds, and how many nodes the order has.
 #![tactic(auto)]
 
 use jolie_trees::{Path, Root, SetError, Step, Text, Tree};
@@ -27,23 +27,28 @@ use std::{env, io};
 const TIMES: u32 = 10_000;
 
 fn main(rt: HostRuntime) -> io::Result<()> {
+    let mut lines: u32 = 1;
+    let mut sets = false;
     for word in env::args(&rt)?.skip(1) {
-        let lines = word.as_str().parse::<u32>().unwrap_or(1).max(1);
-        let alloc = rt.alloc();
-        match order(alloc, lines) {
-            Err(_) => println!(rt; "out of memory")?,
-            Ok(mut tree) => {
-                let start = Instant::now(&rt)?;
-                let found = read(alloc, &tree, lines).unwrap_or(0);
-                let reading = start.elapsed(&rt)?.as_micros();
-                let start = Instant::now(&rt)?;
-                let written = write(alloc, &mut tree, lines).is_ok();
-                let writing = start.elapsed(&rt)?.as_micros();
-                let nodes = tree.size();
-                println!(rt; "{reading} {writing} {nodes} {found} {written}")?;
-            }
+        match word.as_str().parse::<u32>() {
+            Ok(number) => lines = number.max(1),
+            Err(_) => sets = true,
         }
     }
+    let alloc = rt.alloc();
+    let Ok(mut tree) = order(alloc, lines) else {
+        println!(rt; "out of memory")?;
+        return Ok(());
+    };
+    let start = Instant::now(&rt)?;
+    let done = if sets {
+        write(alloc, &mut tree, lines).is_ok()
+    } else {
+        read(alloc, &tree, lines).is_ok()
+    };
+    let time = start.elapsed(&rt)?.as_micros();
+    let nodes = tree.size();
+    println!(rt; "{time} {nodes} {done}")?;
     Ok(())
 }
 
@@ -105,13 +110,14 @@ END
 cd "$work/crates/tree_times"
 rt run -- 1 > "$work/log" 2>&1 || { cat "$work/log" >&2; exit 1; }
 
-# The least of 20 readings and of 5 writings counts.
+# The least of so many runs counts, each a process of its own.
 least() {
-    for _ in $(seq "$2"); do
-        "$work/crates/tree_times/out/tree_times" "$1" | cut -d ' ' -f "$3"
+    for _ in $(seq "$1"); do
+        # shellcheck disable=SC2086
+        "$work/crates/tree_times/out/tree_times" $2 | cut -d ' ' -f 1
     done | sort -n | head -1
 }
-echo "$(least 20 20 1) $(least 20000 20 1) $(least 20 5 2) $(least 20000 5 2)" | awk '{
+echo "$(least 20 20) $(least 20 20000) $(least 5 '20 set') $(least 1 '20000 set')" | awk '{
     printf "10,000 get: %.2f ms in 61 nodes, %.2f ms in 60,001 nodes, ratio %.1f (at most 4)\n", $1 / 1000, $2 / 1000, $2 / $1
     printf "10,000 set: %.2f ms in 61 nodes, %.2f ms in 60,001 nodes, ratio %.1f\n", $3 / 1000, $4 / 1000, $4 / $3
     exit !($2 <= 4 * $1)

@@ -1,8 +1,9 @@
 -- What a command does, from what its parts do.
 use Rattle.std.proofs.Common.{◌≡◌, refl, sym, subst, ℕ, List, Option, None, Some, IfSome, Result, Ok, Err, IfOk}
-use Rattle.std.specs.Prelude.{MatchResult}
+use Rattle.std.specs.Prelude.{MatchResult, codes}
 use Rattle.std.specs.declared.alloc.AllocError.{AllocError}
 use Rattle.jolie_ast.specs.declared.tree.Definition.{Definition}
+use Rattle.behaviour_tree.specs.Data.{ProgramParts}
 use Rattle.behaviour_tree.specs.PartsView.{parts_of}
 use Rattle.behaviour_tree.specs.declared.program.Program.{Program}
 use Rattle.jolie_main.specs.declared.record.Ended.{Ended}
@@ -16,24 +17,41 @@ use Rattle.jolie_main.specs.declared.words.Words.{Words}
 use Rattle.jolie_main.specs.declared.words.Words.TheVariants as words
 use Rattle.jolie_main.specs.Commands.{IsUnderstood}
 use Rattle.jolie_ast.specs.Printed.{printed_text}
-use Rattle.jolie_main.specs.Programs.{IsProgram, IsNotRunBy}
+use Rattle.jolie_main.specs.Programs.{IsChecked, IsUncheckedBy, IsProgram, IsNotRunBy}
 use Rattle.jolie_main.specs.Verdicts.{IsVerdict, line_of}
 use Rattle.jolie_main.specs.Outside.{Stream, Outside, outside, program_bytes, IsReadOf, IsWritten}
-use Rattle.jolie_main.specs.Headline.{Says, Shows, Runs, IsEmptyRecord, checked, Does, Obeys, Promises}
+use Rattle.jolie_main.specs.Headline.{Says, Checks, Prints, Runs, IsEmptyRecord, Does, Obeys, Promises}
 use Rattle.jolie_main.specs.Headline as headline
 
--- a text with definitions is shown
-pub shown : (show : List Definition → List ℕ) (text : List ℕ) (v : Verdict) (file : List Definition) (said : List ℕ) (r : Result Ended AllocError) (before now : Stream) → IsVerdict text v → v ≡ verdict.File file
-    → said ≡ show file → IfOk r (λ ended. Says said ended.status before now) → IfOk r (λ ended. Shows show text ended.status before now)
-shown show text v file said (Ok ended) before now right is same says =
+-- a text with definitions is printed
+pub printed : (text : List ℕ) (v : Verdict) (file : List Definition) (said : List ℕ) (r : Result Ended AllocError) (before now : Stream) → IsVerdict text v → v ≡ verdict.File file
+    → said ≡ printed_text file → IfOk r (λ ended. Says said ended.status before now) → IfOk r (λ ended. Prints text ended.status before now)
+printed text v file said (Ok ended) before now right is same says =
     headline.accepted file (subst (λ x. IsVerdict text x) is right) (subst (λ t. Says t ended.status before now) same says)
-shown show text v file said (Err e) before now right is same says = tt
+printed text v file said (Err e) before now right is same says = tt
 
 -- and another is refused
-pub shown_refused : (show : List Definition → List ℕ) (text : List ℕ) (v : Verdict) (refusal : Refusal) (r : Result Ended AllocError) (before now : Stream) → IsVerdict text v → v ≡ verdict.Refused refusal
-    → IfOk r (λ ended. ended.status ≡ 3) → IfOk r (λ ended. IsWritten (line_of refusal) before now) → IfOk r (λ ended. Shows show text ended.status before now)
-shown_refused show text v refusal (Ok ended) before now right is status written = headline.refused (line_of refusal) (subst (λ x. IsVerdict text x) is right) status written
-shown_refused show text v refusal (Err e) before now right is status written = tt
+pub not_printed : (text : List ℕ) (v : Verdict) (refusal : Refusal) (r : Result Ended AllocError) (before now : Stream) → IsVerdict text v → v ≡ verdict.Refused refusal
+    → IfOk r (λ ended. ended.status ≡ 3) → IfOk r (λ ended. IsWritten (line_of refusal) before now) → IfOk r (λ ended. Prints text ended.status before now)
+not_printed text v refusal (Ok ended) before now right is status written = headline.refused (line_of refusal) (subst (λ x. IsVerdict text x) is right) status written
+not_printed text v refusal (Err e) before now right is status written = tt
+
+-- `ok` is said of a program
+pub passed : (text said : List ℕ) (found : Result Program Refusal) (program : Program) (r : Result Ended AllocError) (before now : Stream)
+    → MatchResult found (λ p. IsChecked text (parts_of p)) (λ why. IsUncheckedBy text (line_of why)) → found ≡ Ok program → said ≡ codes "ok\n"
+    → IfOk r (λ ended. Says said ended.status before now) → IfOk r (λ ended. Checks text ended.status before now)
+passed text said found program (Ok ended) before now right is same says =
+    headline.passed (parts_of program) (subst (λ x. MatchResult x (λ p. IsChecked text (parts_of p)) (λ why. IsUncheckedBy text (line_of why))) is right)
+    (subst (λ t. Says t ended.status before now) same says)
+passed text said found program (Err e) before now right is same says = tt
+
+-- and another text is refused
+pub not_passed : (text : List ℕ) (found : Result Program Refusal) (refusal : Refusal) (r : Result Ended AllocError) (before now : Stream)
+    → MatchResult found (λ p. IsChecked text (parts_of p)) (λ why. IsUncheckedBy text (line_of why)) → found ≡ Err refusal
+    → IfOk r (λ ended. ended.status ≡ 3) → IfOk r (λ ended. IsWritten (line_of refusal) before now) → IfOk r (λ ended. Checks text ended.status before now)
+not_passed text found refusal (Ok ended) before now right is status written =
+    headline.unchecked (line_of refusal) (subst (λ x. MatchResult x (λ p. IsChecked text (parts_of p)) (λ why. IsUncheckedBy text (line_of why))) is right) status written
+not_passed text found refusal (Err e) before now right is status written = tt
 
 -- a text that is not run is refused
 pub run_refused : (text given : List ℕ) (found : Result Program Refusal) (refusal : Refusal) (r : Result Ended AllocError) (input output output_now : Stream)
@@ -51,19 +69,19 @@ module _ (given : Action) (held : List ℕ → Option (List ℕ)) (file name tex
       headline.read text (subst (λ n. IfSome (held n) (λ all. text ≡ program_bytes all)) named read) calm (subst (λ a. Does a text ended before now) (sym is) does)
 
   pub obeys_check : (shown : List ℕ) (faults faults_now : ℕ) (input output output_now : Stream) (r : Result Ended AllocError) → given ≡ action.Check → faults_now ≡ faults → shown ≡ text
-      → IfOk r (λ ended. Shows checked shown ended.status output output_now) → IfOk r (λ ended. IsEmptyRecord ended.report)
+      → IfOk r (λ ended. Checks shown ended.status output output_now) → IfOk r (λ ended. IsEmptyRecord ended.report)
       → IfOk r (λ ended. (notes : Stream) → Obeys given (held file) ended (outside faults input output notes) (outside faults_now input output_now notes))
   obeys_check shown faults faults_now input output output_now (Ok ended) is calm same shows empty =
       λ notes. obeys action.Check ended (outside faults input output notes) (outside faults_now input output_now notes) is calm
-      (subst (λ t. Shows checked t ended.status output output_now) same shows, empty, refl)
+      (subst (λ t. Checks t ended.status output output_now) same shows, (empty, refl))
   obeys_check shown faults faults_now input output output_now (Err e) is calm same shows empty = tt
 
   pub obeys_print : (shown : List ℕ) (faults faults_now : ℕ) (input output output_now : Stream) (r : Result Ended AllocError) → given ≡ action.Print → faults_now ≡ faults → shown ≡ text
-      → IfOk r (λ ended. Shows printed_text shown ended.status output output_now) → IfOk r (λ ended. IsEmptyRecord ended.report)
+      → IfOk r (λ ended. Prints shown ended.status output output_now) → IfOk r (λ ended. IsEmptyRecord ended.report)
       → IfOk r (λ ended. (notes : Stream) → Obeys given (held file) ended (outside faults input output notes) (outside faults_now input output_now notes))
   obeys_print shown faults faults_now input output output_now (Ok ended) is calm same shows empty =
       λ notes. obeys action.Print ended (outside faults input output notes) (outside faults_now input output_now notes) is calm
-      (subst (λ t. Shows printed_text t ended.status output output_now) same shows, empty, refl)
+      (subst (λ t. Prints t ended.status output output_now) same shows, (empty, refl))
   obeys_print shown faults faults_now input output output_now (Err e) is calm same shows empty = tt
 
   pub obeys_run : (faults faults_now : ℕ) (input input_now output output_now : Stream) (r : Result Ended AllocError) → given ≡ action.Run → faults_now ≡ faults

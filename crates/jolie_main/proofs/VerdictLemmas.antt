@@ -1,6 +1,6 @@
 -- What a text that is read or refused has.
 use Rattle.std.proofs.Common.{◌≡◌, ℕ, ◌<◌, ◌≤◌, List, length, Result, Ok, Err, refl, subst, sym, arith}
-use Rattle.std.specs.Prelude.{IsErrOf, ◌↔◌, Option, None, IsNone}
+use Rattle.std.specs.Prelude.{IsErrOf, ◌↔◌}
 use Rattle.jolie_tokens.specs.declared.token.Token.{Token}
 use Rattle.jolie_tokens.specs.declared.lex_error.LexError.{LexError}
 use Rattle.jolie_tokens.specs.declared.lex_error.LexError.TheVariants as lex
@@ -12,14 +12,8 @@ use Rattle.jolie_parse.specs.declared.parse_error.ParseError.TheVariants as pars
 use Rattle.jolie_parse.specs.Classes.{spelled}
 use Rattle.jolie_parse.specs.Grammar.{IsFile}
 use Rattle.jolie_parse.specs.Answers.{IsRefusedAt, IsTooDeepAt}
-use Rattle.jolie_main.specs.declared.form.FirstForm.{FirstForm}
 use Rattle.jolie_main.specs.declared.refusal.Refusal.{Refusal}
-use Rattle.jolie_main.specs.declared.verdict.Verdict.{Verdict}
-use Rattle.jolie_main.specs.declared.verdict.Verdict.TheVariants as verdict
-use Rattle.jolie_main.specs.FirstForm.{IsFirstForm}
-use Rattle.jolie_main.specs.Programs.{IsNotRunBy, no_form, form_line}
-use Rattle.jolie_main.specs.Programs as program
-use Rattle.jolie_main.specs.Verdicts.{IsAccepted, IsRefusedBy, too_long, no_tokens, no_file, too_deep, line_of, IsLexRefusal, IsParseRefusal, IsVerdict}
+use Rattle.jolie_main.specs.Verdicts.{IsAccepted, IsRefusedBy, too_long, no_tokens, no_file, too_deep, line_of, IsLexRefusal, IsParseRefusal}
 
 -- a text that has tokens is not too long
 pub fits : (r : Result (List Token) LexError) (tokens : List Token) (n : ℕ) → r ≡ Ok tokens → (IsErrOf r lex.TooLong ↔ longest < n) → n ≤ longest
@@ -45,15 +39,3 @@ pub refused_by_parse : (text : List ℕ) (tokens : List Token) (result : Result 
 refused_by_parse text tokens result (parse.Syntax at) r fit read is syntax deep line = subst (λ l. IsRefusedBy text l) (sym line) (no_file tokens at fit read (syntax at is))
 refused_by_parse text tokens result (parse.TooDeep at) r fit read is syntax deep line = subst (λ l. IsRefusedBy text l) (sym line) (too_deep tokens at fit read (deep at is))
 refused_by_parse text tokens result (parse.Memory cause) r fit read is syntax deep line = absurd line
-
--- a text that is refused is not run
-pub not_run : (text : List ℕ) (v : Verdict) (r : Refusal) → IsVerdict text v → v ≡ verdict.Refused r → IsNotRunBy text (line_of r)
-not_run text v r right is = program.no_file (line_of r) (subst (λ x. IsVerdict text x) is right)
-
--- nor is a file of another form
-pub no_form_runs : (text : List ℕ) (v : Verdict) (file given : List Definition) (found : Option FirstForm) (r : Refusal) → IsVerdict text v → v ≡ verdict.File file
-    → (IsNone found → (form : FirstForm) → ¬ IsFirstForm given form) → found ≡ None → given ≡ file → line_of r ≡ form_line → IsNotRunBy text (line_of r)
-no_form_runs text v file given found r right is none nothing same line =
-    let none_there : IsNone found = subst (λ o. IsNone o) (sym nothing) refl in
-    subst (λ l. IsNotRunBy text l) (sym line)
-    (no_form file (subst (λ x. IsVerdict text x) is right) (subst (λ x. (form : FirstForm) → ¬ IsFirstForm x form) same (none none_there)))

@@ -13,7 +13,7 @@ use Rattle.jolie_main.specs.declared.words.Words.{Words}
 use Rattle.jolie_main.specs.declared.words.Words.TheVariants as words
 use Rattle.jolie_main.specs.Verdicts.{IsAccepted, IsRefusedBy}
 use Rattle.jolie_ast.specs.Printed.{printed_text}
-use Rattle.jolie_main.specs.Programs.{IsProgram, IsNotRunBy}
+use Rattle.jolie_main.specs.Programs.{IsChecked, IsUncheckedBy, IsProgram, IsNotRunBy}
 use Rattle.jolie_main.specs.Lines.{all_lines, whole_lines}
 use Rattle.jolie_main.specs.Legal.{IsLegal}
 use Rattle.jolie_main.specs.Sentences.{HasSessions, AnswersEach, IsStill}
@@ -61,14 +61,15 @@ pub data Says (text : List ℕ) (status : ℕ) (before now : Stream) : Type 0 wh
   whole : status ≡ 0 → IsWhole text before now → Says text status before now
   cut : status ≡ 5 → IsCut text before now → Says text status before now
 
--- What `check` and `print` do with a text: they show what its definitions give, or refuse it by its line at status 3.
-pub data Shows (shown : List Definition → List ℕ) (text : List ℕ) (status : ℕ) (before now : Stream) : Type 0 where
-  accepted : (file : List Definition) → IsAccepted text file → Says (shown file) status before now → Shows shown text status before now
-  refused : (line : List ℕ) → IsRefusedBy text line → status ≡ 3 → IsWritten line before now → Shows shown text status before now
+-- What `check` does with a text: it says `ok` of a program, or refuses the text by its line at status 3.
+pub data Checks (text : List ℕ) (status : ℕ) (before now : Stream) : Type 0 where
+  passed : (parts : ProgramParts) → IsChecked text parts → Says (codes "ok\n") status before now → Checks text status before now
+  unchecked : (line : List ℕ) → IsUncheckedBy text line → status ≡ 3 → IsWritten line before now → Checks text status before now
 
--- what `check` shows, whatever the definitions
-abbrev pub checked : List Definition → List ℕ
-checked file = codes "ok\n"
+-- What `print` does with a text: it prints the definitions, or refuses the text by its line at status 3.
+pub data Prints (text : List ℕ) (status : ℕ) (before now : Stream) : Type 0 where
+  accepted : (file : List Definition) → IsAccepted text file → Says (printed_text file) status before now → Prints text status before now
+  refused : (line : List ℕ) → IsRefusedBy text line → status ≡ 3 → IsWritten line before now → Prints text status before now
 
 -- What `run` does with a text: it runs the program that it is over the lines of the input, or refuses it by its line at
 -- status 3. Of a run the record holds the text, the traffic has what the input gave and the output took, and the statuses
@@ -84,15 +85,14 @@ pub data Runs (text : List ℕ) (ended : Ended) (input input_now output output_n
 
 -- ---- a command
 
--- what is shown of a text, and nothing else: nothing is recorded and nothing read of the input
-abbrev pub ShowsAlone : (List Definition → List ℕ) → List ℕ → Ended → Outside → Outside → Type 0
-ShowsAlone shown text ended before now =
-    Shows shown text ended.status before.output now.output × IsEmptyRecord ended.report × (now.input ≡ before.input)
+-- nothing is recorded and nothing read of the input
+abbrev pub ShowsAlone : Ended → Outside → Outside → Type 0
+ShowsAlone ended before now = IsEmptyRecord ended.report × (now.input ≡ before.input)
 
 -- what a command does with the text of its file
 abbrev pub Does : Action → List ℕ → Ended → Outside → Outside → Type 0
-Does action.Check text ended before now = ShowsAlone checked text ended before now
-Does action.Print text ended before now = ShowsAlone printed_text text ended before now
+Does action.Check text ended before now = Checks text ended.status before.output now.output × ShowsAlone ended before now
+Does action.Print text ended before now = Prints text ended.status before.output now.output × ShowsAlone ended before now
 Does action.Run text ended before now = Runs text ended before.input now.input before.output now.output
 
 -- A command over a file: it does so with the text that is read of it, or the file failed, and then the status is 2 and

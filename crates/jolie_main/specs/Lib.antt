@@ -16,12 +16,7 @@ pub mod Sentences
 pub mod Commands
 pub mod Usage
 pub mod Verdicts
-pub mod Stops
-pub mod Formulas
-pub mod FirstForm
-pub mod Finding
 pub mod Programs
-pub mod Meaning
 pub mod Deeds
 pub mod Progress
 pub mod Ends

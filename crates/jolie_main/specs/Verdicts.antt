@@ -11,6 +11,8 @@ use Rattle.jolie_parse.specs.declared.parse_error.ParseError.TheVariants as pars
 use Rattle.jolie_parse.specs.Classes.{spelled}
 use Rattle.jolie_parse.specs.Grammar.{IsFile}
 use Rattle.jolie_parse.specs.Answers.{IsRefusedAt, IsTooDeepAt}
+use Rattle.service_check.specs.declared.refusal.CheckName.{CheckName}
+use Rattle.service_check.specs.declared.refusal.CheckName.TheVariants as check
 use Rattle.jolie_main.specs.declared.refusal.Stage.{Stage}
 use Rattle.jolie_main.specs.declared.refusal.Stage.TheVariants as stage
 use Rattle.jolie_main.specs.declared.refusal.Fault.{Fault}
@@ -40,6 +42,24 @@ parse_line (parse.Syntax at) = refusal (codes "parse") (codes "Syntax") at
 parse_line (parse.TooDeep at) = refusal (codes "parse") (codes "TooDeep") at
 parse_line (parse.Memory cause) = []
 
+-- the name of a check
+abbrev pub check_word : CheckName → List ℕ
+check_word check.DuplicateName = codes "DuplicateName"
+check_word check.UnknownType = codes "UnknownType"
+check_word check.UnknownPort = codes "UnknownPort"
+check_word check.UnknownOperation = codes "UnknownOperation"
+check_word check.WrongKind = codes "WrongKind"
+check_word check.Uncorrelated = codes "Uncorrelated"
+check_word check.TwoSets = codes "TwoSets"
+check_word check.CompOutsideHandler = codes "CompOutsideHandler"
+check_word check.ChOutsideHandler = codes "ChOutsideHandler"
+check_word check.NoStart = codes "NoStart"
+check_word check.InitNotAssignment = codes "InitNotAssignment"
+
+-- of a file that a check refuses at that place
+abbrev pub check_line : CheckName → ℕ → List ℕ
+check_line name at = refusal (codes "check") (check_word name) at
+
 -- ---- a text
 
 -- the text has these definitions, with nesting at most 64
@@ -64,6 +84,7 @@ pub data IsRefusedBy (text : List ℕ) : List ℕ → Type 0 where
 abbrev pub stage_word : Stage → List ℕ
 stage_word stage.Lex = codes "lex"
 stage_word stage.Parse = codes "parse"
+stage_word stage.Check = codes "check"
 stage_word stage.First = codes "first"
 
 -- the word of a fault
@@ -75,6 +96,7 @@ fault_word fault.OpenComment = codes "OpenComment"
 fault_word fault.BadNumber = codes "BadNumber"
 fault_word fault.Syntax = codes "Syntax"
 fault_word fault.TooDeep = codes "TooDeep"
+fault_word (fault.Check name) = check_word name
 fault_word fault.Form = codes "Form"
 
 -- the line of a refusal

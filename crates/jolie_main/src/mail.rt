@@ -119,7 +119,7 @@ fn mail_of(program: &Program, message: u32, name: &Text, mut value: Tree) -> Mai
     }
 }
 
-/// The number of a place.
+/// A place as a number of 32 bits; one that they do not hold counts as want of memory.
 fn numbered(place: usize) -> Result<u32, AllocError>
     ensures { IfOk result (λ number. number ≡ place) }
 {

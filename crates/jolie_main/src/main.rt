@@ -1,12 +1,11 @@
 //! Checks and prints a text of Jolie, or runs its service over lines of JSON-RPC.
 #![tactic(auto)]
 
-mod form;
-mod formula;
+mod built;
+mod checked;
 mod history;
 mod lines;
 mod mail;
-mod meaning;
 mod office;
 mod record;
 mod refusal;

@@ -2,18 +2,20 @@
 
 ghost use Rattle.std.specs.Prelude.{◌≡◌, Some, IfOk, string_bytes};
 ghost use Rattle.jolie_main.specs.Programs.{form_line};
-ghost use Rattle.jolie_main.specs.Verdicts.{stage_word, fault_word, line_of, IsLexRefusal, IsParseRefusal};
+ghost use Rattle.jolie_main.specs.Verdicts.{stage_word, fault_word, check_word as spelled_check, check_line, line_of, IsLexRefusal, IsParseRefusal};
 
 use jolie_parse::ParseError;
 use jolie_tokens::LexError;
+use service_check::CheckName;
 use std::alloc::{AllocError, Global};
 use std::fmt;
 
-/// What refuses a text: its tokens, its grammar, or the first form.
+/// What refuses a text: its tokens, its grammar, a check, or that its form does not run yet.
 #[derive(Clone, Copy, Debug, PartialEq, Eq)]
 pub enum Stage {
     Lex,
     Parse,
+    Check,
     First,
 }
 
@@ -24,6 +26,7 @@ impl Stage {
         match self {
             Stage::Lex => "lex",
             Stage::Parse => "parse",
+            Stage::Check => "check",
             Stage::First => "first",
         }
     }
@@ -39,6 +42,7 @@ pub enum Fault {
     BadNumber,
     Syntax,
     TooDeep,
+    Check(CheckName),
     Form,
 }
 
@@ -54,8 +58,28 @@ impl Fault {
             Fault::BadNumber => "BadNumber",
             Fault::Syntax => "Syntax",
             Fault::TooDeep => "TooDeep",
+            Fault::Check(name) => check_word(name),
             Fault::Form => "Form",
         }
+    }
+}
+
+/// The word of a check.
+fn check_word(name: CheckName) -> &'static str
+    ensures { result.now ≡ spelled_check name }
+{
+    match name {
+        CheckName::DuplicateName => "DuplicateName",
+        CheckName::UnknownType => "UnknownType",
+        CheckName::UnknownPort => "UnknownPort",
+        CheckName::UnknownOperation => "UnknownOperation",
+        CheckName::WrongKind => "WrongKind",
+        CheckName::Uncorrelated => "Uncorrelated",
+        CheckName::TwoSets => "TwoSets",
+        CheckName::CompOutsideHandler => "CompOutsideHandler",
+        CheckName::ChOutsideHandler => "ChOutsideHandler",
+        CheckName::NoStart => "NoStart",
+        CheckName::InitNotAssignment => "InitNotAssignment",
     }
 }
 
@@ -68,7 +92,7 @@ pub struct Refusal {
 }
 
 impl Refusal {
-    /// The refusal of a file that is of no form that runs.
+    /// The refusal of a program of a form that does not run yet.
     pub fn of_form() -> Refusal
         ensures { line_of result ≡ form_line }
     {
@@ -112,6 +136,17 @@ impl Refusal {
             fault,
             at,
         })
+    }
+
+    /// The refusal of a file by a check.
+    pub fn by_check(name: CheckName, at: u32) -> Refusal
+        ensures { line_of result ≡ check_line name at }
+    {
+        Refusal {
+            stage: Stage::Check,
+            fault: Fault::Check(name),
+            at,
+        }
     }
 
     /// The line that says it.

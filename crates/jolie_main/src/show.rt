@@ -1,10 +1,10 @@
 //! The commands that show what a text has.
 
 ghost use Rattle.std.specs.Prelude.{IfOk};
-ghost use Rattle.jolie_main.specs.Headline.{Shows, checked, IsEmptyRecord};
+ghost use Rattle.jolie_main.specs.Headline.{Checks, Prints, IsEmptyRecord};
 ghost use Rattle.jolie_main.specs.Outside.{stream};
-ghost use Rattle.jolie_ast.specs.Printed.{printed_text};
 
+use crate::checked::checked_program;
 use crate::record::Ended;
 use crate::say::{answer, refuse};
 use crate::verdict::{Verdict, verdict_of};
@@ -12,21 +12,21 @@ use jolie_ast::print;
 use outside_traits::Sink;
 use std::alloc::{AllocError, Global};
 
-/// Says `ok` of a text that has definitions.
+/// Says `ok` of a text that is a program.
 pub fn check_text<K: Sink>(alloc: Global, text: &[u8], output: &mut K) -> Result<Ended, AllocError>
-    ensures shows { IfOk result (λ ended. Shows checked text.now ended.status (stream (K.taken output.old) (K.faults output.old)) (stream (K.taken output.new) (K.faults output.new))) }
+    ensures shows { IfOk result (λ ended. Checks text.now ended.status (stream (K.taken output.old) (K.faults output.old)) (stream (K.taken output.new) (K.faults output.new))) }
     ensures empty { IfOk result (λ ended. IsEmptyRecord ended.report) }
 {
-    match verdict_of(alloc, text)? {
-        Verdict::File(_) => {}
-        Verdict::Refused(refusal) => return refuse(alloc, &refusal, output),
+    match checked_program(alloc, text)? {
+        Ok(_) => {}
+        Err(refusal) => return refuse(alloc, &refusal, output),
     }
     answer(alloc, b"ok\n", output)
 }
 
 /// Prints the definitions of a text.
 pub fn print_text<K: Sink>(alloc: Global, text: &[u8], output: &mut K) -> Result<Ended, AllocError>
-    ensures shows { IfOk result (λ ended. Shows printed_text text.now ended.status (stream (K.taken output.old) (K.faults output.old)) (stream (K.taken output.new) (K.faults output.new))) }
+    ensures shows { IfOk result (λ ended. Prints text.now ended.status (stream (K.taken output.old) (K.faults output.old)) (stream (K.taken output.new) (K.faults output.new))) }
     ensures empty { IfOk result (λ ended. IsEmptyRecord ended.report) }
 {
     let file = match verdict_of(alloc, text)? {

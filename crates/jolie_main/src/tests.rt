@@ -4,8 +4,9 @@ ghost use Rattle.behaviour_tree.specs.Built.{IsBuiltService};
 ghost use Rattle.jolie_main.specs.BuiltPrograms.{IsBuiltProgram};
 ghost use Rattle.term_session.specs.Sessions.{service_of};
 
+use crate::checked::program_in;
 use crate::record::Ended;
-use crate::top::{program_in, run};
+use crate::top::run;
 use behaviour_tree::{Event, Events, Given, Kind, Program};
 use jolie_trees::{Root, Text, Tree};
 use outside_traits::{Script, ScriptedFiles, ScriptedSink, ScriptedSource};
@@ -28,25 +29,30 @@ const SERVICE_TURNED: &str = "// twice\n\
     interface TwiceI { RequestResponse: twice(Req)(int) }\n\
     type Req: void { .n: int }\n";
 
-/// A file of no form that runs, as it is printed but for the line feed.
+/// A program of a form that does not run, as it is printed but for the line feed.
 const OTHER: &str = "service S { main { a = 1 ; b = 2 | c = 3 } }";
 
-/// The operation that the examples of the format call.
-const SUBTRACT: &str = "type Pair: void { minuend: int subtrahend: int }\n\
-    interface SubtractI { RequestResponse: subtract(Pair)(int) }\n\
-    service Subtract {\n  execution: concurrent\n  \
-    inputPort In { location: \"socket://localhost:8000\" protocol: jsonrpc interfaces: SubtractI }\n  \
-    main { subtract(x)(y) { y = x.minuend - x.subtrahend } }\n}\n";
+/// Several operations, which the examples of the format call.
+const CALCULATOR: &str = "type Pair: void { minuend: int subtrahend: int }\n\
+    type Numbers: void { n*: int }\n\
+    type Data: void { list*: any }\n\
+    interface CalcI {\n  \
+    RequestResponse: subtract(Pair)(int), sum(Numbers)(int), get_data(void)(Data)\n  \
+    OneWay: update(any), notify_hello(int)\n}\n\
+    service Calc {\n  execution: concurrent\n  \
+    inputPort In { location: \"socket://localhost:8000\" protocol: jsonrpc interfaces: CalcI }\n  \
+    main {\n    \
+    [ subtract(x)(y) { y = x.minuend - x.subtrahend } ] { nullProcess }\n    \
+    [ sum(x)(y) { y = x.n[0] + x.n[1] + x.n[2] } ] { nullProcess }\n    \
+    [ get_data()(y) { y.list[0] = \"hello\" ; y.list[1] = 5 } ] { nullProcess }\n    \
+    [ update(x) ] { last << x }\n    \
+    [ notify_hello(x) ] { greeted = x }\n  }\n}\n";
 
-/// The examples of JSON-RPC 2.0 over that operation, and what they are answered.
+/// The examples of JSON-RPC 2.0, as far as their params make trees, and what they are answered.
 const EXAMPLES: [(&str, &str); 14] = [
     (
         r#"{"jsonrpc":"2.0","method":"subtract","params":{"subtrahend":23,"minuend":42},"id":3}"#,
         r#"{"id":3,"jsonrpc":"2.0","result":19}"#,
-    ),
-    (
-        r#"{"jsonrpc":"2.0","method":"subtract","params":{"minuend":42,"subtrahend":23},"id":4}"#,
-        r#"{"id":4,"jsonrpc":"2.0","result":19}"#,
     ),
     (
         r#"{"jsonrpc":"2.0","method":"subtract","params":[42,23],"id":1}"#,
@@ -70,7 +76,7 @@ const EXAMPLES: [(&str, &str); 14] = [
         r#"{"error":{"code":-32600,"message":"Invalid Request"},"id":null,"jsonrpc":"2.0"}"#,
     ),
     (
-        r#"[{"jsonrpc":"2.0","method":"subtract","params":{"minuend":1,"subtrahend":2},"id":"1"},{"jsonrpc":"2.0","method""#,
+        r#"[{"jsonrpc":"2.0","method":"sum","params":{"n":[1,2,4]},"id":"1"},{"jsonrpc":"2.0","method""#,
         r#"{"error":{"code":-32700,"message":"Parse error"},"id":null,"jsonrpc":"2.0"}"#,
     ),
     (
@@ -86,12 +92,16 @@ const EXAMPLES: [(&str, &str); 14] = [
         r#"[{"error":{"code":-32600,"message":"Invalid Request"},"id":null,"jsonrpc":"2.0"},{"error":{"code":-32600,"message":"Invalid Request"},"id":null,"jsonrpc":"2.0"}]"#,
     ),
     (
-        r#"[{"jsonrpc":"2.0","method":"subtract","params":{"minuend":7,"subtrahend":0},"id":"1"},{"jsonrpc":"2.0","method":"subtract","params":{"minuend":1,"subtrahend":7}},{"jsonrpc":"2.0","method":"subtract","params":{"minuend":42,"subtrahend":23},"id":"2"},{"foo":"boo"},{"jsonrpc":"2.0","method":"foo.get","params":{"name":"myself"},"id":"5"},{"jsonrpc":"2.0","method":"subtract","id":"9"}]"#,
-        r#"[{"id":"1","jsonrpc":"2.0","result":7},{"id":"2","jsonrpc":"2.0","result":19},{"error":{"code":-32600,"message":"Invalid Request"},"id":null,"jsonrpc":"2.0"},{"error":{"code":-32601,"message":"Method not found"},"id":"5","jsonrpc":"2.0"},{"error":{"code":-32602,"message":"Invalid params"},"id":"9","jsonrpc":"2.0"}]"#,
+        r#"[{"jsonrpc":"2.0","method":"sum","params":{"n":[1,2,4]},"id":"1"},{"jsonrpc":"2.0","method":"notify_hello","params":[7]},{"jsonrpc":"2.0","method":"subtract","params":{"minuend":42,"subtrahend":23},"id":"2"},{"foo":"boo"},{"jsonrpc":"2.0","method":"foo.get","params":{"name":"myself"},"id":"5"},{"jsonrpc":"2.0","method":"get_data","id":"9"}]"#,
+        r#"[{"id":"1","jsonrpc":"2.0","result":7},{"id":"2","jsonrpc":"2.0","result":19},{"error":{"code":-32600,"message":"Invalid Request"},"id":null,"jsonrpc":"2.0"},{"error":{"code":-32601,"message":"Method not found"},"id":"5","jsonrpc":"2.0"},{"id":"9","jsonrpc":"2.0","result":{"list":["hello",5]}}]"#,
     ),
     (
-        r#"[{"jsonrpc":"2.0","method":"notify_sum","params":[{"a":1}]},{"jsonrpc":"2.0","method":"subtract","params":{"minuend":1,"subtrahend":7}}]"#,
+        r#"[{"jsonrpc":"2.0","method":"notify_hello","params":[1]},{"jsonrpc":"2.0","method":"notify_hello","params":[7]}]"#,
         "",
+    ),
+    (
+        r#"{"jsonrpc":"2.0","method":"notify_hello","params":[7],"id":8}"#,
+        r#"{"id":8,"jsonrpc":"2.0","result":null}"#,
     ),
 ];
 
@@ -374,7 +384,7 @@ fn each_line_has_its_answer(rt: HostRuntime) -> Result<(), Fail> {
 #[test]
 fn the_examples_of_the_format_have_their_answers(rt: HostRuntime) -> Result<(), Fail> {
     for (line, answer) in EXAMPLES {
-        assert!(rt; answers(rt.alloc(), SUBTRACT, line, answer)?, "{line}");
+        assert!(rt; answers(rt.alloc(), CALCULATOR, line, answer)?, "{line}");
     }
     Ok(())
 }
@@ -438,8 +448,12 @@ fn failing_input_drops_the_line_that_it_cuts(rt: HostRuntime) -> Result<(), Fail
 #[test]
 fn other_programs_are_refused(rt: HostRuntime) -> Result<(), Fail> {
     let rows = [
-        ("", REFUSED),
+        ("", "refused check NoStart 0\n"),
         (OTHER, REFUSED),
+        (
+            "service S { main { comp(q) } }",
+            "refused check CompOutsideHandler 19\n",
+        ),
         (
             "service S { main { a = 1.5 } }",
             "refused lex BadNumber 23\n",
@@ -459,11 +473,16 @@ fn comments_and_the_order_of_parts_change_nothing(rt: HostRuntime) -> Result<(),
 }
 
 #[test]
-fn check_says_whether_a_file_has_definitions(rt: HostRuntime) -> Result<(), Fail> {
+fn check_says_whether_a_file_is_a_program(rt: HostRuntime) -> Result<(), Fail> {
     let rows = [
         (SERVICE, 0, "ok\n"),
         (OTHER, 0, "ok\n"),
-        ("", 0, "ok\n"),
+        ("", 3, "refused check NoStart 0\n"),
+        (
+            "service S { main { comp(q) } }",
+            3,
+            "refused check CompOutsideHandler 19\n",
+        ),
         (
             "service S { main { a = 1.5 } }",
             3,
@@ -527,7 +546,7 @@ fn checked_blanks(alloc: Global, count: usize) -> Result<String, Fail> {
 #[test]
 fn texts_of_a_mebibyte_are_read(rt: HostRuntime) -> Result<(), Fail> {
     let rows = [
-        (1_048_576, "ok\n"),
+        (1_048_576, "refused check NoStart 0\n"),
         (1_048_577, "refused lex TooLong 1048576\n"),
         (1_048_578, "refused lex TooLong 1048576\n"),
     ];
@@ -748,20 +767,109 @@ fn a_fault_that_nobody_catches_is_the_answer(rt: HostRuntime) -> Result<(), Fail
     Ok(())
 }
 
+/// Bodies of a service of one operation `go(Req)(undefined)`, and what a call with 7 is answered.
+const BODIES: [(&str, &str); 9] = [
+    ("y = x.n", r#"{"id":1,"jsonrpc":"2.0","result":7}"#),
+    ("y << x", r#"{"id":1,"jsonrpc":"2.0","result":{"n":7}}"#),
+    (
+        "a << x ; a.m = 1 ; undef(a.n) ; y << a",
+        r#"{"id":1,"jsonrpc":"2.0","result":{"m":1}}"#,
+    ),
+    (
+        "a[1] = 5 ; a[0] << x ; undef(a[0]) ; y = a + #a",
+        r#"{"id":1,"jsonrpc":"2.0","result":6}"#,
+    ),
+    (
+        "y = string(x.n) + \"!\" ; y.more = long(x.n)",
+        r#"{"id":1,"jsonrpc":"2.0","result":{"$":"7!","more":7}}"#,
+    ),
+    (
+        "y = x.n == 7 && is_defined(x.n)",
+        r#"{"id":1,"jsonrpc":"2.0","result":true}"#,
+    ),
+    (
+        "y = 1 / (x.n - 7)",
+        r#"{"error":{"code":-32000,"data":null,"message":"ExprFault"},"id":1,"jsonrpc":"2.0"}"#,
+    ),
+    (
+        "z[65531] = 1 ; y = 1",
+        r#"{"id":1,"jsonrpc":"2.0","result":1}"#,
+    ),
+    (
+        "z[65532] = 1 ; y = 1",
+        r#"{"error":{"code":-32000,"data":null,"message":"StoreTooLarge"},"id":1,"jsonrpc":"2.0"}"#,
+    ),
+];
+
+const GO: &str = "{\"jsonrpc\":\"2.0\",\"method\":\"go\",\"params\":{\"n\":7},\"id\":1}\n";
+
+/// The service of a body.
+fn service_of_body(alloc: Global, body: &str) -> Result<String, Fail> {
+    Ok(format!(in alloc;
+        "type Req: void {{ n: int }} interface GoI {{ RequestResponse: go(Req)(undefined) }} service Go {{ execution: concurrent inputPort In {{ location: \"socket://localhost:8000\" protocol: jsonrpc interfaces: GoI }} main {{ go(x)(y) {{ {body} }} }} }}"
+    )?)
+}
+
+/// What a call with 7 is answered.
+fn answer_of_body(alloc: Global, body: &str) -> Result<String, Fail> {
+    let file = service_of_body(alloc, body)?;
+    let script = Script::new(alloc, &[NEVER])?;
+    let mut files = ScriptedFiles::new(alloc, file.as_bytes(), script)?;
+    let (_ended, written, _noted) = ran_on(alloc, calm(GO), &mut files)?;
+    Ok(written)
+}
+
 #[test]
-fn a_program_knows_its_operation(rt: HostRuntime) -> Result<(), Fail> {
-    let alloc = rt.alloc();
-    let Ok(first) = program_in(alloc, SERVICE.as_bytes())? else {
-        panic!(rt; "the example is not read");
-    };
-    let program = first.again()?;
-    assert_eq!(rt; program.operation_named(0, "twice"), Some(0));
-    assert_eq!(rt; program.operation_named(0, "thrice"), None);
-    assert_eq!(rt; program.operation_named(1, "twice"), None);
-    assert!(rt; program.operation(0, 1).is_none());
-    let Some(operation) = program.operation(0, 0) else {
-        panic!(rt; "operation 0 is not there");
-    };
-    assert_eq!(rt; operation.name.as_str(), "twice");
+fn bodies_answer_by_their_statements(rt: HostRuntime) -> Result<(), Fail> {
+    for (body, answer) in BODIES {
+        assert_eq!(rt;
+            answer_of_body(rt.alloc(), body)?.trim_end(),
+            answer,
+            "{body}"
+        );
+    }
+    Ok(())
+}
+
+/// A service whose init faults, so that no session takes its message.
+const FAULTY_INIT: &str =
+    "interface GoI { RequestResponse: go(any)(any) OneWay: tell(any) } service Go { execution: concurrent \
+    inputPort In { location: \"socket://localhost:8000\" protocol: jsonrpc interfaces: GoI } \
+    init { a = 1 / 0 } main { [ go(x)(y) { y = 1 } ] { nullProcess } [ tell(x) ] { nullProcess } } }";
+
+#[test]
+fn a_session_that_ends_early_answers_by_its_end(rt: HostRuntime) -> Result<(), Fail> {
+    let rows = [
+        (
+            r#"{"jsonrpc":"2.0","method":"go","id":1}"#,
+            r#"{"error":{"code":-32005,"message":"session ended"},"id":1,"jsonrpc":"2.0"}"#,
+        ),
+        (
+            r#"{"jsonrpc":"2.0","method":"tell","id":1}"#,
+            r#"{"id":1,"jsonrpc":"2.0","result":null}"#,
+        ),
+    ];
+    for (line, answer) in rows {
+        assert!(rt; answers(rt.alloc(), FAULTY_INIT, line, answer)?, "{line}");
+    }
+    Ok(())
+}
+
+/// Programs that the checks accept and that do not run yet.
+#[test]
+fn forms_that_do_not_run_are_refused_after_the_checks(rt: HostRuntime) -> Result<(), Fail> {
+    let rows = [
+        "service S { main { nullProcess } }",
+        "service S { main { a = 1 } } service T { main { a = 1 } }",
+        "interface I { RequestResponse: go(any)(any) } service S { inputPort In { location: \"local://s\" interfaces: I } main { go(x)(y) { y = 1 } } }",
+        "interface I { RequestResponse: go(any)(any) } service S { execution: concurrent inputPort In { location: \"local://s\" interfaces: I } main { go(x)(y) { while (false) { y = 1 } } } }",
+    ];
+    for file in rows {
+        assert!(rt;
+            gives(rt.alloc(), over("check", file), 0, "ok\n")?,
+            "{file}"
+        );
+        assert!(rt; gives(rt.alloc(), over("run", file), 3, REFUSED)?, "{file}");
+    }
     Ok(())
 }

@@ -1,23 +1,19 @@
-ghost use Rattle.std.specs.Prelude.{◌≡◌, IfOk, MatchResult};
+ghost use Rattle.std.specs.Prelude.{◌≡◌, IfOk};
 ghost use Rattle.jolie_main.specs.declared.words.Words.{Words as Said};
 ghost use Rattle.behaviour_tree.specs.PartsView.{parts_of};
 ghost use Rattle.jolie_main.specs.Commands.{spelled, IsUnderstood};
-ghost use Rattle.jolie_main.specs.Verdicts.{line_of};
-ghost use Rattle.jolie_main.specs.Programs.{IsProgram, IsNotRunBy};
+ghost use Rattle.jolie_main.specs.Programs.{IsProgram};
 ghost use Rattle.jolie_main.specs.Outside.{Stream, stream, outside};
 ghost use Rattle.jolie_main.specs.Headline.{Promises, Obeys, Runs, Ran, IsRecord};
 ghost use Rattle.jolie_main.specs.Ends.{status};
 ghost use Rattle.jolie_main.specs.Closing.{HasBytes, HasOwnCauses};
 
-use crate::form::first_form;
+use crate::checked::program_in;
 use crate::lines::{End, Progress, answer_lines};
-use crate::meaning::program_of_form;
 use crate::record::{Ended, Record, Traffic};
-use crate::refusal::Refusal;
 use crate::say::{answer, rebuke, refuse, without_record};
 use crate::show::{check_text, print_text};
 use crate::turn::Deeds;
-use crate::verdict::{Verdict, verdict_of};
 use crate::words::{Action, Command, Words, understood};
 use behaviour_tree::Program;
 use jolie_trees::Bytes;
@@ -28,8 +24,8 @@ use std::alloc::{AllocError, Global};
 /// The most bytes that are read of a program.
 const MOST: u64 = 1_048_577;
 
-/// Does what the words of the command line say: `check FILE` says whether the file has definitions, `print FILE` prints
-/// them, and `run FILE` runs its program over the lines of the input.
+/// Does what the words of the command line say: `check FILE` says whether the file is a program, `print FILE` prints
+/// its definitions, and `run FILE` runs its program over the lines of the input.
 ///
 /// The status is 0 where all that was asked for was done, 1 for faulty words, 2 where the file can't be read, 3 for a
 /// file that is refused, 4 where the input failed and 5 where the output failed.
@@ -91,20 +87,6 @@ fn run_text<S: Source, K: Sink>(
     match program_in(alloc, &text)? {
         Ok(program) => run_program(alloc, Bytes::from_vec(text), &program, input, output),
         Err(refusal) => refuse(alloc, &refusal, output),
-    }
-}
-
-/// The program that a text is, or why it is none that runs.
-pub fn program_in(alloc: Global, text: &[u8]) -> Result<Result<Program, Refusal>, AllocError>
-    ensures { IfOk result (λ found. MatchResult found (λ program. IsProgram text.now (parts_of program)) (λ refusal. IsNotRunBy text.now (line_of refusal))) }
-{
-    let file = match verdict_of(alloc, text)? {
-        Verdict::File(file) => file,
-        Verdict::Refused(refusal) => return Ok(Err(refusal)),
-    };
-    match first_form(alloc, file.definitions())? {
-        Some(form) => Ok(Ok(program_of_form(alloc, &form)?)),
-        None => Ok(Err(Refusal::of_form())),
     }
 }
 

@@ -1,12 +1,11 @@
--- What is said of a text with definitions, and of another.
+-- What is said of a program, and of another text.
 use Rattle.std.proofs.Common.{refl}
-use Rattle.jolie_main.specs.Headline.{checked}
-use Rattle.jolie_main.proofs.CommandLemmas.{shown, shown_refused}
+use Rattle.jolie_main.proofs.CommandLemmas.{passed, not_passed}
 use Rattle.jolie_main.proofs.show.check_text.Goals as goal
 
-pub returns-in-Refused-clause-shows : goal.returns-in-Refused-clause-shows
-returns-in-Refused-clause-shows g c =
-    shown_refused checked c.args.text.now _ c.in-Refused.refusal c.refuse.result _ _ c.in_ok-refusal.ensures c.in-Refused.is c.refuse.ensures.status c.refuse.ensures.written
+pub returns-in-Err-clause-shows : goal.returns-in-Err-clause-shows
+returns-in-Err-clause-shows g c =
+    not_passed c.args.text.now _ c.in-Err.refusal c.refuse.result _ _ c.in_ok-refusal.ensures c.in-Err.is c.refuse.ensures.status c.refuse.ensures.written
 
 pub returns-clause-shows : goal.returns-clause-shows
-returns-clause-shows g c = shown checked c.args.text.now _ _ _ c.answer.result _ _ c.in_ok-refusal.ensures c.in-File.is refl c.answer.ensures.says
+returns-clause-shows g c = passed c.args.text.now _ _ _ c.answer.result _ _ c.in_ok-refusal.ensures c.in-Ok.is refl c.answer.ensures.says

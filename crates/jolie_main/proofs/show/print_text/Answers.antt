@@ -1,14 +1,13 @@
 -- What is printed of a text with definitions, and what is said of another.
 use Rattle.std.proofs.Common.{◌∙◌}
-use Rattle.jolie_ast.specs.Printed.{printed_text}
-use Rattle.jolie_main.proofs.CommandLemmas.{shown, shown_refused}
+use Rattle.jolie_main.proofs.CommandLemmas.{printed, not_printed}
 use Rattle.jolie_main.proofs.show.print_text.Goals as goal
 
 pub returns-in-Refused-clause-shows : goal.returns-in-Refused-clause-shows
 returns-in-Refused-clause-shows g c =
-    shown_refused printed_text c.args.text.now _ c.in-Refused.refusal c.refuse.result _ _ c.in_ok-file.ensures c.in-Refused.is c.refuse.ensures.status c.refuse.ensures.written
+    not_printed c.args.text.now _ c.in-Refused.refusal c.refuse.result _ _ c.in_ok-file.ensures c.in-Refused.is c.refuse.ensures.status c.refuse.ensures.written
 
 pub returns-clause-shows : goal.returns-clause-shows
 returns-clause-shows g c =
-    shown printed_text c.args.text.now _ _ _ c.answer.result _ _ c.in_ok-file.ensures c.in-File.is (c.as_bytes.ensures.value ∙ c.as_str.ensures ∙ c.in_ok-printed.ensures)
+    printed c.args.text.now _ _ _ c.answer.result _ _ c.in_ok-file.ensures c.in-File.is (c.as_bytes.ensures.value ∙ c.as_str.ensures ∙ c.in_ok-printed.ensures)
     c.answer.ensures.says

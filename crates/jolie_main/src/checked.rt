@@ -1,0 +1,45 @@
+//! Which program a text is, and whether it runs.
+
+ghost use Rattle.std.specs.Prelude.{IfOk, MatchResult};
+ghost use Rattle.behaviour_tree.specs.PartsView.{parts_of};
+ghost use Rattle.jolie_main.specs.Programs.{IsChecked, IsUncheckedBy, IsProgram, IsNotRunBy};
+ghost use Rattle.jolie_main.specs.Verdicts.{line_of};
+
+use crate::built::is_built;
+use crate::refusal::Refusal;
+use crate::verdict::{Verdict, verdict_of};
+use behaviour_tree::Program;
+use service_check::{CheckError, check};
+use std::alloc::{AllocError, Global};
+
+/// The program that a text is, or why it is none.
+#[tactic(auto, using(crate::proofs::ProgramLemmas::unread, crate::proofs::ProgramLemmas::passed, crate::proofs::ProgramLemmas::refused))]
+pub fn checked_program(alloc: Global, text: &[u8]) -> Result<Result<Program, Refusal>, AllocError>
+    ensures { IfOk result (λ found. MatchResult found (λ program. IsChecked text.now (parts_of program)) (λ refusal. IsUncheckedBy text.now (line_of refusal))) }
+{
+    let file = match verdict_of(alloc, text)? {
+        Verdict::File(file) => file,
+        Verdict::Refused(refusal) => return Ok(Err(refusal)),
+    };
+    match check(alloc, &file) {
+        Ok(program) => Ok(Ok(program)),
+        Err(CheckError::Refused(name, at)) => Ok(Err(Refusal::by_check(name, at))),
+        Err(CheckError::Memory(cause)) => Err(cause),
+    }
+}
+
+/// The program that a text is, if it runs, or why it does not.
+#[tactic(auto, using(crate::proofs::ProgramLemmas::runs, crate::proofs::ProgramLemmas::unchecked))]
+pub fn program_in(alloc: Global, text: &[u8]) -> Result<Result<Program, Refusal>, AllocError>
+    ensures { IfOk result (λ found. MatchResult found (λ program. IsProgram text.now (parts_of program)) (λ refusal. IsNotRunBy text.now (line_of refusal))) }
+{
+    let program = match checked_program(alloc, text)? {
+        Ok(program) => program,
+        Err(refusal) => return Ok(Err(refusal)),
+    };
+    if is_built(&program) {
+        Ok(Ok(program))
+    } else {
+        Ok(Err(Refusal::of_form()))
+    }
+}
