@@ -1,4 +1,5 @@
 pub mod Escapes
+pub mod Formed
 pub mod Members
 pub mod PrintedExpressions
 pub mod PrintedProcesses

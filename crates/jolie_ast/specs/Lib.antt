@@ -1,3 +1,4 @@
+pub mod Formed
 pub mod Members
 pub mod Spacing
 pub mod PrintedExpressions

@@ -24,3 +24,5 @@ pub mod Statements
 pub mod Weights
 pub mod Members
 pub mod Sizes
+pub mod Makes
+pub mod Formed

@@ -1,9 +1,10 @@
 -- From what reading a file answers to what `parse` gives.
-use Rattle.std.proofs.Common.{◌≡◌, ℕ, ◌≤◌, length, inl, inr, List, [], ◌∷◌, ◌++◌, Result, Ok, Err, IfOk, refl, sym, ap, subst, ◌∙◌}
+use Rattle.std.proofs.Common.{◌≡◌, ℕ, ◌≤◌, true, length, inl, inr, List, [], ◌∷◌, ◌++◌, Result, Ok, Err, IfOk, refl, sym, ap, subst, ◌∙◌}
 use Rattle.std.proofs.lemmas.List.{append_cancel_left}
 use Rattle.jolie_tokens.specs.declared.token.Token.{Token}
 use Rattle.jolie_tokens.specs.Texts.{IsRead, longest}
 use Rattle.jolie_ast.specs.declared.tree.Definition.{Definition}
+use Rattle.jolie_ast.specs.Formed.{is_formed}
 use Rattle.jolie_ast.specs.Members.{parallel_members, most_members}
 use Rattle.jolie_parse.specs.declared.parse_error.ParseError.{ParseError}
 use Rattle.jolie_parse.specs.declared.parse_error.ParseError.TheVariants as error
@@ -19,6 +20,7 @@ use Rattle.jolie_parse.proofs.Files.{answers, complete_file, none_opens_in}
 use Rattle.jolie_parse.proofs.Steps.{none_read}
 use Rattle.jolie_parse.proofs.Stops.{compare, stop_at_one_place}
 use Rattle.jolie_parse.proofs.Sizes.{file_fits}
+use Rattle.jolie_parse.proofs.Formed.{file_formed}
 
 -- ---- the whole of the tokens
 
@@ -126,3 +128,7 @@ module _ (n : ℕ) (ts : List Spelled) where
 pub members_fit : (n : ℕ) (text : List ℕ) (tokens : List Token) (f : List Definition) (r : List Spelled) → length text ≤ longest → IsRead text tokens
     → read_file n (spelled text tokens) ≡ got f r → parallel_members f ≤ most_members
 members_fit n text tokens f r fits lexed e = file_fits n text tokens f lexed fits (answer_at n (spelled text tokens) (got f r) e).1
+
+-- what is given is formed
+pub members_formed : (n : ℕ) (ts : List Spelled) (f : List Definition) (r : List Spelled) → read_file n ts ≡ got f r → is_formed f ≡ true
+members_formed n ts f r e = file_formed n ts f (answer_at n ts (got f r) e).1

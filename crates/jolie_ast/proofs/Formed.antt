@@ -1,0 +1,366 @@
+-- Whether a tree is formed, at each form of expression and of process.
+use Rattle.std.proofs.Common.{◌≡◌, ℕ, ℤ, Bool, true, ◌&&◌, List, [], ◌∷◌, map, Option, Some, None, refl, ap, sym, ◌∙◌}
+use Rattle.std.specs.List.{list_all}
+use Rattle.std.proofs.lemmas.List.Folds.{list_all-map}
+use Rattle.jolie_ast.specs.declared.name.Name.{Name}
+use Rattle.jolie_ast.specs.declared.expression.Additive.{Additive}
+use Rattle.jolie_ast.specs.declared.expression.Multiplicative.{Multiplicative}
+use Rattle.jolie_ast.specs.declared.expression.Comparison.{Comparison}
+use Rattle.jolie_ast.specs.declared.expression.CastTarget.{CastTarget}
+use Rattle.jolie_ast.specs.declared.expression.ExprForm.TheOpen.{ExprForm-F}
+use Rattle.jolie_ast.specs.declared.expression.ExprForm.TheFolds.{fold-roll-Expr, fold-roll-ExprForm, fold-roll-Factor, fold-roll-Member, fold-roll-Path, fold-roll-Step, fold-roll-Term}
+use Rattle.jolie_ast.specs.declared.expression.Expr.{Expr, out-Expr, roll-Expr, roll-out-Expr}
+use Rattle.jolie_ast.specs.declared.expression.ExprForm.{ExprForm}
+use Rattle.jolie_ast.specs.declared.expression.ExprForm.TheVariants as form
+use Rattle.jolie_ast.specs.declared.expression.Factor.{Factor, roll-Factor}
+use Rattle.jolie_ast.specs.declared.expression.Term.{Term, roll-Term}
+use Rattle.jolie_ast.specs.declared.expression.Member.{Member, roll-Member}
+use Rattle.jolie_ast.specs.declared.expression.Path.{Path, roll-Path}
+use Rattle.jolie_ast.specs.declared.expression.Step.{Step, roll-Step}
+use Rattle.jolie_ast.specs.declared.process.Assignment.{Assignment}
+use Rattle.jolie_ast.specs.declared.process.ForStep.{ForStep}
+use Rattle.jolie_ast.specs.declared.process.HandlerKey.{HandlerKey}
+use Rattle.jolie_ast.specs.declared.process.Otherwise.TheOpen.{Otherwise-F, Process-F}
+use Rattle.jolie_ast.specs.declared.process.Otherwise.TheFolds.{fold-roll-Answer, fold-roll-Block, fold-roll-Branch, fold-roll-Handler, fold-roll-If, fold-roll-Input, fold-roll-Otherwise, fold-roll-Process, fold-roll-Reply}
+use Rattle.jolie_ast.specs.declared.process.Process.{Process}
+use Rattle.jolie_ast.specs.declared.process.Process.TheVariants as process
+use Rattle.jolie_ast.specs.declared.process.Block.{Block, roll-Block}
+use Rattle.jolie_ast.specs.declared.process.If.{If, roll-If}
+use Rattle.jolie_ast.specs.declared.process.Otherwise.{Otherwise}
+use Rattle.jolie_ast.specs.declared.process.Otherwise.TheVariants as otherwise
+use Rattle.jolie_ast.specs.declared.process.Input.{Input, roll-Input}
+use Rattle.jolie_ast.specs.declared.process.Reply.{Reply, roll-Reply}
+use Rattle.jolie_ast.specs.declared.process.Branch.{Branch, roll-Branch}
+use Rattle.jolie_ast.specs.declared.process.Answer.{Answer, roll-Answer}
+use Rattle.jolie_ast.specs.declared.process.Handler.{Handler, roll-Handler}
+use Rattle.jolie_ast.specs.Formed.{has_one, has_two, each, option_all, form_level, expr_level, factor_level, term_level, member_level, path_level, step_level, form_formed, expr_formed, factor_formed, term_formed, member_formed, path_formed, step_formed, assignment_formed, for_step_formed, process_level, block_level, if_level, otherwise_level, input_level, reply_level, branch_level, answer_level, handler_level, process_formed, block_formed, if_formed, otherwise_formed, input_formed, reply_formed, branch_formed, answer_formed, handler_formed}
+
+-- ---- lists
+
+has_one-map : {A : Type 0} (test : A → Bool) (parts : List A) → has_one (map test parts) ≡ has_one parts
+has_one-map test [] = refl
+has_one-map test (a ∷ rest) = refl
+
+has_two-map : {A : Type 0} (test : A → Bool) (parts : List A) → has_two (map test parts) ≡ has_two parts
+has_two-map test [] = refl
+has_two-map test (a ∷ rest) = has_one-map test rest
+
+each-map : {A : Type 0} (test : A → Bool) (parts : List A) → each (map test parts) ≡ list_all test parts
+each-map test parts = list_all-map (λ b. b) test parts
+
+-- one part at least, and each passes
+one_and_each : {A : Type 0} (test : A → Bool) (parts : List A) → has_one (map test parts) && each (map test parts) ≡ has_one parts && list_all test parts
+one_and_each test parts = ap (λ b. b && each (map test parts)) (has_one-map test parts) ∙ ap (λ b. has_one parts && b) (each-map test parts)
+
+-- two parts at least, and each passes
+two_and_each : {A : Type 0} (test : A → Bool) (parts : List A) → has_two (map test parts) && each (map test parts) ≡ has_two parts && list_all test parts
+two_and_each test parts = ap (λ b. b && each (map test parts)) (has_two-map test parts) ∙ ap (λ b. has_two parts && b) (each-map test parts)
+
+-- ---- expressions
+
+pub int_forms : (n : ℤ) → form_formed (form.Int n) ≡ true
+unfolding expr_formed factor_formed form_formed member_formed path_formed step_formed term_formed
+int_forms n =
+    ap form_formed (sym (form.rolls-Int n))
+    ∙ fold-roll-ExprForm Bool Bool Bool Bool Bool Bool Bool form_level expr_level factor_level member_level path_level step_level term_level (ExprForm-F.Int n)
+
+pub long_forms : (n : ℤ) → form_formed (form.Long n) ≡ true
+unfolding expr_formed factor_formed form_formed member_formed path_formed step_formed term_formed
+long_forms n =
+    ap form_formed (sym (form.rolls-Long n))
+    ∙ fold-roll-ExprForm Bool Bool Bool Bool Bool Bool Bool form_level expr_level factor_level member_level path_level step_level term_level (ExprForm-F.Long n)
+
+pub text_forms : (t : List ℕ) → form_formed (form.Str t) ≡ true
+unfolding expr_formed factor_formed form_formed member_formed path_formed step_formed term_formed
+text_forms t =
+    ap form_formed (sym (form.rolls-Str t))
+    ∙ fold-roll-ExprForm Bool Bool Bool Bool Bool Bool Bool form_level expr_level factor_level member_level path_level step_level term_level (ExprForm-F.Str t)
+
+pub truth_forms : (b : Bool) → form_formed (form.Bool b) ≡ true
+unfolding expr_formed factor_formed form_formed member_formed path_formed step_formed term_formed
+truth_forms b =
+    ap form_formed (sym (form.rolls-Bool b))
+    ∙ fold-roll-ExprForm Bool Bool Bool Bool Bool Bool Bool form_level expr_level factor_level member_level path_level step_level term_level (ExprForm-F.Bool b)
+
+pub path_form_forms : (path : Path) → form_formed (form.Path path) ≡ path_formed path
+unfolding expr_formed factor_formed form_formed member_formed path_formed step_formed term_formed
+path_form_forms path =
+    ap form_formed (sym (form.rolls-Path path))
+    ∙ fold-roll-ExprForm Bool Bool Bool Bool Bool Bool Bool form_level expr_level factor_level member_level path_level step_level term_level (ExprForm-F.Path path)
+
+pub size_forms : (path : Path) → form_formed (form.Size path) ≡ path_formed path
+unfolding expr_formed factor_formed form_formed member_formed path_formed step_formed term_formed
+size_forms path =
+    ap form_formed (sym (form.rolls-Size path))
+    ∙ fold-roll-ExprForm Bool Bool Bool Bool Bool Bool Bool form_level expr_level factor_level member_level path_level step_level term_level (ExprForm-F.Size path)
+
+pub defined_forms : (path : Path) → form_formed (form.IsDefined path) ≡ path_formed path
+unfolding expr_formed factor_formed form_formed member_formed path_formed step_formed term_formed
+defined_forms path =
+    ap form_formed (sym (form.rolls-IsDefined path))
+    ∙ fold-roll-ExprForm Bool Bool Bool Bool Bool Bool Bool form_level expr_level factor_level member_level path_level step_level term_level (ExprForm-F.IsDefined path)
+
+pub cast_forms : (to : CastTarget) (value : Expr) → form_formed (form.Cast to value) ≡ expr_formed value
+unfolding expr_formed factor_formed form_formed member_formed path_formed step_formed term_formed
+cast_forms to value =
+    ap form_formed (sym (form.rolls-Cast to value))
+    ∙ fold-roll-ExprForm Bool Bool Bool Bool Bool Bool Bool form_level expr_level factor_level member_level path_level step_level term_level (ExprForm-F.Cast to value)
+
+pub literal_forms : (members : List Member) → form_formed (form.Literal members) ≡ list_all member_formed members
+unfolding expr_formed factor_formed form_formed member_formed path_formed step_formed term_formed
+literal_forms members =
+    ap form_formed (sym (form.rolls-Literal members))
+    ∙ fold-roll-ExprForm Bool Bool Bool Bool Bool Bool Bool form_level expr_level factor_level member_level path_level step_level term_level (ExprForm-F.Literal members)
+    ∙ each-map member_formed members
+
+pub minus_forms : (value : Expr) → form_formed (form.Minus value) ≡ expr_formed value
+unfolding expr_formed factor_formed form_formed member_formed path_formed step_formed term_formed
+minus_forms value =
+    ap form_formed (sym (form.rolls-Minus value))
+    ∙ fold-roll-ExprForm Bool Bool Bool Bool Bool Bool Bool form_level expr_level factor_level member_level path_level step_level term_level (ExprForm-F.Minus value)
+
+pub not_forms : (value : Expr) → form_formed (form.Not value) ≡ expr_formed value
+unfolding expr_formed factor_formed form_formed member_formed path_formed step_formed term_formed
+not_forms value =
+    ap form_formed (sym (form.rolls-Not value))
+    ∙ fold-roll-ExprForm Bool Bool Bool Bool Bool Bool Bool form_level expr_level factor_level member_level path_level step_level term_level (ExprForm-F.Not value)
+
+pub product_forms : (first : Expr) (rest : List Factor) → form_formed (form.Product first rest) ≡ expr_formed first && list_all factor_formed rest
+unfolding expr_formed factor_formed form_formed member_formed path_formed step_formed term_formed
+product_forms first rest =
+    ap form_formed (sym (form.rolls-Product first rest))
+    ∙ fold-roll-ExprForm Bool Bool Bool Bool Bool Bool Bool form_level expr_level factor_level member_level path_level step_level term_level (ExprForm-F.Product first rest)
+    ∙ ap (λ b. expr_formed first && b) (each-map factor_formed rest)
+
+pub sum_forms : (first : Expr) (rest : List Term) → form_formed (form.Sum first rest) ≡ expr_formed first && list_all term_formed rest
+unfolding expr_formed factor_formed form_formed member_formed path_formed step_formed term_formed
+sum_forms first rest =
+    ap form_formed (sym (form.rolls-Sum first rest))
+    ∙ fold-roll-ExprForm Bool Bool Bool Bool Bool Bool Bool form_level expr_level factor_level member_level path_level step_level term_level (ExprForm-F.Sum first rest)
+    ∙ ap (λ b. expr_formed first && b) (each-map term_formed rest)
+
+pub compare_forms : (left : Expr) (compared : Comparison) (right : Expr) → form_formed (form.Compare left compared right) ≡ expr_formed left && expr_formed right
+unfolding expr_formed factor_formed form_formed member_formed path_formed step_formed term_formed
+compare_forms left compared right =
+    ap form_formed (sym (form.rolls-Compare left compared right))
+    ∙ fold-roll-ExprForm Bool Bool Bool Bool Bool Bool Bool form_level expr_level factor_level member_level path_level step_level term_level (ExprForm-F.Compare left compared right)
+
+pub and_forms : (values : List Expr) → form_formed (form.And values) ≡ has_two values && list_all expr_formed values
+unfolding expr_formed factor_formed form_formed member_formed path_formed step_formed term_formed
+and_forms values =
+    ap form_formed (sym (form.rolls-And values))
+    ∙ fold-roll-ExprForm Bool Bool Bool Bool Bool Bool Bool form_level expr_level factor_level member_level path_level step_level term_level (ExprForm-F.And values)
+    ∙ two_and_each expr_formed values
+
+pub or_forms : (values : List Expr) → form_formed (form.Or values) ≡ has_two values && list_all expr_formed values
+unfolding expr_formed factor_formed form_formed member_formed path_formed step_formed term_formed
+or_forms values =
+    ap form_formed (sym (form.rolls-Or values))
+    ∙ fold-roll-ExprForm Bool Bool Bool Bool Bool Bool Bool form_level expr_level factor_level member_level path_level step_level term_level (ExprForm-F.Or values)
+    ∙ two_and_each expr_formed values
+
+-- an expression is formed as its form is
+pub expr_forms : (e : Expr) → expr_formed e ≡ form_formed (out-Expr e).form
+unfolding expr_formed factor_formed form_formed member_formed path_formed step_formed term_formed
+expr_forms e =
+    ap expr_formed (sym (roll-out-Expr e))
+    ∙ fold-roll-Expr Bool Bool Bool Bool Bool Bool Bool form_level expr_level factor_level member_level path_level step_level term_level (out-Expr e)
+
+pub placed_forms : (at : ℕ) (inner : ExprForm) → expr_formed (roll-Expr (record { at = at; form = inner })) ≡ form_formed inner
+unfolding expr_formed factor_formed form_formed member_formed path_formed step_formed term_formed
+placed_forms at inner = fold-roll-Expr Bool Bool Bool Bool Bool Bool Bool form_level expr_level factor_level member_level path_level step_level term_level (record { at = at; form = inner })
+
+pub factor_forms : (operator : Multiplicative) (operand : Expr) → factor_formed (roll-Factor (record { operator = operator; operand = operand })) ≡ expr_formed operand
+unfolding expr_formed factor_formed form_formed member_formed path_formed step_formed term_formed
+factor_forms operator operand = fold-roll-Factor Bool Bool Bool Bool Bool Bool Bool form_level expr_level factor_level member_level path_level step_level term_level (record { operator = operator; operand = operand })
+
+pub term_forms : (operator : Additive) (operand : Expr) → term_formed (roll-Term (record { operator = operator; operand = operand })) ≡ expr_formed operand
+unfolding expr_formed factor_formed form_formed member_formed path_formed step_formed term_formed
+term_forms operator operand = fold-roll-Term Bool Bool Bool Bool Bool Bool Bool form_level expr_level factor_level member_level path_level step_level term_level (record { operator = operator; operand = operand })
+
+pub member_forms : (name : Name) (value : Expr) → member_formed (roll-Member (record { name = name; value = value })) ≡ expr_formed value
+unfolding expr_formed factor_formed form_formed member_formed path_formed step_formed term_formed
+member_forms name value = fold-roll-Member Bool Bool Bool Bool Bool Bool Bool form_level expr_level factor_level member_level path_level step_level term_level (record { name = name; value = value })
+
+pub path_forms : (first : Step) (rest : List Step) → path_formed (roll-Path (record { first = first; rest = rest })) ≡ step_formed first && list_all step_formed rest
+unfolding expr_formed factor_formed form_formed member_formed path_formed step_formed term_formed
+path_forms first rest =
+    fold-roll-Path Bool Bool Bool Bool Bool Bool Bool form_level expr_level factor_level member_level path_level step_level term_level (record { first = first; rest = rest })
+    ∙ ap (λ b. step_formed first && b) (each-map step_formed rest)
+
+pub step_forms : (name : Name) (index : Option Expr) → step_formed (roll-Step (record { name = name; index = index })) ≡ option_all expr_formed index
+unfolding expr_formed factor_formed form_formed member_formed path_formed step_formed term_formed
+step_forms name None = fold-roll-Step Bool Bool Bool Bool Bool Bool Bool form_level expr_level factor_level member_level path_level step_level term_level (record { name = name; index = None })
+step_forms name (Some e) = fold-roll-Step Bool Bool Bool Bool Bool Bool Bool form_level expr_level factor_level member_level path_level step_level term_level (record { name = name; index = Some e })
+
+-- ---- processes
+
+pub nothing_forms : (at : ℕ) → process_formed (process.Nothing at) ≡ true
+unfolding answer_formed block_formed branch_formed handler_formed if_formed input_formed otherwise_formed process_formed reply_formed
+nothing_forms at =
+    ap process_formed (sym (process.rolls-Nothing at))
+    ∙ fold-roll-Process Bool Bool Bool Bool Bool Bool Bool Bool Bool otherwise_level process_level answer_level block_level branch_level handler_level if_level input_level reply_level (Process-F.«Process::Nothing» at)
+
+pub assign_forms : (path : Path) (assignment : Assignment) → process_formed (process.Assign path assignment) ≡ path_formed path && assignment_formed assignment
+unfolding answer_formed block_formed branch_formed handler_formed if_formed input_formed otherwise_formed process_formed reply_formed
+assign_forms path assignment =
+    ap process_formed (sym (process.rolls-Assign path assignment))
+    ∙ fold-roll-Process Bool Bool Bool Bool Bool Bool Bool Bool Bool otherwise_level process_level answer_level block_level branch_level handler_level if_level input_level reply_level (Process-F.Assign path assignment)
+
+pub undef_forms : (at : ℕ) (path : Path) → process_formed (process.Undef at path) ≡ path_formed path
+unfolding answer_formed block_formed branch_formed handler_formed if_formed input_formed otherwise_formed process_formed reply_formed
+undef_forms at path =
+    ap process_formed (sym (process.rolls-Undef at path))
+    ∙ fold-roll-Process Bool Bool Bool Bool Bool Bool Bool Bool Bool otherwise_level process_level answer_level block_level branch_level handler_level if_level input_level reply_level (Process-F.Undef at path)
+
+pub correlate_forms : (at : ℕ) (variable : Name) (value : Expr) → process_formed (process.Correlate at variable value) ≡ expr_formed value
+unfolding answer_formed block_formed branch_formed handler_formed if_formed input_formed otherwise_formed process_formed reply_formed
+correlate_forms at variable value =
+    ap process_formed (sym (process.rolls-Correlate at variable value))
+    ∙ fold-roll-Process Bool Bool Bool Bool Bool Bool Bool Bool Bool otherwise_level process_level answer_level block_level branch_level handler_level if_level input_level reply_level (Process-F.Correlate at variable value)
+
+pub conditional_forms : (i : If) → process_formed (process.If i) ≡ if_formed i
+unfolding answer_formed block_formed branch_formed handler_formed if_formed input_formed otherwise_formed process_formed reply_formed
+conditional_forms i =
+    ap process_formed (sym (process.rolls-If i))
+    ∙ fold-roll-Process Bool Bool Bool Bool Bool Bool Bool Bool Bool otherwise_level process_level answer_level block_level branch_level handler_level if_level input_level reply_level (Process-F.If i)
+
+pub while_forms : (at : ℕ) (test : Expr) (body : Block) → process_formed (process.While at test body) ≡ expr_formed test && block_formed body
+unfolding answer_formed block_formed branch_formed handler_formed if_formed input_formed otherwise_formed process_formed reply_formed
+while_forms at test body =
+    ap process_formed (sym (process.rolls-While at test body))
+    ∙ fold-roll-Process Bool Bool Bool Bool Bool Bool Bool Bool Bool otherwise_level process_level answer_level block_level branch_level handler_level if_level input_level reply_level (Process-F.While at test body)
+
+pub for_forms : (at : ℕ) (path : Path) (first : Expr) (test : Expr) (stepped : Path) (step : ForStep) (body : Block) → process_formed (process.For at path first test stepped step body) ≡ path_formed path && (expr_formed first && (expr_formed test && (path_formed stepped && (for_step_formed step && block_formed body))))
+unfolding answer_formed block_formed branch_formed handler_formed if_formed input_formed otherwise_formed process_formed reply_formed
+for_forms at path first test stepped step body =
+    ap process_formed (sym (process.rolls-For at path first test stepped step body))
+    ∙ fold-roll-Process Bool Bool Bool Bool Bool Bool Bool Bool Bool otherwise_level process_level answer_level block_level branch_level handler_level if_level input_level reply_level (Process-F.For at path first test stepped step body)
+
+pub input_forms : (i : Input) → process_formed (process.Input i) ≡ input_formed i
+unfolding answer_formed block_formed branch_formed handler_formed if_formed input_formed otherwise_formed process_formed reply_formed
+input_forms i =
+    ap process_formed (sym (process.rolls-Input i))
+    ∙ fold-roll-Process Bool Bool Bool Bool Bool Bool Bool Bool Bool otherwise_level process_level answer_level block_level branch_level handler_level if_level input_level reply_level (Process-F.Input i)
+
+pub choice_forms : (at : ℕ) (branches : List Branch) → process_formed (process.Choice at branches) ≡ has_one branches && list_all branch_formed branches
+unfolding answer_formed block_formed branch_formed handler_formed if_formed input_formed otherwise_formed process_formed reply_formed
+choice_forms at branches =
+    ap process_formed (sym (process.rolls-Choice at branches))
+    ∙ fold-roll-Process Bool Bool Bool Bool Bool Bool Bool Bool Bool otherwise_level process_level answer_level block_level branch_level handler_level if_level input_level reply_level (Process-F.Choice at branches)
+    ∙ one_and_each branch_formed branches
+
+pub output_forms : (operation : Name) (port : Name) (value : Option Expr) (answer : Option Answer) → process_formed (process.Output operation port value answer) ≡ option_all expr_formed value && option_all answer_formed answer
+unfolding answer_formed block_formed branch_formed handler_formed if_formed input_formed otherwise_formed process_formed reply_formed
+output_forms operation port value None =
+    ap process_formed (sym (process.rolls-Output operation port value None))
+    ∙ fold-roll-Process Bool Bool Bool Bool Bool Bool Bool Bool Bool otherwise_level process_level answer_level block_level branch_level handler_level if_level input_level reply_level (Process-F.Output operation port value None)
+output_forms operation port value (Some it) =
+    ap process_formed (sym (process.rolls-Output operation port value (Some it)))
+    ∙ fold-roll-Process Bool Bool Bool Bool Bool Bool Bool Bool Bool otherwise_level process_level answer_level block_level branch_level handler_level if_level input_level reply_level (Process-F.Output operation port value (Some it))
+
+pub scope_forms : (at : ℕ) (name : Name) (body : Block) → process_formed (process.Scope at name body) ≡ block_formed body
+unfolding answer_formed block_formed branch_formed handler_formed if_formed input_formed otherwise_formed process_formed reply_formed
+scope_forms at name body =
+    ap process_formed (sym (process.rolls-Scope at name body))
+    ∙ fold-roll-Process Bool Bool Bool Bool Bool Bool Bool Bool Bool otherwise_level process_level answer_level block_level branch_level handler_level if_level input_level reply_level (Process-F.Scope at name body)
+
+pub install_forms : (at : ℕ) (handlers : List Handler) → process_formed (process.Install at handlers) ≡ list_all handler_formed handlers
+unfolding answer_formed block_formed branch_formed handler_formed if_formed input_formed otherwise_formed process_formed reply_formed
+install_forms at handlers =
+    ap process_formed (sym (process.rolls-Install at handlers))
+    ∙ fold-roll-Process Bool Bool Bool Bool Bool Bool Bool Bool Bool otherwise_level process_level answer_level block_level branch_level handler_level if_level input_level reply_level (Process-F.Install at handlers)
+    ∙ each-map handler_formed handlers
+
+pub throw_forms : (at : ℕ) (fault : Name) (value : Option Expr) → process_formed (process.Throw at fault value) ≡ option_all expr_formed value
+unfolding answer_formed block_formed branch_formed handler_formed if_formed input_formed otherwise_formed process_formed reply_formed
+throw_forms at fault value =
+    ap process_formed (sym (process.rolls-Throw at fault value))
+    ∙ fold-roll-Process Bool Bool Bool Bool Bool Bool Bool Bool Bool otherwise_level process_level answer_level block_level branch_level handler_level if_level input_level reply_level (Process-F.Throw at fault value)
+
+pub compensate_forms : (at : ℕ) (scope : Name) → process_formed (process.Compensate at scope) ≡ true
+unfolding answer_formed block_formed branch_formed handler_formed if_formed input_formed otherwise_formed process_formed reply_formed
+compensate_forms at scope =
+    ap process_formed (sym (process.rolls-Compensate at scope))
+    ∙ fold-roll-Process Bool Bool Bool Bool Bool Bool Bool Bool Bool otherwise_level process_level answer_level block_level branch_level handler_level if_level input_level reply_level (Process-F.Compensate at scope)
+
+pub inner_handler_forms : (at : ℕ) → process_formed (process.InnerHandler at) ≡ true
+unfolding answer_formed block_formed branch_formed handler_formed if_formed input_formed otherwise_formed process_formed reply_formed
+inner_handler_forms at =
+    ap process_formed (sym (process.rolls-InnerHandler at))
+    ∙ fold-roll-Process Bool Bool Bool Bool Bool Bool Bool Bool Bool otherwise_level process_level answer_level block_level branch_level handler_level if_level input_level reply_level (Process-F.InnerHandler at)
+
+pub block_statement_forms : (b : Block) → process_formed (process.Block b) ≡ block_formed b
+unfolding answer_formed block_formed branch_formed handler_formed if_formed input_formed otherwise_formed process_formed reply_formed
+block_statement_forms b =
+    ap process_formed (sym (process.rolls-Block b))
+    ∙ fold-roll-Process Bool Bool Bool Bool Bool Bool Bool Bool Bool otherwise_level process_level answer_level block_level branch_level handler_level if_level input_level reply_level (Process-F.Block b)
+
+pub sequence_forms : (ps : List Process) → process_formed (process.Sequence ps) ≡ has_two ps && list_all process_formed ps
+unfolding answer_formed block_formed branch_formed handler_formed if_formed input_formed otherwise_formed process_formed reply_formed
+sequence_forms ps =
+    ap process_formed (sym (process.rolls-Sequence ps))
+    ∙ fold-roll-Process Bool Bool Bool Bool Bool Bool Bool Bool Bool otherwise_level process_level answer_level block_level branch_level handler_level if_level input_level reply_level (Process-F.Sequence ps)
+    ∙ two_and_each process_formed ps
+
+pub parallel_forms : (ps : List Process) → process_formed (process.Parallel ps) ≡ has_two ps && list_all process_formed ps
+unfolding answer_formed block_formed branch_formed handler_formed if_formed input_formed otherwise_formed process_formed reply_formed
+parallel_forms ps =
+    ap process_formed (sym (process.rolls-Parallel ps))
+    ∙ fold-roll-Process Bool Bool Bool Bool Bool Bool Bool Bool Bool otherwise_level process_level answer_level block_level branch_level handler_level if_level input_level reply_level (Process-F.Parallel ps)
+    ∙ two_and_each process_formed ps
+
+-- ---- what an `if` does where its test fails
+
+pub no_else_forms : otherwise_formed otherwise.Nothing ≡ true
+unfolding answer_formed block_formed branch_formed handler_formed if_formed input_formed otherwise_formed process_formed reply_formed
+no_else_forms =
+    ap otherwise_formed (sym otherwise.rolls-Nothing)
+    ∙ fold-roll-Otherwise Bool Bool Bool Bool Bool Bool Bool Bool Bool otherwise_level process_level answer_level block_level branch_level handler_level if_level input_level reply_level Otherwise-F.«Otherwise::Nothing»
+
+pub else_if_forms : (i : If) → otherwise_formed (otherwise.ElseIf i) ≡ if_formed i
+unfolding answer_formed block_formed branch_formed handler_formed if_formed input_formed otherwise_formed process_formed reply_formed
+else_if_forms i =
+    ap otherwise_formed (sym (otherwise.rolls-ElseIf i))
+    ∙ fold-roll-Otherwise Bool Bool Bool Bool Bool Bool Bool Bool Bool otherwise_level process_level answer_level block_level branch_level handler_level if_level input_level reply_level (Otherwise-F.ElseIf i)
+
+pub else_forms : (b : Block) → otherwise_formed (otherwise.Else b) ≡ block_formed b
+unfolding answer_formed block_formed branch_formed handler_formed if_formed input_formed otherwise_formed process_formed reply_formed
+else_forms b =
+    ap otherwise_formed (sym (otherwise.rolls-Else b))
+    ∙ fold-roll-Otherwise Bool Bool Bool Bool Bool Bool Bool Bool Bool otherwise_level process_level answer_level block_level branch_level handler_level if_level input_level reply_level (Otherwise-F.Else b)
+
+-- ---- the parts of processes
+
+pub block_forms : (at : ℕ) (body : Option Process) → block_formed (roll-Block (record { at = at; body = body })) ≡ option_all process_formed body
+unfolding answer_formed block_formed branch_formed handler_formed if_formed input_formed otherwise_formed process_formed reply_formed
+block_forms at None = fold-roll-Block Bool Bool Bool Bool Bool Bool Bool Bool Bool otherwise_level process_level answer_level block_level branch_level handler_level if_level input_level reply_level (record { at = at; body = None })
+block_forms at (Some it) = fold-roll-Block Bool Bool Bool Bool Bool Bool Bool Bool Bool otherwise_level process_level answer_level block_level branch_level handler_level if_level input_level reply_level (record { at = at; body = Some it })
+
+pub if_forms : (at : ℕ) (test : Expr) (body : Block) (rest : Otherwise) → if_formed (roll-If (record { at = at; test = test; body = body; otherwise = rest })) ≡ expr_formed test && (block_formed body && otherwise_formed rest)
+unfolding answer_formed block_formed branch_formed handler_formed if_formed input_formed otherwise_formed process_formed reply_formed
+if_forms at test body rest = fold-roll-If Bool Bool Bool Bool Bool Bool Bool Bool Bool otherwise_level process_level answer_level block_level branch_level handler_level if_level input_level reply_level (record { at = at; test = test; body = body; otherwise = rest })
+
+pub input_part_forms : (operation : Name) (request : Option Path) (reply : Option Reply) → input_formed (roll-Input (record { operation = operation; request = request; reply = reply })) ≡ option_all path_formed request && option_all reply_formed reply
+unfolding answer_formed block_formed branch_formed handler_formed if_formed input_formed otherwise_formed process_formed reply_formed
+input_part_forms operation request None = fold-roll-Input Bool Bool Bool Bool Bool Bool Bool Bool Bool otherwise_level process_level answer_level block_level branch_level handler_level if_level input_level reply_level (record { operation = operation; request = request; reply = None })
+input_part_forms operation request (Some it) = fold-roll-Input Bool Bool Bool Bool Bool Bool Bool Bool Bool otherwise_level process_level answer_level block_level branch_level handler_level if_level input_level reply_level (record { operation = operation; request = request; reply = Some it })
+
+pub reply_forms : (path : Option Path) (body : Block) → reply_formed (roll-Reply (record { path = path; body = body })) ≡ option_all path_formed path && block_formed body
+unfolding answer_formed block_formed branch_formed handler_formed if_formed input_formed otherwise_formed process_formed reply_formed
+reply_forms path body = fold-roll-Reply Bool Bool Bool Bool Bool Bool Bool Bool Bool otherwise_level process_level answer_level block_level branch_level handler_level if_level input_level reply_level (record { path = path; body = body })
+
+pub branch_forms : (at : ℕ) (i : Input) (after : Block) → branch_formed (roll-Branch (record { at = at; input = i; after = after })) ≡ input_formed i && block_formed after
+unfolding answer_formed block_formed branch_formed handler_formed if_formed input_formed otherwise_formed process_formed reply_formed
+branch_forms at i after = fold-roll-Branch Bool Bool Bool Bool Bool Bool Bool Bool Bool otherwise_level process_level answer_level block_level branch_level handler_level if_level input_level reply_level (record { at = at; input = i; after = after })
+
+pub answer_forms : (path : Option Path) (handlers : Option (List Handler)) → answer_formed (roll-Answer (record { path = path; handlers = handlers })) ≡ option_all path_formed path && option_all (list_all handler_formed) handlers
+unfolding answer_formed block_formed branch_formed handler_formed if_formed input_formed otherwise_formed process_formed reply_formed
+answer_forms path None = fold-roll-Answer Bool Bool Bool Bool Bool Bool Bool Bool Bool otherwise_level process_level answer_level block_level branch_level handler_level if_level input_level reply_level (record { path = path; handlers = None })
+answer_forms path (Some it) =
+    fold-roll-Answer Bool Bool Bool Bool Bool Bool Bool Bool Bool otherwise_level process_level answer_level block_level branch_level handler_level if_level input_level reply_level (record { path = path; handlers = Some it })
+    ∙ ap (λ b. option_all path_formed path && b) (each-map handler_formed it)
+
+pub handler_forms : (key : HandlerKey) (body : Process) → handler_formed (roll-Handler (record { key = key; body = body })) ≡ process_formed body
+unfolding answer_formed block_formed branch_formed handler_formed if_formed input_formed otherwise_formed process_formed reply_formed
+handler_forms key body = fold-roll-Handler Bool Bool Bool Bool Bool Bool Bool Bool Bool otherwise_level process_level answer_level block_level branch_level handler_level if_level input_level reply_level (record { key = key; body = body })

@@ -1,0 +1,255 @@
+-- What is formed: each sequence and each parallel has two members at least, each `||` and `&&` two operands, each choice one branch.
+use Rattle.std.specs.Prelude.{Bool, true, false, ◌&&◌, List, [], ◌∷◌, Option, Some, None}
+use Rattle.std.specs.List.{list_all}
+use Rattle.jolie_ast.specs.declared.expression.ExprForm.TheOpen.{Expr-F, ExprForm-F, Factor-F, Member-F, Path-F, Step-F, Term-F}
+use Rattle.jolie_ast.specs.declared.expression.ExprForm.TheFolds.{fold-Expr, fold-ExprForm, fold-Factor, fold-Member, fold-Path, fold-Step, fold-Term}
+use Rattle.jolie_ast.specs.declared.expression.Expr.{Expr}
+use Rattle.jolie_ast.specs.declared.expression.ExprForm.{ExprForm}
+use Rattle.jolie_ast.specs.declared.expression.Factor.{Factor}
+use Rattle.jolie_ast.specs.declared.expression.Term.{Term}
+use Rattle.jolie_ast.specs.declared.expression.Member.{Member}
+use Rattle.jolie_ast.specs.declared.expression.Path.{Path}
+use Rattle.jolie_ast.specs.declared.expression.Step.{Step}
+use Rattle.jolie_ast.specs.declared.process.Assignment.{Assignment}
+use Rattle.jolie_ast.specs.declared.process.Assignment.TheVariants as assignment
+use Rattle.jolie_ast.specs.declared.process.ForStep.{ForStep}
+use Rattle.jolie_ast.specs.declared.process.ForStep.TheVariants as for_step
+use Rattle.jolie_ast.specs.declared.process.Otherwise.TheOpen.{Answer-F, Block-F, Branch-F, Handler-F, If-F, Input-F, Otherwise-F, Process-F, Reply-F}
+use Rattle.jolie_ast.specs.declared.process.Otherwise.TheFolds.{fold-Answer, fold-Block, fold-Branch, fold-Handler, fold-If, fold-Input, fold-Otherwise, fold-Process, fold-Reply}
+use Rattle.jolie_ast.specs.declared.process.Process.{Process}
+use Rattle.jolie_ast.specs.declared.process.Block.{Block}
+use Rattle.jolie_ast.specs.declared.process.If.{If}
+use Rattle.jolie_ast.specs.declared.process.Otherwise.{Otherwise}
+use Rattle.jolie_ast.specs.declared.process.Input.{Input}
+use Rattle.jolie_ast.specs.declared.process.Reply.{Reply}
+use Rattle.jolie_ast.specs.declared.process.Branch.{Branch}
+use Rattle.jolie_ast.specs.declared.process.Answer.{Answer}
+use Rattle.jolie_ast.specs.declared.process.Handler.{Handler}
+use Rattle.jolie_ast.specs.declared.service.Clause.{Clause}
+use Rattle.jolie_ast.specs.declared.service.Clause.TheVariants as clause
+use Rattle.jolie_ast.specs.declared.tree.Definition.{Definition}
+use Rattle.jolie_ast.specs.declared.tree.Definition.TheVariants as definition
+
+-- ---- lists and parts that may be missing
+
+-- one at least
+abbrev pub has_one : {A : Type 0} → List A → Bool
+has_one [] = false
+has_one (a ∷ rest) = true
+
+-- two at least
+abbrev pub has_two : {A : Type 0} → List A → Bool
+has_two [] = false
+has_two (a ∷ rest) = has_one rest
+
+-- each of these
+abbrev pub each : List Bool → Bool
+each parts = list_all (λ b. b) parts
+
+-- a part that passes the test where there is one
+abbrev pub option_all : {A : Type 0} → (A → Bool) → Option A → Bool
+option_all test None = true
+option_all test (Some a) = test a
+
+-- a part that is formed where there is one
+abbrev pub if_there : Option Bool → Bool
+if_there part = option_all (λ b. b) part
+
+-- ---- expressions
+
+-- one level of a form, with whether its parts are formed: `&&` and `||` have two operands at least
+abbrev pub form_level : ExprForm-F Bool Bool Bool Bool Bool Bool Bool → Bool
+form_level (ExprForm-F.Int n) = true
+form_level (ExprForm-F.Long n) = true
+form_level (ExprForm-F.Str text) = true
+form_level (ExprForm-F.Bool b) = true
+form_level (ExprForm-F.Path path) = path
+form_level (ExprForm-F.Size path) = path
+form_level (ExprForm-F.IsDefined path) = path
+form_level (ExprForm-F.Cast to value) = value
+form_level (ExprForm-F.Literal members) = each members
+form_level (ExprForm-F.Minus value) = value
+form_level (ExprForm-F.Not value) = value
+form_level (ExprForm-F.Product first rest) = first && each rest
+form_level (ExprForm-F.Sum first rest) = first && each rest
+form_level (ExprForm-F.Compare left compared right) = left && right
+form_level (ExprForm-F.And values) = has_two values && each values
+form_level (ExprForm-F.Or values) = has_two values && each values
+
+-- one level of an expression
+abbrev pub expr_level : Expr-F Bool Bool Bool Bool Bool Bool Bool → Bool
+expr_level e = e.form
+
+-- one level of a later operand of a product
+abbrev pub factor_level : Factor-F Bool Bool Bool Bool Bool Bool Bool → Bool
+factor_level f = f.operand
+
+-- one level of a later operand of a sum
+abbrev pub term_level : Term-F Bool Bool Bool Bool Bool Bool Bool → Bool
+term_level t = t.operand
+
+-- one level of a member of a literal
+abbrev pub member_level : Member-F Bool Bool Bool Bool Bool Bool Bool → Bool
+member_level m = m.value
+
+-- one level of a path
+abbrev pub path_level : Path-F Bool Bool Bool Bool Bool Bool Bool → Bool
+path_level p = p.first && each p.rest
+
+-- one level of a step of a path
+abbrev pub step_level : Step-F Bool Bool Bool Bool Bool Bool Bool → Bool
+step_level s = if_there s.index
+
+-- whether a form is formed
+unfoldable pub form_formed : ExprForm → Bool
+form_formed = fold-ExprForm Bool Bool Bool Bool Bool Bool Bool form_level expr_level factor_level member_level path_level step_level term_level
+
+-- whether an expression is formed
+unfoldable pub expr_formed : Expr → Bool
+expr_formed = fold-Expr Bool Bool Bool Bool Bool Bool Bool form_level expr_level factor_level member_level path_level step_level term_level
+
+-- whether a later operand of a product is formed
+unfoldable pub factor_formed : Factor → Bool
+factor_formed = fold-Factor Bool Bool Bool Bool Bool Bool Bool form_level expr_level factor_level member_level path_level step_level term_level
+
+-- whether a later operand of a sum is formed
+unfoldable pub term_formed : Term → Bool
+term_formed = fold-Term Bool Bool Bool Bool Bool Bool Bool form_level expr_level factor_level member_level path_level step_level term_level
+
+-- whether a member of a literal is formed
+unfoldable pub member_formed : Member → Bool
+member_formed = fold-Member Bool Bool Bool Bool Bool Bool Bool form_level expr_level factor_level member_level path_level step_level term_level
+
+-- whether a path is formed
+unfoldable pub path_formed : Path → Bool
+path_formed = fold-Path Bool Bool Bool Bool Bool Bool Bool form_level expr_level factor_level member_level path_level step_level term_level
+
+-- whether a step of a path is formed
+unfoldable pub step_formed : Step → Bool
+step_formed = fold-Step Bool Bool Bool Bool Bool Bool Bool form_level expr_level factor_level member_level path_level step_level term_level
+
+-- ---- processes
+
+-- what an assignment does to its path
+abbrev pub assignment_formed : Assignment → Bool
+assignment_formed (assignment.Root value) = expr_formed value
+assignment_formed (assignment.Copy value) = expr_formed value
+assignment_formed (assignment.Count count) = true
+
+-- what the last part of a `for` does to its path
+abbrev pub for_step_formed : ForStep → Bool
+for_step_formed (for_step.Root value) = expr_formed value
+for_step_formed (for_step.Count count) = true
+
+-- one level of a process, with whether its parts are formed: a sequence and a parallel have two members at least, a choice one branch
+abbrev pub process_level : Process-F Bool Bool Bool Bool Bool Bool Bool Bool Bool → Bool
+process_level (Process-F.«Process::Nothing» at) = true
+process_level (Process-F.Assign path assignment) = path_formed path && assignment_formed assignment
+process_level (Process-F.Undef at path) = path_formed path
+process_level (Process-F.Correlate at variable value) = expr_formed value
+process_level (Process-F.If part) = part
+process_level (Process-F.While at test body) = expr_formed test && body
+process_level (Process-F.For at path first test stepped step body) =
+    path_formed path && (expr_formed first && (expr_formed test && (path_formed stepped && (for_step_formed step && body))))
+process_level (Process-F.Input part) = part
+process_level (Process-F.Choice at branches) = has_one branches && each branches
+process_level (Process-F.Output operation port value answer) = option_all expr_formed value && if_there answer
+process_level (Process-F.Scope at name body) = body
+process_level (Process-F.Install at handlers) = each handlers
+process_level (Process-F.Throw at fault value) = option_all expr_formed value
+process_level (Process-F.Compensate at scope) = true
+process_level (Process-F.InnerHandler at) = true
+process_level (Process-F.Block part) = part
+process_level (Process-F.Sequence parts) = has_two parts && each parts
+process_level (Process-F.Parallel parts) = has_two parts && each parts
+
+-- one level of a block
+abbrev pub block_level : Block-F Bool Bool Bool Bool Bool Bool Bool Bool Bool → Bool
+block_level b = if_there b.body
+
+-- one level of an `if`
+abbrev pub if_level : If-F Bool Bool Bool Bool Bool Bool Bool Bool Bool → Bool
+if_level i = expr_formed i.test && (i.body && i.otherwise)
+
+-- one level of what an `if` does where its test fails
+abbrev pub otherwise_level : Otherwise-F Bool Bool Bool Bool Bool Bool Bool Bool Bool → Bool
+otherwise_level Otherwise-F.«Otherwise::Nothing» = true
+otherwise_level (Otherwise-F.ElseIf part) = part
+otherwise_level (Otherwise-F.Else part) = part
+
+-- one level of an input
+abbrev pub input_level : Input-F Bool Bool Bool Bool Bool Bool Bool Bool Bool → Bool
+input_level i = option_all path_formed i.request && if_there i.reply
+
+-- one level of a reply part
+abbrev pub reply_level : Reply-F Bool Bool Bool Bool Bool Bool Bool Bool Bool → Bool
+reply_level r = option_all path_formed r.path && r.body
+
+-- one level of a branch
+abbrev pub branch_level : Branch-F Bool Bool Bool Bool Bool Bool Bool Bool Bool → Bool
+branch_level b = b.input && b.after
+
+-- one level of what an output awaits
+abbrev pub answer_level : Answer-F Bool Bool Bool Bool Bool Bool Bool Bool Bool → Bool
+answer_level a = option_all path_formed a.path && option_all each a.handlers
+
+-- one level of a handler
+abbrev pub handler_level : Handler-F Bool Bool Bool Bool Bool Bool Bool Bool Bool → Bool
+handler_level h = h.body
+
+-- whether a process is formed
+unfoldable pub process_formed : Process → Bool
+process_formed = fold-Process Bool Bool Bool Bool Bool Bool Bool Bool Bool otherwise_level process_level answer_level block_level branch_level handler_level if_level input_level reply_level
+
+-- whether a block is formed
+unfoldable pub block_formed : Block → Bool
+block_formed = fold-Block Bool Bool Bool Bool Bool Bool Bool Bool Bool otherwise_level process_level answer_level block_level branch_level handler_level if_level input_level reply_level
+
+-- whether an `if` is formed
+unfoldable pub if_formed : If → Bool
+if_formed = fold-If Bool Bool Bool Bool Bool Bool Bool Bool Bool otherwise_level process_level answer_level block_level branch_level handler_level if_level input_level reply_level
+
+-- whether what an `if` does where its test fails is formed
+unfoldable pub otherwise_formed : Otherwise → Bool
+otherwise_formed = fold-Otherwise Bool Bool Bool Bool Bool Bool Bool Bool Bool otherwise_level process_level answer_level block_level branch_level handler_level if_level input_level reply_level
+
+-- whether an input is formed
+unfoldable pub input_formed : Input → Bool
+input_formed = fold-Input Bool Bool Bool Bool Bool Bool Bool Bool Bool otherwise_level process_level answer_level block_level branch_level handler_level if_level input_level reply_level
+
+-- whether a reply part is formed
+unfoldable pub reply_formed : Reply → Bool
+reply_formed = fold-Reply Bool Bool Bool Bool Bool Bool Bool Bool Bool otherwise_level process_level answer_level block_level branch_level handler_level if_level input_level reply_level
+
+-- whether a branch is formed
+unfoldable pub branch_formed : Branch → Bool
+branch_formed = fold-Branch Bool Bool Bool Bool Bool Bool Bool Bool Bool otherwise_level process_level answer_level block_level branch_level handler_level if_level input_level reply_level
+
+-- whether what an output awaits is formed
+unfoldable pub answer_formed : Answer → Bool
+answer_formed = fold-Answer Bool Bool Bool Bool Bool Bool Bool Bool Bool otherwise_level process_level answer_level block_level branch_level handler_level if_level input_level reply_level
+
+-- whether a handler is formed
+unfoldable pub handler_formed : Handler → Bool
+handler_formed = fold-Handler Bool Bool Bool Bool Bool Bool Bool Bool Bool otherwise_level process_level answer_level block_level branch_level handler_level if_level input_level reply_level
+
+-- ---- files
+
+-- whether the processes in a clause of a service are formed
+abbrev pub clause_formed : Clause → Bool
+clause_formed (clause.Init at body) = block_formed body
+clause_formed (clause.Main at body) = block_formed body
+clause_formed (clause.Execution at execution) = true
+clause_formed (clause.InputPort port) = true
+clause_formed (clause.OutputPort port) = true
+clause_formed (clause.CorrelationSet at variables) = true
+
+-- whether the processes in a definition are formed
+abbrev pub definition_formed : Definition → Bool
+definition_formed (definition.Service s) = list_all clause_formed s.clauses
+definition_formed (definition.Type t) = true
+definition_formed (definition.Interface i) = true
+
+-- whether the processes of a file are formed
+abbrev pub is_formed : List Definition → Bool
+is_formed definitions = list_all definition_formed definitions
