@@ -5,6 +5,7 @@ pub mod Comparisons
 pub mod Conforms
 pub mod Data
 pub mod Laws
+pub mod Locations
 pub mod Names
 pub mod Numbers
 pub mod Open
@@ -20,3 +21,4 @@ pub mod Texts
 pub mod Throw
 pub mod Values
 pub mod View
+pub mod WellFormed

@@ -12,7 +12,7 @@ use Rattle.std.proofs.lemmas.Int.Digits.{digits_value_more}
 use Rattle.std.proofs.lemmas.Str.{digit_value_digit}
 use Rattle.std.proofs.lemmas.List.Sums.{prefix_len_is}
 use Rattle.std.proofs.lemmas.List.Elements.{All-nil, All-cons}
-use Rattle.service_check.specs.Locations.{behind, front, back, all_are, is_digit}
+use Rattle.behaviour_tree.specs.Locations.{behind, front, back, all_are, is_digit}
 
 -- ---- fronts
 

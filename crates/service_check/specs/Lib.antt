@@ -10,7 +10,6 @@ pub mod Forms
 pub mod InitRules
 pub mod InterfaceRules
 pub mod Least
-pub mod Locations
 pub mod Mentioned
 pub mod Numbers
 pub mod OperationTables

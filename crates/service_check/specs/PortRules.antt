@@ -13,7 +13,7 @@ use Rattle.service_check.specs.declared.refusal.Refusal.{Refusal}
 use Rattle.service_check.specs.Repeated.{is_in, named, repeated}
 use Rattle.service_check.specs.Least.{refused, refused_if}
 use Rattle.service_check.specs.Files.{Operation, group_operations, operations_named, interface_named, Sided, port_in, input_ports, output_ports}
-use Rattle.service_check.specs.Locations.{begins_local, is_local, is_socket}
+use Rattle.behaviour_tree.specs.Locations.{begins_local, is_local, is_socket}
 
 -- an interface that is not there
 abbrev pub unknown_interface : List Interface → Name → List Refusal

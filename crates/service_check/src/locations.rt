@@ -2,7 +2,7 @@ ghost use Rattle.std.specs.Prelude.{◌≡◌, ◌≤◌, ◌^◌, ◌-◌, leng
 ghost use Rattle.std.specs.List.{AllPass, prefix_len};
 ghost use Rattle.std.specs.Option.{option_copied};
 ghost use Rattle.std.specs.Str.Parse.{digits_value};
-ghost use Rattle.service_check.specs.Locations as spec;
+ghost use Rattle.behaviour_tree.specs.Locations as spec;
 
 /// What a local location begins with.
 const LOCAL: &str = "local://";

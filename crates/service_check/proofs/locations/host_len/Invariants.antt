@@ -1,5 +1,5 @@
 use Rattle.std.proofs.Common.{◌≡◌, ℕ, ◌<◌, true, get_or}
-use Rattle.service_check.specs.Locations.{is_host_byte}
+use Rattle.behaviour_tree.specs.Locations.{is_host_byte}
 use Rattle.service_check.proofs.locations.host_len.Given as goal
 
 abbrev pub invariant-loop-i : goal.invariant-loop-i

@@ -1,7 +1,7 @@
 use Rattle.std.proofs.Common.{rules, tests, sym, ◌∙◌}
 use Rattle.std.proofs.lemmas.Iterator.{YieldsList-from_slice}
 use Rattle.std.proofs.lemmas.Iterator.Search.{all_from_yields_List}
-use Rattle.service_check.specs.Locations.{is_visible}
+use Rattle.behaviour_tree.specs.Locations.{is_visible}
 use Rattle.service_check.proofs.Addresses.{all_are_is}
 use Rattle.service_check.proofs.locations.is_all_visible.Goals as goal
 

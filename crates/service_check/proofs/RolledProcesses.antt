@@ -1,0 +1,152 @@
+-- What is refused of the parts of a process, what they mean, what they name and whether they are formed, where they are made of their own parts.
+use Rattle.std.proofs.Common.{◌≡◌, ℕ, Bool, true, List, ◌++◌, map, Option, None, Some, ap, sym, ◌∙◌}
+use Rattle.std.specs.Prelude.{◌&&◌, is_some, option_map}
+use Rattle.jolie_ast.specs.declared.name.Name.{Name}
+use Rattle.jolie_ast.specs.declared.expression.Expr.{Expr}
+use Rattle.jolie_ast.specs.declared.expression.Path.{Path}
+use Rattle.jolie_ast.specs.declared.process.HandlerKey.{HandlerKey}
+use Rattle.jolie_ast.specs.declared.process.Otherwise.TheOpen.{Process-F}
+use Rattle.jolie_ast.specs.declared.process.Otherwise.TheFolds.{map-Process, fold-roll-Answer, fold-roll-Block, fold-roll-Branch, fold-roll-Handler, fold-roll-If, fold-roll-Input, fold-roll-Otherwise, fold-roll-Process, fold-roll-Reply}
+use Rattle.jolie_ast.specs.declared.process.Otherwise.{Otherwise}
+use Rattle.jolie_ast.specs.declared.process.Otherwise.TheVariants as otherwise
+use Rattle.jolie_ast.specs.declared.process.Otherwise.TheOpen.{Otherwise-F}
+use Rattle.jolie_ast.specs.declared.process.Process.{Process, roll-Process}
+use Rattle.jolie_ast.specs.declared.process.Answer.{Answer, roll-Answer}
+use Rattle.jolie_ast.specs.declared.process.Block.{Block, roll-Block}
+use Rattle.jolie_ast.specs.declared.process.Branch.{Branch, roll-Branch}
+use Rattle.jolie_ast.specs.declared.process.Handler.{Handler, roll-Handler}
+use Rattle.jolie_ast.specs.declared.process.If.{If, roll-If}
+use Rattle.jolie_ast.specs.declared.process.Input.{Input, roll-Input}
+use Rattle.jolie_ast.specs.declared.process.Reply.{Reply, roll-Reply}
+use Rattle.jolie_ast.specs.Formed as tree
+use Rattle.jolie_ast.specs.Formed.{each, if_there, option_all, expr_formed, path_formed, process_formed, block_formed, if_formed, otherwise_formed, input_formed, reply_formed, branch_formed, answer_formed, handler_formed}
+use Rattle.behaviour_tree.specs.Data as plain
+use Rattle.behaviour_tree.specs.Data.{Proc}
+use Rattle.behaviour_tree.specs.View.{HandlerView, BranchView, ReplyView}
+use Rattle.service_check.specs.Behaviours as means
+use Rattle.service_check.specs.Behaviours.{Numbering, AnswerView, InputView, branch_after, key_of, meant_process, meant_conditional, meant_otherwise, meant_input, meant_reply, meant_branch, meant_answer, meant_handler, meant_block}
+use Rattle.service_check.specs.Expressions.{meant_expr, meant_path}
+use Rattle.service_check.specs.Mentioned as named
+use Rattle.service_check.specs.Mentioned.{Texts, key_texts, process_texts, conditional_texts, otherwise_texts, input_texts, reply_texts, branch_texts, answer_texts, handler_texts, block_texts}
+use Rattle.service_check.specs.ProcessRules as rules
+use Rattle.service_check.specs.ProcessRules.{Surroundings, Found, InputFound, HandlerFound, used, wrong_if_written, answer_handlers_refused, answer_refused, process_refused, block_refused, branch_refused, conditional_refused, handler_refused, input_refused, otherwise_refused, reply_if_written, reply_refused}
+use Rattle.service_check.proofs.ProcessForms as forms
+
+-- ---- what is refused
+
+pub input_rolled : (e : Surroundings) (operation : Name) (request : Option Path) (reply : Option Reply) (h : Bool) → input_refused e (roll-Input (record { operation = operation; request = request; reply = reply })) h ≡ used e.inputs operation (is_some reply) ++ wrong_if_written request ++ reply_if_written e reply h
+input_rolled e operation request reply h = sym (forms.input_is e (roll-Input (record { operation = operation; request = request; reply = reply })) h) ∙ forms.input_made e operation request reply h
+
+pub answer_rolled : (e : Surroundings) (path : Option Path) (fs : Option (List Handler)) → answer_refused e (roll-Answer (record { path = path; handlers = fs })) ≡ wrong_if_written path ++ answer_handlers_refused e fs
+answer_rolled e path fs = sym (forms.answer_is e (roll-Answer (record { path = path; handlers = fs })) true) ∙ forms.answer_made e path fs true
+
+pub reply_rolled : (e : Surroundings) (path : Option Path) (body : Block) (h : Bool) → reply_refused e (roll-Reply (record { path = path; body = body })) h ≡ wrong_if_written path ++ block_refused e body h
+unfolding process_refused block_refused conditional_refused otherwise_refused
+reply_rolled e path body h =
+    sym (forms.reply_is e (roll-Reply (record { path = path; body = body })) h) ∙ ap (λ (f : Found). f h) (fold-roll-Reply Found Found Found Found InputFound HandlerFound Found InputFound Found rules.otherwise_level (rules.process_level e) rules.answer_level rules.block_level rules.branch_level rules.handler_level rules.if_level (rules.input_level e) rules.reply_level (record { path = path; body = body }))
+
+pub branch_rolled : (e : Surroundings) (at : ℕ) (input : Input) (after : Block) (h : Bool) → branch_refused e (roll-Branch (record { at = at; input = input; after = after })) h ≡ input_refused e input h ++ block_refused e after h
+unfolding process_refused block_refused conditional_refused otherwise_refused
+branch_rolled e at input after h =
+    sym (forms.branch_is e (roll-Branch (record { at = at; input = input; after = after })) h)
+    ∙ ap (λ (f : InputFound). f.found h) (fold-roll-Branch Found Found Found Found InputFound HandlerFound Found InputFound Found rules.otherwise_level (rules.process_level e) rules.answer_level rules.block_level rules.branch_level rules.handler_level rules.if_level (rules.input_level e) rules.reply_level (record { at = at; input = input; after = after }))
+    ∙ ap (λ rs. rs ++ block_refused e after h) (forms.input_is e input h)
+
+pub handler_rolled : (e : Surroundings) (key : HandlerKey) (body : Process) → handler_refused e (roll-Handler (record { key = key; body = body })) ≡ process_refused e body true
+unfolding process_refused block_refused conditional_refused otherwise_refused
+handler_rolled e key body =
+    sym (ap (λ (f : HandlerFound). f.found true) (forms.handler_is e (roll-Handler (record { key = key; body = body }))))
+    ∙ ap (λ (f : HandlerFound). f.found true) (fold-roll-Handler Found Found Found Found InputFound HandlerFound Found InputFound Found rules.otherwise_level (rules.process_level e) rules.answer_level rules.block_level rules.branch_level rules.handler_level rules.if_level (rules.input_level e) rules.reply_level (record { key = key; body = body }))
+
+pub if_rolled : (e : Surroundings) (at : ℕ) (test : Expr) (body : Block) (rest : Otherwise) (h : Bool) → conditional_refused e (roll-If (record { at = at; test = test; body = body; otherwise = rest })) h ≡ block_refused e body h ++ otherwise_refused e rest h
+unfolding process_refused block_refused conditional_refused otherwise_refused
+if_rolled e at test body rest h = ap (λ (f : Found). f h) (fold-roll-If Found Found Found Found InputFound HandlerFound Found InputFound Found rules.otherwise_level (rules.process_level e) rules.answer_level rules.block_level rules.branch_level rules.handler_level rules.if_level (rules.input_level e) rules.reply_level (record { at = at; test = test; body = body; otherwise = rest }))
+
+-- ---- what is meant
+
+pub reply_meant : (m : Numbering) (path : Option Path) (body : Block) → meant_reply m (roll-Reply (record { path = path; body = body })) ≡ record { path = option_map meant_path path; body = meant_block m body }
+unfolding meant_process meant_conditional meant_otherwise meant_input meant_reply meant_branch meant_answer meant_handler meant_block
+reply_meant m path body = fold-roll-Reply Proc Proc AnswerView Proc BranchView HandlerView Proc InputView ReplyView means.otherwise_level (means.process_level m) means.answer_level means.block_level means.branch_level (means.handler_level m) means.if_level (means.input_level m) means.reply_level (record { path = path; body = body })
+
+pub branch_meant : (m : Numbering) (at : ℕ) (input : Input) (after : Block) → meant_branch m (roll-Branch (record { at = at; input = input; after = after })) ≡ branch_after (meant_input m input) (meant_block m after)
+unfolding meant_process meant_conditional meant_otherwise meant_input meant_reply meant_branch meant_answer meant_handler meant_block
+branch_meant m at input after = fold-roll-Branch Proc Proc AnswerView Proc BranchView HandlerView Proc InputView ReplyView means.otherwise_level (means.process_level m) means.answer_level means.block_level means.branch_level (means.handler_level m) means.if_level (means.input_level m) means.reply_level (record { at = at; input = input; after = after })
+
+pub handler_meant : (m : Numbering) (key : HandlerKey) (body : Process) → meant_handler m (roll-Handler (record { key = key; body = body })) ≡ record { key = key_of m.names key; body = meant_process m body }
+unfolding meant_process meant_conditional meant_otherwise meant_input meant_reply meant_branch meant_answer meant_handler meant_block
+handler_meant m key body = fold-roll-Handler Proc Proc AnswerView Proc BranchView HandlerView Proc InputView ReplyView means.otherwise_level (means.process_level m) means.answer_level means.block_level means.branch_level (means.handler_level m) means.if_level (means.input_level m) means.reply_level (record { key = key; body = body })
+
+pub if_meant : (m : Numbering) (at : ℕ) (test : Expr) (body : Block) (rest : Otherwise) → meant_conditional m (roll-If (record { at = at; test = test; body = body; otherwise = rest })) ≡ plain.choose (meant_expr test) (meant_block m body) (meant_otherwise m rest)
+unfolding meant_process meant_conditional meant_otherwise meant_input meant_reply meant_branch meant_answer meant_handler meant_block
+if_meant m at test body rest = fold-roll-If Proc Proc AnswerView Proc BranchView HandlerView Proc InputView ReplyView means.otherwise_level (means.process_level m) means.answer_level means.block_level means.branch_level (means.handler_level m) means.if_level (means.input_level m) means.reply_level (record { at = at; test = test; body = body; otherwise = rest })
+
+-- ---- what is named
+
+pub reply_names : (path : Option Path) (body : Block) → reply_texts (roll-Reply (record { path = path; body = body })) ≡ block_texts body
+unfolding process_texts conditional_texts otherwise_texts input_texts reply_texts branch_texts answer_texts handler_texts block_texts
+reply_names path body = fold-roll-Reply Texts Texts Texts Texts Texts Texts Texts Texts Texts named.otherwise_level named.process_level named.answer_level named.block_level named.branch_level named.handler_level named.if_level named.input_level named.reply_level (record { path = path; body = body })
+
+pub branch_names : (at : ℕ) (input : Input) (after : Block) → branch_texts (roll-Branch (record { at = at; input = input; after = after })) ≡ input_texts input ++ block_texts after
+unfolding process_texts conditional_texts otherwise_texts input_texts reply_texts branch_texts answer_texts handler_texts block_texts
+branch_names at input after = fold-roll-Branch Texts Texts Texts Texts Texts Texts Texts Texts Texts named.otherwise_level named.process_level named.answer_level named.block_level named.branch_level named.handler_level named.if_level named.input_level named.reply_level (record { at = at; input = input; after = after })
+
+pub handler_names : (key : HandlerKey) (body : Process) → handler_texts (roll-Handler (record { key = key; body = body })) ≡ key_texts key ++ process_texts body
+unfolding process_texts conditional_texts otherwise_texts input_texts reply_texts branch_texts answer_texts handler_texts block_texts
+handler_names key body = fold-roll-Handler Texts Texts Texts Texts Texts Texts Texts Texts Texts named.otherwise_level named.process_level named.answer_level named.block_level named.branch_level named.handler_level named.if_level named.input_level named.reply_level (record { key = key; body = body })
+
+pub if_names : (at : ℕ) (test : Expr) (body : Block) (rest : Otherwise) → conditional_texts (roll-If (record { at = at; test = test; body = body; otherwise = rest })) ≡ block_texts body ++ otherwise_texts rest
+unfolding process_texts conditional_texts otherwise_texts input_texts reply_texts branch_texts answer_texts handler_texts block_texts
+if_names at test body rest = fold-roll-If Texts Texts Texts Texts Texts Texts Texts Texts Texts named.otherwise_level named.process_level named.answer_level named.block_level named.branch_level named.handler_level named.if_level named.input_level named.reply_level (record { at = at; test = test; body = body; otherwise = rest })
+
+-- ---- what is formed
+
+-- one level of a process
+abbrev pub shape_of : Process-F Otherwise Process Answer Block Branch Handler If Input Reply → Bool
+shape_of f = tree.process_level (map-Process Otherwise Process Answer Block Branch Handler If Input Reply Bool Bool Bool Bool Bool Bool Bool Bool Bool otherwise_formed process_formed answer_formed block_formed branch_formed handler_formed if_formed input_formed reply_formed f)
+
+pub process_forms : (f : Process-F Otherwise Process Answer Block Branch Handler If Input Reply) → process_formed (roll-Process f) ≡ shape_of f
+unfolding process_formed block_formed if_formed otherwise_formed input_formed reply_formed branch_formed answer_formed handler_formed
+process_forms f = fold-roll-Process Bool Bool Bool Bool Bool Bool Bool Bool Bool tree.otherwise_level tree.process_level tree.answer_level tree.block_level tree.branch_level tree.handler_level tree.if_level tree.input_level tree.reply_level f
+
+pub block_forms : (at : ℕ) (body : Option Process) → block_formed (roll-Block (record { at = at; body = body })) ≡ option_all process_formed body
+unfolding process_formed block_formed if_formed otherwise_formed input_formed reply_formed branch_formed answer_formed handler_formed
+block_forms at None = fold-roll-Block Bool Bool Bool Bool Bool Bool Bool Bool Bool tree.otherwise_level tree.process_level tree.answer_level tree.block_level tree.branch_level tree.handler_level tree.if_level tree.input_level tree.reply_level (record { at = at; body = None })
+block_forms at (Some p) = fold-roll-Block Bool Bool Bool Bool Bool Bool Bool Bool Bool tree.otherwise_level tree.process_level tree.answer_level tree.block_level tree.branch_level tree.handler_level tree.if_level tree.input_level tree.reply_level (record { at = at; body = Some p })
+
+pub if_forms : (at : ℕ) (test : Expr) (body : Block) (rest : Otherwise) → if_formed (roll-If (record { at = at; test = test; body = body; otherwise = rest })) ≡ (expr_formed test && (block_formed body && otherwise_formed rest))
+unfolding process_formed block_formed if_formed otherwise_formed input_formed reply_formed branch_formed answer_formed handler_formed
+if_forms at test body rest = fold-roll-If Bool Bool Bool Bool Bool Bool Bool Bool Bool tree.otherwise_level tree.process_level tree.answer_level tree.block_level tree.branch_level tree.handler_level tree.if_level tree.input_level tree.reply_level (record { at = at; test = test; body = body; otherwise = rest })
+
+pub input_forms : (operation : Name) (request : Option Path) (reply : Option Reply) → input_formed (roll-Input (record { operation = operation; request = request; reply = reply })) ≡ (option_all path_formed request && option_all reply_formed reply)
+unfolding process_formed block_formed if_formed otherwise_formed input_formed reply_formed branch_formed answer_formed handler_formed
+input_forms operation request None = fold-roll-Input Bool Bool Bool Bool Bool Bool Bool Bool Bool tree.otherwise_level tree.process_level tree.answer_level tree.block_level tree.branch_level tree.handler_level tree.if_level tree.input_level tree.reply_level (record { operation = operation; request = request; reply = None })
+input_forms operation request (Some r) = fold-roll-Input Bool Bool Bool Bool Bool Bool Bool Bool Bool tree.otherwise_level tree.process_level tree.answer_level tree.block_level tree.branch_level tree.handler_level tree.if_level tree.input_level tree.reply_level (record { operation = operation; request = request; reply = Some r })
+
+pub reply_forms : (path : Option Path) (body : Block) → reply_formed (roll-Reply (record { path = path; body = body })) ≡ (option_all path_formed path && block_formed body)
+unfolding process_formed block_formed if_formed otherwise_formed input_formed reply_formed branch_formed answer_formed handler_formed
+reply_forms path body = fold-roll-Reply Bool Bool Bool Bool Bool Bool Bool Bool Bool tree.otherwise_level tree.process_level tree.answer_level tree.block_level tree.branch_level tree.handler_level tree.if_level tree.input_level tree.reply_level (record { path = path; body = body })
+
+pub branch_forms : (at : ℕ) (input : Input) (after : Block) → branch_formed (roll-Branch (record { at = at; input = input; after = after })) ≡ (input_formed input && block_formed after)
+unfolding process_formed block_formed if_formed otherwise_formed input_formed reply_formed branch_formed answer_formed handler_formed
+branch_forms at input after = fold-roll-Branch Bool Bool Bool Bool Bool Bool Bool Bool Bool tree.otherwise_level tree.process_level tree.answer_level tree.block_level tree.branch_level tree.handler_level tree.if_level tree.input_level tree.reply_level (record { at = at; input = input; after = after })
+
+pub answer_forms : (path : Option Path) (fs : Option (List Handler)) → answer_formed (roll-Answer (record { path = path; handlers = fs })) ≡ (option_all path_formed path && option_all (λ hs. each (map handler_formed hs)) fs)
+unfolding process_formed block_formed if_formed otherwise_formed input_formed reply_formed branch_formed answer_formed handler_formed
+answer_forms path None = fold-roll-Answer Bool Bool Bool Bool Bool Bool Bool Bool Bool tree.otherwise_level tree.process_level tree.answer_level tree.block_level tree.branch_level tree.handler_level tree.if_level tree.input_level tree.reply_level (record { path = path; handlers = None })
+answer_forms path (Some fs) = fold-roll-Answer Bool Bool Bool Bool Bool Bool Bool Bool Bool tree.otherwise_level tree.process_level tree.answer_level tree.block_level tree.branch_level tree.handler_level tree.if_level tree.input_level tree.reply_level (record { path = path; handlers = Some fs })
+
+pub handler_forms : (key : HandlerKey) (body : Process) → handler_formed (roll-Handler (record { key = key; body = body })) ≡ process_formed body
+unfolding process_formed block_formed if_formed otherwise_formed input_formed reply_formed branch_formed answer_formed handler_formed
+handler_forms key body = fold-roll-Handler Bool Bool Bool Bool Bool Bool Bool Bool Bool tree.otherwise_level tree.process_level tree.answer_level tree.block_level tree.branch_level tree.handler_level tree.if_level tree.input_level tree.reply_level (record { key = key; body = body })
+
+pub no_else_forms : otherwise_formed otherwise.Nothing ≡ true
+unfolding process_formed block_formed if_formed otherwise_formed input_formed reply_formed branch_formed answer_formed handler_formed
+no_else_forms = ap otherwise_formed (sym otherwise.rolls-Nothing) ∙ fold-roll-Otherwise Bool Bool Bool Bool Bool Bool Bool Bool Bool tree.otherwise_level tree.process_level tree.answer_level tree.block_level tree.branch_level tree.handler_level tree.if_level tree.input_level tree.reply_level Otherwise-F.«Otherwise::Nothing»
+
+pub else_if_forms : (i : If) → otherwise_formed (otherwise.ElseIf i) ≡ if_formed i
+unfolding process_formed block_formed if_formed otherwise_formed input_formed reply_formed branch_formed answer_formed handler_formed
+else_if_forms i = ap otherwise_formed (sym (otherwise.rolls-ElseIf i)) ∙ fold-roll-Otherwise Bool Bool Bool Bool Bool Bool Bool Bool Bool tree.otherwise_level tree.process_level tree.answer_level tree.block_level tree.branch_level tree.handler_level tree.if_level tree.input_level tree.reply_level (Otherwise-F.ElseIf i)
+
+pub else_forms : (b : Block) → otherwise_formed (otherwise.Else b) ≡ block_formed b
+unfolding process_formed block_formed if_formed otherwise_formed input_formed reply_formed branch_formed answer_formed handler_formed
+else_forms b = ap otherwise_formed (sym (otherwise.rolls-Else b)) ∙ fold-roll-Otherwise Bool Bool Bool Bool Bool Bool Bool Bool Bool tree.otherwise_level tree.process_level tree.answer_level tree.block_level tree.branch_level tree.handler_level tree.if_level tree.input_level tree.reply_level (Otherwise-F.Else b)

@@ -1,0 +1,360 @@
+-- The first input of a behaviour is that of the process that means it, and each operation of a service reaches a session.
+use Rattle.std.proofs.Common.{◌≡◌, ℕ, suc, ◌+◌, Bool, true, false, arith, List, [], ◌∷◌, ◌++◌, map, flat_map, Option, None, Some, slice_get, refl, ap, sym, subst, ◌∙◌, bytes_eq}
+use Rattle.std.specs.Prelude.{not, ◌&&◌, ◌||◌, ◌==◌, is_some, if◌then◌else◌, option_map, option_and_then, unwrap_or}
+use Rattle.std.specs.List.{list_any}
+use Rattle.std.proofs.lemmas.Bool.{and_from, or_left, or_right, or_parts, eq-eqb, false≢true}
+use Rattle.std.proofs.lemmas.List.Folds.{list_any-append}
+use Rattle.std.proofs.lemmas.Option.{same_Some, slice_get-map}
+use Rattle.std.proofs.lemmas.Slice.Eq.{bytes_eq-Decides}
+use Rattle.jolie_ast.specs.declared.name.Name.{Name}
+use Rattle.jolie_ast.specs.declared.interface.Interface.{Interface}
+use Rattle.jolie_ast.specs.declared.interface.TypeName.{TypeName}
+use Rattle.jolie_ast.specs.declared.interface.TypeName.TheVariants as type_name
+use Rattle.jolie_ast.specs.declared.service.CorrelationVariable.{CorrelationVariable}
+use Rattle.jolie_ast.specs.declared.service.Execution.{Execution}
+use Rattle.jolie_ast.specs.declared.service.Execution.TheVariants as said
+use Rattle.jolie_ast.specs.declared.service.Service.{Service}
+use Rattle.jolie_ast.specs.declared.process.Assignment.{Assignment}
+use Rattle.jolie_ast.specs.declared.process.Assignment.TheVariants as assignment
+use Rattle.jolie_ast.specs.declared.process.Otherwise.TheOpen.{Process-F}
+use Rattle.jolie_ast.specs.declared.process.Otherwise.TheFolds.{fold-roll-Process, ind-Block, map-Block, map-Process}
+use Rattle.jolie_ast.specs.declared.process.Otherwise.{Otherwise}
+use Rattle.jolie_ast.specs.declared.process.Process.{Process, roll-Process}
+use Rattle.jolie_ast.specs.declared.process.Process.TheVariants as process
+use Rattle.jolie_ast.specs.declared.process.Answer.{Answer}
+use Rattle.jolie_ast.specs.declared.process.Block.{Block, roll-Block}
+use Rattle.jolie_ast.specs.declared.process.Branch.{Branch, out-Branch}
+use Rattle.jolie_ast.specs.declared.process.Handler.{Handler}
+use Rattle.jolie_ast.specs.declared.process.If.{If}
+use Rattle.jolie_ast.specs.declared.process.Input.{Input, out-Input}
+use Rattle.jolie_ast.specs.declared.process.Reply.{Reply}
+use Rattle.behaviour_tree.specs.Data as plain
+use Rattle.behaviour_tree.specs.Data.{PathTree, Proc, Branches, Exp}
+use Rattle.behaviour_tree.specs.View.{BranchView, ReplyView, branch_of, branches_of, handlers_of, procs_of}
+use Rattle.behaviour_tree.specs.WellFormed as formed
+use Rattle.behaviour_tree.specs.Operations.{is_among}
+use Rattle.behaviour_tree.specs.WellFormed.{all_reach, branch_operations, first_of_members, has_start, is_correlated, is_install, texts_differ}
+use Rattle.service_check.specs.declared.refusal.CheckName.TheVariants.{NoStart, Uncorrelated}
+use Rattle.service_check.specs.Least.{refused_if}
+use Rattle.service_check.specs.Repeated.{firsts_after, is_in}
+use Rattle.service_check.specs.Files.{Operation, execution_of, input_operations, input_ports, is_concurrent, place_in, sets_of}
+use Rattle.service_check.specs.Behaviours.{AnswerView, InputView, Numbering, alone, meant_answer, meant_assignment, meant_block, meant_branch, meant_conditional, meant_for, meant_handler, meant_if_there, meant_input, meant_port, meant_process, meant_step, sent}
+use Rattle.service_check.specs.Expressions.{meant_expr, meant_if_written, meant_path}
+use Rattle.service_check.specs.FirstInputs.{beginning}
+use Rattle.service_check.specs.ProcessRules.{branch_operation}
+use Rattle.service_check.specs.Programs.{meant_execution, meant_operation, meant_service, meant_set, meant_type, numbering, texts_of}
+use Rattle.service_check.specs.ServiceRules as rules
+use Rattle.service_check.specs.ServiceRules.{Beginning, block_level, branch_level, first_input, input_level, is_lost, main_of, names_if_there, no_start, of_sequence, process_level, starting, uncorrelated}
+use Rattle.service_check.specs.SetRules.{alias_names, set_texts, types_in_sets}
+use Rattle.service_check.proofs.Beginnings as begins
+use Rattle.service_check.proofs.Emptied.{fails, right_empty}
+use Rattle.service_check.proofs.Firsts.{once_texts}
+use Rattle.service_check.proofs.MeantProcesses as means
+use Rattle.service_check.proofs.Operations.{mapped_each, mapped_twice}
+use Rattle.service_check.proofs.WellNames.{taken_differ}
+use Rattle.service_check.proofs.WellPorts.{operations_listed}
+use Rattle.service_check.proofs.WellSets.{all_texts, first_texts, sets_numbers, texts_in_all}
+use Rattle.service_check.proofs.WellTypes.{own_place, place_is_found, text_is_in}
+
+-- ---- branches
+
+-- the operations of a branch before others
+operations_of_branch : (op : ℕ) (target : Option PathTree) (reply : Option ReplyView) (after : Proc) (rest : Branches) → branch_operations (branch_of op target reply after rest) ≡ op ∷ branch_operations rest
+operations_of_branch op target None after rest = refl
+operations_of_branch op target (Some r) after rest = refl
+
+-- the number of the operation of an input
+pub input_number : (m : Numbering) (i : Input) → (meant_input m i).op ≡ place_in m.inputs (out-Input i).operation.text
+input_number m i = ap (λ (v : InputView). v.op) (means.input_is m i)
+
+-- the number of the operation of a branch
+pub branch_number : (m : Numbering) (b : Branch) → (meant_branch m b).op ≡ place_in m.inputs (branch_operation b).text
+branch_number m b = ap (λ (v : BranchView). v.op) (means.branch_is m b) ∙ input_number m (out-Branch b).input
+
+-- the numbers of names of operations
+abbrev pub numbers_of : Numbering → List Name → List ℕ
+numbers_of m ns = map (λ (n : Name). place_in m.inputs n.text) ns
+
+-- the numbers of the operations of branches
+pub branch_numbers : (m : Numbering) (bs : List Branch) → branch_operations (branches_of (map (meant_branch m) bs)) ≡ numbers_of m (map branch_operation bs)
+branch_numbers m [] = refl
+branch_numbers m (b ∷ bs) =
+    operations_of_branch (meant_branch m b).op (meant_branch m b).target (meant_branch m b).reply (meant_branch m b).after (branches_of (map (meant_branch m) bs))
+    ∙ ap (λ n. n ∷ branch_operations (branches_of (map (meant_branch m) bs))) (branch_number m b)
+    ∙ ap (λ ns. place_in m.inputs (branch_operation b).text ∷ ns) (branch_numbers m bs)
+
+-- ---- what processes begin with
+
+-- the numbers of a first input, where there is one
+abbrev pub starts_at : Numbering → Option (List Name) → Option (List ℕ)
+starts_at m o = option_map (numbers_of m) o
+
+abbrev pub ProcessBegins : Numbering → Process → Type 0
+ProcessBegins m x = (formed.first_input (meant_process m x) ≡ starts_at m (beginning x).operations) × (is_install (meant_process m x) ≡ (beginning x).installs)
+
+abbrev pub BlockBegins : Numbering → Block → Type 0
+BlockBegins m b = formed.first_input (meant_block m b) ≡ starts_at m (first_input b)
+
+-- an install
+abbrev installs_form : Process-F Otherwise Process Answer Block Branch Handler If Input Reply → Bool
+installs_form (Process-F.Install at hs) = true
+installs_form x = false
+
+installs_is : (x : Process-F Otherwise Process Answer Block Branch Handler If Input Reply) → (beginning (roll-Process x)).installs ≡ installs_form x
+unfolding beginning
+installs_is (Process-F.Install at hs) =
+    ap (λ (b : Beginning). b.installs) (fold-roll-Process (Unit {0}) Beginning (Unit {0}) (Option (List Name)) Name (Unit {0}) (Unit {0}) Name (Unit {0}) (λ o. tt) process_level (λ a. tt) block_level branch_level (λ h. tt) (λ i. tt) input_level (λ r. tt) (Process-F.Install at hs))
+installs_is x =
+    ap (λ (b : Beginning). b.installs) (fold-roll-Process (Unit {0}) Beginning (Unit {0}) (Option (List Name)) Name (Unit {0}) (Unit {0}) Name (Unit {0}) (λ o. tt) process_level (λ a. tt) block_level branch_level (λ h. tt) (λ i. tt) input_level (λ r. tt) x)
+
+-- what a form begins with, by what it means and what is said of it
+begins_by : (m : Numbering) (f : Process-F Otherwise Process Answer Block Branch Handler If Input Reply) (x : Process) (p : Proc) (o : Option (List Name)) → roll-Process f ≡ x → meant_process m x ≡ p → (beginning x).operations ≡ o
+    → formed.first_input p ≡ starts_at m o → is_install p ≡ installs_form f → ProcessBegins m (roll-Process f)
+begins_by m f x p o rolls meant said first installs = (
+  ap (λ z. formed.first_input (meant_process m z)) rolls ∙ ap formed.first_input meant ∙ first ∙ sym (ap (λ z. starts_at m (beginning z).operations) rolls ∙ ap (starts_at m) said),
+  ap (λ z. is_install (meant_process m z)) rolls ∙ ap is_install meant ∙ installs ∙ sym (installs_is f),
+)
+
+assignment_first : (p : PathTree) (a : Assignment) → formed.first_input (meant_assignment p a) ≡ None
+assignment_first p (assignment.Root e) = refl
+assignment_first p (assignment.Copy e) = refl
+assignment_first p (assignment.Count c) = refl
+
+assignment_installs : (p : PathTree) (a : Assignment) → is_install (meant_assignment p a) ≡ false
+assignment_installs p (assignment.Root e) = refl
+assignment_installs p (assignment.Copy e) = refl
+assignment_installs p (assignment.Count c) = refl
+
+sent_first : (port op : ℕ) (value : Exp) (a : Option AnswerView) → formed.first_input (sent port op value a) ≡ None
+sent_first port op value None = refl
+sent_first port op value (Some a) = refl
+
+sent_installs : (port op : ℕ) (value : Exp) (a : Option AnswerView) → is_install (sent port op value a) ≡ false
+sent_installs port op value None = refl
+sent_installs port op value (Some a) = refl
+
+-- ---- one level, of which the parts are known
+
+abbrev KnownProcess : Numbering → Type 0
+KnownProcess m = (x : Process) × ProcessBegins m x
+
+abbrev KnownBlock : Numbering → Type 0
+KnownBlock m = (b : Block) × BlockBegins m b
+
+-- a thing of which nothing is known
+abbrev Plain : Type 0 → Type 0
+Plain X = X × Unit {0}
+
+abbrev Known-F : Numbering → Type 0
+Known-F m = Process-F (Plain Otherwise) (KnownProcess m) (Plain Answer) (KnownBlock m) (Plain Branch) (Plain Handler) (Plain If) (Plain Input) (Plain Reply)
+
+abbrev process_of : (m : Numbering) → Known-F m → Process-F Otherwise Process Answer Block Branch Handler If Input Reply
+process_of m y =
+    map-Process (Plain Otherwise) (KnownProcess m) (Plain Answer) (KnownBlock m) (Plain Branch) (Plain Handler) (Plain If) (Plain Input) (Plain Reply) Otherwise Process Answer Block Branch Handler If Input Reply
+    (λ e. e.0) (λ e. e.0) (λ e. e.0) (λ e. e.0) (λ e. e.0) (λ e. e.0) (λ e. e.0) (λ e. e.0) (λ e. e.0) y
+
+members_turn : (m : Numbering) (b : Bool) (first rest : Option (List ℕ)) (said later : Option (List Name)) → first ≡ starts_at m said → rest ≡ starts_at m later → (if b then rest else first) ≡ starts_at m (if b then later else said)
+members_turn m true first rest said later e f = f
+members_turn m false first rest said later e f = e
+
+members_begin : (m : Numbering) (ps : List (KnownProcess m)) → first_of_members (procs_of (map (meant_process m) (map (λ e. e.0) ps))) ≡ starts_at m (of_sequence (map beginning (map (λ e. e.0) ps)))
+members_begin m [] = refl
+members_begin m (p ∷ ps) =
+    let rest : Option (List ℕ) = first_of_members (procs_of (map (meant_process m) (map (λ e. e.0) ps))) in
+    ap (λ b. if b then rest else formed.first_input (meant_process m p.0)) p.1.1
+    ∙ members_turn m (beginning p.0).installs (formed.first_input (meant_process m p.0)) rest (beginning p.0).operations (of_sequence (map beginning (map (λ e. e.0) ps))) p.1.0 (members_begin m ps)
+
+process_known : (m : Numbering) (y : Known-F m) → ProcessBegins m (roll-Process (process_of m y))
+process_known m (Process-F.«Process::Nothing» at) = begins_by m (Process-F.«Process::Nothing» at) (process.Nothing at) plain.nothing None (process.rolls-Nothing at) (means.nothing_meant m at) (begins.nothing_begins at) refl refl
+process_known m (Process-F.Assign path a) =
+    begins_by m (Process-F.Assign path a) (process.Assign path a) (meant_assignment (meant_path path) a) None (process.rolls-Assign path a) (means.assign_meant m path a) (begins.assign_begins path a) (assignment_first (meant_path path) a) (assignment_installs (meant_path path) a)
+process_known m (Process-F.Undef at path) = begins_by m (Process-F.Undef at path) (process.Undef at path) (plain.undef (meant_path path)) None (process.rolls-Undef at path) (means.undef_meant m at path) (begins.undef_begins at path) refl refl
+process_known m (Process-F.Correlate at variable value) =
+    begins_by m (Process-F.Correlate at variable value) (process.Correlate at variable value) (plain.bind (place_in m.variables variable.text) (meant_expr value)) None (process.rolls-Correlate at variable value) (means.correlate_meant m at variable value) (begins.correlate_begins at variable value) refl refl
+process_known m (Process-F.If (i, k)) =
+    begins_by m (Process-F.If i) (process.If i) (meant_conditional m i) None (process.rolls-If i) (means.conditional_meant m i) (begins.if_begins i) (ap formed.first_input (means.if_is m i)) (ap is_install (means.if_is m i))
+process_known m (Process-F.While at test (body, k)) =
+    begins_by m (Process-F.While at test body) (process.While at test body) (plain.repeat (meant_expr test) (meant_block m body)) None (process.rolls-While at test body) (means.while_meant m at test body) (begins.while_begins at test body) refl refl
+process_known m (Process-F.For at path first test stepped step (body, k)) =
+    begins_by m (Process-F.For at path first test stepped step body) (process.For at path first test stepped step body) (meant_for (plain.assign (meant_path path) (meant_expr first)) (meant_expr test) (meant_block m body) (meant_step (meant_path stepped) step)) None
+    (process.rolls-For at path first test stepped step body) (means.for_meant m at path first test stepped step body) (begins.for_begins at path first test stepped step body) refl refl
+process_known m (Process-F.Input (i, k)) =
+    begins_by m (Process-F.Input i) (process.Input i) (alone (meant_input m i)) (Some ((out-Input i).operation ∷ [])) (process.rolls-Input i) (means.input_form_meant m i) (begins.input_begins i)
+    (ap Some (operations_of_branch (meant_input m i).op (meant_input m i).target (meant_input m i).reply plain.nothing plain.no_branches ∙ ap (λ n. n ∷ []) (input_number m i))) refl
+process_known m (Process-F.Choice at branches) =
+    let bs : List Branch = map (λ e. e.0) branches in
+    begins_by m (Process-F.Choice at bs) (process.Choice at bs) (plain.choice (branches_of (map (meant_branch m) bs))) (Some (map branch_operation bs)) (process.rolls-Choice at bs) (means.choice_meant m at bs) (begins.choice_begins at bs)
+    (ap Some (branch_numbers m bs)) refl
+process_known m (Process-F.Output operation port value None) =
+    begins_by m (Process-F.Output operation port value None) (process.Output operation port value None) (sent (meant_port m port.text).number (place_in (meant_port m port.text).operations operation.text) (meant_if_written value) None) None
+    (process.rolls-Output operation port value None) (means.output_meant m operation port value None) (begins.output_begins operation port value None) refl refl
+process_known m (Process-F.Output operation port value (Some (a, k))) =
+    begins_by m (Process-F.Output operation port value (Some a)) (process.Output operation port value (Some a)) (sent (meant_port m port.text).number (place_in (meant_port m port.text).operations operation.text) (meant_if_written value) (Some (meant_answer m a))) None
+    (process.rolls-Output operation port value (Some a)) (means.output_meant m operation port value (Some a)) (begins.output_begins operation port value (Some a)) refl refl
+process_known m (Process-F.Scope at name (body, k)) =
+    begins_by m (Process-F.Scope at name body) (process.Scope at name body) (plain.scope (place_in m.names name.text) (meant_block m body)) (first_input body) (process.rolls-Scope at name body) (means.scope_meant m at name body) (begins.scope_begins at name body) k refl
+process_known m (Process-F.Install at handlers) =
+    let hs : List Handler = map (λ e. e.0) handlers in
+    begins_by m (Process-F.Install at hs) (process.Install at hs) (plain.install (handlers_of (map (meant_handler m) hs))) None (process.rolls-Install at hs) (means.install_meant m at hs) (begins.install_begins at hs) refl refl
+process_known m (Process-F.Throw at fault value) =
+    begins_by m (Process-F.Throw at fault value) (process.Throw at fault value) (plain.throw (place_in m.names fault.text) (meant_if_written value)) None (process.rolls-Throw at fault value) (means.throw_meant m at fault value) (begins.throw_begins at fault value) refl refl
+process_known m (Process-F.Compensate at scope) =
+    begins_by m (Process-F.Compensate at scope) (process.Compensate at scope) (plain.comp (place_in m.names scope.text)) None (process.rolls-Compensate at scope) (means.compensate_meant m at scope) (begins.compensate_begins at scope) refl refl
+process_known m (Process-F.InnerHandler at) =
+    begins_by m (Process-F.InnerHandler at) (process.InnerHandler at) plain.inner_handler None (process.rolls-InnerHandler at) (means.inner_handler_meant m at) (begins.inner_handler_begins at) refl refl
+process_known m (Process-F.Block (b, k)) =
+    begins_by m (Process-F.Block b) (process.Block b) (plain.block (meant_block m b)) (first_input b) (process.rolls-Block b) (means.block_form_meant m b) (begins.block_form_begins b) k refl
+process_known m (Process-F.Sequence statements) =
+    let ps : List Process = map (λ e. e.0) statements in
+    begins_by m (Process-F.Sequence ps) (process.Sequence ps) (plain.sequence (procs_of (map (meant_process m) ps))) (of_sequence (map beginning ps)) (process.rolls-Sequence ps) (means.sequence_meant m ps) (begins.sequence_begins ps) (members_begin m statements) refl
+process_known m (Process-F.Parallel members) =
+    let ps : List Process = map (λ e. e.0) members in
+    begins_by m (Process-F.Parallel ps) (process.Parallel ps) (plain.parallel (procs_of (map (meant_process m) ps))) None (process.rolls-Parallel ps) (means.parallel_meant m ps) (begins.parallel_begins ps) refl refl
+
+abbrev block_of : (m : Numbering) → ℕ → Option (KnownProcess m) → Block
+block_of m at body =
+    roll-Block (map-Block (Plain Otherwise) (KnownProcess m) (Plain Answer) (KnownBlock m) (Plain Branch) (Plain Handler) (Plain If) (Plain Input) (Plain Reply) Otherwise Process Answer Block Branch Handler If Input Reply
+    (λ e. e.0) (λ e. e.0) (λ e. e.0) (λ e. e.0) (λ e. e.0) (λ e. e.0) (λ e. e.0) (λ e. e.0) (λ e. e.0) (record { at = at; body = body }))
+
+block_known : (m : Numbering) (at : ℕ) (body : Option (KnownProcess m)) → BlockBegins m (block_of m at body)
+block_known m at None = ap formed.first_input (means.block_made m at None) ∙ sym (ap (starts_at m) (begins.block_made at None))
+block_known m at (Some (p, k)) = ap formed.first_input (means.block_made m at (Some p)) ∙ k.0 ∙ sym (ap (starts_at m) (begins.block_made at (Some p)))
+
+-- ---- by induction
+
+-- a block begins with the input that its meaning begins with
+pub block_starts : (m : Numbering) (b : Block) → BlockBegins m b
+block_starts m = ind-Block (λ (x : Otherwise). Unit {0}) (ProcessBegins m) (λ (x : Answer). Unit {0}) (BlockBegins m) (λ (x : Branch). Unit {0}) (λ (x : Handler). Unit {0}) (λ (x : If). Unit {0}) (λ (x : Input). Unit {0}) (λ (x : Reply). Unit {0})
+    (λ x y is. tt)
+    (λ x y is. subst (λ z. ProcessBegins m (roll-Process z)) is (process_known m y))
+    (λ x y is. tt)
+    (λ x y is. subst (λ z. BlockBegins m (roll-Block z)) is (block_known m y.at y.body))
+    (λ x y is. tt)
+    (λ x y is. tt)
+    (λ x y is. tt)
+    (λ x y is. tt)
+    (λ x y is. tt)
+
+-- ---- operations that reach a session
+
+first_turn : (a b c : Bool) → (a || b) ≡ true → (b ≡ true → c ≡ true) → (a || c) ≡ true
+first_turn true b c e f = refl
+first_turn false b c e f = f e
+
+places_turn : (b : Bool) (f : List ℕ → ℕ) (t x : List ℕ) (ts : List (List ℕ)) → bytes_eq t x ≡ b → (is_in x ts ≡ true → is_among (map f ts) (f x) ≡ true) → is_in x (t ∷ ts) ≡ true → is_among (map f (t ∷ ts)) (f x) ≡ true
+places_turn true f t x ts same rest there = or_left (f t == f x) (is_among (map f ts) (f x)) (eq-eqb (f t) (f x) (ap f ((bytes_eq-Decides t x).0 same)))
+places_turn false f t x ts other rest there = or_right (f t == f x) (is_among (map f ts) (f x)) (rest (ap (λ b. b || is_in x ts) (sym other) ∙ there))
+
+there_turn : (b : Bool) (x t : List ℕ) (taken ts : List (List ℕ)) → (is_in x taken ≡ true → is_in x ts ≡ true) → is_in x ((if b then [] else t ∷ []) ++ taken) ≡ true → is_in x (t ∷ ts) ≡ true
+there_turn true x t taken ts rest e = or_right (bytes_eq t x) (is_in x ts) (rest e)
+there_turn false x t taken ts rest e = first_turn (bytes_eq t x) (is_in x taken) (is_in x ts) e rest
+
+either_turn : (b : Bool) (x : List ℕ) (ts us vs ws : List (List ℕ)) → is_in x ts ≡ b → (is_in x ts ≡ true → is_in x vs ≡ true) → (is_in x us ≡ true → is_in x ws ≡ true) → is_in x (ts ++ us) ≡ true → is_in x (vs ++ ws) ≡ true
+either_turn true x ts us vs ws e first rest there = list_any-append (λ t. bytes_eq t x) vs ws ∙ or_left (is_in x vs) (is_in x ws) (first e)
+either_turn false x ts us vs ws e first rest there =
+    list_any-append (λ t. bytes_eq t x) vs ws ∙ or_right (is_in x vs) (is_in x ws) (rest (ap (λ b. b || is_in x us) (sym e) ∙ sym (list_any-append (λ t. bytes_eq t x) ts us) ∙ there))
+
+-- the number of a text that is there is among those of the texts
+pub in_places : (f : List ℕ → ℕ) (ts : List (List ℕ)) (x : List ℕ) → is_in x ts ≡ true → is_among (map f ts) (f x) ≡ true
+in_places f [] x there = absurd (false≢true there)
+in_places f (t ∷ ts) x there = places_turn (bytes_eq t x) f t x ts refl (in_places f ts x) there
+
+-- a text that is taken was there
+pub was_there : (x : List ℕ) (before ts : List (List ℕ)) → is_in x (firsts_after before ts) ≡ true → is_in x ts ≡ true
+was_there x before [] taken = taken
+was_there x before (t ∷ ts) taken = there_turn (is_in t before) x t (firsts_after (t ∷ before) ts) ts (was_there x (t ∷ before) ts) taken
+
+-- a type that sets name is that of an alias
+pub in_all_texts : (x : List ℕ) (sets : List (List CorrelationVariable)) → is_in x (types_in_sets sets) ≡ true → is_in x (texts_in_all sets) ≡ true
+in_all_texts x [] there = there
+in_all_texts x (set ∷ sets) there =
+    either_turn (is_in x (set_texts set)) x (set_texts set) (types_in_sets sets) (all_texts set) (texts_in_all sets) refl
+    (λ h. was_there x [] (all_texts set) (sym (ap (is_in x) (first_texts [] (flat_map alias_names set) ∙ ap (firsts_after []) (mapped_each (λ (n : Name). n.text) alias_names set))) ∙ h))
+    (in_all_texts x sets) there
+
+-- a request of a type that sets name
+request_reaches : (types : List (List ℕ)) (sets : List (List CorrelationVariable)) (t : TypeName) → rules.is_among (types_in_sets sets) t ≡ true → is_correlated (map (meant_set types) sets) (meant_type types t) ≡ true
+request_reaches types sets (type_name.Root at kind) e = absurd (false≢true e)
+request_reaches types sets (type_name.Named n) e =
+    ap (λ ns. is_among ns (place_in types n.text)) (sets_numbers types sets) ∙ in_places (place_in types) (texts_in_all sets) n.text (in_all_texts n.text sets e)
+request_reaches types sets (type_name.Undefined at) e = absurd (false≢true e)
+
+one_reaches : (a b c d : Bool) → (not a && not b) ≡ false → (a ≡ true → c ≡ true) → (b ≡ true → d ≡ true) → (c || d) ≡ true
+one_reaches true b c d e f g = or_left c d (f refl)
+one_reaches false true c d e f g = or_right c d (g refl)
+one_reaches false false c d e f g = absurd (false≢true (sym e))
+
+-- operations of which none is lost, numbered from one on
+all_reach_by : (m : Numbering) (types names : List (List ℕ)) (sets : List (List CorrelationVariable)) (starts : List Name) (n : ℕ) (os : List Operation)
+    → list_any (is_lost (map (λ (s : Name). s.text) starts) (types_in_sets sets)) os ≡ false → ((j : ℕ) (o : Operation) → slice_get os j ≡ Some o → place_in m.inputs o.name.text ≡ n + j)
+    → all_reach (map (meant_set types) sets) (numbers_of m starts) n (map (meant_operation types names) os) ≡ true
+all_reach_by m types names sets starts n [] e at = refl
+all_reach_by m types names sets starts n (o ∷ os) e at =
+    let texts : List (List ℕ) = map (λ (s : Name). s.text) starts in
+    let parts : (is_lost texts (types_in_sets sets) o ≡ false) × (list_any (is_lost texts (types_in_sets sets)) os ≡ false) = or_parts (is_lost texts (types_in_sets sets) o) (list_any (is_lost texts (types_in_sets sets)) os) e in
+    let here : n + 0 ≡ n = omega arith in
+    let place : place_in m.inputs o.name.text ≡ n = at 0 o refl ∙ here in
+    and_from (is_among (numbers_of m starts) n || is_correlated (map (meant_set types) sets) (meant_type types o.request)) (all_reach (map (meant_set types) sets) (numbers_of m starts) (suc n) (map (meant_operation types names) os))
+    (one_reaches (is_in o.name.text texts) (rules.is_among (types_in_sets sets) o.request) (is_among (numbers_of m starts) n) (is_correlated (map (meant_set types) sets) (meant_type types o.request)) parts.0
+    (λ h. ap (λ k. is_among (numbers_of m starts) k) (sym place)
+    ∙ ap (λ ns. is_among ns (place_in m.inputs o.name.text)) (sym (mapped_twice (place_in m.inputs) (λ (s : Name). s.text) starts)) ∙ in_places (place_in m.inputs) texts o.name.text h)
+    (request_reaches types sets o.request))
+    (all_reach_by m types names sets starts (suc n) os parts.1 (λ j q there. let further : n + suc j ≡ suc n + j = omega arith in at (suc j) q there ∙ further))
+
+-- ---- services
+
+main_begins : (m : Numbering) (o : Option Block) → formed.first_input (meant_if_there m o) ≡ starts_at m (option_and_then first_input o)
+main_begins m None = refl
+main_begins m (Some b) = block_starts m b
+
+first_is_there : (b : Bool) → (true && not b) ≡ false → b ≡ true
+first_is_there true e = refl
+first_is_there false e = absurd (false≢true (sym e))
+
+some_starts : (m : Numbering) (o : Option (List Name)) → is_some (starts_at m o) ≡ is_some o
+some_starts m None = refl
+some_starts m (Some ns) = refl
+
+names_there : (m : Numbering) (o : Option (List Name)) → unwrap_or (starts_at m o) [] ≡ numbers_of m (unwrap_or o [])
+names_there m None = refl
+names_there m (Some ns) = refl
+
+texts_there : (o : Option (List Name)) → names_if_there o ≡ map (λ (n : Name). n.text) (unwrap_or o [])
+texts_there None = refl
+texts_there (Some ns) = refl
+
+-- the operations of a service have the numbers of their places
+input_places : (is : List Interface) (s : Service) (j : ℕ) (o : Operation) → slice_get (input_operations is s) j ≡ Some o → place_in (texts_of (input_operations is s)) o.name.text ≡ 0 + j
+input_places is s j o there =
+    let ts : List (List ℕ) = texts_of (input_operations is s) in
+    let text : slice_get ts j ≡ Some o.name.text = slice_get-map (λ (o : Operation). o.name.text) (input_operations is s) j ∙ ap (option_map (λ (o : Operation). o.name.text)) there in
+    let differ : texts_differ ts ≡ true = ap texts_differ (once_texts [] (operations_listed is (input_ports s))) ∙ taken_differ [] (texts_of (operations_listed is (input_ports s))) in
+    let zero_first : j ≡ 0 + j = omega arith in
+    same_Some (place_in ts o.name.text) j (sym (place_is_found ts o.name.text (text_is_in ts j o.name.text text)) ∙ own_place ts j o.name.text differ text) ∙ zero_first
+
+concurrent_start : (is : List Interface) (types names : List (List ℕ)) (s : Service) (m : Numbering) → m.inputs ≡ texts_of (input_operations is s) → (true && not (is_some (starting s))) ≡ false
+    → (true && list_any (is_lost (names_if_there (starting s)) (types_in_sets (sets_of s))) (input_operations is s)) ≡ false
+    → (is_some (formed.first_input (meant_if_there m (main_of s))) && all_reach (map (meant_set types) (sets_of s)) (unwrap_or (formed.first_input (meant_if_there m (main_of s))) []) 0 (map (meant_operation types names) (input_operations is s))) ≡ true
+concurrent_start is types names s m inputs some lost =
+    let o : Option (List Name) = starting s in
+    let os : List Operation = input_operations is s in
+    let first : formed.first_input (meant_if_there m (main_of s)) ≡ starts_at m o = main_begins m (main_of s) in
+    and_from (is_some (formed.first_input (meant_if_there m (main_of s)))) (all_reach (map (meant_set types) (sets_of s)) (unwrap_or (formed.first_input (meant_if_there m (main_of s))) []) 0 (map (meant_operation types names) os))
+    (ap is_some first ∙ some_starts m o ∙ first_is_there (is_some o) some)
+    (ap (λ f. all_reach (map (meant_set types) (sets_of s)) (unwrap_or f []) 0 (map (meant_operation types names) os)) first
+    ∙ ap (λ ns. all_reach (map (meant_set types) (sets_of s)) ns 0 (map (meant_operation types names) os)) (names_there m o)
+    ∙ all_reach_by m types names (sets_of s) (unwrap_or o []) 0 os (ap (λ ts. list_any (is_lost ts (types_in_sets (sets_of s))) os) (sym (texts_there o)) ∙ lost)
+    (λ j q there. ap (λ ts. place_in ts q.name.text) inputs ∙ input_places is s j q there))
+
+start_by : (e : Execution) (is : List Interface) (types names : List (List ℕ)) (s : Service) (m : Numbering) → m.inputs ≡ texts_of (input_operations is s) → (is_concurrent e && not (is_some (starting s))) ≡ false
+    → (is_concurrent e && list_any (is_lost (names_if_there (starting s)) (types_in_sets (sets_of s))) (input_operations is s)) ≡ false
+    → (not (formed.is_concurrent (meant_execution e)) || (is_some (formed.first_input (meant_if_there m (main_of s))) && all_reach (map (meant_set types) (sets_of s)) (unwrap_or (formed.first_input (meant_if_there m (main_of s))) []) 0 (map (meant_operation types names) (input_operations is s)))) ≡ true
+start_by said.Concurrent is types names s m inputs some lost = concurrent_start is types names s m inputs some lost
+start_by said.Single is types names s m inputs some lost = refl
+
+-- a service whose sessions start, with its operations in order
+pub start_formed : (is : List Interface) (types names : List (List ℕ)) (s : Service) → uncorrelated is s ≡ [] → no_start s ≡ [] → has_start (map (meant_operation types names) (input_operations is s)) (meant_service is types names s) ≡ true
+start_formed is types names s lost none =
+    start_by (execution_of s) is types names s (numbering is names s) refl
+    (fails (is_concurrent (execution_of s) && not (is_some (starting s))) NoStart s.at (right_empty (refused_if (not (is_some (main_of s))) NoStart s.at) (refused_if (is_concurrent (execution_of s) && not (is_some (starting s))) NoStart s.at) none))
+    (fails (is_concurrent (execution_of s) && list_any (is_lost (names_if_there (starting s)) (types_in_sets (sets_of s))) (input_operations is s)) Uncorrelated s.at lost)
