@@ -7,22 +7,23 @@ work=$(mktemp -d)
 trap 'rm -rf "$work"' EXIT
 
 mkdir -p "$work/crates/line_times/src"
-cp -r "$top/crates/jolie_trees" "$top/crates/behaviour_tree" "$top/crates/jsonrpc_text" "$work/crates/"
+for crate in jolie_trees jolie_tokens jolie_ast jolie_parse behaviour_tree service_check jsonrpc_text; do
+    cp -r "$top/crates/$crate" "$work/crates/"
+done
 rm -rf "$work"/crates/*/out
-cat > "$work/crates.txt" <<'END'
-jolie_trees: sqlite_items thiserror
-behaviour_tree: jolie_trees sqlite_items
-jsonrpc_text: behaviour_tree jolie_trees sqlite_items serde_json
-line_times: jsonrpc_text behaviour_tree jolie_trees
-END
+grep -E '^(jolie_(trees|tokens|ast|parse)|behaviour_tree|service_check|jsonrpc_text):' "$top/crates.txt" > "$work/crates.txt"
+echo 'line_times: jsonrpc_text service_check jolie_parse jolie_ast jolie_tokens behaviour_tree jolie_trees' >> "$work/crates.txt"
 cat > "$work/crates/line_times/src/main.rt" <<'END'
 //! The times of reading the line that the argument names and of writing an answer with its params, in microseconds, and the
 //! bytes of both.
 #![tactic(auto)]
 
-use behaviour_tree::{Outcome, Parts, Program, TypeDef};
-use jolie_trees::{Text, Tree};
+use behaviour_tree::{Outcome, Program, TypeDef};
+use jolie_parse::parse;
+use jolie_tokens::lex;
+use jolie_trees::Tree;
 use jsonrpc_text::{Id, Read, answer_text, read_message};
+use service_check::check;
 use std::alloc::{AllocError, Global};
 use std::time::Instant;
 use std::{env, fs, io};
@@ -38,7 +39,7 @@ fn main(rt: HostRuntime) -> io::Result<()> {
             println!(rt; "out of memory")?;
             continue;
         };
-        let Ok(program) = nothing(alloc) else {
+        let Some(program) = least(alloc) else {
             println!(rt; "out of memory")?;
             continue;
         };
@@ -66,17 +67,13 @@ fn outcome_of(alloc: Global, read: &Read) -> Result<Outcome, AllocError> {
     Ok(Outcome::Value(Tree::void(alloc)))
 }
 
-/// A program without parts.
-fn nothing(alloc: Global) -> Result<Program, AllocError> {
-    Program::new(
-        alloc,
-        Parts {
-            types: Vec::new(alloc),
-            interfaces: Vec::new(alloc),
-            services: Vec::new(alloc),
-            names: Vec::new(alloc),
-        },
-    )
+const LEAST: &[u8] = b"service S { main { } }";
+
+/// The least program, if there is memory.
+fn least(alloc: Global) -> Option<Program> {
+    let tokens = lex(alloc, LEAST).ok()?;
+    let file = parse(alloc, LEAST, &tokens).ok()?;
+    check(alloc, &file).ok()
 }
 END
 

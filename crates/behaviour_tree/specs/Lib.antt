@@ -4,6 +4,14 @@ pub mod Casts
 pub mod Comparisons
 pub mod Conforms
 pub mod Data
+pub mod Distinct
+pub mod FormedBehaviours
+pub mod FormedExpressions
+pub mod FormedInterfaces
+pub mod FormedPorts
+pub mod FormedServices
+pub mod FormedSets
+pub mod FormedTypes
 pub mod Laws
 pub mod Locations
 pub mod Names
@@ -11,6 +19,7 @@ pub mod Numbers
 pub mod Open
 pub mod Operations
 pub mod Operators
+pub mod PartsSeen
 pub mod PartsView
 pub mod Reasons
 pub mod Runs

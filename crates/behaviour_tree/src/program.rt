@@ -1,5 +1,7 @@
-ghost use Rattle.std.specs.Prelude.{◌≡◌, IfOk};
-ghost use Rattle.behaviour_tree.specs.PartsView.{parts_of, parts_view, shared_by};
+ghost use Rattle.std.specs.Prelude.{◌≡◌, true};
+ghost use Rattle.std.specs.Arc.{arc_value};
+ghost use Rattle.behaviour_tree.specs.PartsSeen.{parts_view};
+ghost use Rattle.behaviour_tree.specs.WellFormed.{is_well_formed};
 
 use crate::behaviour::Behaviour;
 use crate::types::TypeDef;
@@ -91,12 +93,16 @@ pub struct Parts {
 #[derive(Drop)]
 pub struct Program {
     parts: Arc<Parts>,
+    pub ghost well_formed: { is_well_formed (parts_view (arc_value parts)) ≡ true },
 }
 
 impl Program {
-    /// A program of these parts, which a checker has found well formed: each number of a type,
-    /// an interface, a name or a port stands for one, and each operation for one of its service.
+    ghost use Rattle.std.specs.Prelude.{IfOk};
+    ghost use Rattle.behaviour_tree.specs.PartsView.{parts_of, shared_by};
+
+    /// A program of well-formed parts.
     pub fn new(alloc: Global, parts: Parts) -> Result<Program, AllocError>
+        requires { is_well_formed (parts_view parts) ≡ true }
         ensures { IfOk result (λ program. parts_of program ≡ parts_view parts) }
     {
         let parts = Arc::new(alloc, parts)?;
@@ -106,6 +112,7 @@ impl Program {
     pub fn parts(&self) -> &Parts
         ensures shared { result.now ≡ shared_by self.now }
         ensures parts { parts_view result.now ≡ parts_of self.now }
+        ensures well_formed { is_well_formed (parts_of self.now) ≡ true }
     {
         &self.parts
     }

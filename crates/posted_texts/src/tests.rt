@@ -1,6 +1,10 @@
-use behaviour_tree::{Field, Outcome, Parts, Program, Reason, RootKind, TypeDef};
+use behaviour_tree::{Field, Outcome, Program, Reason, RootKind, TypeDef};
+use jolie_ast::Ast;
+use jolie_parse::parse;
+use jolie_tokens::lex;
 use jolie_trees::{Root, Text, Tree};
 use jsonrpc_text::{Early, Id, Read, ReadCall, answer_text, batch_text, early_text, read_message};
+use service_check::check;
 use std::alloc::{AllocError, Global};
 use std::process::Abort;
 use std::test::Fail;
@@ -476,19 +480,17 @@ fn read_type(alloc: Global, words: &str) -> Result<TypeDef, AllocError> {
     Ok(reader.pop())
 }
 
-/// A program whose types are one with a vector, the one before it, and two that name one another.
-fn program(alloc: Global) -> Result<Program, AllocError> {
-    let mut types = Vec::new(alloc);
-    for words in ["void int =a:0-*", "#0", "#3", "#2"] {
-        types.push(read_type(alloc, words)?)?;
-    }
-    let parts = Parts {
-        types,
-        interfaces: Vec::new(alloc),
-        services: Vec::new(alloc),
-        names: Vec::new(alloc),
-    };
-    Program::new(alloc, parts)
+/// The types of the program: one with a vector, and the one before it.
+const TYPES: &[u8] = b"type Many: void { a*: int } type Same: Many service S { main { } }";
+
+fn file(alloc: Global) -> Result<Ast, Fail> {
+    let tokens = lex(alloc, TYPES)?;
+    Ok(parse(alloc, TYPES, &tokens)?)
+}
+
+fn program(alloc: Global) -> Result<Program, Fail> {
+    let file = file(alloc)?;
+    Ok(check(alloc, &file)?)
 }
 
 fn check_answer(
@@ -568,7 +570,6 @@ fn vectors_are_written_by_their_field(rt: HostRuntime) -> Result<(), Fail> {
         ("void i1 =a i2 =b", "void int =a:0-*", r#"{"a":[1],"b":2}"#),
         ("void i1 =a", "#0", r#"{"a":[1]}"#),
         ("void i1 =a", "#1", r#"{"a":[1]}"#),
-        ("void i1 =a", "#2", r#"{"a":1}"#),
         ("void i1 =a", "#9", r#"{"a":1}"#),
         ("void void i1 =a =b", "void #0 =b:1", r#"{"b":{"a":[1]}}"#),
         (

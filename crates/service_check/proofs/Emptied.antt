@@ -13,7 +13,7 @@ use Rattle.service_check.specs.declared.refusal.Refusal.{Refusal}
 use Rattle.service_check.specs.Least.{least, refused, refused_if}
 use Rattle.service_check.specs.Repeated.{is_in, repeated, repeated_after}
 use Rattle.service_check.specs.Files.{place_in}
-use Rattle.behaviour_tree.specs.WellFormed.{texts_differ}
+use Rattle.behaviour_tree.specs.Distinct.{texts_differ}
 
 -- ---- nothing is refused
 

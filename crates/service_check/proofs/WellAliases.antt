@@ -20,8 +20,8 @@ use Rattle.behaviour_tree.specs.Data as plain
 use Rattle.behaviour_tree.specs.Data.{TypeTree}
 use Rattle.behaviour_tree.specs.Conforms.{shape}
 use Rattle.behaviour_tree.specs.View.{FieldView, type_fields_of}
-use Rattle.behaviour_tree.specs.WellFormed as formed
-use Rattle.behaviour_tree.specs.WellFormed.{fields_of, once_at, is_alias}
+use Rattle.behaviour_tree.specs.FormedSets as formed_sets
+use Rattle.behaviour_tree.specs.FormedSets.{fields_of, once_at, is_alias}
 use Rattle.service_check.specs.declared.refusal.CheckName.TheVariants.{UnknownType}
 use Rattle.service_check.specs.Repeated.{is_in}
 use Rattle.service_check.specs.Files.{place_in, type_named}
@@ -130,7 +130,7 @@ fields_meant types x (TypeBody-F.Root at kind (Some fields)) form =
 fields_meant types x (TypeBody-F.Named n) form = ap fields_of (meant_by_form types x (body.Named n) (TypeBody-F.Named n) form (body.rolls-Named n) ∙ named_meant types n)
 fields_meant types x (TypeBody-F.Undefined at) form = ap fields_of (meant_by_form types x (body.Undefined at) (TypeBody-F.Undefined at) form (body.rolls-Undefined at) ∙ undefined_meant types at)
 
-value_kind : (k : RootKind) → formed.is_value_kind (meant_kind k) ≡ is_value_kind k
+value_kind : (k : RootKind) → formed_sets.is_value_kind (meant_kind k) ≡ is_value_kind k
 value_kind written.Void = refl
 value_kind written.Bool = refl
 value_kind written.Int = refl
@@ -139,11 +139,11 @@ value_kind written.Str = refl
 value_kind written.Any = refl
 
 -- whether a body is a value, by its form
-value_meant : (types : List (List ℕ)) (x : TypeBody) (b : TypeBody-F TypeBody Field) → out-TypeBody x ≡ b → formed.is_value (meant_body types x) ≡ is_value b
+value_meant : (types : List (List ℕ)) (x : TypeBody) (b : TypeBody-F TypeBody Field) → out-TypeBody x ≡ b → formed_sets.is_value (meant_body types x) ≡ is_value b
 value_meant types x (TypeBody-F.Root at kind fields) form =
-    ap formed.is_value (meant_by_form types x (body.Root at kind fields) (TypeBody-F.Root at kind fields) form (body.rolls-Root at kind fields) ∙ root_meant types at kind fields) ∙ value_kind kind
-value_meant types x (TypeBody-F.Named n) form = ap formed.is_value (meant_by_form types x (body.Named n) (TypeBody-F.Named n) form (body.rolls-Named n) ∙ named_meant types n)
-value_meant types x (TypeBody-F.Undefined at) form = ap formed.is_value (meant_by_form types x (body.Undefined at) (TypeBody-F.Undefined at) form (body.rolls-Undefined at) ∙ undefined_meant types at)
+    ap formed_sets.is_value (meant_by_form types x (body.Root at kind fields) (TypeBody-F.Root at kind fields) form (body.rolls-Root at kind fields) ∙ root_meant types at kind fields) ∙ value_kind kind
+value_meant types x (TypeBody-F.Named n) form = ap formed_sets.is_value (meant_by_form types x (body.Named n) (TypeBody-F.Named n) form (body.rolls-Named n) ∙ named_meant types n)
+value_meant types x (TypeBody-F.Undefined at) form = ap formed_sets.is_value (meant_by_form types x (body.Undefined at) (TypeBody-F.Undefined at) form (body.rolls-Undefined at) ∙ undefined_meant types at)
 
 -- the type of a field, where it stands once
 abbrev pub if_once : List (List ℕ) → Field → Option TypeTree
@@ -159,10 +159,10 @@ found_turn types true f o rest e = refl
 found_turn types false f o rest e = e
 
 -- the field of a name
-pub field_found : (types : List (List ℕ)) (fields : List Field) (name : List ℕ) → formed.once_in (type_fields_of (map (meant_field types) fields)) name ≡ option_and_then (if_once types) (field_named fields name)
+pub field_found : (types : List (List ℕ)) (fields : List Field) (name : List ℕ) → formed_sets.once_in (type_fields_of (map (meant_field types) fields)) name ≡ option_and_then (if_once types) (field_named fields name)
 field_found types [] name = refl
 field_found types (f ∷ fields) name =
-    let rest : Option TypeTree = formed.once_in (type_fields_of (map (meant_field types) fields)) name in
+    let rest : Option TypeTree = formed_sets.once_in (type_fields_of (map (meant_field types) fields)) name in
     ap (found_or name rest) (field_is types f)
     ∙ ap (λ b. if bytes_eq (out-Field f).name.text name then (if b then Some (meant_body types (out-Field f).body) else None) else rest) (stands_once (out-Field f).cardinality)
     ∙ found_turn types (bytes_eq (out-Field f).name.text name) f (field_named fields name) rest (field_found types fields name)
@@ -179,18 +179,18 @@ once_there types n (Some f) = behind_if types n (is_once (out-Field f).cardinali
 -- a field that stands once leads to the same type
 pub once_alike : (types : List TypeDefinition) (x : TypeBody) (n : Name) → once_at (meant_types types) (meant_body (type_names types) x) n.text ≡ option_map (meant_body (type_names types)) (once_in types x n)
 once_alike types x n =
-    ap (λ k. option_and_then (shape (meant_types types) k) (formed.once_in (fields_of (meant_body (type_names types) x)) n.text)) (length-map types (meant_definition (type_names types)))
-    ∙ ap (λ fs. option_and_then (shape (meant_types types) (length types)) (formed.once_in fs n.text)) (fields_meant (type_names types) x (out-TypeBody x) refl)
+    ap (λ k. option_and_then (shape (meant_types types) k) (formed_sets.once_in (fields_of (meant_body (type_names types) x)) n.text)) (length-map types (meant_definition (type_names types)))
+    ∙ ap (λ fs. option_and_then (shape (meant_types types) (length types)) (formed_sets.once_in fs n.text)) (fields_meant (type_names types) x (out-TypeBody x) refl)
     ∙ ap (option_and_then (shape (meant_types types) (length types))) (field_found (type_names types) (fields_in (out-TypeBody x)) n.text)
     ∙ once_there types (length types) (field_named (fields_in (out-TypeBody x)) n.text)
 
 -- a chain leads to a value by numbers as by names
 pub leads_alike : (types : List TypeDefinition) (o : Option TypeBody) (path : List Name)
-    → formed.leads_to_value (meant_types types) (option_map (meant_body (type_names types)) o) (map (λ (n : Name). n.text) path) ≡ leads_to_value types o path
+    → formed_sets.leads_to_value (meant_types types) (option_map (meant_body (type_names types)) o) (map (λ (n : Name). n.text) path) ≡ leads_to_value types o path
 leads_alike types None path = refl
 leads_alike types (Some x) [] = value_meant (type_names types) x (out-TypeBody x) refl
 leads_alike types (Some x) (n ∷ path) =
-    ap (λ o. formed.leads_to_value (meant_types types) o (map (λ (m : Name). m.text) path)) (once_alike types x n) ∙ leads_alike types (once_in types x n) path
+    ap (λ o. formed_sets.leads_to_value (meant_types types) o (map (λ (m : Name). m.text) path)) (once_alike types x n) ∙ leads_alike types (once_in types x n) path
 
 -- ---- aliases
 
@@ -202,9 +202,9 @@ alias_there types n (Some ty) = shape_is types n (body_of ty.body)
 -- an alias that is not refused
 pub alias_formed : (types : List TypeDefinition) (a : Alias) → wrong_alias types a ≡ [] → is_alias (meant_types types) (meant_alias (type_names types) a) ≡ true
 alias_formed types a e =
-    ap (λ k. formed.leads_to_value (meant_types types) (option_and_then (shape (meant_types types) k) (slice_get (meant_types types) (place_in (type_names types) a.ty.text))) (map (λ (n : Name). n.text) (a.first ∷ a.rest))) (length-map types (meant_definition (type_names types)))
-    ∙ ap (λ o. formed.leads_to_value (meant_types types) (option_and_then (shape (meant_types types) (length types)) o) (map (λ (n : Name). n.text) (a.first ∷ a.rest))) (type_at_place (meant_definition (type_names types)) types a.ty.text)
-    ∙ ap (λ o. formed.leads_to_value (meant_types types) o (map (λ (n : Name). n.text) (a.first ∷ a.rest))) (alias_there types (length types) (type_named types a.ty.text))
+    ap (λ k. formed_sets.leads_to_value (meant_types types) (option_and_then (shape (meant_types types) k) (slice_get (meant_types types) (place_in (type_names types) a.ty.text))) (map (λ (n : Name). n.text) (a.first ∷ a.rest))) (length-map types (meant_definition (type_names types)))
+    ∙ ap (λ o. formed_sets.leads_to_value (meant_types types) (option_and_then (shape (meant_types types) (length types)) o) (map (λ (n : Name). n.text) (a.first ∷ a.rest))) (type_at_place (meant_definition (type_names types)) types a.ty.text)
+    ∙ ap (λ o. formed_sets.leads_to_value (meant_types types) o (map (λ (n : Name). n.text) (a.first ∷ a.rest))) (alias_there types (length types) (type_named types a.ty.text))
     ∙ leads_alike types (alias_type types a) (a.first ∷ a.rest)
     ∙ holds (leads_to_value types (alias_type types a) (a.first ∷ a.rest)) UnknownType a.ty.at e
 

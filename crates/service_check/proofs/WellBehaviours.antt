@@ -29,7 +29,9 @@ use Rattle.jolie_ast.specs.Formed.{each, has_one, has_two, option_all, expr_form
 use Rattle.behaviour_tree.specs.Data as plain
 use Rattle.behaviour_tree.specs.Data.{PathTree, Proc, Branches, Exp}
 use Rattle.behaviour_tree.specs.View.{BranchView, HandlerView, ReplyView, branch_of, branches_of, handlers_of, procs_of}
-use Rattle.behaviour_tree.specs.WellFormed.{Reach, outputs_at, has_operation, is_exp, is_path, is_target, is_key, is_behaviour, are_two, are_behaviours, are_branches, are_handlers, keys_differ, branch_operations, is_some_list, numbers_differ}
+use Rattle.behaviour_tree.specs.Distinct.{is_some_list, numbers_differ}
+use Rattle.behaviour_tree.specs.FormedExpressions.{is_exp, is_path, is_target}
+use Rattle.behaviour_tree.specs.FormedBehaviours.{Reach, outputs_at, has_operation, is_key, is_behaviour, are_two, are_behaviours, are_branches, are_handlers, keys_differ, branch_operations}
 use Rattle.service_check.specs.declared.refusal.CheckName.TheVariants.{DuplicateName, CompOutsideHandler, ChOutsideHandler}
 use Rattle.service_check.specs.declared.refusal.Refusal.{Refusal}
 use Rattle.service_check.specs.Least.{refused, refused_if}

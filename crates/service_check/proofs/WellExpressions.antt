@@ -18,7 +18,7 @@ use Rattle.jolie_ast.specs.Formed as tree
 use Rattle.jolie_ast.specs.Formed.{has_two, each, if_there, option_all, form_formed, expr_formed, factor_formed, member_formed, path_formed, step_formed, term_formed}
 use Rattle.behaviour_tree.specs.Data.{Exp, PathTree}
 use Rattle.behaviour_tree.specs.View.{StepView, SumPartView, MulPartView, MemberView, path_of, step_of, exps_of, sum_parts_of, mul_parts_of, member_list_of}
-use Rattle.behaviour_tree.specs.WellFormed.{is_exp, is_path, are_exps, are_two_exps, are_sum_parts, are_mul_parts, are_members}
+use Rattle.behaviour_tree.specs.FormedExpressions.{is_exp, is_path, are_exps, are_two_exps, are_sum_parts, are_mul_parts, are_members}
 use Rattle.service_check.specs.Expressions as means
 use Rattle.service_check.specs.Expressions.{meant_expr, meant_path, meant_form, meant_factor, meant_member, meant_place, meant_term, meant_if_written}
 

@@ -15,10 +15,15 @@ use Rattle.jolie_ast.specs.declared.service.Clause.TheVariants as clause
 use Rattle.jolie_ast.specs.declared.service.Service.{Service}
 use Rattle.jolie_ast.specs.declared.tree.Definition.{Definition}
 use Rattle.jolie_ast.specs.declared.tree.Definition.TheVariants as definition
-use Rattle.behaviour_tree.specs.Data.{OperationPart, ServicePart}
+use Rattle.behaviour_tree.specs.Data.{OperationPart, ProgramParts, ServicePart}
 use Rattle.behaviour_tree.specs.Operations.{input_interfaces, operations_of}
-use Rattle.behaviour_tree.specs.WellFormed as formed
-use Rattle.behaviour_tree.specs.WellFormed.{are_interfaces, are_names, are_ports, are_services, are_sets, are_types, has_few_members, has_start, is_behaviour, is_init, is_service, is_some_list, is_well_formed, parallel_members, reach_of, runs_well, texts_differ}
+use Rattle.behaviour_tree.specs.FormedPorts as formed_ports
+use Rattle.behaviour_tree.specs.Distinct.{is_some_list, texts_differ}
+use Rattle.behaviour_tree.specs.FormedTypes.{are_types}
+use Rattle.behaviour_tree.specs.FormedSets.{are_sets}
+use Rattle.behaviour_tree.specs.FormedBehaviours.{is_behaviour, parallel_members}
+use Rattle.behaviour_tree.specs.FormedServices.{are_ports, has_few_members, has_start, is_init, is_service, reach_of, runs_well}
+use Rattle.behaviour_tree.specs.WellFormed.{are_interfaces, are_names, are_services, is_well_formed}
 use Rattle.service_check.specs.declared.refusal.Refusal.{Refusal}
 use Rattle.service_check.specs.Behaviours.{Numbering, meant_if_there}
 use Rattle.service_check.specs.Circles.{type_names}
@@ -172,8 +177,8 @@ unfolding program_of
 program_services file none shape bound =
     let tn : List (List ℕ) = type_names (types_of file) in
     let services : List ServicePart = map (service_of file) (services_of file) in
-    and_from (is_some_list services && texts_differ (map (λ (s : ServicePart). s.name) services) && texts_differ (formed.input_locations services)) (list_all (is_service (program_of file) (formed.input_locations services)) services)
-    (and_from (is_some_list services && texts_differ (map (λ (s : ServicePart). s.name) services)) (texts_differ (formed.input_locations services))
+    and_from (is_some_list services && texts_differ (map (λ (s : ServicePart). s.name) services) && texts_differ (formed_ports.input_locations services)) (list_all (is_service (program_of file) (formed_ports.input_locations services)) services)
+    (and_from (is_some_list services && texts_differ (map (λ (s : ServicePart). s.name) services)) (texts_differ (formed_ports.input_locations services))
     (and_from (is_some_list services) (texts_differ (map (λ (s : ServicePart). s.name) services))
     (some_services (service_of file) (services_of file) none.service)
     (services_differ (interfaces_of file) tn (names_of file) (services_of file) none.services_once))
@@ -193,3 +198,7 @@ program_formed file e shape bound =
     (and_from (are_names (program_of file).names) (are_types (program_of file).types) (program_names file) (program_types file none))
     (program_interfaces file none))
     (program_services file none shape bound)
+
+-- Parts that are those of a file of which nothing is refused are well formed.
+pub parts_formed : (file : List Definition) (parts : ProgramParts) → refusal_of file ≡ None → is_formed file ≡ true → count.parallel_members file ≤ most_members → parts ≡ program_of file → is_well_formed parts ≡ true
+parts_formed file parts e shape bound same = ap is_well_formed same ∙ program_formed file e shape bound

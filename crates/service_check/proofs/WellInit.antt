@@ -22,7 +22,7 @@ use Rattle.jolie_ast.specs.declared.service.Clause.TheVariants as clause
 use Rattle.behaviour_tree.specs.Data as plain
 use Rattle.behaviour_tree.specs.Data.{PathTree, Proc}
 use Rattle.behaviour_tree.specs.View.{procs_of}
-use Rattle.behaviour_tree.specs.WellFormed.{are_assignments, is_assignment, is_init}
+use Rattle.behaviour_tree.specs.FormedServices.{are_assignments, is_assignment, is_init}
 use Rattle.service_check.specs.declared.refusal.CheckName.TheVariants.{InitNotAssignment}
 use Rattle.service_check.specs.declared.refusal.Refusal.{Refusal}
 use Rattle.service_check.specs.Files.{first_there, init_in, main_in}

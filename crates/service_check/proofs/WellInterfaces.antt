@@ -14,7 +14,9 @@ use Rattle.jolie_ast.specs.declared.interface.TypeName.{TypeName}
 use Rattle.jolie_ast.specs.declared.interface.TypeName.TheVariants as type_name
 use Rattle.behaviour_tree.specs.Data.{ThrowsPart, InterfacePart}
 use Rattle.behaviour_tree.specs.Operations.{is_among}
-use Rattle.behaviour_tree.specs.WellFormed.{texts_differ, numbers_differ, is_type, is_type_if_there, is_fault, is_operation, is_interface}
+use Rattle.behaviour_tree.specs.Distinct.{texts_differ, numbers_differ}
+use Rattle.behaviour_tree.specs.FormedTypes.{is_type, is_type_if_there}
+use Rattle.behaviour_tree.specs.FormedInterfaces.{is_fault, is_operation, is_interface}
 use Rattle.service_check.specs.declared.refusal.CheckName.TheVariants.{DuplicateName}
 use Rattle.service_check.specs.declared.refusal.Refusal.{Refusal}
 use Rattle.service_check.specs.Least.{refused}

@@ -27,7 +27,7 @@ use Rattle.jolie_ast.specs.Members.{answer_members, block_members, branch_member
 use Rattle.behaviour_tree.specs.Data as plain
 use Rattle.behaviour_tree.specs.Data.{PathTree, Proc, Branches}
 use Rattle.behaviour_tree.specs.View.{BranchView, HandlerView, ReplyView, branch_of, branches_of, handlers_of, procs_of}
-use Rattle.behaviour_tree.specs.WellFormed.{count_of, members_of_branches, members_of_handlers, members_within, parallel_members}
+use Rattle.behaviour_tree.specs.FormedBehaviours.{count_of, members_of_branches, members_of_handlers, members_within, parallel_members}
 use Rattle.service_check.specs.Behaviours.{AnswerView, InputView, Numbering, alone, meant_answer, meant_assignment, meant_block, meant_branch, meant_conditional, meant_for, meant_handler, meant_input, meant_otherwise, meant_port, meant_process, meant_reply, meant_step, sent}
 use Rattle.service_check.specs.Expressions.{meant_expr, meant_if_written, meant_path}
 use Rattle.service_check.specs.Files.{place_in}

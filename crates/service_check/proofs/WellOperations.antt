@@ -11,8 +11,10 @@ use Rattle.jolie_ast.specs.declared.service.Clause.TheVariants as clause
 use Rattle.jolie_ast.specs.declared.service.Port.{Port}
 use Rattle.behaviour_tree.specs.Data.{OperationPart, PortPart}
 use Rattle.behaviour_tree.specs.Operations.{operations_of}
-use Rattle.behaviour_tree.specs.WellFormed as formed
-use Rattle.behaviour_tree.specs.WellFormed.{has_operation, sent_to, texts_differ}
+use Rattle.behaviour_tree.specs.FormedPorts as formed_ports
+use Rattle.behaviour_tree.specs.Distinct.{texts_differ}
+use Rattle.behaviour_tree.specs.FormedBehaviours.{has_operation}
+use Rattle.behaviour_tree.specs.FormedServices.{sent_to}
 use Rattle.service_check.specs.declared.refusal.CheckName.TheVariants.{DuplicateName, UnknownOperation, UnknownPort, WrongKind}
 use Rattle.service_check.specs.declared.refusal.Refusal.{Refusal}
 use Rattle.service_check.specs.Least.{refused, refused_if}
@@ -75,7 +77,7 @@ once_is os differ = ap each_once (sym (append-nil os)) ∙ new_taken [] os [] di
 
 -- the operations that are sent to an output port are its own
 pub sent_operations : (types names : List (List ℕ)) (is : List Interface) (p : Port) → output_port_refused is p ≡ []
-    → formed.port_operations (map (meant_interface types names) is) (record { name = p.name.text; input = false; location = p.location.text; interfaces = map (λ (n : Name). place_in (interface_names is) n.text) p.interfaces }) ≡ map (meant_operation types names) (port_operations is p)
+    → formed_ports.port_operations (map (meant_interface types names) is) (record { name = p.name.text; input = false; location = p.location.text; interfaces = map (λ (n : Name). place_in (interface_names is) n.text) p.interfaces }) ≡ map (meant_operation types names) (port_operations is p)
 sent_operations types names is p e =
     let os : List Operation = flat_map (operations_named is) (port_names p) in
     let differ : texts_differ (texts_of os) ≡ true =
@@ -119,7 +121,7 @@ output_reaches types names is (clause.OutputPort p ∷ clauses) n all none opera
     let here : n + 0 ≡ n = omega arith in
     let mine : output_port_refused is p ≡ [] = left_empty (output_port_refused is p) (flat_map (output_port_refused is) (filter_map output_port_in clauses)) once in
     let rest : List PortPart = ports_of (interface_names is) clauses in
-    let first : List OperationPart = formed.port_operations (map (meant_interface types names) is) (record { name = p.name.text; input = false; location = p.location.text; interfaces = map (λ (n : Name). place_in (interface_names is) n.text) p.interfaces }) in
+    let first : List OperationPart = formed_ports.port_operations (map (meant_interface types names) is) (record { name = p.name.text; input = false; location = p.location.text; interfaces = map (λ (n : Name). place_in (interface_names is) n.text) p.interfaces }) in
     output_turn types names is (bytes_eq p.name.text port.text) p all n operation port answers (outlet_named (map (outlet is) (filter_map output_port_in clauses)) port.text) (port_among (numbered_from is (suc n) (filter_map port_in clauses)) none port.text)
     (subst (λ k. slice_get all k ≡ Some first) here (stand 0 first refl) ∙ ap Some (sent_operations types names is p mine)) e
     (λ h. output_reaches types names is clauses (suc n) all none operation port answers (right_empty (output_port_refused is p) (flat_map (output_port_refused is) (filter_map output_port_in clauses)) once)

@@ -7,7 +7,9 @@ use Rattle.jolie_ast.specs.declared.types.TypeDefinition.{TypeDefinition}
 use Rattle.jolie_ast.specs.declared.interface.Interface.{Interface}
 use Rattle.jolie_ast.specs.declared.service.Port.{Port}
 use Rattle.jolie_ast.specs.declared.service.Service.{Service}
-use Rattle.behaviour_tree.specs.WellFormed.{texts_differ, are_names, are_types, are_interfaces}
+use Rattle.behaviour_tree.specs.Distinct.{texts_differ}
+use Rattle.behaviour_tree.specs.FormedTypes.{are_types}
+use Rattle.behaviour_tree.specs.WellFormed.{are_names, are_interfaces}
 use Rattle.service_check.specs.declared.refusal.CheckName.TheVariants.{DuplicateName}
 use Rattle.service_check.specs.declared.refusal.Refusal.{Refusal}
 use Rattle.service_check.specs.Least.{refused}

@@ -15,8 +15,9 @@ use Rattle.behaviour_tree.specs.Data.{OperationPart, InterfacePart, PortPart}
 use Rattle.behaviour_tree.specs.Locations.{is_local, is_socket}
 use Rattle.behaviour_tree.specs.Operations as plain
 use Rattle.behaviour_tree.specs.Operations.{mentions, input_interfaces, operations_of}
-use Rattle.behaviour_tree.specs.WellFormed as formed
-use Rattle.behaviour_tree.specs.WellFormed.{texts_differ, numbers_differ, operation_names, is_port, names_once, has_once, is_met}
+use Rattle.behaviour_tree.specs.FormedPorts as formed_ports
+use Rattle.behaviour_tree.specs.Distinct.{texts_differ, numbers_differ}
+use Rattle.behaviour_tree.specs.FormedPorts.{operation_names, is_port, names_once, has_once, is_met}
 use Rattle.service_check.specs.declared.refusal.CheckName.TheVariants.{DuplicateName, UnknownType, UnknownPort, WrongKind}
 use Rattle.service_check.specs.declared.refusal.Refusal.{Refusal}
 use Rattle.service_check.specs.Least.{refused, refused_if}
@@ -223,13 +224,13 @@ port_numbers is p m size e =
 
 -- the name and the location of a port, and the numbers of its interfaces
 port_by_itself : (is : List Interface) (p : Port) (m : ℕ) → m ≡ length (interface_names is) → port_refused is p ≡ []
-    → (not (bytes_eq p.name.text formed.console) && (is_local p.location.text || is_socket p.location.text) && list_all (λ n. nat_lt n m) (map (λ (n : Name). place_in (interface_names is) n.text) p.interfaces)) ≡ true
+    → (not (bytes_eq p.name.text formed_ports.console) && (is_local p.location.text || is_socket p.location.text) && list_all (λ n. nat_lt n m) (map (λ (n : Name). place_in (interface_names is) n.text) p.interfaces)) ≡ true
 port_by_itself is p m size e =
     let named : List Refusal = refused_if (bytes_eq p.name.text console) WrongKind p.name.at in
     let front : named ++ wrong_location p ≡ [] = left_empty (named ++ wrong_location p) (wrong_protocol p) (left_empty (before_interfaces p) (flat_map (unknown_interface is) p.interfaces) e) in
-    and_from (not (bytes_eq p.name.text formed.console) && (is_local p.location.text || is_socket p.location.text)) (list_all (λ n. nat_lt n m) (map (λ (n : Name). place_in (interface_names is) n.text) p.interfaces))
-    (and_from (not (bytes_eq p.name.text formed.console)) (is_local p.location.text || is_socket p.location.text)
-    (not_from_false (bytes_eq p.name.text formed.console) (fails (bytes_eq p.name.text console) WrongKind p.name.at (left_empty named (wrong_location p) front)))
+    and_from (not (bytes_eq p.name.text formed_ports.console) && (is_local p.location.text || is_socket p.location.text)) (list_all (λ n. nat_lt n m) (map (λ (n : Name). place_in (interface_names is) n.text) p.interfaces))
+    (and_from (not (bytes_eq p.name.text formed_ports.console)) (is_local p.location.text || is_socket p.location.text)
+    (not_from_false (bytes_eq p.name.text formed_ports.console) (fails (bytes_eq p.name.text console) WrongKind p.name.at (left_empty named (wrong_location p) front)))
     (holds (is_local p.location.text || is_socket p.location.text) WrongKind p.location.at (right_empty named (wrong_location p) front)))
     (port_numbers is p m size e)
 
@@ -245,7 +246,7 @@ input_port_formed types names is locations p e once =
     let pis : List InterfacePart = map (meant_interface types names) is in
     let part : PortPart = meant_port_part (interface_names is) (record { input = true; port = p }) in
     let size : length pis ≡ length (interface_names is) = length-map is (meant_interface types names) ∙ sym (length-map is (λ (i : Interface). i.name.text)) in
-    all_four (not (bytes_eq p.name.text formed.console) && (is_local p.location.text || is_socket p.location.text) && list_all (λ n. nat_lt n (length pis)) part.interfaces) (names_once part) (has_once pis part) (is_met locations part)
+    all_four (not (bytes_eq p.name.text formed_ports.console) && (is_local p.location.text || is_socket p.location.text) && list_all (λ n. nat_lt n (length pis)) part.interfaces) (names_once part) (has_once pis part) (is_met locations part)
     (port_by_itself is p (length pis) size e)
     (ap numbers_differ (sym (mapped_twice (place_in (interface_names is)) (λ (n : Name). n.text) p.interfaces)) ∙ places_differ (interface_names is) (port_names p) (names_differ DuplicateName p.interfaces once) (port_known is p e))
     refl refl
@@ -262,7 +263,7 @@ output_port_formed types names is locations p e once near =
     let pis : List InterfacePart = map (meant_interface types names) is in
     let part : PortPart = meant_port_part (interface_names is) (record { input = false; port = p }) in
     let size : length pis ≡ length (interface_names is) = length-map is (meant_interface types names) ∙ sym (length-map is (λ (i : Interface). i.name.text)) in
-    all_four (not (bytes_eq p.name.text formed.console) && (is_local p.location.text || is_socket p.location.text) && list_all (λ n. nat_lt n (length pis)) part.interfaces) (names_once part) (has_once pis part) (is_met locations part)
+    all_four (not (bytes_eq p.name.text formed_ports.console) && (is_local p.location.text || is_socket p.location.text) && list_all (λ n. nat_lt n (length pis)) part.interfaces) (names_once part) (has_once pis part) (is_met locations part)
     (port_by_itself is p (length pis) size e)
     refl
     (ap (λ ns. texts_differ (operation_names (operations_of pis ns))) (sym (mapped_twice (place_in (interface_names is)) (λ (n : Name). n.text) p.interfaces))

@@ -13,8 +13,10 @@ use Rattle.jolie_ast.specs.declared.service.Clause.TheVariants as clause
 use Rattle.jolie_ast.specs.declared.service.Service.{Service}
 use Rattle.jolie_ast.specs.Formed.{block_formed, clause_formed}
 use Rattle.behaviour_tree.specs.Data.{OperationPart, InterfacePart, VariablePart}
-use Rattle.behaviour_tree.specs.WellFormed as formed
-use Rattle.behaviour_tree.specs.WellFormed.{Reach, has_operation, is_behaviour, outputs_at, sent_to}
+use Rattle.behaviour_tree.specs.FormedSets as formed_sets
+use Rattle.behaviour_tree.specs.FormedServices as formed_services
+use Rattle.behaviour_tree.specs.FormedBehaviours.{Reach, has_operation, is_behaviour, outputs_at}
+use Rattle.behaviour_tree.specs.FormedServices.{sent_to}
 use Rattle.service_check.specs.declared.refusal.CheckName.TheVariants.{UnknownOperation, WrongKind, Uncorrelated}
 use Rattle.service_check.specs.declared.refusal.Refusal.{Refusal}
 use Rattle.service_check.specs.Least.{refused, refused_if}
@@ -67,7 +69,7 @@ slice_end (z ∷ xs) x = slice_end xs x
 
 -- the operations of the ports of a service, and those of the port that every service has
 abbrev all_outputs : List InterfacePart → List (List ℕ) → List Clause → List (List OperationPart)
-all_outputs interfaces names clauses = map (sent_to interfaces) (ports_of names clauses) ++ (formed.println ∷ []) ∷ []
+all_outputs interfaces names clauses = map (sent_to interfaces) (ports_of names clauses) ++ (formed_services.println ∷ []) ∷ []
 
 -- whether the operation of a port is there
 abbrev reached : List (List OperationPart) → Name → Bool → NumberedPort → Bool
@@ -81,14 +83,14 @@ sent_there types names is s true operation port answers once e =
     let pis : List InterfacePart = map (meant_interface types names) is in
     let outs : List (List OperationPart) = map (sent_to pis) (ports_of (interface_names is) s.clauses) in
     let size : length outs ≡ length (filter_map port_in s.clauses) = length-map (ports_of (interface_names is) s.clauses) (sent_to pis) ∙ length-map (filter_map port_in s.clauses) (meant_port_part (interface_names is)) in
-    ap (λ n. has_operation (unwrap_or (slice_get (outs ++ (formed.println ∷ []) ∷ []) n) []) (place_in (println.name.text ∷ []) operation.text) answers) (sym size)
-    ∙ ap (λ o. has_operation (unwrap_or o []) (place_in (println.name.text ∷ []) operation.text) answers) (slice_end outs (formed.println ∷ []))
+    ap (λ n. has_operation (unwrap_or (slice_get (outs ++ (formed_services.println ∷ []) ∷ []) n) []) (place_in (println.name.text ∷ []) operation.text) answers) (sym size)
+    ∙ ap (λ o. has_operation (unwrap_or o []) (place_in (println.name.text ∷ []) operation.text) answers) (slice_end outs (formed_services.println ∷ []))
     ∙ operation_used types names (println ∷ []) operation answers e
 sent_there types names is s false operation port answers once e =
     let pis : List InterfacePart = map (meant_interface types names) is in
     let outs : List (List OperationPart) = map (sent_to pis) (ports_of (interface_names is) s.clauses) in
-    output_reaches types names is s.clauses zero (outs ++ (formed.println ∷ []) ∷ []) (console_port (numbering is names s)) operation port answers once
-    (λ j os there. let same : j ≡ 0 + j = omega arith in subst (λ k. slice_get (outs ++ (formed.println ∷ []) ∷ []) k ≡ Some os) same (slice_front outs ((formed.println ∷ []) ∷ []) j os there)) e
+    output_reaches types names is s.clauses zero (outs ++ (formed_services.println ∷ []) ∷ []) (console_port (numbering is names s)) operation port answers once
+    (λ j os there. let same : j ≡ 0 + j = omega arith in subst (λ k. slice_get (outs ++ (formed_services.println ∷ []) ∷ []) k ≡ Some os) same (slice_front outs ((formed_services.println ∷ []) ∷ []) j os there)) e
 
 -- ---- a service
 
@@ -97,13 +99,13 @@ abbrev pub reach_by : List (List ℕ) → List (List ℕ) → List Interface →
 reach_by types names is s inputs = record {
   inputs = inputs;
   outputs = all_outputs (map (meant_interface types names) is) (interface_names is) s.clauses;
-  variables = length (formed.variables_of (map (meant_set types) (sets_of s)));
+  variables = length (formed_sets.variables_of (map (meant_set types) (sets_of s)));
   names = length names;
 }
 
 -- how many variables there are
-variables_size : (types : List (List ℕ)) (s : Service) → length (map (λ (n : Name). n.text) (variables_of s)) ≡ length (formed.variables_of (map (meant_set types) (sets_of s)))
-variables_size types s = ap length (sym (variable_names types (sets_of s))) ∙ length-map (formed.variables_of (map (meant_set types) (sets_of s))) (λ (v : VariablePart). v.name)
+variables_size : (types : List (List ℕ)) (s : Service) → length (map (λ (n : Name). n.text) (variables_of s)) ≡ length (formed_sets.variables_of (map (meant_set types) (sets_of s)))
+variables_size types s = ap length (sym (variable_names types (sets_of s))) ∙ length-map (formed_sets.variables_of (map (meant_set types) (sets_of s))) (λ (v : VariablePart). v.name)
 
 -- the numbers of a service meet what its processes may name
 pub service_meets : (types names : List (List ℕ)) (is : List Interface) (s : Service) (inputs : List OperationPart) → inputs ≡ map (meant_operation types names) (input_operations is s) → flat_map (output_port_refused is) (output_ports s) ≡ []

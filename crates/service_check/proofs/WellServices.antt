@@ -13,8 +13,10 @@ use Rattle.jolie_ast.specs.declared.service.Port.{Port}
 use Rattle.jolie_ast.specs.declared.service.Service.{Service}
 use Rattle.behaviour_tree.specs.Data.{PortPart, ServicePart}
 use Rattle.behaviour_tree.specs.Operations.{input_interfaces, operations_of}
-use Rattle.behaviour_tree.specs.WellFormed as formed
-use Rattle.behaviour_tree.specs.WellFormed.{texts_differ, input_location, is_port, are_sets, operation_names}
+use Rattle.behaviour_tree.specs.FormedPorts as formed_ports
+use Rattle.behaviour_tree.specs.Distinct.{texts_differ}
+use Rattle.behaviour_tree.specs.FormedPorts.{input_location, is_port, operation_names}
+use Rattle.behaviour_tree.specs.FormedSets.{are_sets}
 use Rattle.service_check.specs.declared.refusal.CheckName.TheVariants.{DuplicateName}
 use Rattle.service_check.specs.declared.refusal.Refusal.{Refusal}
 use Rattle.service_check.specs.Least.{refused}
@@ -119,10 +121,10 @@ port_locations interfaces (clause.Init at body ∷ clauses) = port_locations int
 port_locations interfaces (clause.Main at body ∷ clauses) = port_locations interfaces clauses
 
 -- those of services
-pub locations_are : (is : List Interface) (types names : List (List ℕ)) (services : List Service) → formed.input_locations (map (meant_service is types names) services) ≡ input_locations services
+pub locations_are : (is : List Interface) (types names : List (List ℕ)) (services : List Service) → formed_ports.input_locations (map (meant_service is types names) services) ≡ input_locations services
 locations_are is types names [] = refl
 locations_are is types names (s ∷ services) =
-    ap (λ ts. ts ++ formed.input_locations (map (meant_service is types names) services)) (port_locations (interface_names is) s.clauses)
+    ap (λ ts. ts ++ formed_ports.input_locations (map (meant_service is types names) services)) (port_locations (interface_names is) s.clauses)
     ∙ ap (λ ts. service_locations s ++ ts) (locations_are is types names services)
 
 -- the locations as names with their places
@@ -138,7 +140,7 @@ location_texts (s ∷ services) =
 
 -- the locations of the input ports of services differ
 pub locations_differ : (is : List Interface) (types names : List (List ℕ)) (services : List Service) → refused DuplicateName (repeated (location_names services)) ≡ []
-    → texts_differ (formed.input_locations (map (meant_service is types names) services)) ≡ true
+    → texts_differ (formed_ports.input_locations (map (meant_service is types names) services)) ≡ true
 locations_differ is types names services none =
     ap texts_differ (locations_are is types names services ∙ sym (location_texts services)) ∙ names_differ DuplicateName (location_names services) none
 

@@ -16,8 +16,9 @@ use Rattle.jolie_ast.specs.declared.service.Execution.{Execution}
 use Rattle.jolie_ast.specs.declared.service.Execution.TheVariants as said
 use Rattle.behaviour_tree.specs.Data.{AliasPart, VariablePart, SetPart}
 use Rattle.behaviour_tree.specs.Operations.{is_among}
-use Rattle.behaviour_tree.specs.WellFormed as formed
-use Rattle.behaviour_tree.specs.WellFormed.{texts_differ, numbers_differ, is_alias, alias_types, is_variable, types_are_apart}
+use Rattle.behaviour_tree.specs.FormedSets as formed_sets
+use Rattle.behaviour_tree.specs.Distinct.{texts_differ, numbers_differ}
+use Rattle.behaviour_tree.specs.FormedSets.{is_alias, alias_types, is_variable, types_are_apart}
 use Rattle.service_check.specs.declared.refusal.CheckName.TheVariants.{DuplicateName, Uncorrelated, TwoSets}
 use Rattle.service_check.specs.declared.refusal.Refusal.{Refusal}
 use Rattle.service_check.specs.Least.{refused}
@@ -193,10 +194,10 @@ not_later x earlier (set ∷ sets) e before =
     (list_any-append (λ t. bytes_eq t x) (set_texts set) earlier ∙ or_right (is_in x (set_texts set)) (is_in x earlier) before))
 
 -- the numbers of the types of sets
-pub sets_numbers : (types : List (List ℕ)) (sets : List (List CorrelationVariable)) → flat_map formed.set_types (map (meant_set types) sets) ≡ map (place_in types) (texts_in_all sets)
+pub sets_numbers : (types : List (List ℕ)) (sets : List (List CorrelationVariable)) → flat_map formed_sets.set_types (map (meant_set types) sets) ≡ map (place_in types) (texts_in_all sets)
 sets_numbers types [] = refl
 sets_numbers types (set ∷ sets) =
-    ap (λ ns. ns ++ flat_map formed.set_types (map (meant_set types) sets)) (set_numbers types set)
+    ap (λ ns. ns ++ flat_map formed_sets.set_types (map (meant_set types) sets)) (set_numbers types set)
     ∙ ap (λ ns. map (place_in types) (all_texts set) ++ ns) (sets_numbers types sets)
     ∙ sym (map-append (place_in types) (all_texts set) (texts_in_all sets))
 
@@ -204,12 +205,12 @@ sets_numbers types (set ∷ sets) =
 pub sets_apart : (types earlier : List (List ℕ)) (sets : List (List CorrelationVariable)) → all_in types (texts_in_all sets) ≡ true → two_sets earlier sets ≡ [] → types_are_apart (map (meant_set types) sets) ≡ true
 sets_apart types earlier [] known e = refl
 sets_apart types earlier (set ∷ sets) known e =
-    let later : List ℕ = flat_map formed.set_types (map (meant_set types) sets) in
+    let later : List ℕ = flat_map formed_sets.set_types (map (meant_set types) sets) in
     let here : List Refusal = flat_map (in_earlier earlier) (set_types set) in
     let rest : two_sets (set_texts set ++ earlier) sets ≡ [] = right_empty here (two_sets (set_texts set ++ earlier) sets) e in
-    and_from (not (list_any (λ t. is_among later t) (formed.set_types (meant_set types set)))) (types_are_apart (map (meant_set types) sets))
-    (not_from_false (list_any (λ t. is_among later t) (formed.set_types (meant_set types set)))
-    (ap (λ ns. list_any (λ t. is_among ns t) (formed.set_types (meant_set types set))) (sets_numbers types sets)
+    and_from (not (list_any (λ t. is_among later t) (formed_sets.set_types (meant_set types set)))) (types_are_apart (map (meant_set types) sets))
+    (not_from_false (list_any (λ t. is_among later t) (formed_sets.set_types (meant_set types set)))
+    (ap (λ ns. list_any (λ t. is_among ns t) (formed_sets.set_types (meant_set types set))) (sets_numbers types sets)
     ∙ ap (list_any (λ t. is_among (map (place_in types) (texts_in_all sets)) t)) (set_numbers types set)
     ∙ none_passes (λ t. is_among (map (place_in types) (texts_in_all sets)) t) (place_in types) (all_texts set)
     (λ x there.
@@ -218,11 +219,11 @@ sets_apart types earlier (set ∷ sets) known e =
     (sets_apart types (set_texts set ++ earlier) sets (back_in types (all_texts set) (texts_in_all sets) known) rest)
 
 -- the variables of sets keep their names
-pub variable_names : (types : List (List ℕ)) (sets : List (List CorrelationVariable)) → map (λ (v : VariablePart). v.name) (formed.variables_of (map (meant_set types) sets)) ≡ map (λ (n : Name). n.text) (flat_map set_names sets)
+pub variable_names : (types : List (List ℕ)) (sets : List (List CorrelationVariable)) → map (λ (v : VariablePart). v.name) (formed_sets.variables_of (map (meant_set types) sets)) ≡ map (λ (n : Name). n.text) (flat_map set_names sets)
 variable_names types [] = refl
 variable_names types (set ∷ sets) =
-    map-append (λ (v : VariablePart). v.name) (map (meant_variable types) set) (formed.variables_of (map (meant_set types) sets))
-    ∙ ap (λ ts. ts ++ map (λ (v : VariablePart). v.name) (formed.variables_of (map (meant_set types) sets)))
+    map-append (λ (v : VariablePart). v.name) (map (meant_variable types) set) (formed_sets.variables_of (map (meant_set types) sets))
+    ∙ ap (λ ts. ts ++ map (λ (v : VariablePart). v.name) (formed_sets.variables_of (map (meant_set types) sets)))
     (mapped_twice (λ (v : VariablePart). v.name) (meant_variable types) set ∙ sym (mapped_twice (λ (n : Name). n.text) (λ (v : CorrelationVariable). v.name) set))
     ∙ ap (λ ts. map (λ (n : Name). n.text) (set_names set) ++ ts) (variable_names types sets)
     ∙ sym (map-append (λ (n : Name). n.text) (set_names set) (flat_map set_names sets))
@@ -239,21 +240,21 @@ single_has_none (clause.Main at body ∷ clauses) e = single_has_none clauses e
 
 -- sets are those of a service whose sessions run beside each other
 pub has_sets : (types : List (List ℕ)) (execution : Execution) (clauses : List Clause) → flat_map (set_of_single (is_concurrent execution)) clauses ≡ []
-    → (formed.is_concurrent (meant_execution execution) || (length (map (meant_set types) (filter_map set_in clauses)) == 0)) ≡ true
+    → (formed_sets.is_concurrent (meant_execution execution) || (length (map (meant_set types) (filter_map set_in clauses)) == 0)) ≡ true
 has_sets types said.Concurrent clauses e = refl
 has_sets types said.Single clauses e = ap (λ sets. length (map (meant_set types) sets) == 0) (single_has_none clauses e)
 
 -- the sets of clauses of which nothing is refused
 pub sets_formed : (types : List TypeDefinition) (execution : Execution) (clauses : List Clause) → refused DuplicateName (repeated (flat_map set_names (filter_map set_in clauses))) ≡ []
     → flat_map (set_refused types) (filter_map set_in clauses) ≡ [] → two_sets [] (filter_map set_in clauses) ≡ [] → flat_map (set_of_single (is_concurrent execution)) clauses ≡ []
-    → ((formed.is_concurrent (meant_execution execution) || (length (map (meant_set (type_names types)) (filter_map set_in clauses)) == 0))
-    && texts_differ (map (λ (v : VariablePart). v.name) (formed.variables_of (map (meant_set (type_names types)) (filter_map set_in clauses))))
+    → ((formed_sets.is_concurrent (meant_execution execution) || (length (map (meant_set (type_names types)) (filter_map set_in clauses)) == 0))
+    && texts_differ (map (λ (v : VariablePart). v.name) (formed_sets.variables_of (map (meant_set (type_names types)) (filter_map set_in clauses))))
     && list_all (has_variables types) (map (meant_set (type_names types)) (filter_map set_in clauses))
     && types_are_apart (map (meant_set (type_names types)) (filter_map set_in clauses))) ≡ true
 sets_formed types execution clauses names each apart single =
     let sets : List SetPart = map (meant_set (type_names types)) (filter_map set_in clauses) in
-    let one : Bool = formed.is_concurrent (meant_execution execution) || (length sets == 0) in
-    let two : Bool = texts_differ (map (λ (v : VariablePart). v.name) (formed.variables_of sets)) in
+    let one : Bool = formed_sets.is_concurrent (meant_execution execution) || (length sets == 0) in
+    let two : Bool = texts_differ (map (λ (v : VariablePart). v.name) (formed_sets.variables_of sets)) in
     and_from (one && two && list_all (has_variables types) sets) (types_are_apart sets)
     (and_from (one && two) (list_all (has_variables types) sets)
     (and_from one two (has_sets (type_names types) execution clauses single)

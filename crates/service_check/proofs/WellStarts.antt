@@ -31,9 +31,12 @@ use Rattle.jolie_ast.specs.declared.process.Reply.{Reply}
 use Rattle.behaviour_tree.specs.Data as plain
 use Rattle.behaviour_tree.specs.Data.{PathTree, Proc, Branches, Exp}
 use Rattle.behaviour_tree.specs.View.{BranchView, ReplyView, branch_of, branches_of, handlers_of, procs_of}
-use Rattle.behaviour_tree.specs.WellFormed as formed
+use Rattle.behaviour_tree.specs.FormedSets as formed_sets
+use Rattle.behaviour_tree.specs.FormedServices as formed_services
 use Rattle.behaviour_tree.specs.Operations.{is_among}
-use Rattle.behaviour_tree.specs.WellFormed.{all_reach, branch_operations, first_of_members, has_start, is_correlated, is_install, texts_differ}
+use Rattle.behaviour_tree.specs.Distinct.{texts_differ}
+use Rattle.behaviour_tree.specs.FormedBehaviours.{branch_operations}
+use Rattle.behaviour_tree.specs.FormedServices.{all_reach, first_of_members, has_start, is_correlated, is_install}
 use Rattle.service_check.specs.declared.refusal.CheckName.TheVariants.{NoStart, Uncorrelated}
 use Rattle.service_check.specs.Least.{refused_if}
 use Rattle.service_check.specs.Repeated.{firsts_after, is_in}
@@ -90,10 +93,10 @@ abbrev pub starts_at : Numbering → Option (List Name) → Option (List ℕ)
 starts_at m o = option_map (numbers_of m) o
 
 abbrev pub ProcessBegins : Numbering → Process → Type 0
-ProcessBegins m x = (formed.first_input (meant_process m x) ≡ starts_at m (beginning x).operations) × (is_install (meant_process m x) ≡ (beginning x).installs)
+ProcessBegins m x = (formed_services.first_input (meant_process m x) ≡ starts_at m (beginning x).operations) × (is_install (meant_process m x) ≡ (beginning x).installs)
 
 abbrev pub BlockBegins : Numbering → Block → Type 0
-BlockBegins m b = formed.first_input (meant_block m b) ≡ starts_at m (first_input b)
+BlockBegins m b = formed_services.first_input (meant_block m b) ≡ starts_at m (first_input b)
 
 -- an install
 abbrev installs_form : Process-F Otherwise Process Answer Block Branch Handler If Input Reply → Bool
@@ -109,13 +112,13 @@ installs_is x =
 
 -- what a form begins with, by what it means and what is said of it
 begins_by : (m : Numbering) (f : Process-F Otherwise Process Answer Block Branch Handler If Input Reply) (x : Process) (p : Proc) (o : Option (List Name)) → roll-Process f ≡ x → meant_process m x ≡ p → (beginning x).operations ≡ o
-    → formed.first_input p ≡ starts_at m o → is_install p ≡ installs_form f → ProcessBegins m (roll-Process f)
+    → formed_services.first_input p ≡ starts_at m o → is_install p ≡ installs_form f → ProcessBegins m (roll-Process f)
 begins_by m f x p o rolls meant said first installs = (
-  ap (λ z. formed.first_input (meant_process m z)) rolls ∙ ap formed.first_input meant ∙ first ∙ sym (ap (λ z. starts_at m (beginning z).operations) rolls ∙ ap (starts_at m) said),
+  ap (λ z. formed_services.first_input (meant_process m z)) rolls ∙ ap formed_services.first_input meant ∙ first ∙ sym (ap (λ z. starts_at m (beginning z).operations) rolls ∙ ap (starts_at m) said),
   ap (λ z. is_install (meant_process m z)) rolls ∙ ap is_install meant ∙ installs ∙ sym (installs_is f),
 )
 
-assignment_first : (p : PathTree) (a : Assignment) → formed.first_input (meant_assignment p a) ≡ None
+assignment_first : (p : PathTree) (a : Assignment) → formed_services.first_input (meant_assignment p a) ≡ None
 assignment_first p (assignment.Root e) = refl
 assignment_first p (assignment.Copy e) = refl
 assignment_first p (assignment.Count c) = refl
@@ -125,7 +128,7 @@ assignment_installs p (assignment.Root e) = refl
 assignment_installs p (assignment.Copy e) = refl
 assignment_installs p (assignment.Count c) = refl
 
-sent_first : (port op : ℕ) (value : Exp) (a : Option AnswerView) → formed.first_input (sent port op value a) ≡ None
+sent_first : (port op : ℕ) (value : Exp) (a : Option AnswerView) → formed_services.first_input (sent port op value a) ≡ None
 sent_first port op value None = refl
 sent_first port op value (Some a) = refl
 
@@ -161,8 +164,8 @@ members_begin : (m : Numbering) (ps : List (KnownProcess m)) → first_of_member
 members_begin m [] = refl
 members_begin m (p ∷ ps) =
     let rest : Option (List ℕ) = first_of_members (procs_of (map (meant_process m) (map (λ e. e.0) ps))) in
-    ap (λ b. if b then rest else formed.first_input (meant_process m p.0)) p.1.1
-    ∙ members_turn m (beginning p.0).installs (formed.first_input (meant_process m p.0)) rest (beginning p.0).operations (of_sequence (map beginning (map (λ e. e.0) ps))) p.1.0 (members_begin m ps)
+    ap (λ b. if b then rest else formed_services.first_input (meant_process m p.0)) p.1.1
+    ∙ members_turn m (beginning p.0).installs (formed_services.first_input (meant_process m p.0)) rest (beginning p.0).operations (of_sequence (map beginning (map (λ e. e.0) ps))) p.1.0 (members_begin m ps)
 
 process_known : (m : Numbering) (y : Known-F m) → ProcessBegins m (roll-Process (process_of m y))
 process_known m (Process-F.«Process::Nothing» at) = begins_by m (Process-F.«Process::Nothing» at) (process.Nothing at) plain.nothing None (process.rolls-Nothing at) (means.nothing_meant m at) (begins.nothing_begins at) refl refl
@@ -172,7 +175,7 @@ process_known m (Process-F.Undef at path) = begins_by m (Process-F.Undef at path
 process_known m (Process-F.Correlate at variable value) =
     begins_by m (Process-F.Correlate at variable value) (process.Correlate at variable value) (plain.bind (place_in m.variables variable.text) (meant_expr value)) None (process.rolls-Correlate at variable value) (means.correlate_meant m at variable value) (begins.correlate_begins at variable value) refl refl
 process_known m (Process-F.If (i, k)) =
-    begins_by m (Process-F.If i) (process.If i) (meant_conditional m i) None (process.rolls-If i) (means.conditional_meant m i) (begins.if_begins i) (ap formed.first_input (means.if_is m i)) (ap is_install (means.if_is m i))
+    begins_by m (Process-F.If i) (process.If i) (meant_conditional m i) None (process.rolls-If i) (means.conditional_meant m i) (begins.if_begins i) (ap formed_services.first_input (means.if_is m i)) (ap is_install (means.if_is m i))
 process_known m (Process-F.While at test (body, k)) =
     begins_by m (Process-F.While at test body) (process.While at test body) (plain.repeat (meant_expr test) (meant_block m body)) None (process.rolls-While at test body) (means.while_meant m at test body) (begins.while_begins at test body) refl refl
 process_known m (Process-F.For at path first test stepped step (body, k)) =
@@ -217,8 +220,8 @@ block_of m at body =
     (λ e. e.0) (λ e. e.0) (λ e. e.0) (λ e. e.0) (λ e. e.0) (λ e. e.0) (λ e. e.0) (λ e. e.0) (λ e. e.0) (record { at = at; body = body }))
 
 block_known : (m : Numbering) (at : ℕ) (body : Option (KnownProcess m)) → BlockBegins m (block_of m at body)
-block_known m at None = ap formed.first_input (means.block_made m at None) ∙ sym (ap (starts_at m) (begins.block_made at None))
-block_known m at (Some (p, k)) = ap formed.first_input (means.block_made m at (Some p)) ∙ k.0 ∙ sym (ap (starts_at m) (begins.block_made at (Some p)))
+block_known m at None = ap formed_services.first_input (means.block_made m at None) ∙ sym (ap (starts_at m) (begins.block_made at None))
+block_known m at (Some (p, k)) = ap formed_services.first_input (means.block_made m at (Some p)) ∙ k.0 ∙ sym (ap (starts_at m) (begins.block_made at (Some p)))
 
 -- ---- by induction
 
@@ -303,7 +306,7 @@ all_reach_by m types names sets starts n (o ∷ os) e at =
 
 -- ---- services
 
-main_begins : (m : Numbering) (o : Option Block) → formed.first_input (meant_if_there m o) ≡ starts_at m (option_and_then first_input o)
+main_begins : (m : Numbering) (o : Option Block) → formed_services.first_input (meant_if_there m o) ≡ starts_at m (option_and_then first_input o)
 main_begins m None = refl
 main_begins m (Some b) = block_starts m b
 
@@ -334,12 +337,12 @@ input_places is s j o there =
 
 concurrent_start : (is : List Interface) (types names : List (List ℕ)) (s : Service) (m : Numbering) → m.inputs ≡ texts_of (input_operations is s) → (true && not (is_some (starting s))) ≡ false
     → (true && list_any (is_lost (names_if_there (starting s)) (types_in_sets (sets_of s))) (input_operations is s)) ≡ false
-    → (is_some (formed.first_input (meant_if_there m (main_of s))) && all_reach (map (meant_set types) (sets_of s)) (unwrap_or (formed.first_input (meant_if_there m (main_of s))) []) 0 (map (meant_operation types names) (input_operations is s))) ≡ true
+    → (is_some (formed_services.first_input (meant_if_there m (main_of s))) && all_reach (map (meant_set types) (sets_of s)) (unwrap_or (formed_services.first_input (meant_if_there m (main_of s))) []) 0 (map (meant_operation types names) (input_operations is s))) ≡ true
 concurrent_start is types names s m inputs some lost =
     let o : Option (List Name) = starting s in
     let os : List Operation = input_operations is s in
-    let first : formed.first_input (meant_if_there m (main_of s)) ≡ starts_at m o = main_begins m (main_of s) in
-    and_from (is_some (formed.first_input (meant_if_there m (main_of s)))) (all_reach (map (meant_set types) (sets_of s)) (unwrap_or (formed.first_input (meant_if_there m (main_of s))) []) 0 (map (meant_operation types names) os))
+    let first : formed_services.first_input (meant_if_there m (main_of s)) ≡ starts_at m o = main_begins m (main_of s) in
+    and_from (is_some (formed_services.first_input (meant_if_there m (main_of s)))) (all_reach (map (meant_set types) (sets_of s)) (unwrap_or (formed_services.first_input (meant_if_there m (main_of s))) []) 0 (map (meant_operation types names) os))
     (ap is_some first ∙ some_starts m o ∙ first_is_there (is_some o) some)
     (ap (λ f. all_reach (map (meant_set types) (sets_of s)) (unwrap_or f []) 0 (map (meant_operation types names) os)) first
     ∙ ap (λ ns. all_reach (map (meant_set types) (sets_of s)) ns 0 (map (meant_operation types names) os)) (names_there m o)
@@ -348,7 +351,7 @@ concurrent_start is types names s m inputs some lost =
 
 start_by : (e : Execution) (is : List Interface) (types names : List (List ℕ)) (s : Service) (m : Numbering) → m.inputs ≡ texts_of (input_operations is s) → (is_concurrent e && not (is_some (starting s))) ≡ false
     → (is_concurrent e && list_any (is_lost (names_if_there (starting s)) (types_in_sets (sets_of s))) (input_operations is s)) ≡ false
-    → (not (formed.is_concurrent (meant_execution e)) || (is_some (formed.first_input (meant_if_there m (main_of s))) && all_reach (map (meant_set types) (sets_of s)) (unwrap_or (formed.first_input (meant_if_there m (main_of s))) []) 0 (map (meant_operation types names) (input_operations is s)))) ≡ true
+    → (not (formed_sets.is_concurrent (meant_execution e)) || (is_some (formed_services.first_input (meant_if_there m (main_of s))) && all_reach (map (meant_set types) (sets_of s)) (unwrap_or (formed_services.first_input (meant_if_there m (main_of s))) []) 0 (map (meant_operation types names) (input_operations is s)))) ≡ true
 start_by said.Concurrent is types names s m inputs some lost = concurrent_start is types names s m inputs some lost
 start_by said.Single is types names s m inputs some lost = refl
 

@@ -1,6 +1,6 @@
 -- The indices of the paths to which messages go are ints, where nothing is refused of the paths.
 use Rattle.std.proofs.Common.{◌≡◌, ℕ, Bool, true, false, List, [], ◌∷◌, map, flat_map, Option, None, Some, refl, ap, sym, ◌∙◌}
-use Rattle.std.specs.Prelude.{option_map}
+use Rattle.std.specs.Prelude.{pos, int_le, option_map}
 use Rattle.std.proofs.lemmas.Bool.{and_from, false≢true}
 use Rattle.jolie_ast.specs.declared.expression.Expr.{Expr, out-Expr}
 use Rattle.jolie_ast.specs.declared.expression.ExprForm.{ExprForm, out-ExprForm, roll-ExprForm, roll-out-ExprForm}
@@ -13,7 +13,7 @@ use Rattle.jolie_ast.specs.declared.expression.Step.{Step, out-Step}
 use Rattle.jolie_ast.specs.declared.expression.Term.{Term}
 use Rattle.behaviour_tree.specs.Data.{PathTree}
 use Rattle.behaviour_tree.specs.View.{StepView, path_of, step_of}
-use Rattle.behaviour_tree.specs.WellFormed.{has_ints, is_int, is_target}
+use Rattle.behaviour_tree.specs.FormedExpressions.{has_ints, is_int, is_target}
 use Rattle.service_check.specs.declared.refusal.CheckName.TheVariants.{WrongKind}
 use Rattle.service_check.specs.declared.refusal.Refusal.{Refusal}
 use Rattle.service_check.specs.Expressions.{meant_expr, meant_form, meant_path, meant_place}
@@ -21,12 +21,12 @@ use Rattle.service_check.specs.ProcessRules.{is_int_literal, wrong_if_written, w
 use Rattle.service_check.proofs.Emptied.{holds, left_empty, right_empty}
 use Rattle.service_check.proofs.MeantExpressions.{expr_is, int_meant, path_is, step_is}
 
--- whether a form is an int
+-- whether a form is an int without a sign
 abbrev int_form : ExprForm-F ExprForm Expr Factor Member Path Step Term → Bool
-int_form f = elim f as (λ _. Bool) [ ExprForm-F.Int n ↦ true | _ ↦ false ]
+int_form f = elim f as (λ _. Bool) [ ExprForm-F.Int n ↦ int_le (pos 0) n | _ ↦ false ]
 
 literal_means : (x : ExprForm) (f : ExprForm-F ExprForm Expr Factor Member Path Step Term) → out-ExprForm x ≡ f → int_form f ≡ true → is_int (meant_form x) ≡ true
-literal_means x (ExprForm-F.Int n) out e = ap (λ y. is_int (meant_form y)) (sym (roll-out-ExprForm x) ∙ ap roll-ExprForm out ∙ form.rolls-Int n) ∙ ap is_int (int_meant n)
+literal_means x (ExprForm-F.Int n) out e = ap (λ y. is_int (meant_form y)) (sym (roll-out-ExprForm x) ∙ ap roll-ExprForm out ∙ form.rolls-Int n) ∙ ap is_int (int_meant n) ∙ e
 literal_means x f out e = absurd (false≢true e)
 
 -- an index that is not refused is an int

@@ -17,7 +17,8 @@ use Rattle.jolie_ast.specs.declared.types.TypeBody.TheFolds.{map-TypeBody, ind-T
 use Rattle.jolie_ast.specs.declared.types.Field.{Field, out-Field, roll-Field}
 use Rattle.behaviour_tree.specs.Data.{TypeTree}
 use Rattle.behaviour_tree.specs.View.{FieldView, type_fields_of}
-use Rattle.behaviour_tree.specs.WellFormed.{texts_differ, field_names, is_type, are_fields, number_in, next_number, leads_to, none_leads_back, are_types}
+use Rattle.behaviour_tree.specs.Distinct.{texts_differ}
+use Rattle.behaviour_tree.specs.FormedTypes.{field_names, is_type, are_fields, number_in, next_number, leads_to, none_leads_back, are_types}
 use Rattle.service_check.specs.declared.refusal.CheckName.TheVariants.{DuplicateName, UnknownType}
 use Rattle.service_check.specs.declared.refusal.Refusal.{Refusal}
 use Rattle.service_check.specs.Repeated.{is_in, place_of}

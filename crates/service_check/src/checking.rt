@@ -9,6 +9,7 @@ use std::alloc::Global;
 
 /// The program of a file, or the first of its refusals: that with the least place, at a tie the first in the order of
 /// `CheckName`.
+#[tactic(auto, using(crate::proofs::WellFormed::parts_formed))]
 pub fn check(alloc: Global, ast: &Ast) -> Result<Program, CheckError>
     ensures { Checks ast.now result }
 {

@@ -1,6 +1,10 @@
-use behaviour_tree::{Field, Parts, Program, RootKind, TypeDef};
+use behaviour_tree::{Field, Program, RootKind, TypeDef};
+use jolie_ast::Ast;
+use jolie_parse::parse;
+use jolie_tokens::lex;
 use jolie_trees::{Path, Root, Text, Tree};
 use message_types::{conforms, first_breach, widen};
+use service_check::check as program_of;
 use std::alloc::{AllocError, Global};
 use std::process::Abort;
 use std::test::Fail;
@@ -143,20 +147,18 @@ fn read_type(alloc: Global, words: &str) -> Result<TypeDef, AllocError> {
     Ok(reader.pop())
 }
 
-/// A program whose types are an int, the one before it, two that name one another, one that names none of the
-/// program, and one that may stand below itself.
-fn program(alloc: Global) -> Result<Program, AllocError> {
-    let mut types = Vec::new(alloc);
-    for words in ["int", "#0", "#3", "#2", "#9", "void #5 =next:0-1"] {
-        types.push(read_type(alloc, words)?)?;
-    }
-    let parts = Parts {
-        types,
-        interfaces: Vec::new(alloc),
-        services: Vec::new(alloc),
-        names: Vec::new(alloc),
-    };
-    Program::new(alloc, parts)
+/// The types of the program: an int, the one before it, and one that may stand below itself.
+const TYPES: &[u8] =
+    b"type Whole: int type Same: Whole type Chain: void { next?: Chain } service S { main { } }";
+
+fn file(alloc: Global) -> Result<Ast, Fail> {
+    let tokens = lex(alloc, TYPES)?;
+    Ok(parse(alloc, TYPES, &tokens)?)
+}
+
+fn program(alloc: Global) -> Result<Program, Fail> {
+    let file = file(alloc)?;
+    Ok(program_of(alloc, &file)?)
 }
 
 /// A path as its names and indices, `-` where there is none.
@@ -302,12 +304,10 @@ fn names_of_types_lead_to_types(rt: HostRuntime) -> Result<(), Fail> {
         ("i5", "#0", "-", "i5"),
         ("i5", "#1", "-", "i5"),
         ("'x", "#1", "root", ""),
-        ("i5", "#2", "root", ""),
-        ("void i1 =a", "void #3 =a", "root a 0", ""),
-        ("i5", "#4", "root", ""),
         ("i5", "#9", "root", ""),
-        ("void void =next", "#5", "-", "void void =next"),
-        ("void void i1 =next =next", "#5", "root next 0 next 0", ""),
+        ("void i1 =a", "void #9 =a", "root a 0", ""),
+        ("void void =next", "#2", "-", "void void =next"),
+        ("void void i1 =next =next", "#2", "root next 0 next 0", ""),
         ("i5 i6 =a", "undefined", "-", "i5 i6 =a"),
         (
             "void i5 i6 =b =a i7 =c",
@@ -371,9 +371,9 @@ fn messages_keep_to_their_limits(rt: HostRuntime) -> Result<(), Fail> {
     let more = wide_tree(alloc, 4_096)?;
     check_breach(&rt, alloc, &more, "void string =a:0-*", "root")?;
     let deepest = deep_tree(alloc, 63)?;
-    check_breach(&rt, alloc, &deepest, "#5", "-")?;
+    check_breach(&rt, alloc, &deepest, "#2", "-")?;
     let deeper = deep_tree(alloc, 64)?;
-    check_breach(&rt, alloc, &deeper, "#5", "root")?;
+    check_breach(&rt, alloc, &deeper, "#2", "root")?;
     let longest = long_text(alloc, 65_536)?;
     check_breach(&rt, alloc, &longest, "string", "-")?;
     let longer = long_text(alloc, 65_537)?;
