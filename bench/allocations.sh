@@ -3,7 +3,7 @@
 # right output at most. It needs a C compiler and a program that `rt ci` has proved, outside the gate: bench/allocations.sh
 set -eu
 top=$(cd "$(dirname "$0")/.." && pwd)
-program=$top/crates/jolie_main/out/jolie_main
+program=$top/crates/roqsulei/out/roqsulei
 work=$(mktemp -d)
 trap 'rm -rf "$work"' EXIT
 [ -x "$program" ] || { echo "no proved program: run rt ci first" >&2; exit 2; }

@@ -8,7 +8,7 @@ use Rattle.jolie_main.specs.Commands.{action_of}
 use Rattle.jolie_main.specs.Usage.{command_entered, file_in}
 use Rattle.jolie_main.specs.declared.words.Action.{Action}
 use Rattle.jolie_main.proofs.Plain.{same_value}
-use Rattle.jolie_main.proofs.Understood.{with_file}
+use Rattle.jolie_main.proofs.WordsUnderstood.{with_file}
 
 map_of_map : {X Y Z : Type 0} (f : Y → Z) (g : X → Y) (o : Option X) → option_map (λ x. f (g x)) o ≡ option_map f (option_map g o)
 map_of_map f g None = refl

@@ -37,7 +37,7 @@ pub mod SettledLemmas
 pub mod SplitLemmas
 pub mod StagesAhead
 pub mod Taking
-pub mod Understood
 pub mod VerdictLemmas
 pub mod Waiting
+pub mod WordsUnderstood
 pub mod WrittenLemmas

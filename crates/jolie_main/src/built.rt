@@ -1,15 +1,23 @@
 //! Whether a program is of a form that runs.
 
-ghost use Rattle.std.specs.Prelude.{◌≡◌, ◌∷◌, [], map, option_map};
-ghost use Rattle.behaviour_tree.specs.Built.{is_fixed_path, is_fixed_target, is_number};
+ghost use Rattle.std.specs.Prelude.{◌≡◌, ◌<◌, ◌∷◌, [], length, map, option_map};
+ghost use Rattle.behaviour_tree.specs.Built.{IsBuiltService, is_fixed_path, is_fixed_target, is_number};
 ghost use Rattle.behaviour_tree.specs.Operations.{operation_at};
 ghost use Rattle.behaviour_tree.specs.PartsView.{parts_of, service_view};
 ghost use Rattle.behaviour_tree.specs.View.{behaviour_view, branch_view, branches_of, expr_view, path_of, path_view, procs_of, step_view};
 ghost use Rattle.behaviour_tree.specs.Data.{sequence};
-ghost use Rattle.jolie_main.specs.BuiltPrograms.{are_inward, are_served, begins_with_input, has_no_response, has_response, is_built_program, is_concurrent, is_inward, is_served_service};
+ghost use Rattle.jolie_main.specs.BuiltPrograms.{IsBuiltProgram, are_inward, are_served, begins_with_input, has_no_response, has_response, is_built_program, is_concurrent, is_inward, is_served_service};
 
 use behaviour_tree::{Behaviour, Branch, Execution, Expr, PathExpr, PathStep, Program, Service};
 use jolie_trees::Root;
+
+/// The one service of a program that runs is of a form that sessions follow: a law, whose call does nothing.
+#[tactic(auto, using(crate::proofs::BuiltLemmas::some_service))]
+pub fn one_service_is_built(program: &Program)
+    requires runs { IsBuiltProgram (parts_of program.now) }
+    ensures built { IsBuiltService (parts_of program.now) 0 }
+    ensures known { 0 < length (parts_of program.now).services }
+{}
 
 /// Whether a program is of one service whose main begins with its one input.
 pub fn is_built(program: &Program) -> bool

@@ -38,7 +38,7 @@ pub enum Words {
 }
 
 /// What the words after the program's name say.
-#[tactic(auto, using(crate::proofs::Understood::understood_entered, crate::proofs::Understood::understood_told))]
+#[tactic(auto, using(crate::proofs::WordsUnderstood::understood_entered, crate::proofs::WordsUnderstood::understood_told))]
 pub fn understood(alloc: Global, words: &[String]) -> Result<Words, AllocError>
     ensures { IfOk result (λ said. IsUnderstood (spelled words.now) said) }
 {
@@ -160,6 +160,3 @@ fn told(alloc: Global, error: &Error) -> Result<Words, AllocError>
         Ok(Words::Told(text))
     }
 }
-
-#[cfg(test)]
-mod tests;

@@ -1,6 +1,6 @@
 use Rattle.std.proofs.lemmas.Result.{IfOk-weaker}
 use Rattle.jolie_main.specs.Commands.{spelled}
-use Rattle.jolie_main.proofs.Understood.{understood_told}
+use Rattle.jolie_main.proofs.WordsUnderstood.{understood_told}
 use Rattle.jolie_main.proofs.words.understood.Goals as goal
 
 pub returns-in-Err : goal.returns-in-Err

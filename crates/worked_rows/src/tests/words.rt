@@ -1,4 +1,4 @@
-use super::{Action, Words, understood};
+use jolie_main::{Action, Words, understood};
 use std::alloc::{AllocError, Global};
 use std::test::Fail;
 

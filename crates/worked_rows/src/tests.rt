@@ -4,10 +4,10 @@ ghost use Rattle.behaviour_tree.specs.Built.{IsBuiltService};
 ghost use Rattle.jolie_main.specs.BuiltPrograms.{IsBuiltProgram};
 ghost use Rattle.term_session.specs.Sessions.{service_of};
 
-use crate::checked::program_in;
-use crate::record::Ended;
-use crate::top::run;
+mod words;
+
 use behaviour_tree::{Event, Events, Given, Kind, Program};
+use jolie_main::{Ended, one_service_is_built, program_in, run};
 use jolie_trees::{Root, Text, Tree};
 use outside_traits::{Script, ScriptedFiles, ScriptedSink, ScriptedSource};
 use sqlite_items::Items;
@@ -708,10 +708,10 @@ fn noted(
 }
 
 /// The events of a session of a program.
-#[tactic(auto, using(crate::proofs::BuiltLemmas::some_service))]
 fn session_events(alloc: Global, program: &Program, value: Tree) -> Result<Events, Fail>
     requires built { IsBuiltProgram (parts_of program.now) }
 {
+    one_service_is_built(program);
     let mut session = TermSession::start(alloc, program, 0)?;
     noted(alloc, &mut session, program, value)
 }

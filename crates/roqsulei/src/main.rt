@@ -1,27 +1,7 @@
-//! Checks and prints a text of Jolie, or runs its service over lines of JSON-RPC.
+//! The program over the words of the command line, real files and the three streams.
 #![tactic(auto)]
 
-mod built;
-mod checked;
-mod history;
-mod lines;
-mod mail;
-mod office;
-mod record;
-mod refusal;
-mod respond;
-mod say;
-mod serving;
-mod session;
-mod show;
-mod starting;
-#[cfg(test)]
-mod tests;
-mod top;
-mod turn;
-mod verdict;
-mod words;
-
+use jolie_main::run;
 use outside_traits::{Inputs, Outputs, Storage};
 use std::process::ExitCode;
 use std::{env, io};
@@ -38,7 +18,7 @@ fn main(rt: HostRuntime) -> ExitCode {
     let mut input = Inputs::new(rt.stdin());
     let mut output = Outputs::new(rt.stdout());
     let mut notes = Outputs::new(rt.stderr());
-    match top::run(
+    match run(
         alloc,
         &words,
         &mut files,

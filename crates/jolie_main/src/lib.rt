@@ -1,0 +1,28 @@
+//! What the program does: it checks and prints a text of Jolie, or runs its service over lines of JSON-RPC.
+#![tactic(auto)]
+
+mod built;
+mod checked;
+mod history;
+mod lines;
+mod mail;
+mod office;
+mod record;
+mod refusal;
+mod respond;
+mod say;
+mod serving;
+mod session;
+mod show;
+mod starting;
+mod top;
+mod turn;
+mod verdict;
+mod words;
+
+pub use built::one_service_is_built;
+pub use checked::program_in;
+pub use record::{Ended, Record, Traffic};
+pub use refusal::{Fault, Refusal, Stage};
+pub use top::run;
+pub use words::{Action, Command, Words, understood};
