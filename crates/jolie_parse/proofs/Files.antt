@@ -1,11 +1,12 @@
 -- Reading a file gives an answer that is right of its tokens.
-use Rattle.std.proofs.Common.{◌≡◌, ℕ, List, [], ◌∷◌, ◌++◌, length, refl, sym, ap, subst, ◌∙◌, arith, append_assoc, append-nil, length-append}
+use Rattle.std.proofs.Common.{◌≡◌, ◌⊎◌, inl, inr, ℕ, List, [], ◌∷◌, ◌++◌, length, refl, sym, ap, subst, ◌∙◌, arith, append_assoc, append-nil, length-append}
 use Rattle.jolie_ast.specs.declared.tree.Definition.{Definition}
 use Rattle.jolie_parse.specs.Classes.{Spelled}
 use Rattle.jolie_parse.specs.Grammar.{file, IsFile}
 use Rattle.jolie_parse.specs.Reading.{Outcome, got, refused, too_deep, read}
-use Rattle.jolie_parse.specs.Levels.{OpensNext, NoneOpens}
+use Rattle.jolie_parse.specs.Levels.{OpensNext, NoneOpens, IsRefused, IsTooDeep}
 use Rattle.jolie_parse.specs.Answers.{whole, read_file, IsAnswer}
+use Rattle.jolie_parse.specs.Laws.{HaveAnAnswer}
 use Rattle.jolie_parse.proofs.OneToken.{file_decided}
 use Rattle.jolie_parse.proofs.Equal.{file_factored, file_spread}
 use Rattle.jolie_parse.proofs.Stops.{file_read, begins_file, Facts, file_facts, left_stops, refused_stops}
@@ -70,3 +71,14 @@ answer n ts (too_deep r) was ex =
 -- what reading a file gives is right of its tokens
 pub answers : (n : ℕ) (ts : List Spelled) → IsAnswer n ts (read_file n ts)
 answers n ts = answer n ts (read n file ts) refl (file_facts n ts)
+
+-- an answer is one of the three
+one_of_three : (n : ℕ) (ts : List Spelled) (o : Outcome (List Definition)) → IsAnswer n ts o
+    → ((f : List Definition) × IsFile n ts f) ⊎ (((r : List Spelled) × IsRefused n ts r) ⊎ ((r : List Spelled) × IsTooDeep n ts r))
+one_of_three n ts (got f r) h = inl (f, h.1)
+one_of_three n ts (refused r) h = inr (inl (r, h))
+one_of_three n ts (too_deep r) h = inr (inr (r, h))
+
+-- the law
+pub have_an_answer : HaveAnAnswer
+have_an_answer n ts = one_of_three n ts (read_file n ts) (answers n ts)

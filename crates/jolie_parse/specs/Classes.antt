@@ -32,7 +32,9 @@ place t = t.token.at
 abbrev pub plain_name : Class
 plain_name = classed.Word word.Plain
 
--- the plain words that count in their places
+-- ---- the plain words that count in their places
+
+-- the word `location`
 abbrev pub the_location : Class
 the_location = classed.Word word.Location
 
@@ -52,7 +54,9 @@ the_concurrent = classed.Word word.Concurrent
 abbrev pub the_single : Class
 the_single = classed.Word word.Single
 
--- the reserved words
+-- ---- the reserved words
+
+-- the word `type`
 abbrev pub the_type : Class
 the_type = classed.Word word.Type
 
@@ -192,7 +196,9 @@ the_request_response = classed.Word word.RequestResponse
 abbrev pub the_one_way : Class
 the_one_way = classed.Word word.OneWay
 
--- numbers and strings
+-- ---- numbers and strings
+
+-- an int
 abbrev pub int_number : Class
 int_number = classed.Int
 
@@ -204,7 +210,9 @@ long_number = classed.Long
 abbrev pub quoted_text : Class
 quoted_text = classed.Str
 
--- the signs
+-- ---- the signs
+
+-- the sign `->`
 abbrev pub sign_arrow : Class
 sign_arrow = classed.Sign sign.Arrow
 

@@ -484,7 +484,7 @@ port = means (λ q. means_as.port_clause q.0 (means_as.port_of q.0 q.1.0 q.1.1))
 unfoldable pub correlation_set : Syn Clause
 correlation_set = means (λ q. clause.CorrelationSet (place q.0) q.1) (both (one c.the_cset) (braces some_variables))
 
--- what a service does first
+-- what each session does first
 unfoldable pub init_clause : Syn Clause
 init_clause = means (λ q. clause.Init (place q.0) q.1) (both (one c.the_init) block)
 

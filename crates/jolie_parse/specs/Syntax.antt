@@ -21,7 +21,7 @@ use Rattle.jolie_parse.specs.Classes.{Spelled, class, has, sign_open_bracket, si
 
 -- ---- grammars
 
--- what stands one level further in: between brackets, behind a prefix, behind `else`
+-- what stands one level further in: between brackets, behind a prefix, behind the `if` of an `else if`
 pub data Part : Type 0 where
   an_expression an_operand a_path maybe_path maybe_expression a_body some_handlers a_name an_input an_else_if for_parts throw_parts some_members a_type_name some_bounds some_fields some_operations port_parts some_variables some_clauses : Part
 

@@ -1,10 +1,9 @@
 -- The words that count in the grammar, as they are written.
-use Rattle.std.specs.Prelude.{ℕ, List, [], codes, Option, Some, None}
+use Rattle.std.specs.Prelude.{ℕ, List, [], ◌∷◌, codes, Option, Some, None}
 use Rattle.std.specs.List.{find}
 use Rattle.std.specs.Str.{bytes_eq}
 use Rattle.jolie_parse.specs.declared.word.Word.{Word}
 use Rattle.jolie_parse.specs.declared.word.Word.TheVariants as word
-use Rattle.jolie_parse.specs.declared.word.TheConstants.{COUNTED_WORDS}
 
 -- the bytes of a word that counts; none of a plain one
 abbrev pub spelling : Word → List ℕ
@@ -50,9 +49,18 @@ spelling word.Throws = codes "throws"
 spelling word.RequestResponse = codes "RequestResponse"
 spelling word.OneWay = codes "OneWay"
 
+-- the words that count: all but the plain one
+abbrev pub counted_words : List Word
+counted_words =
+    word.Location ∷ word.Protocol ∷ word.Interfaces ∷ word.Concurrent ∷ word.Single ∷ word.Type ∷ word.Interface ∷ word.Service ∷ word.InputPort ∷
+    word.OutputPort ∷ word.Execution ∷ word.Cset ∷ word.Csets ∷ word.Init ∷ word.Main ∷ word.Scope ∷ word.Install ∷ word.Throw ∷ word.Comp ∷
+    word.InnerHandler ∷ word.This ∷ word.NullProcess ∷ word.If ∷ word.Else ∷ word.While ∷ word.For ∷ word.Undef ∷ word.IsDefined ∷ word.True ∷
+    word.False ∷ word.Void ∷ word.Bool ∷ word.Int ∷ word.Long ∷ word.Str ∷ word.Any ∷ word.Undefined ∷ word.Throws ∷ word.RequestResponse ∷
+    word.OneWay ∷ []
+
 -- the word that counts and is written in these bytes
 unfoldable pub counted : List ℕ → Option Word
-counted bytes = find (λ w. bytes_eq (spelling w) bytes) COUNTED_WORDS
+counted bytes = find (λ w. bytes_eq (spelling w) bytes) counted_words
 
 -- the word that is written in these bytes
 unfoldable pub word_of : List ℕ → Word

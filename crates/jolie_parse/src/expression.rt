@@ -265,7 +265,7 @@ impl<'a> Cursor<'a> {
         })
     }
 
-    /// An expression in parentheses, which leave its place alone.
+    /// An expression in parentheses, which leave nothing but their place, and that is its place then.
     #[tactic(auto, using(crate::proofs::Lists::passes, crate::proofs::Lists::stops_then, crate::proofs::Inside::opened_stops, crate::proofs::Inside::inside_stops, crate::proofs::Inside::inside_read), unfolding(crate::specs::Grammar::grouped))]
     #[cycle(expression)]
     fn grouped(&mut self, levels: u32) -> Result<Expr, Stop>

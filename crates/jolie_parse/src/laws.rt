@@ -1,4 +1,4 @@
-ghost use Rattle.jolie_parse.specs.Laws.{HaveOneTree, StopAtOnePlace};
+ghost use Rattle.jolie_parse.specs.Laws.{HaveAnAnswer, HaveOneTree, StopAtOnePlace};
 
 /// No tokens are a file in two ways.
 pub fn tokens_have_one_tree()
@@ -8,4 +8,9 @@ pub fn tokens_have_one_tree()
 /// Tokens are a file, or there is one place where they stop beginning one.
 pub fn tokens_stop_at_one_place()
     ensures { StopAtOnePlace }
+{}
+
+/// Whatever nesting is allowed, tokens are a file within it, or they have one of the two refusals.
+pub fn tokens_have_an_answer()
+    ensures { HaveAnAnswer }
 {}
