@@ -10,7 +10,7 @@ use jolie_trees::{Path, Tree};
 use std::alloc::Global;
 
 /// The value of an expression.
-pub fn eval(alloc: Global, e: &Expr, store: &Tree) -> Result<Tree, EvalError>
+pub fn eval(alloc: Global, store: &Tree, e: &Expr) -> Result<Tree, EvalError>
     ensures { Answers (spec.value store.now (expr_view e.now)) result }
 {
     match value(alloc, e, store)? {
@@ -20,7 +20,7 @@ pub fn eval(alloc: Global, e: &Expr, store: &Tree) -> Result<Tree, EvalError>
 }
 
 /// What an expression says where a bool is asked, void being false.
-pub fn truth(alloc: Global, e: &Expr, store: &Tree) -> Result<bool, EvalError>
+pub fn truth(alloc: Global, store: &Tree, e: &Expr) -> Result<bool, EvalError>
     ensures { Answers (spec.truth_of store.now (expr_view e.now)) result }
 {
     match truth_in(root_value(alloc, e, store)?) {
@@ -30,7 +30,7 @@ pub fn truth(alloc: Global, e: &Expr, store: &Tree) -> Result<bool, EvalError>
 }
 
 /// A path with its indices evaluated.
-pub fn path(alloc: Global, p: &PathExpr, store: &Tree) -> Result<Path, EvalError>
+pub fn path(alloc: Global, store: &Tree, p: &PathExpr) -> Result<Path, EvalError>
     ensures { Answers (spec.path_in store.now (path_view p.now)) result }
 {
     match steps_of(alloc, p, store)? {

@@ -21,7 +21,7 @@ pub fn tree_at(alloc: Global, store: &Tree, path: &Path) -> Result<Tree, AllocEr
 pub fn value(alloc: Global, e: &Expr, store: &Tree) -> Result<Option<Tree>, AllocError>
     ensures { IfOk result (λ v. v ≡ spec.value store.now (expr_view e.now)) }
 {
-    match eval(alloc, e, store) {
+    match eval(alloc, store, e) {
         Ok(value) => Ok(Some(value)),
         Err(EvalError::ExprFault) => Ok(None),
         Err(EvalError::Memory(error)) => Err(error),
@@ -33,7 +33,7 @@ pub fn value(alloc: Global, e: &Expr, store: &Tree) -> Result<Option<Tree>, Allo
 pub fn steps_of(alloc: Global, path: &PathExpr, store: &Tree) -> Result<Option<Path>, AllocError>
     ensures { IfOk result (λ p. option_map (λ p. p.steps) p ≡ spec.steps_of store.now (path_view path.now)) }
 {
-    match evaluated(alloc, path, store) {
+    match evaluated(alloc, store, path) {
         Ok(path) => Ok(Some(path)),
         Err(EvalError::ExprFault) => Ok(None),
         Err(EvalError::Memory(error)) => Err(error),

@@ -316,7 +316,7 @@ fn refused(alloc: Global, e: &EvalError) -> Result<String, AllocError> {
 
 fn evaluated(alloc: Global, words: &str, store: &Tree) -> Result<String, AllocError> {
     let e = read(alloc, words)?;
-    match eval(alloc, &e, store) {
+    match eval(alloc, store, &e) {
         Ok(value) => shown(alloc, value.root()),
         Err(e) => refused(alloc, &e),
     }
@@ -554,7 +554,7 @@ fn member(alloc: Global, words: &str, name: &str, store: &Tree) -> Result<String
         index: None,
     })?;
     let path = Path { steps };
-    match eval(alloc, &e, store) {
+    match eval(alloc, store, &e) {
         Ok(value) => {
             let count = value.count(&path);
             match value.get(&path) {
@@ -595,12 +595,12 @@ fn truth_path_and_compare_answer(rt: HostRuntime) -> Result<(), Fail> {
     let alloc = rt.alloc();
     let store = store(alloc)?;
     let e = read(alloc, ".b get")?;
-    assert!(rt; matches!(truth(alloc, &e, &store), Ok(true)));
+    assert!(rt; matches!(truth(alloc, &store, &e), Ok(true)));
     let mut reader = Reader::new(alloc);
     reader.word("i1")?;
     reader.word("@a")?;
     let p = reader.path();
-    match path(alloc, &p, &store) {
+    match path(alloc, &store, &p) {
         Ok(found) => assert_eq!(rt; store.count(&found), 1),
         Err(_) => assert!(rt; false),
     }
