@@ -1,9 +1,8 @@
 -- What a command does, from what its parts do.
-use Rattle.std.proofs.Common.{◌≡◌, refl, sym, subst, ℕ, List, Option, None, Some, IfSome, Result, Ok, Err, IfOk}
+use Rattle.std.proofs.Common.{◌≡◌, refl, sym, subst, ℕ, List, Option, IfSome, Result, Ok, Err, IfOk}
 use Rattle.std.specs.Prelude.{MatchResult, codes}
 use Rattle.std.specs.declared.alloc.AllocError.{AllocError}
 use Rattle.jolie_ast.specs.declared.tree.Definition.{Definition}
-use Rattle.behaviour_tree.specs.Data.{ProgramParts}
 use Rattle.behaviour_tree.specs.PartsView.{parts_of}
 use Rattle.behaviour_tree.specs.declared.program.Program.{Program}
 use Rattle.jolie_main.specs.declared.record.Ended.{Ended}
@@ -15,11 +14,11 @@ use Rattle.jolie_main.specs.declared.words.Action.TheVariants as action
 use Rattle.jolie_main.specs.declared.words.Command.{Command}
 use Rattle.jolie_main.specs.declared.words.Words.{Words}
 use Rattle.jolie_main.specs.declared.words.Words.TheVariants as words
-use Rattle.jolie_main.specs.Commands.{IsUnderstood}
+use Rattle.jolie_main.specs.Usage.{IsUnderstood}
 use Rattle.jolie_ast.specs.Printed.{printed_text}
 use Rattle.jolie_main.specs.Programs.{IsChecked, IsUncheckedBy, IsProgram, IsNotRunBy}
 use Rattle.jolie_main.specs.Verdicts.{IsVerdict, line_of}
-use Rattle.jolie_main.specs.Outside.{Stream, Outside, outside, program_bytes, IsReadOf, IsWritten}
+use Rattle.jolie_main.specs.Outside.{Stream, Outside, outside, program_bytes, IsWritten}
 use Rattle.jolie_main.specs.Headline.{Says, Checks, Prints, Runs, IsEmptyRecord, Does, Obeys, Promises}
 use Rattle.jolie_main.specs.Headline as headline
 

@@ -1,5 +1,5 @@
 -- What posts, sessions and the end of a run add to a history is legal.
-use Rattle.std.proofs.Common.{◌≡◌, ℕ, ◌<◌, Bool, true, false, not, ◌&&◌, ◌||◌, nat_eq, nat_lt, if◌then◌else◌, List, [], ◌∷◌, ◌++◌, Some, option_map, slice_get, refl, sym, ap, subst, ◌∙◌, append_assoc, append-nil, le_refl, lt-ltb, eq-eqb}
+use Rattle.std.proofs.Common.{◌≡◌, ℕ, ◌<◌, Bool, true, false, not, ◌&&◌, ◌||◌, nat_eq, nat_lt, if◌then◌else◌, List, [], ◌∷◌, ◌++◌, Some, option_map, slice_get, refl, sym, ap, subst, ◌∙◌, append_assoc, append-nil, lt-ltb, eq-eqb}
 use Rattle.std.proofs.Math.Bool.{or-false}
 use Rattle.std.proofs.lemmas.Bool.{and_from, and_left, and_right, or_left, or_right}
 use Rattle.std.proofs.lemmas.Option.{slice_get_within}
@@ -31,17 +31,17 @@ AreLegalAfter-append parts h (e ∷ xs) ys a b =
 -- a post
 pub post_legal : (parts : ProgramParts) (h : List Entry) (j i : ℕ) (posted : Posted) (r : PostReply) → has_stopped h ≡ false → posted.service ≡ 0
     → routed parts h posted ≡ r → AreLegalAfter parts h (entry first_worker (act.Post j i posted r) ∷ [])
-post_legal parts h j i posted r running service e = ((le_refl first_worker, running, service, sym e), tt)
+post_legal parts h j i posted r running service e = ((refl, running, service, sym e), tt)
 
 -- an answer that is collected by the worker that posted its message
 pub collect_legal : (parts : ProgramParts) (h : List Entry) (m : ℕ) (o : Outcome) → m < births h → was_collected m h ≡ false → slice_get (posters h) m ≡ Some first_worker
     → answers parts h m ≡ o ∷ [] → AreLegalAfter parts h (entry first_worker (act.Collect m o) ∷ [])
-collect_legal parts h m o born uncollected poster given = ((born, uncollected, (λ on. poster), ap first_answer given), tt)
+collect_legal parts h m o born uncollected poster given = ((refl, born, uncollected, (λ on. poster), ap first_answer given), tt)
 
 -- the end of a run
 pub closing_legal : (parts : ProgramParts) (h : List Entry) → has_stopped h ≡ false → has_closed h ≡ false → AreLegalAfter parts h closing_entries
 closing_legal parts h running unclosed =
-    ((le_refl first_worker, running, unclosed), ((le_refl first_worker, list_any-aside stops h (entry first_worker act.Close ∷ []) false running refl), tt))
+    ((refl, running, unclosed), ((refl, list_any-aside stops h (entry first_worker act.Close ∷ []) false running refl), tt))
 
 -- ---- a message while its session serves it
 

@@ -27,10 +27,6 @@ messages-refused : (h : List Entry) (actor j i : ℕ) (posted : Posted) (why : R
 messages-refused h actor j i posted why = filter_map-append accepted_in h _ ∙ append-nil (messages h)
 
 module _ (parts : ProgramParts) where
-  -- where each message has run none waits
-  pub waiting-none : (n : ℕ) (h : List Entry) → n ≡ births h → AreWaiting parts n h []
-  waiting-none n h e = record { over = messages h; waiting = []; all = sym (append-nil (messages h)); begins = sym e; brought = tt }
-
   -- where none waits each message has run
   pub none_waits : (n : ℕ) (h : List Entry) → AreWaiting parts n h [] → n ≡ births h
   none_waits n h w = by w.waiting w.all w.brought

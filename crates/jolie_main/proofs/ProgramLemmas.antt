@@ -1,16 +1,12 @@
 -- Which program a text is, and whether it runs.
-use Rattle.std.proofs.Common.{◌≡◌, ℕ, Bool, true, false, List, None, Some, Result, Ok, Err, subst, sym, ◌∙◌}
+use Rattle.std.proofs.Common.{◌≡◌, ℕ, Bool, true, false, List, Result, Ok, Err, subst, sym, ◌∙◌}
 use Rattle.std.specs.Prelude.{MatchResult}
-use Rattle.behaviour_tree.specs.Data.{ProgramParts}
 use Rattle.behaviour_tree.specs.PartsView.{parts_of}
 use Rattle.behaviour_tree.specs.declared.program.Program.{Program}
 use Rattle.jolie_ast.specs.declared.tree.Definition.{Definition}
 use Rattle.service_check.specs.declared.refusal.CheckName.{CheckName}
 use Rattle.service_check.specs.declared.refusal.CheckError.{CheckError}
 use Rattle.service_check.specs.declared.refusal.CheckError.TheVariants as error
-use Rattle.service_check.specs.Least.{refusal as refused_for}
-use Rattle.service_check.specs.Refusals.{refusal_of}
-use Rattle.service_check.specs.Programs.{program_of}
 use Rattle.service_check.specs.Answers.{Checks}
 use Rattle.jolie_main.specs.declared.refusal.Refusal.{Refusal}
 use Rattle.jolie_main.specs.declared.verdict.Verdict.{Verdict}

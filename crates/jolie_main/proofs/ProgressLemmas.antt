@@ -7,7 +7,7 @@ use Rattle.std.proofs.lemmas.List.Elements.{filter-append}
 use Rattle.behaviour_tree.specs.Data.{ProgramParts}
 use Rattle.jsonrpc_text.specs.declared.message.Read.{Read}
 use Rattle.jsonrpc_text.specs.Posted.{posted as read_of}
-use Rattle.jolie_main.specs.Lines.{split, IsOpen, is_blank, said_lines, all_lines}
+use Rattle.jolie_main.specs.Lines.{split, IsOpen, is_blank, said_lines, all_lines, whole_lines}
 use Rattle.jolie_main.specs.Written.{most_postings, postings_by, line_if, IsFront}
 use Rattle.jolie_main.specs.Turns.{Deeds, Turn, no_deeds, Did, nothing_yet, one_more}
 use Rattle.jolie_main.specs.Progress.{IsUnderWay, IsStopped, Goes, Sends, AllOrFault}
@@ -198,10 +198,8 @@ module _ (parts : ProgramParts) (read piece now line : List ℕ) (all : Bool) (p
   piece_answered went = subst (λ ls. IsUnderWay parts ls p d w) read_lines (subst (λ b. Goes b parts ((split read).0 ++ (split (line ++ piece)).0) p d w) went goes)
 
   -- the output stopped in it
-  pub read_stopped : all ≡ false → IsStopped parts (all_lines now) d w
-  read_stopped stopped =
-      stopped-more parts (split now).0 ((split now).1 ∷ []) d w
-      (subst (λ ls. IsStopped parts ls d w) read_lines (subst (λ b. Goes b parts ((split read).0 ++ (split (line ++ piece)).0) p d w) stopped goes))
+  pub read_stopped : all ≡ false → IsStopped parts (whole_lines now) d w
+  read_stopped stopped = subst (λ ls. IsStopped parts ls d w) read_lines (subst (λ b. Goes b parts ((split read).0 ++ (split (line ++ piece)).0) p d w) stopped goes)
 
 -- the rest behind a piece
 pub line-piece : (read piece now line after : List ℕ) → now ≡ read ++ piece → line ≡ (split read).1 → after ≡ (split (line ++ piece)).1 → after ≡ (split now).1

@@ -15,17 +15,18 @@ use Rattle.jolie_main.specs.Legal.{IsLegal, first_worker}
 use Rattle.jolie_main.specs.Written.{postings_by, line_if, IsCutShort}
 use Rattle.jolie_main.specs.Turns.{entry, closing_entries, Deeds, Did, one_more}
 use Rattle.jolie_main.specs.Sentences.{HasSessions, AnswersEach, IsStill}
-use Rattle.jolie_main.specs.Ends.{IsFinished, SourceCause, SinkCause, status}
-use Rattle.jolie_main.specs.Closing.{HasBytes, HasOwnCauses}
+use Rattle.jolie_main.specs.Progress.{IsStopped}
+use Rattle.jolie_main.specs.Ends.{IsFinished, status}
+use Rattle.jolie_main.specs.Closing.{HasBytes}
 use Rattle.jolie_main.specs.Headline.{Ran, ServesLines, IsRecord}
 use Rattle.jolie_main.proofs.DidLaws.{Did-sessions, Did-legal, Did-answered, Did-still, Did-written, Did-cut}
 use Rattle.jolie_main.proofs.KnownLemmas.{Tells, Appends-nil}
 
 -- what was done, with the lines that it serves, is the record
-recorded_with : (parts : ProgramParts) (all : List Read) (deeds : Deeds) (bytes : List ℕ) (s : ℕ) (report : Record) (traffic : Traffic) → Did parts all deeds bytes
+recorded_with : (parts : ProgramParts) (all : List Read) (deeds : Deeds) (bytes : List ℕ) (s : ℕ) (report : Record) (traffic : Traffic) (left : Option (List ℕ)) → Did parts all deeds bytes
     → IsProgram report.program parts → report.traffic ≡ traffic ∷ [] → report.history.entries ≡ deeds.history ++ closing_entries → report.sessions ≡ deeds.sessions
-    → ServesLines parts s (deeds.history ++ closing_entries) traffic → IsRecord s report
-recorded_with parts all deeds bytes s report traffic did program one entries sessions lines = record {
+    → ServesLines parts s (deeds.history ++ closing_entries) traffic left → IsRecord s report left
+recorded_with parts all deeds bytes s report traffic left did program one entries sessions lines = record {
   parts = parts;
   traffic = traffic;
   program = program;
@@ -34,31 +35,50 @@ recorded_with parts all deeds bytes s report traffic did program one entries ses
   legal = subst (λ h. IsLegal parts h) (sym entries) (Did-legal did);
   answered = subst (λ h. AnswersEach parts h) (sym entries) (Did-answered did);
   still = subst (λ h. IsStill parts h) (sym entries) (Did-still did);
-  lines = subst (λ h. ServesLines parts s h traffic) (sym entries) lines;
+  closed = (deeds.history, entries);
+  lines = subst (λ h. ServesLines parts s h traffic left) (sym entries) lines;
 }
 
+-- what was done where the output stopped
+stopped_did : (parts : ProgramParts) (lines : List (List ℕ)) (deeds : Deeds) (written : List ℕ) (k : IsStopped parts lines deeds written)
+    → Did parts (k.done ++ k.last ∷ []) deeds (k.bytes ++ line_if k.text)
+stopped_did parts lines deeds written k = one_more k.done k.old k.bytes k.last deeds k.text k.did k.turn
+
+-- and what went out of its answers
+stopped_short : (parts : ProgramParts) (lines : List (List ℕ)) (deeds : Deeds) (written : List ℕ) → IsStopped parts lines deeds written
+    → IsCutShort parts (deeds.history ++ closing_entries) (postings_by lines) written
+stopped_short parts lines deeds written k =
+    subst (λ w. IsCutShort parts (deeds.history ++ closing_entries) (postings_by lines) w) (sym k.sent)
+    (Did-cut (postings_by lines) k.piece k.did k.turn k.cut k.front)
+
 -- the record of a run whose lines ended so
-pub recorded : (parts : ProgramParts) (e : End) (read : List ℕ) (deeds : Deeds) (written : List ℕ) (s : ℕ) (report : Record) → s ≡ status e → IsFinished parts e read deeds written
+pub recorded : (parts : ProgramParts) (e : End) (read : List ℕ) (deeds : Deeds) (written : List ℕ) (s : ℕ) (report : Record) (left : Option (List ℕ)) → s ≡ status e
+    → IsFinished parts e read deeds written → (e ≡ ends.StoppedLast → IsAtEnd left)
     → IsProgram report.program parts → report.traffic ≡ record { read = read; written = written } ∷ [] → report.history.entries ≡ deeds.history ++ closing_entries → report.sessions ≡ deeds.sessions
-    → Ran s × IsRecord s report
-recorded parts ends.Whole read deeds written s report at did program one entries sessions = (
+    → Ran s × IsRecord s report left
+recorded parts ends.Whole read deeds written s report left at did none program one entries sessions = (
   inl at,
-  recorded_with parts (postings_by (all_lines read)) deeds written s report (record { read = read; written = written }) did program one entries sessions
+  recorded_with parts (postings_by (all_lines read)) deeds written s report (record { read = read; written = written }) left did program one entries sessions
       (record { whole = λ x. Did-written did; cut = λ x. absurd (omega arith); stopped = λ x. absurd (omega arith) }),
 )
-recorded parts ends.Cut read deeds written s report at did program one entries sessions = (
+recorded parts ends.Cut read deeds written s report left at did none program one entries sessions = (
   inr (inl at),
-  recorded_with parts (postings_by (whole_lines read)) deeds written s report (record { read = read; written = written }) did program one entries sessions
+  recorded_with parts (postings_by (whole_lines read)) deeds written s report (record { read = read; written = written }) left did program one entries sessions
       (record { whole = λ x. absurd (omega arith); cut = λ x. Did-written did; stopped = λ x. absurd (omega arith) }),
 )
-recorded parts ends.Stopped read deeds written s report at k program one entries sessions =
-    let did = one_more k.done k.old k.bytes k.last deeds k.text k.did k.turn in
-    let short : IsCutShort parts (deeds.history ++ closing_entries) (postings_by (all_lines read)) written =
-    subst (λ w. IsCutShort parts (deeds.history ++ closing_entries) (postings_by (all_lines read)) w) (sym k.sent)
-    (Did-cut (postings_by (all_lines read)) k.piece k.did k.turn k.cut k.front) in (
+recorded parts ends.Stopped read deeds written s report left at k none program one entries sessions =
+    let short = stopped_short parts (whole_lines read) deeds written k in (
       inr (inr at),
-      recorded_with parts (k.done ++ k.last ∷ []) deeds (k.bytes ++ line_if k.text) s report (record { read = read; written = written }) did program one entries sessions
-          (record { whole = λ x. absurd (omega arith); cut = λ x. absurd (omega arith); stopped = λ x. short }),
+      recorded_with parts (k.done ++ k.last ∷ []) deeds (k.bytes ++ line_if k.text) s report (record { read = read; written = written }) left
+          (stopped_did parts (whole_lines read) deeds written k) program one entries sessions
+          (record { whole = λ x. absurd (omega arith); cut = λ x. absurd (omega arith); stopped = λ x. inl short }),
+    )
+recorded parts ends.StoppedLast read deeds written s report left at k last program one entries sessions =
+    let short = stopped_short parts (all_lines read) deeds written k in (
+      inr (inr at),
+      recorded_with parts (k.done ++ k.last ∷ []) deeds (k.bytes ++ line_if k.text) s report (record { read = read; written = written }) left
+          (stopped_did parts (all_lines read) deeds written k) program one entries sessions
+          (record { whole = λ x. absurd (omega arith); cut = λ x. absurd (omega arith); stopped = λ x. inr (last refl, short) }),
     )
 
 -- status 0 comes of a whole input alone
@@ -66,6 +86,7 @@ whole_only : (e : End) → status e ≡ 0 → e ≡ ends.Whole
 whole_only ends.Whole h = refl
 whole_only ends.Cut h = absurd (omega arith)
 whole_only ends.Stopped h = absurd (omega arith)
+whole_only ends.StoppedLast h = absurd (omega arith)
 
 -- the bytes of a run
 pub bytes_told : (e : End) (s : ℕ) (report : Record) (left left_now taken taken_now : Option (List ℕ)) (read written before : List ℕ) → s ≡ status e
@@ -78,15 +99,6 @@ bytes_told e s report left left_now taken taken_now read written before at one g
   written = told taken (subst (λ w. Appends taken taken w) (sym empty) (Appends-nil taken));
   end = λ z. end (whole_only e (sym at ∙ z));
 }
-
--- the causes of its status
-pub own_causes : (e : End) (s source source_now sink sink_now : ℕ) → s ≡ status e → SourceCause e source source_now → SinkCause e sink sink_now → HasOwnCauses s source source_now sink sink_now
-own_causes ends.Whole s source source_now sink sink_now at a b =
-    record { cut = λ x. absurd (omega arith); stopped = λ x. absurd (omega arith); calm_source = λ n. a; calm_sink = λ n. b }
-own_causes ends.Cut s source source_now sink sink_now at a b =
-    record { cut = λ x. a; stopped = λ x. absurd (omega arith); calm_source = λ n. absurd (n at); calm_sink = λ n. b }
-own_causes ends.Stopped s source source_now sink sink_now at a b =
-    record { cut = λ x. absurd (omega arith); stopped = λ x. b; calm_source = λ n. a; calm_sink = λ n. absurd (n at) }
 
 -- the history at the end of a run
 pub closed : (h closing stopping last : List Entry) → closing ≡ h ++ entry first_worker act.Close ∷ [] → stopping ≡ closing ++ entry first_worker act.Stop ∷ [] → last ≡ stopping

@@ -1,7 +1,7 @@
 -- What a text that was written shows.
-use Rattle.std.proofs.Common.{◌≡◌, refl, sym, subst, ◌∙◌, ℕ, Bool, true, false, List, [], ◌++◌, append-nil, Option, None, Some}
+use Rattle.std.proofs.Common.{◌≡◌, refl, sym, subst, ◌∙◌, ℕ, Bool, true, false, List, [], Option}
 use Rattle.std.specs.Io.KnownBytes.{Appends}
-use Rattle.jolie_main.specs.Outside.{Stream, stream, IsWhole, IsCut, IsWritten, IsSaid}
+use Rattle.jolie_main.specs.Outside.{stream, IsSaid}
 use Rattle.jolie_main.specs.Progress.{Sends, AllOrFault}
 use Rattle.jolie_main.proofs.KnownLemmas.{Tells, Appends-nil}
 

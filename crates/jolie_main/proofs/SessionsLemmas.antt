@@ -12,13 +12,13 @@ use Rattle.jolie_main.specs.declared.session.Lived.{Lived}
 use Rattle.jolie_main.specs.declared.session.Lived.TheVariants as lived
 use Rattle.jolie_main.specs.Messages.{is_request, delivered, queue}
 use Rattle.jolie_main.specs.Legal.{first_worker}
-use Rattle.jolie_main.specs.Sessions.{Placed, is_call_of, calls_from, calls_of_after, calls_of, IsMessage, AreCalls, IsSession}
+use Rattle.jolie_main.specs.Sessions.{ActAfter, is_call_of, calls_from, calls_of_after, calls_of, IsMessage, AreCalls, IsSession}
 use Rattle.jolie_main.specs.Turns.{entry, session_entries, session_calls, closing_entries, IsWholeSession}
 use Rattle.jolie_main.proofs.RepliesLemmas.{at_birth}
 use Rattle.jolie_main.proofs.LegalLemmas.{IsServing, IsWaiting, when_adopted, when_taken, when_replied, adopted_serving, serving_queue}
 
 -- a call stands before the later ones
-call_first : (b : Bool) (p : Placed) (xs ys : List Placed) → (if b then p ∷ (xs ++ ys) else (xs ++ ys)) ≡ (if b then p ∷ xs else xs) ++ ys
+call_first : (b : Bool) (p : ActAfter) (xs ys : List ActAfter) → (if b then p ∷ (xs ++ ys) else (xs ++ ys)) ≡ (if b then p ∷ xs else xs) ++ ys
 call_first true p xs ys = refl
 call_first false p xs ys = refl
 
@@ -26,7 +26,7 @@ call_first false p xs ys = refl
 pub calls_of_after-append : (s : ℕ) (h xs ys : List Entry) → calls_of_after s h (xs ++ ys) ≡ calls_of_after s h xs ++ calls_of_after s (h ++ xs) ys
 calls_of_after-append s h [] ys = ap (λ g. calls_of_after s g ys) (sym (append-nil h))
 calls_of_after-append s h (e ∷ xs) ys =
-    let p : Placed = record { before = h; act = e.act } in
+    let p : ActAfter = record { before = h; act = e.act } in
     ap (λ t. if is_call_of s e then p ∷ t else t)
     (calls_of_after-append s (h ++ e ∷ []) xs ys ∙ ap (λ g. calls_of_after s (h ++ e ∷ []) xs ++ calls_of_after s g ys) (append_assoc h (e ∷ []) xs))
     ∙ call_first (is_call_of s e) p (calls_of_after s (h ++ e ∷ []) xs) (calls_of_after s (h ++ e ∷ xs) ys)
@@ -64,11 +64,11 @@ IsSession-same parts s events h h' same k =
     (k.0, k.1, k.2, record { run = agrees.run; calls = subst (λ c. AreCalls parts s (calls_from parts 0 (start_of parts 0) k.0) c) (sym same) agrees.calls })
 
 -- the call by which a session takes its message, with the entries before it
-abbrev pub take_call : ℕ → List Entry → Placed
+abbrev pub take_call : ℕ → List Entry → ActAfter
 take_call m h = record { before = when_adopted m h; act = act.Take m }
 
 -- the calls of a session that goes so, each with the entries before it
-abbrev pub serving_calls : ℕ → List Entry → Lived → List Placed
+abbrev pub serving_calls : ℕ → List Entry → Lived → List ActAfter
 serving_calls m h (lived.Answered o) =
     take_call m h ∷ record { before = when_taken m h; act = act.Reply m o } ∷ record { before = when_replied m h o; act = act.End } ∷ []
 serving_calls m h lived.Silent = take_call m h ∷ record { before = when_taken m h; act = act.End } ∷ []

@@ -379,12 +379,6 @@ module _ (parts : ProgramParts) (c : ℕ) (h : List Entry) (sessions : List (Lis
 -- ---- the sessions of a posting
 
 module _ {parts : ProgramParts} where
-  -- they accept no message
-  pub serves_messages : {old new : Deeds} {os : List Outcome} → Serves parts old new os → messages new.history ≡ messages old.history
-  serves_messages (none_served old) = refl
-  serves_messages (one_served old mid os posted events how before there whole) =
-      same_messages parts mid.history (session_entries (length mid.sessions) how) (session_messages (length mid.sessions) how) ∙ serves_messages before
-
   -- each gives one answer
   pub serves_count : {old new : Deeds} {os : List Outcome} → Serves parts old new os → length new.sessions ≡ length old.sessions + length os
   serves_count (none_served old) = omega arith
@@ -512,13 +506,6 @@ module _ {parts : ProgramParts} {j : ℕ} {read : Read} {old new : Deeds} {text 
   -- the history once its calls are posted
   abbrev pub when_posted : List Entry
   when_posted = after_posts parts j 0 old.history read.calls
-
-  -- its messages are those of the history after it
-  pub turn_messages : messages new.history ≡ messages when_posted
-  turn_messages =
-      ap messages turn.history_is
-      ∙ filter_map-aside accepted_in turn.served.history (collect_entries (length old.sessions) turn.outcomes) (collect_messages (length old.sessions) turn.outcomes)
-      ∙ serves_messages turn.serves
 
   -- it posts for itself alone
   pub turn_unposted : IsUnposted j old.history → IsUnposted (j + 1) new.history

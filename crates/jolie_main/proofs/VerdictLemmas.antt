@@ -1,5 +1,5 @@
 -- What a text that is read or refused has.
-use Rattle.std.proofs.Common.{◌≡◌, ℕ, ◌<◌, ◌≤◌, List, length, Result, Ok, Err, refl, subst, sym, arith}
+use Rattle.std.proofs.Common.{◌≡◌, ℕ, ◌<◌, ◌≤◌, List, length, Result, Ok, Err, subst, sym, arith}
 use Rattle.std.specs.Prelude.{IsErrOf, ◌↔◌}
 use Rattle.jolie_tokens.specs.declared.token.Token.{Token}
 use Rattle.jolie_tokens.specs.declared.lex_error.LexError.{LexError}

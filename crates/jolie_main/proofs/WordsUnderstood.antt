@@ -6,8 +6,8 @@ use Rattle.std.proofs.lemmas.List.Elements.{All-contains_itself, recursion_from_
 use Rattle.clap.specs.Walk.{Rule, Text, answers_to, rows_after, stop_after}
 use Rattle.clap.specs.Simple.{Shape, built, entered, label_of, names_of, rows_at}
 use Rattle.clap.specs.Words.{subcommand_of, takes}
-use Rattle.jolie_main.specs.Commands.{IsUnderstood, action_of, name_of}
-use Rattle.jolie_main.specs.Usage.{command_entered, command_in, file_in, program}
+use Rattle.jolie_main.specs.Commands.{action_of, name_of}
+use Rattle.jolie_main.specs.Usage.{IsUnderstood, command_entered, command_in, file_in, program}
 use Rattle.jolie_main.specs.declared.words.Action.{Action}
 use Rattle.jolie_main.specs.declared.words.Action.TheVariants as action
 use Rattle.jolie_main.specs.declared.words.Command.{Command}
@@ -95,13 +95,20 @@ said_command (words.Refused text) c e = absurd (none-some c e)
 
 pub understood_entered : (line : List (List ℕ)) (said : Words) → command_in said ≡ command_entered (subcommand_of program line) → IsUnderstood line said
 understood_entered line said e = record {
+  parsed = inl e;
   plainly = λ c is. said_command said c (e ∙ plain_line_enters line c is);
   by_name = λ c is. (line_has_command line c (sym e ∙ ap command_in is)).0;
   of_file = λ c is. (line_has_command line c (sym e ∙ ap command_in is)).1;
 }
 
+-- what is not so is not
+not_taken : (b : Bool) → (b ≡ true → ⊥) → b ≡ false
+not_taken true h = absurd (h refl)
+not_taken false h = refl
+
 pub understood_told : (line : List (List ℕ)) (said : Words) → (takes program line ≡ true → ⊥) → command_in said ≡ None → IsUnderstood line said
 understood_told line said fails none = record {
+  parsed = inr (not_taken (takes program line) fails, none);
   plainly = λ c is. absurd (fails (plain_line_passes line c is));
   by_name = λ c is. absurd (none-some c (sym none ∙ ap command_in is));
   of_file = λ c is. absurd (none-some c (sym none ∙ ap command_in is));

@@ -1,5 +1,5 @@
 -- Which programs run so far: those of one service, whose main begins with its one input.
-use Rattle.std.specs.Prelude.{◌≡◌, ℕ, Bool, true, false, not, ◌&&◌, List, [], ◌∷◌, Option, None, Some, is_some}
+use Rattle.std.specs.Prelude.{◌≡◌, Bool, true, false, not, ◌&&◌, List, [], ◌∷◌, Option, None, Some, is_some}
 use Rattle.behaviour_tree.specs.declared.program.Execution.{Execution}
 use Rattle.behaviour_tree.specs.declared.program.Execution.TheVariants.{Concurrent, Single}
 use Rattle.behaviour_tree.specs.Data.{Proc, nothing, assign, undef, copy, sequence, choice, Procs, no_procs, proc, Branches, no_branches, one_way, request, OperationPart, ServicePart, ProgramParts}

@@ -1,12 +1,10 @@
 -- What the words of the command line ask for.
-use Rattle.std.specs.Prelude.{◌≡◌, List, [], ◌∷◌, ℕ, Bool, false, ◌==◌, Option, None, Some, option_map, map, codes, String, string_bytes, if◌then◌else◌, Contains}
+use Rattle.std.specs.Prelude.{List, [], ◌∷◌, ℕ, Bool, false, ◌==◌, Option, None, Some, option_map, map, codes, String, string_bytes, if◌then◌else◌}
 use Rattle.std.specs.Str.{bytes_eq}
 use Rattle.std.specs.declared.alloc.Global.{Global}
 use Rattle.jolie_main.specs.declared.words.Action.{Action}
 use Rattle.jolie_main.specs.declared.words.Action.TheVariants as action
 use Rattle.jolie_main.specs.declared.words.Command.{Command}
-use Rattle.jolie_main.specs.declared.words.Words.{Words}
-use Rattle.jolie_main.specs.declared.words.Words.TheVariants as words
 
 -- words as bytes
 abbrev pub spelled : List (String Global) → List (List ℕ)
@@ -37,9 +35,3 @@ plain [] = None
 plain (name ∷ []) = None
 plain (name ∷ file ∷ []) = if is_option file then None else option_map (λ a. record { action = a; file = file }) (action_of name)
 plain (name ∷ file ∷ more ∷ rest) = None
-
--- What was understood of the words: plain words ask for their command, and a command has its name and its file from them.
-pub record IsUnderstood (line : List (List ℕ)) (said : Words) : Type 0 where
-  pub plainly : (c : Command) → plain line ≡ Some c → said ≡ words.Command c
-  pub by_name : (c : Command) → said ≡ words.Command c → Contains line (name_of c.action)
-  pub of_file : (c : Command) → said ≡ words.Command c → Contains line c.file

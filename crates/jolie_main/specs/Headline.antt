@@ -1,5 +1,6 @@
 -- What a call of the program promises, over its record and over what the outside tells.
 use Rattle.std.specs.Prelude.{◌≡◌, ◌⊎◌, ℕ, List, [], ◌∷◌, Option, codes}
+use Rattle.std.specs.Io.KnownBytes.{IsAtEnd}
 use Rattle.outside_traits.specs.Causes.{Rose}
 use Rattle.jolie_ast.specs.declared.tree.Definition.{Definition}
 use Rattle.behaviour_tree.specs.Data.{ProgramParts}
@@ -18,7 +19,7 @@ use Rattle.jolie_main.specs.Lines.{all_lines, whole_lines}
 use Rattle.jolie_main.specs.Legal.{IsLegal}
 use Rattle.jolie_main.specs.Sentences.{HasSessions, AnswersEach, IsStill}
 use Rattle.jolie_main.specs.Written.{postings_by, IsAnswered, IsCutShort}
-use Rattle.jolie_main.specs.Closing.{HasBytes, HasOwnCauses}
+use Rattle.jolie_main.specs.Closing.{HasBytes, HasOwnCauses, IsClosed}
 use Rattle.jolie_main.specs.Outside.{Stream, Outside, IsReadOf, IsWhole, IsCut, IsWritten}
 
 -- ---- a record
@@ -28,15 +29,18 @@ abbrev pub Ran : ℕ → Type 0
 Ran status = (status ≡ 0) ⊎ (status ≡ 4) ⊎ (status ≡ 5)
 
 -- What was read was posted line by line and answered line by line: to its end at status 0, without the line that the
--- source cut at status 4, and up to the answer that the output cut at status 5.
-pub record ServesLines (parts : ProgramParts) (status : ℕ) (h : List Entry) (traffic : Traffic) : Type 0 where
+-- source cut at status 4, and up to the answer that the output cut at status 5, which is one of a line that has its end, or of
+-- the last line of a source that has nothing left.
+pub record ServesLines (parts : ProgramParts) (status : ℕ) (h : List Entry) (traffic : Traffic) (left : Option (List ℕ)) : Type 0 where
   pub whole : status ≡ 0 → IsAnswered parts h (postings_by (all_lines traffic.read)) traffic.written
   pub cut : status ≡ 4 → IsAnswered parts h (postings_by (whole_lines traffic.read)) traffic.written
-  pub stopped : status ≡ 5 → IsCutShort parts h (postings_by (all_lines traffic.read)) traffic.written
+  pub stopped : status ≡ 5
+      → IsCutShort parts h (postings_by (whole_lines traffic.read)) traffic.written
+      ⊎ (IsAtEnd left × IsCutShort parts h (postings_by (all_lines traffic.read)) traffic.written)
 
--- The record of a run that came to its end: of which program it is, its sessions, its history, its answers and its
--- bytes.
-pub record IsRecord (status : ℕ) (report : Record) : Type 0 where
+-- The record of a run that came to its end: of which program it is, its sessions, its history and how that ends, its answers
+-- and its bytes. `left` is what the source has left, as far as the outside tells.
+pub record IsRecord (status : ℕ) (report : Record) (left : Option (List ℕ)) : Type 0 where
   pub parts : ProgramParts
   pub traffic : Traffic
   pub program : IsProgram report.program parts
@@ -45,7 +49,8 @@ pub record IsRecord (status : ℕ) (report : Record) : Type 0 where
   pub legal : IsLegal parts report.history.entries
   pub answered : AnswersEach parts report.history.entries
   pub still : IsStill parts report.history.entries
-  pub lines : ServesLines parts status report.history.entries traffic
+  pub closed : IsClosed report.history.entries
+  pub lines : ServesLines parts status report.history.entries traffic left
 
 -- nothing was recorded
 pub record IsEmptyRecord (report : Record) : Type 0 where
@@ -75,7 +80,7 @@ pub data Prints (text : List ℕ) (status : ℕ) (before now : Stream) : Type 0 
 -- status 3. Of a run the record holds the text, the traffic has what the input gave and the output took, and the statuses
 -- 4 and 5 have their causes.
 pub data Runs (text : List ℕ) (ended : Ended) (input input_now output output_now : Stream) : Type 0 where
-  ran : ended.report.program ≡ text → Ran ended.status → IsRecord ended.status ended.report
+  ran : ended.report.program ≡ text → Ran ended.status → IsRecord ended.status ended.report input_now.bytes
       → HasBytes ended.status ended.report input.bytes input_now.bytes output.bytes output_now.bytes
       → HasOwnCauses ended.status input.faults input_now.faults output.faults output_now.faults
       → Runs text ended input input_now output output_now

@@ -1,5 +1,5 @@
 -- A legal history: each entry meets the condition of its call, and its reply is the one that the entries before it give.
-use Rattle.std.specs.Prelude.{◌≡◌, ℕ, ◌≤◌, ◌<◌, true, false, List, [], ◌∷◌, ◌++◌, Some, option_map, slice_get}
+use Rattle.std.specs.Prelude.{◌≡◌, ℕ, ◌<◌, true, false, List, [], ◌∷◌, ◌++◌, Some, option_map, slice_get}
 use Rattle.behaviour_tree.specs.Data.{ProgramParts}
 use Rattle.jolie_main.specs.declared.history.Entry.{Entry}
 use Rattle.jolie_main.specs.declared.history.Act.{Act}
@@ -8,7 +8,7 @@ use Rattle.jolie_main.specs.Messages.{messages, births, is_live, was_adopted, wa
 use Rattle.jolie_main.specs.Replies.{is_open, answer_of}
 use Rattle.jolie_main.specs.Route.{routed}
 
--- sessions are the actors below this number, workers those from it on
+-- the one worker; sessions are the actors below it
 abbrev pub first_worker : ℕ
 first_worker = 4096
 
@@ -21,16 +21,16 @@ pub record IsOfSession (h : List Entry) (s : ℕ) : Type 0 where
 -- the condition of a call and its reply, on the entries before it
 abbrev pub IsLegalAct : ProgramParts → List Entry → ℕ → Act → Type 0
 IsLegalAct parts h actor (act.Post posting index posted r) =
-    (first_worker ≤ actor) × (has_stopped h ≡ false) × (posted.service ≡ 0) × (r ≡ routed parts h posted)
+    (actor ≡ first_worker) × (has_stopped h ≡ false) × (posted.service ≡ 0) × (r ≡ routed parts h posted)
 IsLegalAct parts h s (act.Adopt service) =
     (s < births h) × (was_adopted s h ≡ false) × (has_stopped h ≡ false) × (option_map (λ m. m.service) (slice_get (messages h) s) ≡ Some service)
 IsLegalAct parts h s (act.Take m) = IsOfSession h s × (queue h s ≡ m ∷ [])
 IsLegalAct parts h s (act.Reply m o) = IsOfSession h s × (s ≡ m) × (was_taken m h ≡ true) × (is_open parts m h ≡ true)
 IsLegalAct parts h s act.End = IsOfSession h s
 IsLegalAct parts h actor (act.Collect m o) =
-    (m < births h) × (was_collected m h ≡ false) × (has_stopped h ≡ false → slice_get (posters h) m ≡ Some actor) × (answer_of parts h m ≡ Some o)
-IsLegalAct parts h actor act.Close = (first_worker ≤ actor) × (has_stopped h ≡ false) × (has_closed h ≡ false)
-IsLegalAct parts h actor act.Stop = (first_worker ≤ actor) × (has_stopped h ≡ false)
+    (actor ≡ first_worker) × (m < births h) × (was_collected m h ≡ false) × (has_stopped h ≡ false → slice_get (posters h) m ≡ Some actor) × (answer_of parts h m ≡ Some o)
+IsLegalAct parts h actor act.Close = (actor ≡ first_worker) × (has_stopped h ≡ false) × (has_closed h ≡ false)
+IsLegalAct parts h actor act.Stop = (actor ≡ first_worker) × (has_stopped h ≡ false)
 -- no form that is built makes the other calls
 IsLegalAct parts h actor (act.Bind v x r) = ⊥
 IsLegalAct parts h actor (act.Send k port op value wants placed) = ⊥

@@ -5,7 +5,7 @@ use Rattle.jolie_trees.specs.Data.{Tree}
 use Rattle.jolie_trees.specs.Trees.{size, text_bytes}
 use Rattle.behaviour_tree.specs.declared.words.Outcome.{Outcome}
 use Rattle.behaviour_tree.specs.declared.words.Outcome.TheVariants as outcome
-use Rattle.behaviour_tree.specs.Data.{TypeTree, OperationPart, ProgramParts}
+use Rattle.behaviour_tree.specs.Data.{OperationPart, ProgramParts}
 use Rattle.behaviour_tree.specs.Conforms.{wide}
 use Rattle.behaviour_tree.specs.Operations.{operation_at, operation_named}
 use Rattle.jolie_main.specs.declared.history.Entry.{Entry}

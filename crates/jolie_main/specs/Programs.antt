@@ -1,5 +1,5 @@
 -- Which texts are programs, and which of these run.
-use Rattle.std.specs.Prelude.{◌≡◌, ℕ, Bool, true, false, List, None, Some, codes}
+use Rattle.std.specs.Prelude.{◌≡◌, ℕ, true, false, List, None, Some, codes}
 use Rattle.behaviour_tree.specs.Data.{ProgramParts}
 use Rattle.jolie_ast.specs.declared.tree.Definition.{Definition}
 use Rattle.service_check.specs.declared.refusal.CheckName.{CheckName}

@@ -44,8 +44,8 @@ calls_from parts service (Some c) (s ∷ steps) =
       | Some d ↦ call_if d.need s.gift (calls_from parts service (Some d.config) steps)
     ]
 
--- an entry with the entries before it
-pub record Placed : Type 0 where
+-- a call with the entries before it
+pub record ActAfter : Type 0 where
   pub before : List Entry
   pub act : Act
 
@@ -54,14 +54,14 @@ abbrev pub is_call_of : ℕ → Entry → Bool
 is_call_of s e = elim e.act [ act.Adopt service ↦ false | _ ↦ nat_eq s e.actor ]
 
 -- the later entries of an actor other than its adoption, each with all entries before it
-abbrev pub calls_of_after : ℕ → List Entry → List Entry → List Placed
+abbrev pub calls_of_after : ℕ → List Entry → List Entry → List ActAfter
 calls_of_after s h [] = []
 calls_of_after s h (e ∷ es) =
     if is_call_of s e then record { before = h; act = e.act } ∷ calls_of_after s (h ++ e ∷ []) es
     else calls_of_after s (h ++ e ∷ []) es
 
 -- the entries of a session other than its adoption
-abbrev pub calls_of : List Entry → ℕ → List Placed
+abbrev pub calls_of : List Entry → ℕ → List ActAfter
 calls_of h s = calls_of_after s [] h
 
 -- the message of a number is of this operation, and this value lies in the box
@@ -79,7 +79,7 @@ IsCall parts s need.Finish given.Nothing h act.End = Unit {0}
 IsCall parts s n g h a = ⊥
 
 -- the calls of the events are the entries, one for one and in order
-abbrev pub AreCalls : ProgramParts → ℕ → List Call → List Placed → Type 0
+abbrev pub AreCalls : ProgramParts → ℕ → List Call → List ActAfter → Type 0
 AreCalls parts s [] [] = Unit {0}
 AreCalls parts s (c ∷ calls) (p ∷ placed) = IsCall parts s c.need c.gift p.before p.act × AreCalls parts s calls placed
 AreCalls parts s calls placed = ⊥

@@ -1,5 +1,5 @@
 -- Which operations start a session: those of main's first input.
-use Rattle.std.specs.Prelude.{ℕ, Bool, false, List, [], ◌∷◌, Option, None, Some}
+use Rattle.std.specs.Prelude.{ℕ, Bool, false, List, [], ◌∷◌, None, Some}
 use Rattle.behaviour_tree.specs.Data.{Proc, sequence, choice, install, scope, block, Procs, no_procs, proc, ProgramParts}
 use Rattle.behaviour_tree.specs.After.{ops_of}
 use Rattle.behaviour_tree.specs.Operations.{is_among}

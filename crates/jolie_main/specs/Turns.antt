@@ -1,5 +1,5 @@
 -- How a run goes line by line: what each posting adds to the history, to the sessions and to the output.
-use Rattle.std.specs.Prelude.{◌≡◌, ℕ, ◌+◌, ◌<◌, Bool, true, false, List, [], ◌∷◌, ◌++◌, map, length, Option, None, Some, Ok, Err, slice_get, Contains, if◌then◌else◌}
+use Rattle.std.specs.Prelude.{◌≡◌, ℕ, ◌+◌, Bool, true, false, List, [], ◌∷◌, ◌++◌, map, length, Option, Some, Ok, Err, slice_get, Contains, if◌then◌else◌}
 use Rattle.jolie_trees.specs.Data.{Tree}
 use Rattle.jolie_trees.specs.Trees.{void_tree}
 use Rattle.behaviour_tree.specs.declared.words.Event.{Event}

@@ -1,7 +1,8 @@
--- The commands that the command line may name, as the parser reads them, and the command in what it finds.
-use Rattle.std.specs.Prelude.{List, ℕ, Option, Some, None, true, codes, option_map, option_and_then}
-use Rattle.clap.specs.Words.{App, Row, Rule, first_of, new_app, new_rule, with_rule, with_subcommand}
-use Rattle.jolie_main.specs.Commands.{action_of}
+-- The commands that the command line may name, as the parser reads them, the command in what it finds, and what is understood of
+-- words.
+use Rattle.std.specs.Prelude.{◌≡◌, ◌⊎◌, List, ℕ, Option, Some, None, true, false, codes, option_map, option_and_then, Contains}
+use Rattle.clap.specs.Words.{App, Row, Rule, first_of, new_app, new_rule, subcommand_of, takes, with_rule, with_subcommand}
+use Rattle.jolie_main.specs.Commands.{action_of, name_of, plain}
 use Rattle.jolie_main.specs.declared.words.Command.{Command}
 use Rattle.jolie_main.specs.declared.words.Words.{Words}
 use Rattle.jolie_main.specs.declared.words.Words.TheVariants as words
@@ -45,3 +46,11 @@ command_entered = option_and_then (λ p. option_and_then (λ action. option_map 
 abbrev pub command_in : Words → Option Command
 command_in (words.Command c) = Some c
 command_in _ = None
+
+-- What was understood of the words: the command that the parser entered, or none where the parser does not take them. Plain words
+-- ask for their command, and a command has its name and its file from the words.
+pub record IsUnderstood (line : List (List ℕ)) (said : Words) : Type 0 where
+  pub parsed : (command_in said ≡ command_entered (subcommand_of program line)) ⊎ ((takes program line ≡ false) × (command_in said ≡ None))
+  pub plainly : (c : Command) → plain line ≡ Some c → said ≡ words.Command c
+  pub by_name : (c : Command) → said ≡ words.Command c → Contains line (name_of c.action)
+  pub of_file : (c : Command) → said ≡ words.Command c → Contains line c.file

@@ -1,5 +1,5 @@
 -- What is said of a text: its definitions, or the one line that refuses it.
-use Rattle.std.specs.Prelude.{◌≡◌, ℕ, ◌<◌, ◌≤◌, List, [], ◌∷◌, ◌++◌, length, codes}
+use Rattle.std.specs.Prelude.{◌≡◌, ℕ, ◌<◌, ◌≤◌, List, [], ◌++◌, length, codes}
 use Rattle.std.specs.Fmt.{decimal}
 use Rattle.jolie_tokens.specs.declared.token.Token.{Token}
 use Rattle.jolie_tokens.specs.declared.lex_error.LexError.{LexError}

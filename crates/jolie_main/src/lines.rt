@@ -61,6 +61,8 @@ pub enum End {
     Cut,
     /// The output failed, and the lines behind the answer that it cut were passed over.
     Stopped,
+    /// The output failed in the answer of the last line, behind which the source has nothing.
+    StoppedLast,
 }
 
 /// Answers the lines of a source, until it ends or one of the two fails. It says how that was, and what was read.
@@ -77,6 +79,7 @@ pub fn answer_lines<S: Source, K: Sink>(
     ensures served { IfOk result (λ e. IsFinished (parts_of program.now) e.0 e.1 (deeds_of progress.new.deeds) progress.new.written) }
     ensures read { IfOk result (λ e. Consumes (S.left input.old) (S.left input.new) e.1) }
     ensures end { IfOk result (λ e. e.0 ≡ ends.Whole → IsAtEnd (S.left input.new)) }
+    ensures last { IfOk result (λ e. e.0 ≡ ends.StoppedLast → IsAtEnd (S.left input.new)) }
     ensures written { OnOk result ((start : Option (List ℕ)) → Appends start (K.taken output.old) progress.old.written → Appends start (K.taken output.new) progress.new.written) }
     ensures source { IfOk result (λ e. SourceCause e.0 (S.faults input.old) (S.faults input.new)) }
     ensures sink { IfOk result (λ e. SinkCause e.0 (K.faults output.old) (K.faults output.new)) }
@@ -91,7 +94,7 @@ pub fn answer_lines<S: Source, K: Sink>(
                 break if answer_line(alloc, program, &line, output, progress)? {
                     End::Whole
                 } else {
-                    End::Stopped
+                    End::StoppedLast
                 };
             }
             Ok(count) => {

@@ -1,7 +1,8 @@
 ghost use Rattle.std.specs.Prelude.{◌≡◌, IfOk};
 ghost use Rattle.jolie_main.specs.declared.words.Words.{Words as Said};
 ghost use Rattle.behaviour_tree.specs.PartsView.{parts_of};
-ghost use Rattle.jolie_main.specs.Commands.{spelled, IsUnderstood};
+ghost use Rattle.jolie_main.specs.Commands.{spelled};
+ghost use Rattle.jolie_main.specs.Usage.{IsUnderstood};
 ghost use Rattle.jolie_main.specs.Programs.{IsProgram};
 ghost use Rattle.jolie_main.specs.Outside.{Stream, stream, outside};
 ghost use Rattle.jolie_main.specs.Headline.{Promises, Obeys, Runs, Ran, IsRecord};
@@ -99,7 +100,7 @@ fn run_program<S: Source, K: Sink>(
     output: &mut K,
 ) -> Result<Ended, AllocError>
     requires { IsProgram text (parts_of program.now) }
-    ensures record { IfOk result (λ ended. Ran ended.status × IsRecord ended.status ended.report) }
+    ensures record { IfOk result (λ ended. Ran ended.status × IsRecord ended.status ended.report (S.left input.new)) }
     ensures program { IfOk result (λ ended. ended.report.program ≡ text) }
     ensures traffic { IfOk result (λ ended. HasBytes ended.status ended.report (S.left input.old) (S.left input.new) (K.taken output.old) (K.taken output.new)) }
     ensures causes { IfOk result (λ ended. HasOwnCauses ended.status (S.faults input.old) (S.faults input.new) (K.faults output.old) (K.faults output.new)) }
@@ -138,6 +139,6 @@ fn status_of(end: End) -> u8
     match end {
         End::Whole => 0,
         End::Cut => 4,
-        End::Stopped => 5,
+        End::Stopped | End::StoppedLast => 5,
     }
 }

@@ -6,13 +6,22 @@ use outside_traits::{Inputs, Outputs, Storage};
 use std::process::ExitCode;
 use std::{env, io};
 
+/// The status of faulty words.
+const FAULTY_WORDS: u8 = 1;
+
 /// The status for want of memory.
 const OUT_OF_MEMORY: u8 = 9;
 
+/// What is wrong with words of which one is no UTF-8.
+const NOT_UTF8: &str = "error: invalid UTF-8 was detected in one or more arguments\n\n\
+    Usage: roqsulei <COMMAND>\n\n\
+    For more information, try '--help'.";
+
 fn main(rt: HostRuntime) -> ExitCode {
     let alloc = rt.alloc();
-    let Ok(words) = words_of(&rt) else {
-        return ExitCode::from(OUT_OF_MEMORY);
+    let words = match words_of(&rt) {
+        Ok(words) => words,
+        Err(error) => return ExitCode::from(status_without_words(&rt, &error)),
     };
     let mut files = Storage::new(alloc, &rt);
     let mut input = Inputs::new(rt.stdin());
@@ -38,4 +47,14 @@ fn words_of(rt: &HostRuntime) -> io::Result<Vec<String>> {
         words.push(word)?;
     }
     Ok(words)
+}
+
+/// The status where the words can't be had: one of them is no UTF-8, or memory ran out.
+fn status_without_words(rt: &HostRuntime, error: &io::Error) -> u8 {
+    if error.kind() == io::ErrorKind::OutOfMemory {
+        return OUT_OF_MEMORY;
+    }
+    // Faulty words have their status also where nothing can be said of them.
+    let _ = eprintln!(rt; "{NOT_UTF8}");
+    FAULTY_WORDS
 }

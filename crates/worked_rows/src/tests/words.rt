@@ -15,6 +15,15 @@ Commands:
 Options:
   -h, --help     Print help
   -V, --version  Print version
+
+Status:
+  0  all was done
+  1  the words are faulty
+  2  FILE can't be read
+  3  FILE is refused, by one line with the reason and the place
+  4  the input failed
+  5  the output failed
+  9  out of memory
 ";
 
 const HELP_OF_RUN: &str = "Runs the service of FILE over lines of JSON-RPC from the standard input

@@ -10,8 +10,8 @@ answer_lines-requires-clause-nothing_yet g c = begun _ _ _ _ c.new-progress.ensu
 
 pub returns-clause-record : goal.returns-clause-record
 returns-clause-record g c =
-    recorded _ c.in_ok-end.end c.in_ok-end.read (deeds_of c.answer_lines.new.progress.deeds) c.answer_lines.new.progress.written _ _
-    c.status_of.ensures c.in_ok-end.ensures.served c.requires (one_front _ _ _ c.in_ok-push.ensures.ok c.new-traffic.ensures)
+    recorded _ c.in_ok-end.end c.in_ok-end.read (deeds_of c.answer_lines.new.progress.deeds) c.answer_lines.new.progress.written _ _ _
+    c.status_of.ensures c.in_ok-end.ensures.served c.in_ok-end.ensures.last c.requires (one_front _ _ _ c.in_ok-push.ensures.ok c.new-traffic.ensures)
     (closed _ _ _ _ c.in_ok-close.ensures.added c.in_ok-stop.ensures.added c.into_history.ensures) refl
 
 pub returns-clause-traffic : goal.returns-clause-traffic
