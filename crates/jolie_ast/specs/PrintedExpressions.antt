@@ -155,7 +155,7 @@ term_level t = additive_token t.operator ∷ operand t.operand
 abbrev pub member_level : Member-F Shown Shown (List Token) (List Token) (List Token) (List Token) (List Token) → List Token
 member_level m = m.name.text ∷ (codes "=" ∷ m.value.tokens)
 
--- further steps of a path, each behind a dot
+-- one level of a path: its first step, and each further one behind a dot
 abbrev pub path_level : Path-F Shown Shown (List Token) (List Token) (List Token) (List Token) (List Token) → List Token
 path_level p = p.first ++ flat_map (λ ts. codes "." ∷ ts) p.rest
 

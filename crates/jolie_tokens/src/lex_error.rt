@@ -4,7 +4,8 @@ ghost use Rattle.jolie_tokens.specs.declared.lex_error.LexError.TheVariants.{Mem
 use std::alloc::AllocError;
 use thiserror::Error;
 
-/// Why a text has no tokens, with the place of the byte that is at fault.
+/// Why a text has no tokens, with the place of the byte that is at fault, which is the text's length where its end cuts a
+/// character of a comment.
 #[derive(Debug, Drop, Error)]
 pub enum LexError {
     #[error("the text is too long")]
@@ -19,7 +20,8 @@ pub enum LexError {
     /// A comment begins there that is not closed.
     #[error("open comment at {0}")]
     OpenComment(u32),
-    /// Digits begin there that are no number: they are out of range, or followed directly by a letter or a fraction.
+    /// Digits begin there that are no number: they are out of range, or followed directly by a letter, `_` or a
+    /// fraction.
     #[error("bad number at {0}")]
     BadNumber(u32),
     #[error("out of memory")]

@@ -70,7 +70,7 @@ process_level (Process-F.Parallel members) = no_input
 abbrev pub block_level : Block-F (Unit {0}) Beginning (Unit {0}) (Option (List Name)) Name (Unit {0}) (Unit {0}) Name (Unit {0}) → Option (List Name)
 block_level b = option_and_then (λ (p : Beginning). p.operations) b.body
 
--- one level of an input and of a branch: the operation
+-- one level of an input: its operation
 abbrev pub input_level : Input-F (Unit {0}) Beginning (Unit {0}) (Option (List Name)) Name (Unit {0}) (Unit {0}) Name (Unit {0}) → Name
 input_level i = i.operation
 
@@ -135,7 +135,7 @@ statements_of p = elim (out-Process p) [ Process-F.Sequence statements ↦ state
 abbrev pub statements_in : Block → List Process
 statements_in b = elim (out-Block b).body [ None ↦ [] | Some p ↦ statements_of p ]
 
--- what is refused of an init as one
+-- what is refused of an init because it is one
 abbrev pub init_refused : Block → List Refusal
 init_refused b = flat_map (λ p. statement_refused (place_of p) (assigns p)) (statements_in b)
 

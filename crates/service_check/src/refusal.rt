@@ -8,7 +8,7 @@ use thiserror::Error;
 /// What a file is refused for.
 #[derive(Clone, Copy, Debug, PartialEq, Eq)]
 pub enum CheckName {
-    /// A name stands a second time.
+    /// A name stands a second time where each may stand once, or a service has a second execution, init or main.
     DuplicateName,
     /// A type or an interface is not there, leads back to itself, or an alias leads to no value.
     UnknownType,
@@ -16,9 +16,10 @@ pub enum CheckName {
     UnknownPort,
     /// An operation is not among those of the port.
     UnknownOperation,
-    /// An operation, a location, a protocol, a set or an index of another kind than its place asks for.
+    /// An operation, a location, a protocol, a set or an index of another kind than its place asks for, or a port that is named `Console`.
     WrongKind,
-    /// Messages of an operation could not find their session.
+    /// Messages of an operation could not find their session, a type has aliases for some variables of a set alone, or `csets` names a
+    /// variable that is not there.
     Uncorrelated,
     /// A type stands in two correlation sets of a service.
     TwoSets,
@@ -26,7 +27,7 @@ pub enum CheckName {
     CompOutsideHandler,
     /// `cH` stands in no handler.
     ChOutsideHandler,
-    /// There is no service, or a service that no message starts.
+    /// There is no service, a service has no main, or a concurrent one has a main that begins with no input.
     NoStart,
     /// A statement of init is no assignment.
     InitNotAssignment,
