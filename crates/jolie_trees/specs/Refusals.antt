@@ -13,10 +13,3 @@ KeepsLimits t (Ok a) = IsTrue (is_store t)
 KeepsLimits t (Err (TooLarge n)) = (most_nodes < size t) × (n ≡ in_u64 (size t))
 KeepsLimits t (Err (TooDeep n)) = (size t ≤ most_nodes) × (most_levels < levels t) × (n ≡ in_u32 (levels t))
 KeepsLimits t (Err (Memory e)) = Unit {0}
-
--- a change was refused for a limit
-abbrev pub IsRefused : {A : Type 0} → Result A SetError → Type 0
-IsRefused (Ok a) = ⊥
-IsRefused (Err (TooLarge n)) = Unit {0}
-IsRefused (Err (TooDeep n)) = Unit {0}
-IsRefused (Err (Memory e)) = ⊥

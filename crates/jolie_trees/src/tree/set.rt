@@ -1,8 +1,8 @@
-ghost use Rattle.std.specs.Prelude.{◌≡◌, OnOk, Some};
+ghost use Rattle.std.specs.Prelude.{◌≡◌, OnOk, OnErr, Some};
 ghost use Rattle.jolie_trees.specs.Data.{Tree as Plain};
 ghost use Rattle.jolie_trees.specs.Trees as spec;
 ghost use Rattle.jolie_trees.specs.Extents.{extent_of, at_or_void};
-ghost use Rattle.jolie_trees.specs.Refusals.{KeepsLimits, IsRefused};
+ghost use Rattle.jolie_trees.specs.Refusals.{KeepsLimits};
 
 use super::Tree;
 use super::change::Change;
@@ -18,12 +18,12 @@ const MOST_NODES: u64 = 65_536;
 const MOST_LEVELS: u32 = 64;
 
 impl Tree {
-    /// Puts a tree at a path, with void nodes for those that are missing. After `Memory` some of
-    /// these may be there.
+    /// Puts a tree at a path, with void nodes for those that are missing. After each refusal the
+    /// tree is unchanged.
     pub fn set(&mut self, path: &Path, value: Tree) -> Result<(), SetError>
         ensures done { OnOk result (self.new ≡ spec.set path.now.steps value self.old) }
         ensures limits { KeepsLimits (spec.set path.now.steps value self.old) result }
-        ensures refused { IsRefused result → self.new ≡ self.old }
+        ensures refused { OnErr result (self.new ≡ self.old) }
     {
         let steps = path.steps.as_slice();
         check_limits(self.extent_with(steps, value.extent()))?;
@@ -32,11 +32,11 @@ impl Tree {
     }
 
     /// Puts a root at a path and leaves the children there, with void nodes for those that are
-    /// missing. After `Memory` some of these may be there.
+    /// missing. After each refusal the tree is unchanged.
     pub fn set_root(&mut self, path: &Path, root: Root) -> Result<(), SetError>
         ensures done { OnOk result (self.new ≡ spec.set_root path.now.steps root self.old) }
         ensures limits { KeepsLimits (spec.set_root path.now.steps root self.old) result }
-        ensures refused { IsRefused result → self.new ≡ self.old }
+        ensures refused { OnErr result (self.new ≡ self.old) }
     {
         let steps = path.steps.as_slice();
         check_limits(self.extent_with(steps, self.extent_at(steps)))?;
@@ -44,12 +44,12 @@ impl Tree {
         Ok(())
     }
 
-    /// Puts a copy of the tree at one path at another. After `Memory` some void nodes may be there.
+    /// Puts a copy of the tree at one path at another. After each refusal the tree is unchanged.
     pub fn copy(&mut self, to: &Path, from: &Path) -> Result<(), SetError>
         ensures done { OnOk result (self.new
             ≡ spec.copy to.now.steps from.now.steps self.old) }
         ensures limits { KeepsLimits (spec.copy to.now.steps from.now.steps self.old) result }
-        ensures refused { IsRefused result → self.new ≡ self.old }
+        ensures refused { OnErr result (self.new ≡ self.old) }
     {
         let value = match self.get(from) {
             Some(tree) => tree.copied()?,
