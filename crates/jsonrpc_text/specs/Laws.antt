@@ -1,5 +1,5 @@
 -- What holds of all texts, answers and trees.
-use Rattle.std.specs.Prelude.{◌≡◌, ◌≤◌, ℕ, ℤ, pos, negsuc, int_le, Bool, true, false, not, ◌&&◌, List, [], ◌∷◌, length, bytes_eq, codes, Option, None, Some}
+use Rattle.std.specs.Prelude.{◌≡◌, ◌≤◌, ℕ, ℤ, pos, negsuc, int_le, Bool, true, false, not, ◌&&◌, List, [], ◌∷◌, length, bytes_eq, codes, Option, None, Some, is_some}
 use Rattle.serde_json.specs.Data.{Data, number, string, depth}
 use Rattle.serde_json.specs.Find.{get, of_integer}
 use Rattle.serde_json.specs.Read.{max_depth}
@@ -118,6 +118,7 @@ pub record Says (d : Data) (i : Id) (result code message data_ : Option Data) : 
   pub version : get (codes "jsonrpc") d ≡ Some (string (codes "2.0"))
   pub id : get (codes "id") d ≡ Some (id_data i)
   pub result_is : get (codes "result") d ≡ result
+  pub error_is : is_some (get (codes "error") d) ≡ is_some code
   pub code_is : within (codes "error") (codes "code") d ≡ code
   pub message_is : within (codes "error") (codes "message") d ≡ message
   pub data_is : within (codes "error") (codes "data") d ≡ data_

@@ -76,7 +76,7 @@ refused i e = record { id = i; what = Err e }
 abbrev pub invalid : Id → ReadCall
 invalid i = refused i early.Invalid
 
--- a call, where its method and its id are there and its version and params are what they must be
+-- a call, where its method is there, its id, if it has one, is one, and its version and params are what they must be
 abbrev pub call_of : Data → Option (List ℕ) → Option Id → ReadCall
 call_of d None i = invalid (id_or_null d)
 call_of d (Some method) None = invalid (id_or_null d)
