@@ -16,4 +16,4 @@ pub use path::{Path, Step};
 pub use root::Root;
 pub use set_error::SetError;
 pub use text::Text;
-pub use tree::{Children, Tree};
+pub use tree::{Children, Members, Tree};

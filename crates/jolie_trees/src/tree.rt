@@ -31,10 +31,10 @@ pub struct Tree {
     alloc: Global,
 }
 
-/// The trees under one name.
+/// The trees under one name, one at least.
 #[cycle(tree)]
 #[derive(Debug, Drop)]
-struct Members {
+pub struct Members {
     list: Vec<Tree>,
 }
 

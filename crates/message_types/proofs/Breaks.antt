@@ -1,21 +1,20 @@
 -- The breach of a node, of children and of members, as a walk over them finds it.
-use Rattle.std.proofs.Common.{◌≡◌, ◌∙◌, ℕ, zero, suc, ◌+◌, ◌<◌, ◌≤◌, List, [], ◌∷◌, map, length, drop, get_or, Option, None, Some, Bool, true, false, refl, ap, sym, arith}
+use Rattle.std.proofs.Common.{◌≡◌, ◌∙◌, ℕ, zero, suc, ◌<◌, ◌≤◌, List, [], ◌∷◌, map, length, get_or, Option, None, Some, true, false, refl, ap, sym, arith}
 use Rattle.std.proofs.lemmas.Bool.Decides.{nat_tests}
-use Rattle.std.proofs.lemmas.List.{drop_all, length-map}
-use Rattle.std.specs.Prelude.{◌&&◌, ◌||◌, ◌==◌, nat_le, is_some, option_map, if◌then◌else◌}
-use Rattle.jolie_trees.specs.Data.{Tree, node, Fields, no_fields, field, Trees, no_trees, tree}
+use Rattle.std.proofs.lemmas.List.{length-map}
+use Rattle.std.specs.Prelude.{◌&&◌, ◌||◌, ◌==◌, is_some, if◌then◌else◌}
+use Rattle.jolie_trees.specs.Data.{Tree, node, Fields, field, Trees, no_trees, tree}
 use Rattle.jolie_trees.specs.declared.path.Step.{Step}
 use Rattle.jolie_trees.specs.declared.root.Root.{Root}
 use Rattle.jolie_trees.specs.Extents.{children_of}
-use Rattle.jolie_trees.specs.Trees.{root_of, size, fields_size, trees_size}
+use Rattle.jolie_trees.specs.Trees.{root_of, size, trees_size}
 use Rattle.jolie_trees.specs.TreeView.{trees_of}
 use Rattle.behaviour_tree.specs.Data.{TypeTree, plain, named, undefined, TypeFields}
-use Rattle.behaviour_tree.specs.Conforms.{shape, field_type, is_message}
+use Rattle.behaviour_tree.specs.Conforms.{shape, field_type}
 use Rattle.behaviour_tree.specs.View.{type_view}
 use Rattle.behaviour_tree.specs.declared.types.RootKind.{RootKind}
 use Rattle.behaviour_tree.specs.declared.types.TypeDef.{TypeDef}
-use Rattle.message_types.proofs.Fits.{taken_off}
-use Rattle.message_types.specs.Breaches.{all_have_fields, fits_alone, first_of, step_to, breach, breach_of_children, breach_of_members}
+use Rattle.message_types.specs.Breaches.{all_have_fields, fits_alone, breach, breach_of_children, breach_of_members}
 
 -- the path of the breach of a node, by the type behind its names
 abbrev pub breach_at : List TypeTree → Root → Fields → Option TypeTree → Option (List Step)
@@ -78,16 +77,3 @@ size-member (u ∷ ts) (suc i) t h is = omega (arith, size-member ts i t (omega 
 pub length-members : (ts : List Tree) → length ts ≤ trees_size (trees_of ts)
 length-members [] = omega arith
 length-members (t ∷ ts) = omega (arith, size-some t, length-members ts)
-
--- the breach of the members from i on, the one at i being t
-pub members-at : (types : List TypeTree) (name : List ℕ) (ts : List Tree) (i : ℕ) (t : Tree) (ty : TypeTree) → i < length ts → t ≡ get_or ts i t
-    → breach_of_members types name i (trees_of (drop i ts)) (Some ty)
-    ≡ first_of (option_map (λ path. step_to name i ∷ path) (breach types t ty)) (breach_of_members types name (i + 1) (trees_of (drop (i + 1) ts)) (Some ty))
-members-at types name ts i t ty h is = let more : i + 1 ≡ suc i = omega arith in rw (taken_off ts i t h is, more) refl
-
-pub members-done : (types : List TypeTree) (name : List ℕ) (ts : List Tree) (i : ℕ) (ty : TypeTree) → length ts ≤ i → None ≡ breach_of_members types name i (trees_of (drop i ts)) (Some ty)
-members-done types name ts i ty h = rw (drop_all i ts h) refl
-
--- a message is small
-pub message-size : (t : Tree) → is_message t ≡ true → size t ≤ 4096
-message-size t h = grind (arith, nat_tests)

@@ -1,23 +1,18 @@
 -- Types, fields and trees as a walk over them sees them, one by one.
-use Rattle.std.proofs.Common.{◌≡◌, ◌∙◌, ℕ, zero, suc, ◌+◌, ◌-◌, ◌*◌, ◌<◌, ◌≤◌, max, min, List, [], ◌∷◌, map, length, take, drop, get_or, Option, None, Some, Bool, true, false, refl, ap, sym, arith, rules, drop-cons}
-use Rattle.std.proofs.lemmas.List.{drop_all, length-map}
+use Rattle.std.proofs.Common.{◌≡◌, ◌∙◌, ℕ, zero, suc, ◌-◌, ◌<◌, ◌≤◌, List, [], ◌∷◌, map, length, get_or, Option, None, Some, Bool, true, false, refl, ap, sym, arith, rules}
+use Rattle.std.proofs.lemmas.List.{length-map}
 use Rattle.std.proofs.lemmas.Bool.Decides.{nat_tests}
 use Rattle.std.proofs.lemmas.Option.{slice_get-map, slice_get_past, slice_get_read}
-use Rattle.std.specs.Prelude.{◌&&◌, nat_eq, nat_le, slice_get, option_map, option_and_then, bytes_eq, if◌then◌else◌}
-use Rattle.jolie_trees.specs.Data.{Tree, node, Fields, no_fields, field, Trees, no_trees, tree}
-use Rattle.jolie_trees.specs.Trees.{root_of, count_of, under, levels, fields_levels, trees_levels}
+use Rattle.std.specs.Prelude.{◌&&◌, nat_eq, nat_le, slice_get, option_map, option_and_then}
+use Rattle.jolie_trees.specs.Data.{Tree, node, Fields, field}
+use Rattle.jolie_trees.specs.Trees.{root_of, count_of, levels, trees_levels}
 use Rattle.jolie_trees.specs.TreeView.{trees_of}
 use Rattle.jolie_trees.specs.Extents.{children_of}
 use Rattle.jolie_trees.specs.declared.root.Root.{Root}
-use Rattle.behaviour_tree.specs.declared.types.RootKind.{RootKind}
-use Rattle.behaviour_tree.specs.Data.{TypeTree, plain, named, undefined, TypeFields}
-use Rattle.behaviour_tree.specs.Conforms.{shape, has_kind, at_most, counts_fit, field_type, fits, children_fit, members_fit}
-use Rattle.behaviour_tree.specs.View.{FieldView, field_view, type_fields_of, type_view}
-use Rattle.behaviour_tree.specs.declared.types.Field.{Field}
+use Rattle.behaviour_tree.specs.Data.{TypeTree, plain, named, undefined}
+use Rattle.behaviour_tree.specs.Conforms.{shape, has_kind, at_most, counts_fit, fits, children_fit, members_fit}
+use Rattle.behaviour_tree.specs.View.{type_view}
 use Rattle.behaviour_tree.specs.declared.types.TypeDef.{TypeDef}
-
-pub taken_off : {A : Type 0} (xs : List A) (i : ℕ) (x : A) → i < length xs → x ≡ get_or xs i x → drop i xs ≡ x ∷ drop (i + 1) xs
-taken_off xs i x h is = let f : i + 1 ≡ suc i = omega arith in rw f (drop-cons xs i x h ∙ ap (λ y. y ∷ drop (suc i) xs) (sym is))
 
 -- a name leads one step on
 shape-named : (types : List TypeTree) (left i : ℕ) (ty : TypeTree) → 1 ≤ left → ty ≡ named i → shape types left ty ≡ option_and_then (shape types (left - 1)) (slice_get types i)

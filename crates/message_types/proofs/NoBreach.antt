@@ -9,7 +9,7 @@ use Rattle.behaviour_tree.specs.Data.{TypeTree, plain, named, undefined, TypeFie
 use Rattle.behaviour_tree.specs.Conforms.{shape, has_kind, counts_fit, field_type, fits, children_fit, members_fit, is_message}
 use Rattle.message_types.proofs.Breaks.{breach_at}
 use Rattle.message_types.proofs.Fits.{fits_at}
-use Rattle.message_types.specs.Breaches.{all_have_fields, fits_alone, first_of, step_to, breach, breach_of_children, breach_of_members, IsBreachUnlessFits, IsBreachUnlessConforms}
+use Rattle.message_types.specs.Breaches.{all_have_fields, first_of, step_to, breach, breach_of_children, breach_of_members, IsBreachUnlessFits, IsBreachUnlessConforms}
 
 and-left : (a b : Bool) → (a && b) ≡ true → a ≡ true
 and-left true b h = refl

@@ -1,7 +1,7 @@
 -- The tree that is widened field by field, and member by member.
-use Rattle.std.proofs.Common.{◌≡◌, ◌∙◌, ℕ, zero, suc, ◌+◌, ◌*◌, ◌<◌, ◌≤◌, max, List, [], ◌∷◌, ◌++◌, map, length, take, drop, set, get_or, Option, None, Some, Bool, true, false, refl, ap, sym, subst, arith, nat_cmp, Less}
+use Rattle.std.proofs.Common.{◌≡◌, ◌∙◌, ℕ, zero, suc, ◌+◌, ◌<◌, ◌≤◌, max, List, [], ◌∷◌, ◌++◌, map, length, take, drop, get_or, Option, None, Some, Bool, true, false, refl, ap, sym, subst, arith, nat_cmp, Less}
 use Rattle.std.proofs.lemmas.Cmp.{nat_list_eq_equiv}
-use Rattle.std.proofs.lemmas.List.{drop_all, length-map}
+use Rattle.std.proofs.lemmas.List.{length-map}
 use Rattle.std.proofs.lemmas.Slice.Eq.{bytes_eq-Decides}
 use Rattle.std.proofs.lemmas.Bool.{false≢true}
 use Rattle.std.specs.Cmp.Lexicographic.{slice_cmp, texts_ties}
@@ -249,11 +249,3 @@ unwidened types (node r fs) = ap (node r) (no-field types fs)
 pub found : (o : Option (Bor Field)) (ty : Option TypeTree) (b : Bool) → option_map (λ f. (field_view f).ty) (option_copied o) ≡ ty → is_some o ≡ b → is_some ty ≡ b
 found None ty b e h = sym (ap is_some e) ∙ h
 found (Some f) ty b e h = sym (ap is_some e) ∙ h
-
-take-whole : (xs zs : List Tree) → take (length xs) (xs ++ zs) ≡ xs
-take-whole [] zs = refl
-take-whole (x ∷ xs) zs = ap (λ ys. x ∷ ys) (take-whole xs zs)
-
--- a slice that was written through is the whole vector
-pub written : (xs zs : List Tree) (n : ℕ) → length xs ≡ n → take n (xs ++ zs) ≡ xs
-written xs zs n h = ap (λ m. take m (xs ++ zs)) (sym h) ∙ take-whole xs zs

@@ -1,5 +1,5 @@
 -- Where a tree breaks its type: the first node in preorder that does, by its path.
-use Rattle.std.specs.Prelude.{◌≡◌, ℕ, suc, Bool, true, false, not, ◌&&◌, List, [], ◌∷◌, length, Option, None, Some, option_map, is_some, if◌then◌else◌}
+use Rattle.std.specs.Prelude.{◌≡◌, ℕ, suc, Bool, true, not, ◌&&◌, List, [], ◌∷◌, length, Option, None, Some, option_map, is_some, if◌then◌else◌}
 use Rattle.jolie_trees.specs.Data.{Tree, node, Fields, no_fields, field, Trees, no_trees, tree}
 use Rattle.jolie_trees.specs.declared.path.Step.{Step}
 use Rattle.jolie_trees.specs.declared.root.Root.{Root}

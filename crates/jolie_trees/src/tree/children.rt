@@ -9,7 +9,7 @@ ghost use Rattle.jolie_trees.specs.Trees as spec;
 ghost use Rattle.jolie_trees.specs.Extents.{children_of, names_of};
 ghost use Rattle.jolie_trees.specs.TreeView.{trees_of, fields_of};
 ghost use Rattle.jolie_trees.specs.Children.{named_trees, or_none};
-ghost use Rattle.jolie_trees.specs.Lending.{LendsMembers};
+ghost use Rattle.jolie_trees.specs.Lending.{LendsMembers, LendsSlice};
 
 use super::{Members, Tree};
 use crate::root::Root;
@@ -73,15 +73,14 @@ impl Tree {
         }
     }
 
-    /// The trees under a name where it is there, to be written. Leave one at least: `undef` takes the last
-    /// away with its name.
-    pub fn members_mut(&mut self, name: &Text) -> Option<&mut Vec<Tree>>
+    /// The trees under a name where it is there, to be written.
+    pub fn members_mut(&mut self, name: &Text) -> Option<&mut Members>
         ensures* writes_back { sem 𝓛 (LendsMembers self.entry name.now result) }
-        ensures value { or_none (option_map (λ x. trees_of x.now.items) result) ≡ spec.under name.now (children_of self.old) }
+        ensures value { or_none (option_map (λ x. x.now) result) ≡ spec.under name.now (children_of self.old) }
         ensures ordered { IsStrictlySortedBy (slice_cmp nat_cmp) (names_of (children_of self.old)) }
     {
         match self.children.get_mut(name) {
-            Some(members) => Some(&mut members.list),
+            Some(members) => Some(members),
             None => None,
         }
     }
@@ -99,5 +98,13 @@ impl Members {
         ensures { trees_of result.now ≡ self.now }
     {
         self.list.as_slice()
+    }
+
+    /// The trees, to be written. They stay as many as they are.
+    pub fn as_mut_slice(&mut self) -> &mut [Tree]
+        ensures* writes_back { sem 𝓛 (LendsSlice self.entry result) }
+        ensures value { trees_of result.now ≡ self.old }
+    {
+        self.list.as_mut_slice()
     }
 }

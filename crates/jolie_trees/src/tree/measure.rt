@@ -1,4 +1,4 @@
-ghost use Rattle.std.specs.Prelude.{◌≡◌, length};
+ghost use Rattle.std.specs.Prelude.{◌≡◌};
 ghost use Rattle.jolie_trees.specs.Limits.{in_u64, in_u32};
 ghost use Rattle.jolie_trees.specs.Extents.{extent_of, trees_extent};
 ghost use Rattle.jolie_trees.specs.Trees as spec;

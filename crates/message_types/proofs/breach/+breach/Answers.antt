@@ -1,4 +1,4 @@
-use Rattle.std.proofs.Common.{◌≡◌, ◌∙◌, List, Some, None, [], Vec, Global, Bool, true, false, map, ap, sym, subst, arith, rules}
+use Rattle.std.proofs.Common.{◌≡◌, ◌∙◌, Some, None, Vec, Global, true, false, map, ap, sym, subst, arith, rules}
 use Rattle.std.specs.Prelude.{IfOk, option_map}
 use Rattle.jolie_trees.specs.declared.path.Step.{Step}
 use Rattle.jolie_trees.specs.Extents.{children_of}

@@ -1,4 +1,4 @@
-use Rattle.std.proofs.Common.{◌≡◌, ◌∙◌, map, ap, sym}
+use Rattle.std.proofs.Common.{◌∙◌, map, ap, sym}
 use Rattle.jolie_trees.specs.TreeView.{fields_of}
 use Rattle.behaviour_tree.specs.View.{field_view, type_fields_of}
 use Rattle.message_types.specs.Breaches.{all_have_fields}

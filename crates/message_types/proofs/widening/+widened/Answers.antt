@@ -1,5 +1,4 @@
-use Rattle.std.proofs.Common.{◌≡◌, ◌∙◌, ◌+◌, true, false, Some, None, map, set, take, length, List, ℕ, ap, sym, arith, rules}
-use Rattle.std.proofs.lemmas.List.{drop_all}
+use Rattle.std.proofs.Common.{◌≡◌, ◌∙◌, ◌+◌, true, false, Some, None, map, set, take, ap, sym, arith, rules}
 use Rattle.std.proofs.lemmas.List.Edits.{map_over_more}
 use Rattle.behaviour_tree.specs.Conforms.{wide, wide_members, field_type}
 use Rattle.behaviour_tree.specs.Data.{named, undefined}
@@ -8,10 +7,11 @@ use Rattle.behaviour_tree.specs.declared.types.TypeDef as type_def
 use Rattle.behaviour_tree.specs.declared.types.Field as field
 use Rattle.jolie_trees.specs.Data.{Tree}
 use Rattle.jolie_trees.specs.TreeView.{trees_of}
-use Rattle.jolie_trees.specs.Trees.{levels, trees_levels, under}
-use Rattle.jolie_trees.specs.Extents.{children_of}
+use Rattle.jolie_trees.specs.Lending.{written_over}
+use Rattle.jolie_trees.proofs.Lent.{all_written}
+use Rattle.jolie_trees.specs.Trees.{levels, trees_levels}
 use Rattle.message_types.proofs.Fits.{levels-member}
-use Rattle.message_types.proofs.Widens.{wide-by, whole, wide_members-map, member-kept, all-mapped, unwidened, grows-taken, step-new, step-same, step-missing, under-lent, levels-below, found, written}
+use Rattle.message_types.proofs.Widens.{wide-by, whole, wide_members-map, member-kept, all-mapped, unwidened, grows-taken, step-new, step-same, step-missing, under-lent, levels-below, found}
 use Rattle.message_types.proofs.widening.+widened.Goals as goal
 use Rattle.message_types.proofs.widening.+widened.Goals.{widen_children-in-Some+then-is_none, widen_children-in-Some+else-is_none, widen_children-in_default}
 
@@ -62,11 +62,12 @@ widen_children-loop-place-preserved t c =
     elim c.match-members_mut.branch [
       | widen_children-in-Some+then-is_none w ↦
           let new = found w.field_named.result (field_type f.name earlier) false w.field_named.ensures w.if-is_none.ensures in
-          let whole = written w.widen_members.new.members _ w.in-Some.members.now.len (w.widen_members.auto.members ∙ w.as_mut_slice.ensures.len) in
-          let lent = ap trees_of w.as_mut_slice.ensures.value ∙ w.in-Some.ensures.value in
+          let lent = w.as_mut_slice.ensures.value ∙ w.in-Some.ensures.value in
+          let whole =
+          ap (written_over w.widen_members.new.members) (sym w.as_mut_slice.ensures.value) ∙ all_written w.widen_members.new.members w.as_mut_slice.result.now w.widen_members.auto.members in
           w.value-is
           ∙ step-new types earlier all f.name (type_view f.ty) grows c.args.value.now c.loop-place.value c.loop-place.invariant _ new w.in-Some.ensures.ordered
-          (ap trees_of whole ∙ w.widen_members.ensures ∙ ap (λ ts. wide_members types ts (Some (type_view f.ty))) lent)
+          (whole ∙ w.widen_members.ensures ∙ ap (λ ts. wide_members types ts (Some (type_view f.ty))) lent)
       | widen_children-in-Some+else-is_none w ↦
           let old = found w.field_named.result (field_type f.name earlier) true w.field_named.ensures w.if-is_none.ensures in
           w.value-is ∙ step-same types earlier all f.name (type_view f.ty) grows c.args.value.now c.loop-place.value c.loop-place.invariant _ old w.in-Some.ensures.value
@@ -82,7 +83,7 @@ widen_children-widen_members-requires t c =
     let all = type_fields_of (map field_view (take (c.loop-place.place + 1) c.args.fields.now)) in
     let grows = grows-taken c.args.fields.now c.loop-place.place f f.name (type_view f.ty) c.loop-place-test.true c.index-fields-place.is (search (rules, type_def.the_lemmas, field.the_lemmas)) (search (rules, type_def.the_lemmas, field.the_lemmas)) in
     let new = found c.field_named.result (field_type f.name earlier) false c.field_named.ensures c.if-is_none.ensures in
-    let lent = ap trees_of c.as_mut_slice.ensures.value ∙ c.in-Some.ensures.value ∙ under-lent types earlier all f.name (type_view f.ty) grows c.args.value.now c.loop-place.value c.loop-place.invariant new in
+    let lent = c.as_mut_slice.ensures.value ∙ c.in-Some.ensures.value ∙ under-lent types earlier all f.name (type_view f.ty) grows c.args.value.now c.loop-place.value c.loop-place.invariant new in
     let same = ap trees_levels lent in
     let lower = levels-below f.name c.args.value.now in
     (omega (arith, lower, same), tt)

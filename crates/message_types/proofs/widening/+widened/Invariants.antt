@@ -1,4 +1,4 @@
-use Rattle.std.proofs.Common.{◌≡◌, ◌≤◌, ◌+◌, ◌*◌, ◌++◌, map, take, drop, Some}
+use Rattle.std.proofs.Common.{◌≡◌, ◌+◌, ◌*◌, ◌++◌, map, take, drop}
 use Rattle.jolie_trees.specs.Data.{node}
 use Rattle.jolie_trees.specs.Extents.{children_of}
 use Rattle.jolie_trees.specs.Trees.{root_of, levels, trees_levels}

@@ -4,7 +4,7 @@ use Rattle.std.specs.List.Sorted.{IsStrictlySortedBy}
 use Rattle.jolie_trees.specs.Data.{node}
 use Rattle.jolie_trees.specs.Trees.{under}
 use Rattle.jolie_trees.specs.Extents.{names_of, children_of}
-use Rattle.jolie_trees.specs.TreeView.{trees_of, fields_of}
+use Rattle.jolie_trees.specs.TreeView.{fields_of}
 use Rattle.jolie_trees.specs.Lending.{with_members}
 use Rattle.jolie_trees.proofs.Entries.{keys_of-names, under-found, under-missing}
 use Rattle.jolie_trees.proofs.Lent.{replaced_under-set, same_lent}
@@ -15,11 +15,10 @@ returns-in-Some c =
     let name = c.args.name.now in
     let es = c.self.inside.children.entries in (
       same_lent
-          (λ w. ap (node c.self.inside.root) (ap fields_of (c.get_mut.follows.holds (trees_of w.items)).0 ∙ replaced_under-set name es (trees_of w.items))
-          ∙ ap (with_members name (trees_of w.items)) c.self.view_is),
+          (λ ts. ap (node c.self.inside.root) (ap fields_of (c.get_mut.follows.holds ts).0 ∙ replaced_under-set name es ts) ∙ ap (with_members name ts) c.self.view_is),
       record {
         writes_back = tt;
-        value = c.members.view_is ∙ sym (under-found name es c.in-Some.members.now (sym c.in-Some.ensures.value)) ∙ ap (λ t. under name (children_of t)) c.self.view_is;
+        value = sym (under-found name es c.in-Some.members.now (sym c.in-Some.ensures.value)) ∙ ap (λ t. under name (children_of t)) c.self.view_is;
         ordered = subst (λ ks. IsStrictlySortedBy (slice_cmp nat_cmp) ks) (keys_of-names es ∙ ap (λ t. names_of (children_of t)) c.self.view_is) c.get_mut.ensures.ordered;
       },
     )
