@@ -1,7 +1,5 @@
-use Rattle.std.proofs.Common.{◌≡◌, ℕ, zero, suc, ◌+◌, ◌<◌, ◌≤◌, Bool, ◌||◌, List, [], ◌∷◌, ◌++◌, map, length, take, drop, get_or, refl, sym, ◌∙◌, ap, subst, add-one, rules, append_assoc, Some, None}
-use Rattle.std.proofs.lemmas.List.Folds.{list_any-append}
+use Rattle.std.proofs.Common.{◌≡◌, ℕ, zero, suc, ◌+◌, ◌<◌, ◌≤◌, Bool, List, [], ◌∷◌, ◌++◌, map, length, take, drop, get_or, refl, sym, ◌∙◌, ap, subst, add-one, rules, append_assoc, Some, None}
 use Rattle.std.proofs.lemmas.Option.{slice_get-map, slice_get_past, slice_get_read, none-some, same_Some}
-use Rattle.std.proofs.Math.Seq.{drop-cons}
 use Rattle.std.specs.Prelude.{slice_get, if◌then◌else◌}
 use Rattle.behaviour_tree.specs.Data.{PortPart}
 use Rattle.behaviour_tree.specs.PartsView.{port_view}
@@ -120,7 +118,3 @@ pub inputs-repeated : (p : Port) (before : List ℕ) (j n : ℕ) (xs : List ℕ)
 inputs-repeated p before j n xs b e is =
     let P : List ℕ → Type 0 = λ ys. b ≡ is_among (before ++ take j ys) n in
     subst P e is
-
--- whether the ports from a place on mention a number
-pub among-drop : (ports : List Port) (i n : ℕ) (p : Port) → i < length ports → p ≡ get_or ports i p → is_among (mentions (map port_view (drop i ports))) n ≡ (is_among (inputs_of (port_view p)) n || is_among (mentions (map port_view (drop (suc i) ports))) n)
-among-drop ports i n p lt e = rw (drop-cons ports i p lt, sym e) (list_any-append _ (inputs_of (port_view p)) _)

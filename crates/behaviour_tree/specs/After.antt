@@ -1,5 +1,5 @@
 -- One event of a session: what it makes of a configuration, what is seen of it, and what it asks of the office.
-use Rattle.std.specs.Prelude.{◌≡◌, ℕ, zero, suc, ◌+◌, List, [], ◌∷◌, Option, None, Some, option_map, option_and_then, unwrap_or, Bool, true, false, if◌then◌else◌, nat_eq}
+use Rattle.std.specs.Prelude.{◌≡◌, ℕ, zero, suc, List, [], ◌∷◌, Option, None, Some, option_map, option_and_then, unwrap_or, Bool, true, false, if◌then◌else◌, nat_eq}
 use Rattle.jolie_trees.specs.declared.path.Step.{Step}
 use Rattle.jolie_trees.specs.Data.{Tree}
 use Rattle.jolie_trees.specs.Trees.{void_tree, root_of, set, set_root, undef as removed}
@@ -12,14 +12,14 @@ use Rattle.behaviour_tree.specs.declared.words.Given.{Given}
 use Rattle.behaviour_tree.specs.declared.words.Given.TheVariants as given
 use Rattle.behaviour_tree.specs.declared.words.Outcome.{Outcome}
 use Rattle.behaviour_tree.specs.declared.words.Outcome.TheVariants as outcome
-use Rattle.behaviour_tree.specs.Data.{PathTree, Exp, Proc, Procs, no_procs, proc, Branches, no_branches, one_way, request, assign, undef, copy, choice, TypeTree, OperationPart, ProgramParts}
+use Rattle.behaviour_tree.specs.Data.{PathTree, Exp, Proc, no_procs, proc, Branches, no_branches, one_way, request, assign, undef, copy, choice, TypeTree, ProgramParts}
 use Rattle.behaviour_tree.specs.Names.{type_mismatch, expr_fault, store_too_large, main, name_at}
 use Rattle.behaviour_tree.specs.Values.{value, steps_of, tree_at}
 use Rattle.behaviour_tree.specs.Conforms.{conforms, wide}
 use Rattle.behaviour_tree.specs.Operations.{operation_at}
-use Rattle.behaviour_tree.specs.Terms.{Term, done, place, thrown, seq, in_scope, exec, fail, prot, live, seq_of}
+use Rattle.behaviour_tree.specs.Terms.{Term, done, place, thrown, seq, in_scope, exec, fail, prot, live}
 use Rattle.behaviour_tree.specs.Tables.{empty}
-use Rattle.behaviour_tree.specs.Start.{Begun, start, begin, normal}
+use Rattle.behaviour_tree.specs.Start.{start, begin, normal}
 use Rattle.behaviour_tree.specs.Throw.{Carried, up, caught_at, ended_at, blocked, absent, throw}
 
 -- what a session is at a moment: its term, its store, the next strand, the next call, and whether it ended
@@ -79,8 +79,8 @@ taken_away store None = faults expr_fault
 taken_away store (Some path) = stored (removed path store)
 
 -- what an undef does to a store
-abbrev pub undefined_at : Tree → PathTree → Effect
-undefined_at store p = taken_away store (steps_of store p)
+abbrev pub effect_of_undef : Tree → PathTree → Effect
+effect_of_undef store p = taken_away store (steps_of store p)
 
 -- a fault with its data
 pub record Fault : Type 0 where
@@ -100,7 +100,7 @@ fault_of_effect (stores s) = None
 abbrev pub fault_of : Tree → Proc → Option Fault
 fault_of store (assign p e) = fault_of_effect (effect_of store p e)
 fault_of store (copy p e) = fault_of_effect (copied store p e)
-fault_of store (undef p) = fault_of_effect (undefined_at store p)
+fault_of store (undef p) = fault_of_effect (effect_of_undef store p)
 fault_of store p = None
 
 -- the fault of strand n in a form that runs in strand s
@@ -132,9 +132,9 @@ abbrev pub local_event : ℕ → Event
 local_event n = record { strand = n; kind = kind.Local; number = 0; place = 0; fault = 0 }
 
 -- an action on the store without a fault
-abbrev pub assigns : ℕ → ℕ → Effect → Option Move
-assigns n next (faults f) = None
-assigns n next (stores store) = Some (record { form = done; store = store; next = next; event = local_event n; need = need.Nothing })
+abbrev pub acts_on_store : ℕ → ℕ → Effect → Option Move
+acts_on_store n next (faults f) = None
+acts_on_store n next (stores store) = Some (record { form = done; store = store; next = next; event = local_event n; need = need.Nothing })
 
 -- the operations of branches, in order
 abbrev pub ops_of : Branches → List ℕ
@@ -183,9 +183,9 @@ comes n m o v ops next store branch (request o' x y body after bs) =
 
 -- the event of a form without a fault, for a gift; the other forms have no rule yet
 abbrev pub act : ℕ → Given → Tree → ℕ → Proc → Option Move
-act n given.Nothing store next (assign p e) = assigns n next (effect_of store p e)
-act n given.Nothing store next (copy p e) = assigns n next (copied store p e)
-act n given.Nothing store next (undef p) = assigns n next (undefined_at store p)
+act n given.Nothing store next (assign p e) = acts_on_store n next (effect_of store p e)
+act n given.Nothing store next (copy p e) = acts_on_store n next (copied store p e)
+act n given.Nothing store next (undef p) = acts_on_store n next (effect_of_undef store p)
 act n (given.Mail m o v) store next (choice bs) = comes n m o v (ops_of bs) next store zero bs
 act n g store next p = None
 

@@ -2,8 +2,6 @@
 use Rattle.std.specs.Prelude.{◌≡◌, ℕ, pos, Bool, true, false, ◌&&◌, Option, None, Some, IsTrue, slice_get}
 use Rattle.jolie_trees.specs.declared.root.Root.TheVariants as root
 use Rattle.behaviour_tree.specs.Data.{PathTree, here, step, step_at, Exp, constant, Proc, nothing, assign, undef, copy, sequence, choice, Procs, no_procs, proc, Branches, no_branches, one_way, request, ProgramParts, ServicePart, behaviour_of}
-use Rattle.behaviour_tree.specs.Tables.{Table}
-use Rattle.behaviour_tree.specs.Terms.{Term, done, place, thrown, seq, in_scope, exec, fail, prot, State, live, caught, term, last, zombie}
 
 -- an index that is written as a number from 0
 abbrev pub is_number : Exp → Bool
@@ -43,17 +41,6 @@ abbrev mutual
   are_built_branches (one_way o x after bs) = is_fixed_target x && is_built after && are_built_branches bs
   are_built_branches (request o x y body after bs) =
       is_fixed_target x && is_fixed_target y && is_built body && is_built after && are_built_branches bs
-
--- what runs is built; no handler is installed in a scope
-abbrev pub is_built_term : Term → Bool
-is_built_term done = true
-is_built_term (place p) = is_built p
-is_built_term (thrown f v) = true
-is_built_term (seq t rest) = is_built_term t && are_built rest
-is_built_term (in_scope q t h u) = is_built_term t
-is_built_term (exec m o y t) = is_fixed_target y && is_built_term t
-is_built_term (fail m f v t) = is_built_term t
-is_built_term (prot t) = is_built_term t
 
 -- The behaviour of the service is built.
 abbrev pub IsBuiltService : ProgramParts → ℕ → Type 0

@@ -30,7 +30,7 @@ has_once interfaces port = port.input || texts_differ (operation_names (port_ope
 abbrev pub is_met : List (List ℕ) → PortPart → Bool
 is_met locations port = port.input || not (is_local port.location) || is_in port.location locations
 
--- a port: it has a name of its own and a location, and its interfaces are there
+-- a port: its name is not that of the port that every service has, it has a location, and its interfaces are there
 abbrev pub is_port : List InterfacePart → List (List ℕ) → PortPart → Bool
 is_port interfaces locations port =
     not (bytes_eq port.name console) && (is_local port.location || is_socket port.location)

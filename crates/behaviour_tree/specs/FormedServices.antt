@@ -9,22 +9,23 @@ use Rattle.behaviour_tree.specs.FormedPorts.{operation_names, port_operations, i
 use Rattle.behaviour_tree.specs.FormedSets.{set_types, variables_of, is_concurrent, are_sets}
 use Rattle.behaviour_tree.specs.FormedBehaviours.{Reach, branch_operations, is_behaviour, parallel_members}
 
--- an assignment or a copy
-abbrev pub is_assignment : Proc → Bool
-is_assignment (assign p e) = true
-is_assignment (copy p e) = true
-is_assignment p = false
+abbrev mutual
+  -- an assignment or a copy, or several: a sequence counts as its members
+  pub assigns_alone : Proc → Bool
+  assigns_alone (assign p e) = true
+  assigns_alone (copy p e) = true
+  assigns_alone (sequence ps) = all_assign_alone ps
+  assigns_alone p = false
 
--- assignments alone
-abbrev pub are_assignments : Procs → Bool
-are_assignments no_procs = true
-are_assignments (proc p ps) = is_assignment p && are_assignments ps
+  -- each of these
+  pub all_assign_alone : Procs → Bool
+  all_assign_alone no_procs = true
+  all_assign_alone (proc p ps) = assigns_alone p && all_assign_alone ps
 
 -- what a service may do before main: nothing, an assignment, or several
 abbrev pub is_init : Proc → Bool
 is_init nothing = true
-is_init (sequence ps) = are_assignments ps
-is_init p = is_assignment p
+is_init p = assigns_alone p
 
 abbrev mutual
   -- the operations of the first input of a behaviour, where it has one: a choice is its own, a sequence has that of its first

@@ -12,7 +12,3 @@ open_requests (in_scope q t h u) = open_requests t
 open_requests (exec m o y t) = m ∷ open_requests t
 open_requests (fail m f v t) = m ∷ open_requests t
 open_requests (prot t) = open_requests t
-
--- the calls whose answer a term waits for: the forms that make calls have no rule yet
-abbrev pub waiting : Term → List ℕ
-waiting t = []

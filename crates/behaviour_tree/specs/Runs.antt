@@ -1,8 +1,8 @@
 -- A run of the calculus: events, each with its gift, from where a session begins.
-use Rattle.std.specs.Prelude.{◌≡◌, ℕ, List, [], ◌∷◌, Option, None, Some, option_map, slice_get}
+use Rattle.std.specs.Prelude.{◌≡◌, ℕ, List, [], ◌∷◌, Option, Some, option_map, slice_get}
 use Rattle.behaviour_tree.specs.declared.words.Event.{Event}
 use Rattle.behaviour_tree.specs.declared.words.Given.{Given}
-use Rattle.behaviour_tree.specs.Data.{ProgramParts, ServicePart, behaviour_of}
+use Rattle.behaviour_tree.specs.Data.{ProgramParts, behaviour_of}
 use Rattle.behaviour_tree.specs.After.{Config, Done, after, first_config}
 
 -- an event with what the office gave for it
@@ -23,7 +23,3 @@ start_of parts service = option_map (λ s. first_config (behaviour_of s)) (slice
 -- the steps are a run of the service's behaviour that ends at this configuration
 abbrev pub RunsTo : ProgramParts → ℕ → List TakenStep → Config → Type 0
 RunsTo parts service steps last = (from : Config) × (start_of parts service ≡ Some from) × Leads parts service from steps last
-
--- the steps are a run of the service's behaviour
-abbrev pub IsRun : ProgramParts → ℕ → List TakenStep → Type 0
-IsRun parts service steps = (last : Config) × RunsTo parts service steps last

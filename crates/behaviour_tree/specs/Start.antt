@@ -1,7 +1,7 @@
 -- How a form begins, and normal form. Starting a form draws its numbers first; then what is done makes way for its rests.
 use Rattle.std.specs.Prelude.{ℕ}
 use Rattle.behaviour_tree.specs.Data.{Proc, nothing, sequence, Procs, no_procs, proc}
-use Rattle.behaviour_tree.specs.Terms.{Term, done, place, thrown, seq, in_scope, exec, fail, prot, seq_of, prot_of, scope_of}
+use Rattle.behaviour_tree.specs.Terms.{Term, done, place, seq, in_scope, exec, fail, prot, seq_of, prot_of, scope_of}
 
 -- a form that has begun, and the next strand
 pub record Begun : Type 0 where

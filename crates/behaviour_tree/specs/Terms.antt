@@ -4,8 +4,8 @@ use Rattle.jolie_trees.specs.Data.{Tree}
 use Rattle.behaviour_tree.specs.Data.{PathTree, Proc, Procs, no_procs}
 use Rattle.behaviour_tree.specs.Tables.{Table}
 
--- the state of a scope: a fault came that it has a handler for, it is being terminated, its last handler runs,
--- or a fault left it
+-- the state of a scope: its body runs, a fault came that it has a handler for, it is being terminated, its last handler
+-- runs, or a fault left it
 pub data State : Type 0 where
   live : State
   caught : ℕ → Tree → State

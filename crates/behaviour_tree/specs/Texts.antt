@@ -1,5 +1,5 @@
 -- The texts of roots, and the numbers that texts write.
-use Rattle.std.specs.Prelude.{ℕ, zero, ◌+◌, ℤ, pos, neg_ℤ, Bool, true, false, ◌&&◌, ◌==◌, List, [], ◌∷◌, length, nat_le, if◌then◌else◌, Option, None, Some, option_map, codes}
+use Rattle.std.specs.Prelude.{ℕ, ℤ, pos, neg_ℤ, Bool, true, false, ◌&&◌, ◌==◌, List, [], ◌∷◌, length, nat_le, if◌then◌else◌, Option, None, Some, option_map, codes}
 use Rattle.std.specs.Fmt.{signed_decimal}
 use Rattle.std.specs.Str.Parse.{digits_value}
 use Rattle.jolie_trees.specs.declared.root.Root.{Root}

@@ -1,9 +1,9 @@
 -- Which strands are ready before a fault may be handled, and how a fault is carried upward.
 use Rattle.std.specs.Prelude.{ℕ, List, [], ◌∷◌, Option, None, Some, if◌then◌else◌, nat_eq}
 use Rattle.jolie_trees.specs.Data.{Tree}
-use Rattle.behaviour_tree.specs.Data.{Proc, Procs, no_procs}
+use Rattle.behaviour_tree.specs.Data.{Proc}
 use Rattle.behaviour_tree.specs.Tables.{Table, entry}
-use Rattle.behaviour_tree.specs.Terms.{Term, done, place, thrown, seq, in_scope, exec, fail, prot, State, live, caught, term, last, zombie}
+use Rattle.behaviour_tree.specs.Terms.{Term, done, place, thrown, seq, in_scope, exec, fail, prot, State, live, caught, last, zombie}
 
 -- the strands of a form running in strand n that wait to finish a scope. A scope's body, a failed request and what
 -- no fault ends any more are not looked into; installs join with their form

@@ -1,5 +1,5 @@
 ghost use Rattle.std.specs.Prelude.{◌≡◌, map, option_map, IfOk};
-ghost use Rattle.behaviour_tree.specs.View.{behaviour_view, branch_view, expr_view, handler_view, handlers_view, path_view, reply_view};
+ghost use Rattle.behaviour_tree.specs.View.{behaviour_view, branch_view, handler_view, handlers_view, path_view, reply_view};
 
 use crate::expr::{Expr, PathExpr};
 use std::alloc::AllocError;

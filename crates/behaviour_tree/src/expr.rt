@@ -1,4 +1,4 @@
-ghost use Rattle.std.specs.Prelude.{◌≡◌, map, option_map, IfOk};
+ghost use Rattle.std.specs.Prelude.{◌≡◌, map, IfOk};
 ghost use Rattle.behaviour_tree.specs.View.{expr_view, member_view, mul_part_view, path_view, step_view, sum_part_view};
 
 use jolie_trees::{Root, Text};

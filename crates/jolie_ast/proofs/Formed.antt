@@ -125,19 +125,19 @@ not_forms value =
     ap form_formed (sym (form.rolls-Not value))
     ∙ fold-roll-ExprForm Bool Bool Bool Bool Bool Bool Bool form_level expr_level factor_level member_level path_level step_level term_level (ExprForm-F.Not value)
 
-pub product_forms : (first : Expr) (rest : List Factor) → form_formed (form.Product first rest) ≡ expr_formed first && list_all factor_formed rest
+pub product_forms : (first : Expr) (rest : List Factor) → form_formed (form.Product first rest) ≡ expr_formed first && (has_one rest && list_all factor_formed rest)
 unfolding expr_formed factor_formed form_formed member_formed path_formed step_formed term_formed
 product_forms first rest =
     ap form_formed (sym (form.rolls-Product first rest))
     ∙ fold-roll-ExprForm Bool Bool Bool Bool Bool Bool Bool form_level expr_level factor_level member_level path_level step_level term_level (ExprForm-F.Product first rest)
-    ∙ ap (λ b. expr_formed first && b) (each-map factor_formed rest)
+    ∙ ap (λ b. expr_formed first && b) (one_and_each factor_formed rest)
 
-pub sum_forms : (first : Expr) (rest : List Term) → form_formed (form.Sum first rest) ≡ expr_formed first && list_all term_formed rest
+pub sum_forms : (first : Expr) (rest : List Term) → form_formed (form.Sum first rest) ≡ expr_formed first && (has_one rest && list_all term_formed rest)
 unfolding expr_formed factor_formed form_formed member_formed path_formed step_formed term_formed
 sum_forms first rest =
     ap form_formed (sym (form.rolls-Sum first rest))
     ∙ fold-roll-ExprForm Bool Bool Bool Bool Bool Bool Bool form_level expr_level factor_level member_level path_level step_level term_level (ExprForm-F.Sum first rest)
-    ∙ ap (λ b. expr_formed first && b) (each-map term_formed rest)
+    ∙ ap (λ b. expr_formed first && b) (one_and_each term_formed rest)
 
 pub compare_forms : (left : Expr) (compared : Comparison) (right : Expr) → form_formed (form.Compare left compared right) ≡ expr_formed left && expr_formed right
 unfolding expr_formed factor_formed form_formed member_formed path_formed step_formed term_formed

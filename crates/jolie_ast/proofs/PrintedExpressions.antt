@@ -1,24 +1,21 @@
 -- What the tokens of an expression are at each form.
-use Rattle.std.proofs.Common.{◌≡◌, ℕ, ℤ, Bool, true, false, if◌then◌else◌, List, [], ◌∷◌, ◌++◌, map, Option, Some, None, ap, sym, ◌∙◌, codes, flat_map}
+use Rattle.std.proofs.Common.{◌≡◌, ℕ, ℤ, Bool, true, false, if◌then◌else◌, List, [], ◌∷◌, ◌++◌, Option, Some, None, ap, sym, ◌∙◌, codes, flat_map}
 use Rattle.std.specs.Prelude.{option_map}
 use Rattle.jolie_ast.specs.declared.name.Name.{Name}
 use Rattle.jolie_ast.specs.declared.expression.Comparison.{Comparison}
 use Rattle.jolie_ast.specs.declared.expression.CastTarget.{CastTarget}
-use Rattle.jolie_ast.specs.declared.expression.Additive.{Additive}
-use Rattle.jolie_ast.specs.declared.expression.Multiplicative.{Multiplicative}
 use Rattle.jolie_ast.specs.declared.expression.ExprForm.TheOpen.{ExprForm-F}
 use Rattle.jolie_ast.specs.declared.expression.ExprForm.TheFolds.{fold-roll-Expr, fold-roll-ExprForm, fold-roll-Factor, fold-roll-Member, fold-roll-Path, fold-roll-Step, fold-roll-Term}
-use Rattle.jolie_ast.specs.declared.expression.Expr.{Expr, out-Expr, roll-Expr, roll-out-Expr}
-use Rattle.jolie_ast.specs.declared.expression.ExprForm.{ExprForm}
+use Rattle.jolie_ast.specs.declared.expression.Expr.{Expr, out-Expr, roll-out-Expr}
 use Rattle.jolie_ast.specs.declared.expression.ExprForm.TheVariants as form
-use Rattle.jolie_ast.specs.declared.expression.Factor.{Factor, out-Factor, roll-Factor, roll-out-Factor}
-use Rattle.jolie_ast.specs.declared.expression.Term.{Term, out-Term, roll-Term, roll-out-Term}
-use Rattle.jolie_ast.specs.declared.expression.Member.{Member, out-Member, roll-Member, roll-out-Member}
-use Rattle.jolie_ast.specs.declared.expression.Path.{Path, out-Path, roll-Path, roll-out-Path}
+use Rattle.jolie_ast.specs.declared.expression.Factor.{Factor, out-Factor, roll-out-Factor}
+use Rattle.jolie_ast.specs.declared.expression.Term.{Term, out-Term, roll-out-Term}
+use Rattle.jolie_ast.specs.declared.expression.Member.{Member, out-Member, roll-out-Member}
+use Rattle.jolie_ast.specs.declared.expression.Path.{Path, out-Path, roll-out-Path}
 use Rattle.jolie_ast.specs.declared.expression.Step.{Step, out-Step, roll-Step, roll-out-Step}
 use Rattle.jolie_ast.specs.Spacing.{Token, separated, with_token, after}
 use Rattle.jolie_ast.proofs.Spacing.{after_append, mapped_tokens, mapped_separated}
-use Rattle.jolie_ast.specs.PrintedExpressions.{Shown, simple, operation, operand, in_parens, in_brackets, in_braces, index_tokens, int_token, long_token, quoted_token, truth_token, cast_token, comparison_token, additive_token, multiplicative_token, form_level, expr_level, factor_level, member_level, path_level, step_level, term_level, form_shown, expr_shown, factor_tokens, term_tokens, member_tokens, path_tokens, step_tokens, expr_tokens, operand_tokens}
+use Rattle.jolie_ast.specs.PrintedExpressions.{Shown, simple, operation, operand, in_parens, in_braces, index_tokens, int_token, long_token, quoted_token, truth_token, cast_token, comparison_token, additive_token, multiplicative_token, form_level, expr_level, factor_level, member_level, path_level, step_level, term_level, form_shown, expr_shown, factor_tokens, term_tokens, member_tokens, path_tokens, step_tokens, expr_tokens, operand_tokens}
 
 pub int_shown : (n : ℤ) → form_shown (form.Int n) ≡ simple (int_token n ∷ [])
 unfolding expr_shown factor_tokens form_shown member_tokens path_tokens step_tokens term_tokens

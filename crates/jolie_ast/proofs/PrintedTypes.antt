@@ -1,17 +1,14 @@
 -- What the tokens of a type are at each form.
-use Rattle.std.proofs.Common.{◌≡◌, ℕ, List, [], ◌∷◌, ◌++◌, map, Option, Some, None, ap, sym, ◌∙◌, codes, flat_map}
-use Rattle.std.specs.Prelude.{option_map}
+use Rattle.std.proofs.Common.{◌≡◌, ℕ, List, [], ◌∷◌, ◌++◌, Some, None, ap, sym, ◌∙◌, codes, flat_map}
 use Rattle.jolie_ast.specs.declared.name.Name.{Name}
-use Rattle.jolie_ast.specs.declared.types.Cardinality.{Cardinality}
 use Rattle.jolie_ast.specs.declared.types.RootKind.{RootKind}
 use Rattle.jolie_ast.specs.declared.types.TypeBody.TheOpen.{TypeBody-F}
 use Rattle.jolie_ast.specs.declared.types.TypeBody.TheFolds.{fold-roll-TypeBody, fold-roll-Field}
-use Rattle.jolie_ast.specs.declared.types.TypeBody.{TypeBody}
 use Rattle.jolie_ast.specs.declared.types.TypeBody.TheVariants as body
-use Rattle.jolie_ast.specs.declared.types.Field.{Field, out-Field, roll-Field, roll-out-Field}
+use Rattle.jolie_ast.specs.declared.types.Field.{Field, out-Field, roll-out-Field}
 use Rattle.jolie_ast.specs.Spacing.{Token}
 use Rattle.jolie_ast.specs.PrintedExpressions.{in_braces}
-use Rattle.jolie_ast.specs.Printed.{root_token, maybe_cardinality, field_braces, body_level, field_level, body_tokens, field_tokens}
+use Rattle.jolie_ast.specs.Printed.{root_token, maybe_cardinality, body_level, field_level, body_tokens, field_tokens}
 use Rattle.jolie_ast.proofs.Spacing.{mapped_tokens}
 
 pub root_alone : (at : ℕ) (kind : RootKind) → body_tokens (body.Root at kind None) ≡ root_token kind ∷ []

@@ -1,7 +1,7 @@
 -- Laws of tokens one after another.
 use Rattle.std.proofs.Common.{◌≡◌, ℕ, ◌+◌, ◌-◌, ◌<◌, ◌≤◌, arith, drop, List, [], ◌∷◌, ◌++◌, map, length, get_or, take, Option, Some, None, refl, ap, sym, ◌∙◌, flat_map, append_assoc, append-nil}
 use Rattle.std.proofs.lemmas.List.{flat_map_more, take_all, take_more}
-use Rattle.jolie_ast.specs.Spacing.{Token, separated, spaced, joined, text_of, with_token, after, ended}
+use Rattle.jolie_ast.specs.Spacing.{Token, separated, spaced, text_of, with_token, after, ended}
 
 -- tokens of what was mapped
 pub mapped_tokens : {X Y A : Type 0} (g : Y → List A) (f : X → Y) (xs : List X) → flat_map g (map f xs) ≡ flat_map (λ x. g (f x)) xs

@@ -1,4 +1,4 @@
--- What is formed: each sequence and each parallel has two members at least, each `||` and `&&` two operands, each choice one branch.
+-- What is formed: each sequence and each parallel has two members at least, each level of an expression two operands, each choice one branch.
 use Rattle.std.specs.Prelude.{Bool, true, false, ◌&&◌, List, [], ◌∷◌, Option, Some, None}
 use Rattle.std.specs.List.{list_all}
 use Rattle.jolie_ast.specs.declared.expression.ExprForm.TheOpen.{Expr-F, ExprForm-F, Factor-F, Member-F, Path-F, Step-F, Term-F}
@@ -57,7 +57,7 @@ if_there part = option_all (λ b. b) part
 
 -- ---- expressions
 
--- one level of a form, with whether its parts are formed: `&&` and `||` have two operands at least
+-- one level of a form, with whether its parts are formed: what joins operands has two at least
 abbrev pub form_level : ExprForm-F Bool Bool Bool Bool Bool Bool Bool → Bool
 form_level (ExprForm-F.Int n) = true
 form_level (ExprForm-F.Long n) = true
@@ -70,8 +70,8 @@ form_level (ExprForm-F.Cast to value) = value
 form_level (ExprForm-F.Literal members) = each members
 form_level (ExprForm-F.Minus value) = value
 form_level (ExprForm-F.Not value) = value
-form_level (ExprForm-F.Product first rest) = first && each rest
-form_level (ExprForm-F.Sum first rest) = first && each rest
+form_level (ExprForm-F.Product first rest) = first && (has_one rest && each rest)
+form_level (ExprForm-F.Sum first rest) = first && (has_one rest && each rest)
 form_level (ExprForm-F.Compare left compared right) = left && right
 form_level (ExprForm-F.And values) = has_two values && each values
 form_level (ExprForm-F.Or values) = has_two values && each values

@@ -1,5 +1,5 @@
 -- The printed form of a file.
-use Rattle.std.specs.Prelude.{ℕ, ℤ, List, [], ◌∷◌, ◌++◌, flat_map, Option, Some, None, option_map, codes}
+use Rattle.std.specs.Prelude.{ℕ, ℤ, List, [], ◌∷◌, ◌++◌, flat_map, Option, Some, None, codes}
 use Rattle.jolie_ast.specs.declared.name.Name.{Name}
 use Rattle.jolie_ast.specs.declared.types.TypeDefinition.{TypeDefinition}
 use Rattle.jolie_ast.specs.declared.types.DefinedType.{DefinedType}

@@ -1,6 +1,5 @@
 -- The tokens of a process.
 use Rattle.std.specs.Prelude.{List, [], ◌∷◌, ◌++◌, flat_map, Option, Some, None, option_map, codes}
-use Rattle.jolie_ast.specs.declared.name.Name.{Name}
 use Rattle.jolie_ast.specs.declared.expression.Expr.{Expr}
 use Rattle.jolie_ast.specs.declared.expression.Path.{Path}
 use Rattle.jolie_ast.specs.declared.process.Assignment.{Assignment}
@@ -23,7 +22,7 @@ use Rattle.jolie_ast.specs.declared.process.Branch.{Branch}
 use Rattle.jolie_ast.specs.declared.process.Answer.{Answer}
 use Rattle.jolie_ast.specs.declared.process.Handler.{Handler}
 use Rattle.jolie_ast.specs.Spacing.{Token, separated}
-use Rattle.jolie_ast.specs.PrintedExpressions.{Shown, in_parens, in_brackets, in_braces, maybe, expr_tokens, expr_shown, path_tokens}
+use Rattle.jolie_ast.specs.PrintedExpressions.{in_parens, in_brackets, in_braces, maybe, expr_tokens, path_tokens}
 
 -- the sign of a count: `++` or `--`
 abbrev pub count_token : Count → Token

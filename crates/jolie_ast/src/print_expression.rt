@@ -1,6 +1,6 @@
 ghost use Rattle.std.specs.Prelude.{◌≡◌, OnOk, flat_map, codes};
 ghost use Rattle.jolie_ast.specs.Spacing.{after, separated, with_token};
-ghost use Rattle.jolie_ast.specs.PrintedExpressions.{additive_token, cast_token, comparison_token, multiplicative_token, expr_shown, expr_tokens, factor_tokens, form_shown, member_tokens, operand_tokens, path_tokens, step_tokens, term_tokens, in_parens};
+ghost use Rattle.jolie_ast.specs.PrintedExpressions.{additive_token, cast_token, comparison_token, multiplicative_token, expr_tokens, factor_tokens, form_shown, member_tokens, operand_tokens, path_tokens, step_tokens, term_tokens, in_parens};
 
 use crate::expression::{
     Additive, CastTarget, Comparison, Expr, ExprForm, Factor, Member, Multiplicative, Path, Step,

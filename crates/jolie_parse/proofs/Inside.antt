@@ -1,5 +1,5 @@
 -- Reading what stands in brackets and behind prefixes.
-use Rattle.std.proofs.Common.{◌≡◌, ℕ, zero, suc, ◌≤◌, ◌<◌, ◌+◌, ◌-◌, Bool, true, false, List, [], ◌∷◌, Result, refl, ap, ◌∙◌, arith, if◌then◌else◌}
+use Rattle.std.proofs.Common.{◌≡◌, ℕ, zero, suc, ◌<◌, ◌-◌, Bool, true, false, List, [], ◌∷◌, Result, refl, ap, arith, if◌then◌else◌}
 use Rattle.jolie_parse.specs.declared.class.Class.{Class}
 use Rattle.jolie_parse.specs.declared.stop.Stop.{Stop}
 use Rattle.jolie_parse.specs.declared.stop.Stop.TheVariants.{Syntax, TooDeep, Memory}

@@ -17,14 +17,6 @@ pub or_cases : (a b : Bool) → a || b ≡ true → (a ≡ true) ⊎ (b ≡ true
 or_cases true b e = inl refl
 or_cases false b e = inr e
 
-pub or_no_left : (a b : Bool) → a || b ≡ false → a ≡ false
-or_no_left true b e = cc
-or_no_left false b e = refl
-
-pub or_no_right : (a b : Bool) → a || b ≡ false → b ≡ false
-or_no_right true b e = cc
-or_no_right false b e = e
-
 pub or_left : (a b : Bool) → a ≡ true → a || b ≡ true
 or_left true b e = refl
 or_left false b e = cc

@@ -1,6 +1,5 @@
-ghost use Rattle.std.specs.Prelude.{◌≡◌, ◌+◌, ◌≤◌, ◌<◌, ◌↔◌, IsTrue, IsUtf8, length, take, drop, [], ◌∷◌, IfOk};
+ghost use Rattle.std.specs.Prelude.{◌≡◌, ◌+◌, ◌<◌, ◌↔◌, IsTrue, take, [], ◌∷◌, IfOk};
 ghost use Rattle.std.specs.List.{All};
-ghost use Rattle.jolie_parse.specs.Classes as spec;
 ghost use Rattle.jolie_parse.specs.Classes.{begins, spelled, spelled_one};
 ghost use Rattle.jolie_parse.specs.Levels.{rest_place};
 ghost use Rattle.jolie_parse.specs.Reading.{Outcome, take_token};

@@ -1,6 +1,6 @@
 //! Names, and the statements and parts of statements in which no block stands.
 
-ghost use Rattle.std.specs.Prelude.{◌≡◌, ◌∷◌, []};
+ghost use Rattle.std.specs.Prelude.{◌≡◌};
 ghost use Rattle.jolie_parse.specs.Classes as c;
 ghost use Rattle.jolie_parse.specs.Grammar as spec;
 ghost use Rattle.jolie_parse.specs.Meanings as means_as;

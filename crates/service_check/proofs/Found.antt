@@ -46,10 +46,6 @@ item_is n [] = refl
 item_is zero (x ∷ xs) = refl
 item_is (suc n) (x ∷ xs) = item_is n xs
 
--- the item at a place of a list of references that is there
-pub get_now : {X : Type 0} (n : ℕ) (items : List (Bor X)) (r : Bor X) → n < length items → r ≡ get_or items n r → slice_get (map (λ d. d.now) items) n ≡ Some r.now
-get_now {X} n items r below there = sym (item_is n (map (λ (d : Bor X). d.now) items)) ∙ item_now n items r below there
-
 -- a type of a list of references is found
 pub type_found : (items : List (Bor TypeDefinition)) (q : List ℕ) (n : ℕ) (r : Bor TypeDefinition) → place_of (map (λ (d : TypeDefinition). d.name.text) (map (λ d. d.now) items)) q ≡ Some n → n < length items → r ≡ get_or items n r
     → Some r.now ≡ type_named (map (λ d. d.now) items) q

@@ -8,13 +8,12 @@ use Rattle.jolie_ast.specs.declared.expression.Comparison.{Comparison}
 use Rattle.jolie_ast.specs.declared.expression.CastTarget.{CastTarget}
 use Rattle.jolie_ast.specs.declared.expression.ExprForm.TheOpen.{ExprForm-F}
 use Rattle.jolie_ast.specs.declared.expression.ExprForm.TheFolds.{fold-roll-Expr, fold-roll-ExprForm, fold-roll-Factor, fold-roll-Member, fold-roll-Path, fold-roll-Step, fold-roll-Term}
-use Rattle.jolie_ast.specs.declared.expression.Expr.{Expr, out-Expr, roll-Expr, roll-out-Expr}
-use Rattle.jolie_ast.specs.declared.expression.ExprForm.{ExprForm}
+use Rattle.jolie_ast.specs.declared.expression.Expr.{Expr, out-Expr, roll-out-Expr}
 use Rattle.jolie_ast.specs.declared.expression.ExprForm.TheVariants as form
-use Rattle.jolie_ast.specs.declared.expression.Factor.{Factor, out-Factor, roll-Factor, roll-out-Factor}
-use Rattle.jolie_ast.specs.declared.expression.Term.{Term, out-Term, roll-Term, roll-out-Term}
-use Rattle.jolie_ast.specs.declared.expression.Member.{Member, out-Member, roll-Member, roll-out-Member}
-use Rattle.jolie_ast.specs.declared.expression.Path.{Path, out-Path, roll-Path, roll-out-Path}
+use Rattle.jolie_ast.specs.declared.expression.Factor.{Factor, out-Factor, roll-out-Factor}
+use Rattle.jolie_ast.specs.declared.expression.Term.{Term, out-Term, roll-out-Term}
+use Rattle.jolie_ast.specs.declared.expression.Member.{Member, out-Member, roll-out-Member}
+use Rattle.jolie_ast.specs.declared.expression.Path.{Path, out-Path, roll-out-Path}
 use Rattle.jolie_ast.specs.declared.expression.Step.{Step, out-Step, roll-Step, roll-out-Step}
 use Rattle.behaviour_tree.specs.Data as plain
 use Rattle.behaviour_tree.specs.Data.{PathTree, Exp}

@@ -8,7 +8,7 @@ use Rattle.jolie_ast.specs.declared.types.TypeBody.TheOpen.{TypeBody-F}
 use Rattle.jolie_ast.specs.declared.types.TypeBody.TheFolds.{fold-roll-TypeBody, fold-roll-Field}
 use Rattle.jolie_ast.specs.declared.types.TypeBody.{roll-TypeBody}
 use Rattle.jolie_ast.specs.declared.types.TypeBody.TheVariants as body
-use Rattle.jolie_ast.specs.declared.types.Field.{Field, out-Field, roll-Field, roll-out-Field}
+use Rattle.jolie_ast.specs.declared.types.Field.{Field, out-Field, roll-out-Field}
 use Rattle.behaviour_tree.specs.declared.types.RootKind.TheVariants as kind
 use Rattle.behaviour_tree.specs.Data as plain
 use Rattle.behaviour_tree.specs.Data.{TypeTree}

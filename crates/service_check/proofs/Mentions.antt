@@ -1,6 +1,6 @@
 -- The names of a file, one part after the other, and what each form of a process names.
-use Rattle.std.proofs.Common.{◌≡◌, ℕ, Bool, true, false, ◌+◌, ◌<◌, List, [], ◌∷◌, ◌++◌, map, flat_map, length, get_or, take, Option, None, Some, refl, ap, sym, ◌∙◌, bytes_eq}
-use Rattle.std.specs.Prelude.{option_map, if◌then◌else◌, ◌||◌}
+use Rattle.std.proofs.Common.{◌≡◌, ℕ, ◌+◌, ◌<◌, List, [], ◌∷◌, ◌++◌, map, flat_map, length, get_or, take, Option, None, Some, refl, ap, sym, ◌∙◌}
+use Rattle.std.specs.Prelude.{option_map}
 use Rattle.std.proofs.lemmas.List.{flat_map_more, map-append, take_more}
 use Rattle.jolie_ast.specs.declared.name.Name.{Name}
 use Rattle.jolie_ast.specs.declared.expression.Expr.{Expr}
@@ -15,11 +15,11 @@ use Rattle.jolie_ast.specs.declared.process.Process.TheVariants as process
 use Rattle.jolie_ast.specs.declared.process.Process.{Process}
 use Rattle.jolie_ast.specs.declared.process.Answer.{Answer, out-Answer, roll-Answer, roll-out-Answer}
 use Rattle.jolie_ast.specs.declared.process.Block.{Block, out-Block, roll-Block, roll-out-Block}
-use Rattle.jolie_ast.specs.declared.process.Branch.{Branch, out-Branch, roll-Branch, roll-out-Branch}
-use Rattle.jolie_ast.specs.declared.process.Handler.{Handler, out-Handler, roll-Handler, roll-out-Handler}
-use Rattle.jolie_ast.specs.declared.process.If.{If, out-If, roll-If, roll-out-If}
+use Rattle.jolie_ast.specs.declared.process.Branch.{Branch, out-Branch, roll-out-Branch}
+use Rattle.jolie_ast.specs.declared.process.Handler.{Handler, out-Handler, roll-out-Handler}
+use Rattle.jolie_ast.specs.declared.process.If.{If, out-If, roll-out-If}
 use Rattle.jolie_ast.specs.declared.process.Input.{Input, out-Input, roll-Input, roll-out-Input}
-use Rattle.jolie_ast.specs.declared.process.Reply.{Reply, out-Reply, roll-Reply, roll-out-Reply}
+use Rattle.jolie_ast.specs.declared.process.Reply.{Reply, out-Reply, roll-out-Reply}
 use Rattle.jolie_ast.specs.declared.interface.OneWay.{OneWay}
 use Rattle.jolie_ast.specs.declared.interface.OperationGroup.{OperationGroup}
 use Rattle.jolie_ast.specs.declared.interface.RequestResponse.{RequestResponse}
@@ -27,7 +27,7 @@ use Rattle.jolie_ast.specs.declared.tree.Definition.{Definition}
 use Rattle.service_check.specs.Files.{answering, silent, group_operations}
 use Rattle.service_check.proofs.Firsts.{with_none}
 use Rattle.service_check.proofs.Operations.{each_of_each, each_mapped}
-use Rattle.service_check.specs.Mentioned.{Texts, all, maybe, maybe_all, key_texts, with_text, with_texts, otherwise_level, process_level, answer_level, block_level, branch_level, handler_level, if_level, input_level, reply_level, process_texts, conditional_texts, otherwise_texts, input_texts, reply_texts, branch_texts, answer_texts, handler_texts, block_texts, fault_text, thrown_by, definition_texts, standard, names_of}
+use Rattle.service_check.specs.Mentioned.{Texts, all, maybe, key_texts, with_text, with_texts, otherwise_level, process_level, answer_level, block_level, branch_level, handler_level, if_level, input_level, reply_level, process_texts, conditional_texts, otherwise_texts, input_texts, reply_texts, branch_texts, answer_texts, handler_texts, block_texts, fault_text, thrown_by, definition_texts, standard, names_of}
 
 -- ---- lists
 

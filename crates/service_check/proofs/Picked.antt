@@ -1,11 +1,10 @@
 -- Laws of what is picked from a list: loops that check or add what an item is, where it is that.
-use Rattle.std.proofs.Common.{◌≡◌, ℕ, ◌+◌, ◌<◌, List, [], ◌∷◌, ◌++◌, map, length, get_or, take, drop, Option, Some, None, refl, ap, sym, ◌∙◌, flat_map}
+use Rattle.std.proofs.Common.{◌≡◌, ℕ, ◌+◌, ◌<◌, List, [], ◌∷◌, ◌++◌, map, length, get_or, take, Option, Some, None, refl, ap, sym, ◌∙◌, flat_map}
 use Rattle.std.specs.Prelude.{option_map}
 use Rattle.std.specs.List.{filter_map, cons_option}
 use Rattle.std.specs.Option.{option_to_list}
-use Rattle.std.proofs.lemmas.List.{at_drop_more, take_more}
+use Rattle.std.proofs.lemmas.List.{take_more}
 use Rattle.service_check.specs.declared.refusal.Refusal.{Refusal}
-use Rattle.service_check.specs.Files.{first_there}
 use Rattle.service_check.specs.Least.{joined}
 use Rattle.service_check.proofs.Joined.{turn_of}
 use Rattle.service_check.proofs.Appended.{adding_turn}
@@ -89,25 +88,3 @@ picked_more h xs i x below item =
     ∙ ap (λ y. filter_map h (take i xs ++ y ∷ [])) (sym item)
     ∙ picked_append h (take i xs) (x ∷ [])
     ∙ ap (λ ys. filter_map h (take i xs) ++ ys) (picked_one (h x))
-
--- ---- the first that is picked
-
-first_behind : {Y : Type 0} (o : Option Y) (ys : List Y) → o ≡ None → first_there (cons_option o ys) ≡ first_there ys
-first_behind None ys e = refl
-first_behind (Some y) ys e = cc
-
-first_here : {Y : Type 0} (o : Option Y) (ys : List Y) (y : Y) → o ≡ Some y → first_there (cons_option o ys) ≡ Some y
-first_here None ys y e = cc
-first_here (Some z) ys y e = e
-
--- the first of the rest, where an item is none
-pub first_passes : {X Y : Type 0} (h : X → Option Y) (xs : List X) (i : ℕ) (x : X) → i < length xs → x ≡ get_or xs i x → h x ≡ None → first_there (filter_map h (drop (i + 1) xs)) ≡ first_there (filter_map h (drop i xs))
-first_passes h xs i x below item none =
-    sym (at_drop_more (λ ys. first_there (filter_map h ys)) xs i x below
-    ∙ first_behind (h (get_or xs i x)) (filter_map h (drop (i + 1) xs)) (ap h (sym item) ∙ none))
-
--- the first of the rest, where an item is one
-pub first_stops : {X Y : Type 0} (h : X → Option Y) (xs : List X) (i : ℕ) (x : X) (y : Y) → i < length xs → x ≡ get_or xs i x → h x ≡ Some y → first_there (filter_map h (drop i xs)) ≡ Some y
-first_stops h xs i x y below item some =
-    at_drop_more (λ ys. first_there (filter_map h ys)) xs i x below
-    ∙ first_here (h (get_or xs i x)) (filter_map h (drop (i + 1) xs)) y (ap h (sym item) ∙ some)

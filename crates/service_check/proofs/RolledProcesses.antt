@@ -19,7 +19,7 @@ use Rattle.jolie_ast.specs.declared.process.If.{If, roll-If}
 use Rattle.jolie_ast.specs.declared.process.Input.{Input, roll-Input}
 use Rattle.jolie_ast.specs.declared.process.Reply.{Reply, roll-Reply}
 use Rattle.jolie_ast.specs.Formed as tree
-use Rattle.jolie_ast.specs.Formed.{each, if_there, option_all, expr_formed, path_formed, process_formed, block_formed, if_formed, otherwise_formed, input_formed, reply_formed, branch_formed, answer_formed, handler_formed}
+use Rattle.jolie_ast.specs.Formed.{each, option_all, expr_formed, path_formed, process_formed, block_formed, if_formed, otherwise_formed, input_formed, reply_formed, branch_formed, answer_formed, handler_formed}
 use Rattle.behaviour_tree.specs.Data as plain
 use Rattle.behaviour_tree.specs.Data.{Proc}
 use Rattle.behaviour_tree.specs.View.{HandlerView, BranchView, ReplyView}
@@ -138,10 +138,6 @@ answer_forms path (Some fs) = fold-roll-Answer Bool Bool Bool Bool Bool Bool Boo
 pub handler_forms : (key : HandlerKey) (body : Process) → handler_formed (roll-Handler (record { key = key; body = body })) ≡ process_formed body
 unfolding process_formed block_formed if_formed otherwise_formed input_formed reply_formed branch_formed answer_formed handler_formed
 handler_forms key body = fold-roll-Handler Bool Bool Bool Bool Bool Bool Bool Bool Bool tree.otherwise_level tree.process_level tree.answer_level tree.block_level tree.branch_level tree.handler_level tree.if_level tree.input_level tree.reply_level (record { key = key; body = body })
-
-pub no_else_forms : otherwise_formed otherwise.Nothing ≡ true
-unfolding process_formed block_formed if_formed otherwise_formed input_formed reply_formed branch_formed answer_formed handler_formed
-no_else_forms = ap otherwise_formed (sym otherwise.rolls-Nothing) ∙ fold-roll-Otherwise Bool Bool Bool Bool Bool Bool Bool Bool Bool tree.otherwise_level tree.process_level tree.answer_level tree.block_level tree.branch_level tree.handler_level tree.if_level tree.input_level tree.reply_level Otherwise-F.«Otherwise::Nothing»
 
 pub else_if_forms : (i : If) → otherwise_formed (otherwise.ElseIf i) ≡ if_formed i
 unfolding process_formed block_formed if_formed otherwise_formed input_formed reply_formed branch_formed answer_formed handler_formed

@@ -1,5 +1,5 @@
 -- What expressions of a program stand for, at each form.
-use Rattle.std.proofs.Common.{◌≡◌, ℕ, List, map, Option, None, Some, Vec, Box, Global, ap, sym, ◌∙◌}
+use Rattle.std.proofs.Common.{◌≡◌, ℕ, List, map, None, Some, Vec, Box, Global, ap, sym, ◌∙◌}
 use Rattle.jolie_trees.specs.declared.root.Root.{Root}
 use Rattle.behaviour_tree.specs.declared.expr.SumOp.{SumOp}
 use Rattle.behaviour_tree.specs.declared.expr.MulOp.{MulOp}

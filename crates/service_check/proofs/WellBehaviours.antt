@@ -27,7 +27,7 @@ use Rattle.jolie_ast.specs.declared.process.Input.{Input, out-Input, roll-Input}
 use Rattle.jolie_ast.specs.declared.process.Reply.{Reply, roll-Reply}
 use Rattle.jolie_ast.specs.Formed.{each, has_one, has_two, option_all, expr_formed, path_formed, assignment_formed, for_step_formed, process_formed, block_formed, if_formed, otherwise_formed, input_formed, reply_formed, branch_formed, answer_formed, handler_formed}
 use Rattle.behaviour_tree.specs.Data as plain
-use Rattle.behaviour_tree.specs.Data.{PathTree, Proc, Branches, Exp}
+use Rattle.behaviour_tree.specs.Data.{PathTree, Proc, Branches}
 use Rattle.behaviour_tree.specs.View.{BranchView, HandlerView, ReplyView, branch_of, branches_of, handlers_of, procs_of}
 use Rattle.behaviour_tree.specs.Distinct.{is_some_list, numbers_differ}
 use Rattle.behaviour_tree.specs.FormedExpressions.{is_exp, is_path, is_target}

@@ -15,7 +15,7 @@ use Rattle.jolie_ast.specs.declared.expression.Path.{Path, roll-Path}
 use Rattle.jolie_ast.specs.declared.expression.Step.{Step, roll-Step}
 use Rattle.jolie_ast.specs.declared.expression.Term.{Term, roll-Term}
 use Rattle.jolie_ast.specs.Formed as tree
-use Rattle.jolie_ast.specs.Formed.{has_two, each, if_there, option_all, form_formed, expr_formed, factor_formed, member_formed, path_formed, step_formed, term_formed}
+use Rattle.jolie_ast.specs.Formed.{has_one, has_two, each, option_all, form_formed, expr_formed, factor_formed, member_formed, path_formed, step_formed, term_formed}
 use Rattle.behaviour_tree.specs.Data.{Exp, PathTree}
 use Rattle.behaviour_tree.specs.View.{StepView, SumPartView, MulPartView, MemberView, path_of, step_of, exps_of, sum_parts_of, mul_parts_of, member_list_of}
 use Rattle.behaviour_tree.specs.FormedExpressions.{is_exp, is_path, are_exps, are_two_exps, are_sum_parts, are_mul_parts, are_members}
@@ -189,12 +189,14 @@ form_known (ExprForm-F.Minus (e, k)) h = ap is_exp (form_means (ExprForm-F.Minus
 form_known (ExprForm-F.Not (e, k)) h = ap is_exp (form_means (ExprForm-F.Not e)) ∙ k (sym (form_is (ExprForm-F.Not e)) ∙ h)
 form_known (ExprForm-F.Product (e, k) factors) h =
     let fs : List Factor = map (λ e. e.0) factors in
-    let parts : (expr_formed e ≡ true) × (each (map factor_formed fs) ≡ true) = and_parts (expr_formed e) (each (map factor_formed fs)) (sym (form_is (ExprForm-F.Product e fs)) ∙ h) in
-    ap is_exp (form_means (ExprForm-F.Product e fs)) ∙ and_from (is_exp (meant_expr e)) (are_mul_parts (mul_parts_of (map meant_factor fs))) (k parts.0) (factors_known factors parts.1)
+    let both = and_parts (expr_formed e) (has_one (map factor_formed fs) && each (map factor_formed fs)) (sym (form_is (ExprForm-F.Product e fs)) ∙ h) in
+    let parts = and_parts (has_one (map factor_formed fs)) (each (map factor_formed fs)) both.1 in
+    ap is_exp (form_means (ExprForm-F.Product e fs)) ∙ and_from (is_exp (meant_expr e)) (are_mul_parts (mul_parts_of (map meant_factor fs))) (k both.0) (factors_known factors parts.1)
 form_known (ExprForm-F.Sum (e, k) terms) h =
     let ts : List Term = map (λ e. e.0) terms in
-    let parts : (expr_formed e ≡ true) × (each (map term_formed ts) ≡ true) = and_parts (expr_formed e) (each (map term_formed ts)) (sym (form_is (ExprForm-F.Sum e ts)) ∙ h) in
-    ap is_exp (form_means (ExprForm-F.Sum e ts)) ∙ and_from (is_exp (meant_expr e)) (are_sum_parts (sum_parts_of (map meant_term ts))) (k parts.0) (terms_known terms parts.1)
+    let both = and_parts (expr_formed e) (has_one (map term_formed ts) && each (map term_formed ts)) (sym (form_is (ExprForm-F.Sum e ts)) ∙ h) in
+    let parts = and_parts (has_one (map term_formed ts)) (each (map term_formed ts)) both.1 in
+    ap is_exp (form_means (ExprForm-F.Sum e ts)) ∙ and_from (is_exp (meant_expr e)) (are_sum_parts (sum_parts_of (map meant_term ts))) (k both.0) (terms_known terms parts.1)
 form_known (ExprForm-F.Compare (l, j) by (r, k)) h =
     let parts : (expr_formed l ≡ true) × (expr_formed r ≡ true) = and_parts (expr_formed l) (expr_formed r) (sym (form_is (ExprForm-F.Compare l by r)) ∙ h) in
     ap is_exp (form_means (ExprForm-F.Compare l by r)) ∙ and_from (is_exp (meant_expr l)) (is_exp (meant_expr r)) (j parts.0) (k parts.1)

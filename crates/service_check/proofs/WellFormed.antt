@@ -22,7 +22,7 @@ use Rattle.behaviour_tree.specs.Distinct.{is_some_list, texts_differ}
 use Rattle.behaviour_tree.specs.FormedTypes.{are_types}
 use Rattle.behaviour_tree.specs.FormedSets.{are_sets}
 use Rattle.behaviour_tree.specs.FormedBehaviours.{is_behaviour, parallel_members}
-use Rattle.behaviour_tree.specs.FormedServices.{are_ports, has_few_members, has_start, is_init, is_service, reach_of, runs_well}
+use Rattle.behaviour_tree.specs.FormedServices.{are_ports, has_few_members, has_start, is_init, is_service, runs_well}
 use Rattle.behaviour_tree.specs.WellFormed.{are_interfaces, are_names, are_services, is_well_formed}
 use Rattle.service_check.specs.declared.refusal.Refusal.{Refusal}
 use Rattle.service_check.specs.Behaviours.{Numbering, meant_if_there}

@@ -22,7 +22,7 @@ use Rattle.jolie_ast.specs.declared.service.Clause.TheVariants as clause
 use Rattle.behaviour_tree.specs.Data as plain
 use Rattle.behaviour_tree.specs.Data.{PathTree, Proc}
 use Rattle.behaviour_tree.specs.View.{procs_of}
-use Rattle.behaviour_tree.specs.FormedServices.{are_assignments, is_assignment, is_init}
+use Rattle.behaviour_tree.specs.FormedServices.{all_assign_alone, assigns_alone, is_init}
 use Rattle.service_check.specs.declared.refusal.CheckName.TheVariants.{InitNotAssignment}
 use Rattle.service_check.specs.declared.refusal.Refusal.{Refusal}
 use Rattle.service_check.specs.Files.{first_there, init_in, main_in}
@@ -39,7 +39,7 @@ use Rattle.service_check.proofs.MeantProcesses as means
 abbrev assigns_form : Process-F Otherwise Process Answer Block Branch Handler If Input Reply → Bool
 assigns_form f = elim f as (λ _. Bool) [ Process-F.Assign path assignment ↦ true | _ ↦ false ]
 
-assignment_is : (p : PathTree) (a : Assignment) → is_assignment (meant_assignment p a) ≡ true
+assignment_is : (p : PathTree) (a : Assignment) → assigns_alone (meant_assignment p a) ≡ true
 assignment_is p (assignment.Root e) = refl
 assignment_is p (assignment.Copy e) = refl
 assignment_is p (assignment.Count c) = refl
@@ -48,19 +48,18 @@ assignment_is p (assignment.Count c) = refl
 meant_by_form : (m : Numbering) (p q : Process) (f : Process-F Otherwise Process Answer Block Branch Handler If Input Reply) → out-Process p ≡ f → roll-Process f ≡ q → meant_process m p ≡ meant_process m q
 meant_by_form m p q f form rolls = ap (meant_process m) (sym (roll-out-Process p) ∙ ap roll-Process form ∙ rolls)
 
-means_assignment : (m : Numbering) (p : Process) (f : Process-F Otherwise Process Answer Block Branch Handler If Input Reply) → out-Process p ≡ f → assigns_form f ≡ true → is_assignment (meant_process m p) ≡ true
+means_assignment : (m : Numbering) (p : Process) (f : Process-F Otherwise Process Answer Block Branch Handler If Input Reply) → out-Process p ≡ f → assigns_form f ≡ true → assigns_alone (meant_process m p) ≡ true
 means_assignment m p (Process-F.Assign path a) form e =
-    ap is_assignment (meant_by_form m p (process.Assign path a) (Process-F.Assign path a) form (process.rolls-Assign path a) ∙ means.assign_meant m path a) ∙ assignment_is (meant_path path) a
+    ap assigns_alone (meant_by_form m p (process.Assign path a) (Process-F.Assign path a) form (process.rolls-Assign path a) ∙ means.assign_meant m path a) ∙ assignment_is (meant_path path) a
 means_assignment m p f form e = absurd (false≢true e)
 
 -- a process that assigns means an assignment
-pub assigning_means : (m : Numbering) (p : Process) → assigns p ≡ true → is_assignment (meant_process m p) ≡ true
+pub assigning_means : (m : Numbering) (p : Process) → assigns p ≡ true → assigns_alone (meant_process m p) ≡ true
 assigning_means m p e = means_assignment m p (out-Process p) refl e
 
-init_of_one : (q : Proc) → is_assignment q ≡ true → is_init q ≡ true
-init_of_one (plain.assign p e) h = refl
-init_of_one (plain.copy p e) h = refl
-init_of_one q h = absurd (false≢true h)
+init_of_one : (q : Proc) → assigns_alone q ≡ true → is_init q ≡ true
+init_of_one plain.nothing h = refl
+init_of_one q h = h
 
 -- ---- statements
 
@@ -68,10 +67,10 @@ init_of_one q h = absurd (false≢true h)
 abbrev of_statement : Process → List Refusal
 of_statement p = statement_refused (place_of p) (assigns p)
 
-each_assigns : (m : Numbering) (ps : List Process) → flat_map of_statement ps ≡ [] → are_assignments (procs_of (map (meant_process m) ps)) ≡ true
+each_assigns : (m : Numbering) (ps : List Process) → flat_map of_statement ps ≡ [] → all_assign_alone (procs_of (map (meant_process m) ps)) ≡ true
 each_assigns m [] e = refl
 each_assigns m (p ∷ ps) e =
-    and_from (is_assignment (meant_process m p)) (are_assignments (procs_of (map (meant_process m) ps)))
+    and_from (assigns_alone (meant_process m p)) (all_assign_alone (procs_of (map (meant_process m) ps)))
     (assigning_means m p (holds (assigns p) InitNotAssignment (place_of p) (left_empty (of_statement p) (flat_map of_statement ps) e)))
     (each_assigns m ps (right_empty (of_statement p) (flat_map of_statement ps) e))
 

@@ -15,7 +15,7 @@ use Rattle.jolie_ast.specs.Formed.{block_formed, clause_formed}
 use Rattle.behaviour_tree.specs.Data.{OperationPart, InterfacePart, VariablePart}
 use Rattle.behaviour_tree.specs.FormedSets as formed_sets
 use Rattle.behaviour_tree.specs.FormedServices as formed_services
-use Rattle.behaviour_tree.specs.FormedBehaviours.{Reach, has_operation, is_behaviour, outputs_at}
+use Rattle.behaviour_tree.specs.FormedBehaviours.{Reach, has_operation, is_behaviour}
 use Rattle.behaviour_tree.specs.FormedServices.{sent_to}
 use Rattle.service_check.specs.declared.refusal.CheckName.TheVariants.{UnknownOperation, WrongKind, Uncorrelated}
 use Rattle.service_check.specs.declared.refusal.Refusal.{Refusal}

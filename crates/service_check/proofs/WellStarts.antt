@@ -29,7 +29,7 @@ use Rattle.jolie_ast.specs.declared.process.If.{If}
 use Rattle.jolie_ast.specs.declared.process.Input.{Input, out-Input}
 use Rattle.jolie_ast.specs.declared.process.Reply.{Reply}
 use Rattle.behaviour_tree.specs.Data as plain
-use Rattle.behaviour_tree.specs.Data.{PathTree, Proc, Branches, Exp}
+use Rattle.behaviour_tree.specs.Data.{PathTree, Proc, Branches}
 use Rattle.behaviour_tree.specs.View.{BranchView, ReplyView, branch_of, branches_of, handlers_of, procs_of}
 use Rattle.behaviour_tree.specs.FormedSets as formed_sets
 use Rattle.behaviour_tree.specs.FormedServices as formed_services
@@ -41,7 +41,7 @@ use Rattle.service_check.specs.declared.refusal.CheckName.TheVariants.{NoStart, 
 use Rattle.service_check.specs.Least.{refused_if}
 use Rattle.service_check.specs.Repeated.{firsts_after, is_in}
 use Rattle.service_check.specs.Files.{Operation, execution_of, input_operations, input_ports, is_concurrent, place_in, sets_of}
-use Rattle.service_check.specs.Behaviours.{AnswerView, InputView, Numbering, alone, meant_answer, meant_assignment, meant_block, meant_branch, meant_conditional, meant_for, meant_handler, meant_if_there, meant_input, meant_port, meant_process, meant_step, sent}
+use Rattle.service_check.specs.Behaviours.{InputView, Numbering, alone, meant_answer, meant_assignment, meant_block, meant_branch, meant_conditional, meant_for, meant_handler, meant_if_there, meant_input, meant_port, meant_process, meant_step, sent}
 use Rattle.service_check.specs.Expressions.{meant_expr, meant_if_written, meant_path}
 use Rattle.service_check.specs.FirstInputs.{beginning}
 use Rattle.service_check.specs.ProcessRules.{branch_operation}
@@ -127,14 +127,6 @@ assignment_installs : (p : PathTree) (a : Assignment) → is_install (meant_assi
 assignment_installs p (assignment.Root e) = refl
 assignment_installs p (assignment.Copy e) = refl
 assignment_installs p (assignment.Count c) = refl
-
-sent_first : (port op : ℕ) (value : Exp) (a : Option AnswerView) → formed_services.first_input (sent port op value a) ≡ None
-sent_first port op value None = refl
-sent_first port op value (Some a) = refl
-
-sent_installs : (port op : ℕ) (value : Exp) (a : Option AnswerView) → is_install (sent port op value a) ≡ false
-sent_installs port op value None = refl
-sent_installs port op value (Some a) = refl
 
 -- ---- one level, of which the parts are known
 

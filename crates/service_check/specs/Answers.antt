@@ -1,5 +1,5 @@
 -- What the checker answers.
-use Rattle.std.specs.Prelude.{◌≡◌, List, Option, None, Some, Result, Ok, Err}
+use Rattle.std.specs.Prelude.{◌≡◌, List, None, Some, Result, Ok, Err}
 use Rattle.jolie_ast.specs.declared.tree.Definition.{Definition}
 use Rattle.behaviour_tree.specs.declared.program.Program.{Program}
 use Rattle.behaviour_tree.specs.PartsView.{parts_of}

@@ -1,5 +1,5 @@
 -- The program of a file.
-use Rattle.std.specs.Prelude.{ℕ, zero, suc, true, false, ℤ, pos, negsuc, List, [], ◌∷◌, ◌++◌, length, map, flat_map, Option, None, Some, option_map}
+use Rattle.std.specs.Prelude.{ℕ, zero, suc, true, false, ℤ, pos, negsuc, List, [], ◌∷◌, ◌++◌, length, map, Option, None, Some, option_map}
 use Rattle.std.specs.List.{filter_map}
 use Rattle.jolie_ast.specs.declared.name.Name.{Name}
 use Rattle.jolie_ast.specs.declared.tree.Definition.{Definition}
@@ -18,7 +18,6 @@ use Rattle.jolie_ast.specs.declared.interface.Fault.{Fault}
 use Rattle.jolie_ast.specs.declared.interface.Interface.{Interface}
 use Rattle.jolie_ast.specs.declared.service.Execution as ast_execution
 use Rattle.jolie_ast.specs.declared.service.Execution.TheVariants as said
-use Rattle.jolie_ast.specs.declared.service.Port.{Port}
 use Rattle.jolie_ast.specs.declared.service.Alias.{Alias}
 use Rattle.jolie_ast.specs.declared.service.CorrelationVariable.{CorrelationVariable}
 use Rattle.jolie_ast.specs.declared.service.Service.{Service}

@@ -2,7 +2,7 @@ ghost use Rattle.std.specs.Prelude.{◌≡◌, ◌+◌, ◌-◌, ◌<◌, ◌≤
 ghost use Rattle.std.specs.Option.{option_copied};
 ghost use Rattle.jolie_ast.specs.declared.types.TypeBody.{out-TypeBody};
 ghost use Rattle.service_check.specs.declared.circles.Mark.TheVariants.{Unseen};
-ghost use Rattle.service_check.specs.Circles.{AllSeen, Came, Known, KnownOnRound, KnownOnWalk, OnlyCircles, StaysSeen, WalksBelow, is_circle, is_unseen, mark_at, next_place, place_leads_back, steps_on, unseen};
+ghost use Rattle.service_check.specs.Circles.{AllSeen, Came, Known, KnownOnRound, KnownOnWalk, OnlyCircles, StaysSeen, WalksBelow, is_circle, is_unseen, mark_at, next_place, steps_on, unseen};
 ghost use Rattle.service_check.specs.TypeRules.{body_of, leads_back, name_in};
 
 use crate::tables::Types;

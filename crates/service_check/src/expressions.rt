@@ -1,4 +1,4 @@
-ghost use Rattle.std.specs.Prelude.{◌≡◌, map, option_map, IfOk};
+ghost use Rattle.std.specs.Prelude.{◌≡◌, map, IfOk};
 ghost use Rattle.behaviour_tree.specs.View.{expr_view, member_view, mul_part_view, path_view, step_view, sum_part_view};
 ghost use Rattle.service_check.specs.Expressions.{cast_kind, compare_op, meant_expr, meant_factor, meant_form, meant_if_written, meant_member, meant_path, meant_place, meant_term, mul_op, sum_op};
 

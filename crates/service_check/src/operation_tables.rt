@@ -1,6 +1,6 @@
-ghost use Rattle.std.specs.Prelude.{◌≡◌, [], ◌∷◌, IfOk, flat_map, is_some, map};
+ghost use Rattle.std.specs.Prelude.{◌≡◌, [], ◌∷◌, IfOk, flat_map, map};
 ghost use Rattle.service_check.specs.Files.{answering, group_operations, input_operations, operations_named, port_operations, silent};
-ghost use Rattle.service_check.specs.OperationTables.{answers_named, does_answer, operations_at, operations_of_input, operations_under, with_new};
+ghost use Rattle.service_check.specs.OperationTables.{answers_named, does_answer, operations_of_input, operations_under, with_new};
 
 use crate::names::Names;
 use crate::tables::Interfaces;

@@ -4,7 +4,7 @@ ghost use Rattle.std.specs.Option.{option_copied};
 ghost use Rattle.jolie_ast.specs.declared.service.Port.{Port};
 ghost use Rattle.service_check.specs.Files.{input_port_in, output_port_in, port_in, service_in, services_of};
 ghost use Rattle.service_check.specs.Least.{joined};
-ghost use Rattle.service_check.specs.PortRules.{input_locations, output_port_refused, port_name, port_refused, ports_refused, service_locations, sided_refused, unknown_interface, unmet, wrong_local_protocol, wrong_location, wrong_protocol, wrong_socket_protocol};
+ghost use Rattle.service_check.specs.PortRules.{input_locations, output_port_refused, port_name, port_refused, ports_refused, sided_refused, unknown_interface, unmet, wrong_local_protocol, wrong_location, wrong_protocol, wrong_socket_protocol};
 
 use crate::brought::{input_ports_refused, output_port_refused};
 use crate::clauses::{input_port_in, output_port_in, port_in};

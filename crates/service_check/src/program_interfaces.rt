@@ -1,7 +1,7 @@
 ghost use Rattle.std.specs.Prelude.{◌≡◌, [], ◌++◌, flat_map, map, IfOk, OnOk};
 ghost use Rattle.std.specs.Option.{option_to_list};
 ghost use Rattle.behaviour_tree.specs.PartsView.{interface_view, operation_view, throws_view};
-ghost use Rattle.service_check.specs.Files.{answering, group_operations, interface_in, interfaces_of, operations_in, silent};
+ghost use Rattle.service_check.specs.Files.{answering, group_operations, interface_in, interfaces_of, silent};
 ghost use Rattle.service_check.specs.Programs.{meant_fault, meant_interface, meant_operation};
 
 use crate::names::Names;

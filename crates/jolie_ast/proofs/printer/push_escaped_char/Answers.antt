@@ -1,4 +1,4 @@
-use Rattle.std.proofs.Common.{rules, ◌≡◌, ◌++◌, OnOk, arith, sym, subst, string_bytes}
+use Rattle.std.proofs.Common.{rules, arith}
 use Rattle.jolie_ast.proofs.Escapes.{plain_char}
 use Rattle.jolie_ast.proofs.printer.push_escaped_char.Goals as goal
 

@@ -1,6 +1,6 @@
 use Rattle.std.proofs.Common.{rules, map, arith, ◌∙◌}
 use Rattle.behaviour_tree.specs.View.{step_view}
-use Rattle.service_check.proofs.MeantExpressions.{expr_is, factor_is, term_is, member_is, steps_read, bare_step, indexed_step, int_meant, long_meant, text_meant, truth_meant, path_form_meant, size_meant, defined_meant, cast_meant, literal_meant, minus_meant, not_meant, product_meant, sum_meant, compare_meant, and_meant, or_meant}
+use Rattle.service_check.proofs.MeantExpressions.{factor_is, term_is, member_is, steps_read, bare_step, indexed_step, int_meant, long_meant, text_meant, truth_meant, path_form_meant, size_meant, defined_meant, cast_meant, literal_meant, minus_meant, not_meant, product_meant, sum_meant, compare_meant, and_meant, or_meant}
 use Rattle.service_check.proofs.SeenExpressions.{value_seen, path_form_seen, count_seen, defined_seen, literal_seen, or_seen, and_seen, compare_seen, sum_seen, product_seen, minus_seen, not_seen, cast_seen, member_seen, mul_part_seen, sum_part_seen, path_seen, bare_step_seen, indexed_step_seen}
 use Rattle.service_check.proofs.expressions.+expression.Goals as goal
 

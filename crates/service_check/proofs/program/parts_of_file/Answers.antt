@@ -1,7 +1,6 @@
 use Rattle.std.proofs.Common.{List, map, ap, ◌∙◌}
 use Rattle.service_check.specs.Files.{interfaces_of, services_of, types_of}
 use Rattle.jolie_ast.specs.declared.types.TypeDefinition.{TypeDefinition}
-use Rattle.service_check.specs.Mentioned.{names_of}
 use Rattle.service_check.specs.Programs.{meant_definition, meant_interface, meant_service, type_names}
 use Rattle.service_check.proofs.PartsMade.{program_made}
 use Rattle.service_check.proofs.program.parts_of_file.Goals as goal

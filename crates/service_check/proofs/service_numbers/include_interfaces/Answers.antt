@@ -1,9 +1,9 @@
-use Rattle.std.proofs.Common.{rules, [], map, flat_map, ap, sym, ◌∙◌}
+use Rattle.std.proofs.Common.{rules, flat_map, ap, sym, ◌∙◌}
 use Rattle.std.proofs.lemmas.List.{take_all}
 use Rattle.jolie_ast.specs.declared.name.Name.{Name}
 use Rattle.service_check.specs.Files.{Operation, operations_named}
 use Rattle.service_check.specs.Programs.{texts_of}
-use Rattle.service_check.specs.Mentioned.{with_text, with_texts}
+use Rattle.service_check.specs.Mentioned.{with_texts}
 use Rattle.service_check.proofs.Mentions.{turn_of}
 use Rattle.service_check.proofs.Operations.{mapped_each}
 use Rattle.service_check.proofs.service_numbers.include_interfaces.Goals as goal

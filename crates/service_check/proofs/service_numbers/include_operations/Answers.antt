@@ -1,8 +1,8 @@
-use Rattle.std.proofs.Common.{rules, [], map, flat_map, ap, sym, ◌∙◌}
+use Rattle.std.proofs.Common.{rules, flat_map, ap, sym, ◌∙◌}
 use Rattle.std.proofs.lemmas.List.{take_all}
 use Rattle.service_check.specs.Files.{Operation, group_operations}
 use Rattle.service_check.specs.Programs.{texts_of}
-use Rattle.service_check.specs.Mentioned.{with_text, with_texts}
+use Rattle.service_check.specs.Mentioned.{with_texts}
 use Rattle.service_check.proofs.Mentions.{turn_of}
 use Rattle.service_check.proofs.Operations.{mapped_each}
 use Rattle.service_check.proofs.service_numbers.include_operations.Goals as goal

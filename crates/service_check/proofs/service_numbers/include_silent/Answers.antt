@@ -1,4 +1,4 @@
-use Rattle.std.proofs.Common.{rules, [], map, flat_map, ap, sym, ◌∙◌}
+use Rattle.std.proofs.Common.{rules, map, ap, sym, ◌∙◌}
 use Rattle.std.proofs.lemmas.List.{take_all}
 use Rattle.jolie_ast.specs.declared.interface.OneWay.{OneWay}
 use Rattle.service_check.specs.Files.{Operation, silent}

@@ -1,4 +1,4 @@
-use Rattle.std.proofs.Common.{◌≡◌, ◌++◌, flat_map, take}
+use Rattle.std.proofs.Common.{◌≡◌, flat_map, take}
 use Rattle.std.specs.Option.{option_to_list}
 use Rattle.service_check.specs.Files.{input_port_in}
 use Rattle.service_check.specs.Outlets.{port_texts}

@@ -1,11 +1,9 @@
-use Rattle.std.proofs.Common.{◌≡◌, ◌+◌, ◌++◌, ◌∷◌, ◌<◌, ◌≤◌, [], OnOk, arith, codes, length, take, drop, get_or, flat_map, Some, None, ap, subst, sym, refl, ◌∙◌}
+use Rattle.std.proofs.Common.{◌≡◌, ◌+◌, ◌++◌, ◌∷◌, [], OnOk, arith, codes, flat_map, ap, subst, sym, refl, ◌∙◌}
 use Rattle.std.specs.Prelude.{option_map}
-use Rattle.jolie_ast.specs.declared.expression.Factor.{out-Factor}
-use Rattle.jolie_ast.specs.declared.expression.Term.{out-Term}
 use Rattle.jolie_ast.specs.declared.expression.Path.{out-Path}
 use Rattle.jolie_ast.specs.declared.expression.Step.{out-Step}
-use Rattle.jolie_ast.specs.Spacing.{after, with_token, separated}
-use Rattle.jolie_ast.specs.PrintedExpressions.{additive_token, multiplicative_token, factor_tokens, term_tokens, member_tokens, step_tokens, operand_tokens, expr_shown, form_shown, expr_tokens, path_tokens, index_tokens, in_parens}
+use Rattle.jolie_ast.specs.Spacing.{after, with_token}
+use Rattle.jolie_ast.specs.PrintedExpressions.{factor_tokens, term_tokens, member_tokens, step_tokens, operand_tokens, expr_shown, form_shown, path_tokens, index_tokens, in_parens}
 use Rattle.jolie_ast.proofs.Spacing.{turn_of, token_then, all_separated, all_behind}
 use Rattle.jolie_ast.proofs.PrintedExpressions.{operand_several, operand_alone, indexed_step, factor_is, term_is, path_is, step_is, defined_shown}
 use Rattle.jolie_ast.proofs.printer.Printer.+expression.Goals as goal

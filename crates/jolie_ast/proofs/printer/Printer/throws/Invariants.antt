@@ -1,4 +1,4 @@
-use Rattle.std.proofs.Common.{◌≡◌, ◌∷◌, take, flat_map, codes}
+use Rattle.std.proofs.Common.{◌≡◌, take, flat_map}
 use Rattle.jolie_ast.specs.Spacing.{after}
 use Rattle.jolie_ast.specs.Printed.{fault_tokens}
 use Rattle.jolie_ast.proofs.printer.Printer.throws.Given as goal

@@ -1,4 +1,4 @@
-use Rattle.std.proofs.Common.{◌≡◌, ℕ, true, false, [], ◌∷◌, ◌++◌, refl, sym, ◌∙◌, ◌-◌}
+use Rattle.std.proofs.Common.{true, false, [], ◌∷◌, refl, sym, ◌∙◌, ◌-◌}
 use Rattle.jolie_parse.specs.Classes as classes
 use Rattle.jolie_parse.specs.Grammar.{whole_number, long_number, quoted_text, truth, path_value, path, id, size, defined_test, cast, grouped, literal, primary, prefixed_operand, unary, factor, term, sum, comparand, comparison, conjunction, expr, index, step, word, member, members}
 use Rattle.jolie_parse.specs.Syntax as syntax

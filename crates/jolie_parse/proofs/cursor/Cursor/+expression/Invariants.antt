@@ -1,4 +1,4 @@
-use Rattle.std.proofs.Common.{◌≡◌, [], ℕ, ◌+◌, ◌*◌, length}
+use Rattle.std.proofs.Common.{◌≡◌, [], ◌+◌, ◌*◌, length}
 use Rattle.jolie_parse.specs.Classes as c
 use Rattle.jolie_parse.specs.Grammar as spec
 use Rattle.jolie_parse.specs.Syntax.{behind}
