@@ -10,7 +10,7 @@ use Rattle.behaviour_tree.specs.Data.{Proc, assign, undef, copy, Procs, ProgramP
 use Rattle.behaviour_tree.specs.Terms.{Term, done, place, seq}
 use Rattle.behaviour_tree.specs.Start.{normal, then_rest}
 use Rattle.behaviour_tree.specs.Throw.{up, surrounded, ready, throw}
-use Rattle.behaviour_tree.specs.After.{Move, Effect, faults, stores, effect_of, copied, undefined_at, Fault, bare, fault_of, fault_of_effect, fault_in, act, assigns, local_event, moves, within}
+use Rattle.behaviour_tree.specs.After.{Move, Effect, faults, stores, effect_of, copied, effect_of_undef, Fault, bare, fault_of, fault_of_effect, fault_in, act, acts_on_store, local_event, moves, within}
 use Rattle.jolie_main.specs.BuiltPrograms.{are_inward}
 use Rattle.jolie_main.specs.Stages.{is_action, Acts, an_action, a_fault, acts_first, IsInward, all_done, acting}
 use Rattle.jolie_main.proofs.InwardForms.{inward_then, left_of, all_actions}
@@ -87,7 +87,7 @@ module _ (parts : ProgramParts) (store : Tree) (next : ℕ) where
     fails_there : Fails t (λ f. done) → Does t
 
   -- by what it does to the store
-  assigned : (p : Proc) (e : Effect) → fault_of store p ≡ fault_of_effect e → act 0 given.Nothing store next p ≡ assigns 0 next e → 0 < left_of (place p) → Does (place p)
+  assigned : (p : Proc) (e : Effect) → fault_of store p ≡ fault_of_effect e → act 0 given.Nothing store next p ≡ acts_on_store 0 next e → 0 < left_of (place p) → Does (place p)
   assigned p (faults f) there is some = fails_there (record { fault = bare f; there = there; thrown_is = refl; some = some })
   assigned p (stores s) there is some = moves_on (record {
     goes = record {
@@ -104,7 +104,7 @@ module _ (parts : ProgramParts) (store : Tree) (next : ℕ) where
   action_does : (p : Proc) → is_action p ≡ true → Does (place p)
   action_does (assign p e) h = assigned (assign p e) (effect_of store p e) refl refl one
   action_does (copy p e) h = assigned (copy p e) (copied store p e) refl refl one
-  action_does (undef p) h = assigned (undef p) (undefined_at store p) refl refl one
+  action_does (undef p) h = assigned (undef p) (effect_of_undef store p) refl refl one
   action_does p h = absurd (false≢true h)
 
   does_first : (rest : Procs) {t : Term} → are_inward rest ≡ true → Does t → Does (seq t rest)

@@ -1,15 +1,11 @@
 -- Strand 0 alone may have an event.
-use Rattle.std.proofs.Common.{◌≡◌, ℕ, zero, suc, ◌<◌, List, [], ◌∷◌, Some, None, refl, sym, ap, ◌∙◌, arith, length, get_or}
-use Rattle.std.specs.Prelude.{Contains, ◌↔◌, Result, Ok, Err, IfOk, slice_get}
-use Rattle.std.proofs.lemmas.Option.{slice_get-map, slice_get_read}
+use Rattle.std.proofs.Common.{◌≡◌, ℕ, zero, suc, [], ◌∷◌, Some, None, refl, sym, ◌∙◌, arith}
+use Rattle.std.specs.Prelude.{Contains, ◌↔◌, Result, Ok, Err, IfOk}
 use Rattle.behaviour_tree.specs.declared.words.Need.{Need}
 use Rattle.behaviour_tree.specs.Data.{ProgramParts}
-use Rattle.behaviour_tree.specs.PartsView.{service_view}
-use Rattle.behaviour_tree.specs.declared.program.Service.{Service}
 use Rattle.behaviour_tree.specs.After.{Config, HasEvent}
 use Rattle.term_session.specs.Needs.{needed}
 use Rattle.term_session.proofs.Asks.{event_asks, has_event, no_event}
-use Rattle.std.specs.Prelude.{map, option_map}
 
 module _ (parts : ProgramParts) (service : ℕ) (c : Config) where
   other_strand : (n : ℕ) → HasEvent parts service c (suc n) → ⊥
@@ -27,10 +23,6 @@ module _ (parts : ProgramParts) (service : ℕ) (c : Config) where
   pub none_enabled : None ≡ needed parts service c 0 → (n : ℕ) → Contains [] n ↔ HasEvent parts service c n
   none_enabled h zero = (λ w. absurd (omega (arith, w.1)), λ w. let no : None ≡ Some w.1.need = h ∙ event_asks parts service c 0 w.0 w.1 w.2 in cc)
   none_enabled h (suc n) = (λ w. absurd (omega (arith, w.1)), λ w. absurd (other_strand n w))
-
--- a service by its number
-pub service_at : (xs : List Service) (i : ℕ) (x : Service) → i < length xs → x ≡ get_or xs i x → slice_get (map service_view xs) i ≡ Some (service_view x)
-service_at xs i x h is = slice_get-map service_view xs i ∙ ap (option_map service_view) (slice_get_read xs (length xs) i x refl h is)
 
 -- what follows of the value of a call
 pub if_ok : {T E : Type 0} (r : Result T E) (P Q : T → Type 0) → ((x : T) → P x → Q x) → IfOk r P → IfOk r Q

@@ -12,7 +12,7 @@ use Rattle.behaviour_tree.specs.declared.words.Outcome.TheVariants as outcome
 use Rattle.behaviour_tree.specs.Names.{name_at}
 use Rattle.behaviour_tree.specs.Data.{PathTree, Proc, assign, undef, copy, choice, Branches, no_branches, one_way, request, ProgramParts}
 use Rattle.behaviour_tree.specs.Terms.{Term, done, place, seq, in_scope, exec, fail, prot}
-use Rattle.behaviour_tree.specs.After.{Effect, faults, stores, effect_of, copied, undefined_at, Move, within, assigns, ops_of, received, comes_one_way, comes_request, comes, act, reply_of, replies, moves}
+use Rattle.behaviour_tree.specs.After.{Effect, faults, stores, effect_of, copied, effect_of_undef, Move, within, acts_on_store, ops_of, received, comes_one_way, comes_request, comes, act, reply_of, replies, moves}
 use Rattle.behaviour_tree.specs.Open.{open_requests}
 use Rattle.behaviour_tree.specs.Laws.{times_open, is_request_of, place_in, asks}
 use Rattle.term_session.proofs.Options.{OnValue, OnValue-map, OnValue-all, OnValue-if}
@@ -30,9 +30,9 @@ abbrev pub IsStep : ℕ → Event → Type 0
 IsStep n e = (e.strand ≡ n) × (is_finish e.kind ≡ false)
 
 -- an action on the store is a step of its strand
-step-assigns : (n next : ℕ) (e : Effect) → OnValue (λ m. IsStep n m.event) (assigns n next e)
-step-assigns n next (faults f) = tt
-step-assigns n next (stores store) = (refl, refl)
+step-acts : (n next : ℕ) (e : Effect) → OnValue (λ m. IsStep n m.event) (acts_on_store n next e)
+step-acts n next (faults f) = tt
+step-acts n next (stores store) = (refl, refl)
 
 -- so is a message that comes one way
 step-comes_one_way : (n m branch : ℕ) (ops : List ℕ) (next : ℕ) (store : Tree) (after : Proc) (e : Effect)
@@ -63,9 +63,9 @@ step-comes n m o v ops next store branch (request o' x y body after bs) =
 
 -- so is what a behaviour does
 step-act : (n : ℕ) (g : Given) (store : Tree) (next : ℕ) (p : Proc) → OnValue (λ m. IsStep n m.event) (act n g store next p)
-step-act n given.Nothing store next (assign p e) = step-assigns n next (effect_of store p e)
-step-act n given.Nothing store next (copy p e) = step-assigns n next (copied store p e)
-step-act n given.Nothing store next (undef p) = step-assigns n next (undefined_at store p)
+step-act n given.Nothing store next (assign p e) = step-acts n next (effect_of store p e)
+step-act n given.Nothing store next (copy p e) = step-acts n next (copied store p e)
+step-act n given.Nothing store next (undef p) = step-acts n next (effect_of_undef store p)
 step-act n (given.Mail m o v) store next (choice bs) = step-comes n m o v (ops_of bs) next store zero bs
 step-act n g store next p = tt
 
@@ -131,9 +131,9 @@ counts-same m before asked f None ef h = tt
 counts-same m before asked f (Some x) ef h = (ap (λ ms. count_by (nat_eq m) ms + once (answers m x.event)) (ef x.form) ∙ h.0, h.1)
 
 -- an action on the store opens and closes nothing
-counts-assigns : (m n next : ℕ) (e : Effect) → OnValue (λ x. Counts m 0 false x.form x.event) (assigns n next e)
-counts-assigns m n next (faults f) = tt
-counts-assigns m n next (stores store) = (refl, omega arith)
+counts-acts : (m n next : ℕ) (e : Effect) → OnValue (λ x. Counts m 0 false x.form x.event) (acts_on_store n next e)
+counts-acts m n next (faults f) = tt
+counts-acts m n next (stores store) = (refl, omega arith)
 
 -- nothing is the least
 zero-le : (x : ℕ) → 0 ≤ x
@@ -188,9 +188,9 @@ counts-comes k n m o v ops next store branch (request o' x y body after bs) =
 -- what a behaviour does opens what asks
 counts-act : (k n : ℕ) (g : Given) (store : Tree) (next : ℕ) (p : Proc)
     → OnValue (λ x. Counts k 0 (asks k g (Some p)) x.form x.event) (act n g store next p)
-counts-act k n given.Nothing store next (assign p e) = counts-assigns k n next (effect_of store p e)
-counts-act k n given.Nothing store next (copy p e) = counts-assigns k n next (copied store p e)
-counts-act k n given.Nothing store next (undef p) = counts-assigns k n next (undefined_at store p)
+counts-act k n given.Nothing store next (assign p e) = counts-acts k n next (effect_of store p e)
+counts-act k n given.Nothing store next (copy p e) = counts-acts k n next (copied store p e)
+counts-act k n given.Nothing store next (undef p) = counts-acts k n next (effect_of_undef store p)
 counts-act k n (given.Mail m o v) store next (choice bs) = counts-comes k n m o v (ops_of bs) next store zero bs
 counts-act k n g store next p = tt
 

@@ -1,5 +1,5 @@
 -- A path is its steps.
-use Rattle.std.proofs.Common.{◌≡◌, List, Option, None, Some, refl, sym, ap}
+use Rattle.std.proofs.Common.{◌≡◌, List, Option, None, Some, refl, sym}
 use Rattle.std.specs.Prelude.{option_map}
 use Rattle.jolie_trees.specs.Data.{Tree}
 use Rattle.jolie_trees.specs.declared.path.Step.{Step}

@@ -3,7 +3,6 @@ use Rattle.std.proofs.Common.{◌≡◌, ◌<◌, Bool, true, false, IsTrue, ◌
 use Rattle.std.specs.Prelude.{nat_le}
 use Rattle.std.proofs.lemmas.Bool.{lt-leb}
 use Rattle.jolie_trees.specs.declared.path.Step.{Step}
-use Rattle.jolie_trees.specs.declared.root.Root.{Root}
 use Rattle.jolie_trees.specs.Data.{Tree}
 use Rattle.jolie_trees.specs.Trees.{root_of, set, set_root, size, levels}
 use Rattle.jolie_trees.specs.Limits.{is_store, most_nodes, most_levels}

@@ -5,6 +5,7 @@ use Rattle.behaviour_tree.specs.Start as starts
 use Rattle.behaviour_tree.specs.Throw as throws
 use Rattle.behaviour_tree.specs.Tables.{empty}
 use Rattle.behaviour_tree.specs.View.{behaviour_view, path_view, procs_of}
+use Rattle.term_session.specs.Rests.{rest_items}
 use Rattle.term_session.specs.declared.start.Begun as begun
 use Rattle.term_session.specs.declared.term.ScopeState as state
 use Rattle.term_session.specs.declared.term.Term as term
@@ -22,7 +23,7 @@ abbrev pub term_level : Term-F spec.Term → spec.Term
 term_level Term-F.Done = spec.done
 term_level (Term-F.Place p) = spec.place (behaviour_view p)
 term_level (Term-F.Thrown f v) = spec.thrown f v
-term_level (Term-F.Seq t rest) = spec.seq t.value (procs_of (map behaviour_view rest.items))
+term_level (Term-F.Seq t rest) = spec.seq t.value (procs_of (map behaviour_view (rest_items rest)))
 term_level (Term-F.Scope q t u) = spec.in_scope q t.value empty (state_view u)
 term_level (Term-F.Exec m o y t) = spec.exec m o (option_map path_view y) t.value
 term_level (Term-F.Fail m f v t) = spec.fail m f v t.value

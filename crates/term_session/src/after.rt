@@ -2,8 +2,8 @@ ghost use Rattle.std.specs.Prelude.{◌≡◌, option_map, IfOk};
 ghost use Rattle.behaviour_tree.specs.After as spec;
 ghost use Rattle.behaviour_tree.specs.Throw.{throw};
 ghost use Rattle.behaviour_tree.specs.PartsView.{parts_of};
-ghost use Rattle.term_session.specs.Moves.{done_view, fault_view, moment_view, move_view};
-ghost use Rattle.term_session.specs.View.{carried_view, term_view};
+ghost use Rattle.term_session.specs.Moves.{done_view, moment_view};
+ghost use Rattle.term_session.specs.View.{term_view};
 
 use crate::fault::{Fault, fault_in};
 use crate::moment::{Done, Moment, Move};

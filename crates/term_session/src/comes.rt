@@ -11,6 +11,7 @@ ghost use Rattle.term_session.specs.View.{term_view};
 use crate::effect::{Effect, received};
 use crate::evaluate::steps_of;
 use crate::moment::{Made, Moment, Move};
+use crate::rest::Rest;
 use crate::start::{Begun, started};
 use crate::term::{Term, copied_path};
 use behaviour_tree::{Behaviour, Branch, Event, Kind, Need, Numbers, PathExpr, ReplyPart};
@@ -113,8 +114,7 @@ fn executed(
 fn followed(alloc: Global, head: Term, after: &Behaviour) -> Result<Term, AllocError>
     ensures { IfOk result (λ t. term_view t ≡ seq (term_view head) (proc (behaviour_view after.now) no_procs)) }
 {
-    let mut rest = Vec::new(alloc);
-    rest.push(after.copied()?)?;
+    let rest = Rest::of_one(alloc, after)?;
     Ok(Term::Seq(Box::new(alloc, head)?, rest))
 }
 

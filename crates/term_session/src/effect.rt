@@ -136,7 +136,7 @@ pub fn effect_of_copy(
 
 /// What an undef does to a store.
 pub fn effect_of_undef(alloc: Global, store: &Tree, path: &PathExpr) -> Result<Effect, AllocError>
-    ensures { IfOk result (λ f. effect_view f ≡ spec.undefined_at store.now (path_view path.now)) }
+    ensures { IfOk result (λ f. effect_view f ≡ spec.effect_of_undef store.now (path_view path.now)) }
 {
     match steps_of(alloc, path, store)? {
         None => Ok(Effect::Faults(EXPR_FAULT)),

@@ -13,6 +13,7 @@ mod moment;
 mod moves;
 mod needs;
 mod normal;
+mod rest;
 mod session;
 mod start;
 mod term;

@@ -9,13 +9,13 @@ use crate::answer::{fault_outcome, reply_of};
 use crate::comes::comes;
 use crate::effect::{Effect, effect_of, effect_of_copy, effect_of_undef};
 use crate::moment::{Made, Moment, Move};
-use crate::term::{Term, copied_list, copied_path};
+use crate::term::{Term, copied_path};
 use behaviour_tree::{Behaviour, Event, Given, Kind, Need, Outcome, Program};
 use std::alloc::AllocError;
 
 /// An action on the store without a fault.
-fn assigns(moment: &Moment, n: u64, effect: Effect) -> Option<Move>
-    ensures { option_map move_view result ≡ spec.assigns n moment.now.next (effect_view effect) }
+fn acts_on_store(moment: &Moment, n: u64, effect: Effect) -> Option<Move>
+    ensures { option_map move_view result ≡ spec.acts_on_store n moment.now.next (effect_view effect) }
 {
     match effect {
         Effect::Faults(_) => None,
@@ -44,15 +44,15 @@ fn act(moment: &Moment, n: u64, given: &Given, p: &Behaviour) -> Result<Option<M
     match (given, p) {
         (Given::Nothing, Behaviour::Assign { path, value }) => {
             let effect = effect_of(moment.alloc, &moment.store, path, value)?;
-            Ok(assigns(moment, n, effect))
+            Ok(acts_on_store(moment, n, effect))
         }
         (Given::Nothing, Behaviour::Copy { path, value }) => {
             let effect = effect_of_copy(moment.alloc, &moment.store, path, value)?;
-            Ok(assigns(moment, n, effect))
+            Ok(acts_on_store(moment, n, effect))
         }
         (Given::Nothing, Behaviour::Undef { path }) => {
             let effect = effect_of_undef(moment.alloc, &moment.store, path)?;
-            Ok(assigns(moment, n, effect))
+            Ok(acts_on_store(moment, n, effect))
         }
         (Given::Mail { message, op, value }, Behaviour::Choice(list)) => {
             comes(moment, n, *message, *op, value, list)
@@ -111,10 +111,7 @@ pub fn moved(
         Term::Seq(head, rest) => match moved(program, service, moment, n, given, s, head)? {
             None => Ok(None),
             Some(Move { form, made }) => Ok(Some(Move {
-                form: Term::Seq(
-                    Box::new(moment.alloc, form)?,
-                    copied_list(moment.alloc, rest)?,
-                ),
+                form: Term::Seq(Box::new(moment.alloc, form)?, rest.again()?),
                 made,
             })),
         },

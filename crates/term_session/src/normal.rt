@@ -3,11 +3,12 @@ ghost use Rattle.behaviour_tree.specs.Start as spec;
 ghost use Rattle.behaviour_tree.specs.Tables.{empty};
 ghost use Rattle.behaviour_tree.specs.Terms.{prot_of, scope_of};
 ghost use Rattle.behaviour_tree.specs.View.{behaviour_view, procs_of};
+ghost use Rattle.term_session.specs.Rests.{rest_items};
 ghost use Rattle.term_session.specs.View.{begun_view, state_view, term_view};
 
-use crate::start::{Begun, begin_rest, in_sequence};
+use crate::rest::Rest;
+use crate::start::{Begun, begin_next, in_sequence};
 use crate::term::{ScopeState, Term};
-use behaviour_tree::Behaviour;
 use std::alloc::{AllocError, Global};
 
 /// What no fault ends any more, of a form in normal form.
@@ -37,16 +38,11 @@ fn in_scope(alloc: Global, name: u32, body: Term, state: ScopeState) -> Result<T
 
 /// A head in normal form and its rests.
 #[tactic(auto, using(crate::proofs::NormalForms::then_rest_other))]
-fn then_rest(
-    alloc: Global,
-    head: Term,
-    rest: Vec<Behaviour>,
-    next: u64,
-) -> Result<Begun, AllocError>
-    ensures { IfOk result (λ b. begun_view b ≡ spec.then_rest (term_view head) (procs_of (map behaviour_view rest.items)) next) }
+fn then_rest(alloc: Global, head: Term, rest: Rest, next: u64) -> Result<Begun, AllocError>
+    ensures { IfOk result (λ b. begun_view b ≡ spec.then_rest (term_view head) (procs_of (map behaviour_view (rest_items rest))) next) }
 {
     if head.is_done() {
-        return begin_rest(alloc, &rest, next);
+        return begin_next(alloc, rest, next);
     }
     Ok(Begun {
         form: in_sequence(alloc, head, rest)?,

@@ -3,9 +3,11 @@ ghost use Rattle.behaviour_tree.specs.Data.{no_procs, proc, sequence};
 ghost use Rattle.behaviour_tree.specs.Start as spec;
 ghost use Rattle.behaviour_tree.specs.Terms.{seq_of};
 ghost use Rattle.behaviour_tree.specs.View.{behaviour_view, procs_of};
+ghost use Rattle.term_session.specs.Rests.{rest_items};
 ghost use Rattle.term_session.specs.View.{begun_view, term_view};
 
-use crate::term::{Term, copied_list};
+use crate::rest::Rest;
+use crate::term::Term;
 use behaviour_tree::Behaviour;
 use std::alloc::{AllocError, Global};
 
@@ -17,10 +19,10 @@ pub struct Begun {
 }
 
 /// A head with the forms that begin after it.
-pub fn in_sequence(alloc: Global, head: Term, rest: Vec<Behaviour>) -> Result<Term, AllocError>
-    ensures { IfOk result (λ t. term_view t ≡ seq_of (term_view head) (procs_of (map behaviour_view rest.items))) }
+pub fn in_sequence(alloc: Global, head: Term, rest: Rest) -> Result<Term, AllocError>
+    ensures { IfOk result (λ t. term_view t ≡ seq_of (term_view head) (procs_of (map behaviour_view (rest_items rest)))) }
 {
-    if rest.is_empty() {
+    if rest.as_slice().is_empty() {
         return Ok(head);
     }
     Ok(Term::Seq(Box::new(alloc, head)?, rest))
@@ -56,7 +58,7 @@ fn started_head(alloc: Global, list: &[Behaviour], next: u64) -> Result<Begun, A
         }),
         [head, rest @ ..] => {
             let Begun { form, next } = started(alloc, head, next)?;
-            let rest = copied_list(alloc, rest)?;
+            let rest = Rest::of_copies(alloc, rest)?;
             Ok(Begun {
                 form: in_sequence(alloc, form, rest)?,
                 next,
@@ -86,7 +88,7 @@ pub fn begin(alloc: Global, p: &Behaviour, next: u64) -> Result<Begun, AllocErro
 
 /// The first of the rests begins, and the next where it is done at once.
 #[cycle(begin)]
-pub fn begin_rest(alloc: Global, list: &[Behaviour], next: u64) -> Result<Begun, AllocError>
+fn begin_rest(alloc: Global, list: &[Behaviour], next: u64) -> Result<Begun, AllocError>
     ensures { IfOk result (λ b. begun_view b ≡ spec.begin_rest (procs_of (map behaviour_view list.now)) next) }
 {
     let mut after = next;
@@ -95,13 +97,35 @@ pub fn begin_rest(alloc: Global, list: &[Behaviour], next: u64) -> Result<Begun,
         match form {
             Term::Done => after = next,
             form => {
-                let rest = copied_list(alloc, &list[i + 1..])?;
+                let rest = Rest::of_copies(alloc, &list[i + 1..])?;
                 return Ok(Begun {
                     form: in_sequence(alloc, form, rest)?,
                     next,
                 });
             }
         }
+    }
+    Ok(Begun {
+        form: Term::Done,
+        next: after,
+    })
+}
+
+/// The first of what is left begins, and the next where it is done at once.
+pub fn begin_next(alloc: Global, rest: Rest, next: u64) -> Result<Begun, AllocError>
+    ensures { IfOk result (λ b. begun_view b ≡ spec.begin_rest (procs_of (map behaviour_view (rest_items rest))) next) }
+{
+    let mut after = next;
+    for i in 0..rest.as_slice().len() {
+        let list = rest.as_slice();
+        let Begun { form, next } = begin(alloc, &list[i], after)?;
+        if !form.is_done() {
+            return Ok(Begun {
+                form: in_sequence(alloc, form, rest.behind(i + 1))?,
+                next,
+            });
+        }
+        after = next;
     }
     Ok(Begun {
         form: Term::Done,
@@ -123,8 +147,7 @@ pub fn begin_both(
     match form {
         Term::Done => begin(alloc, second, next),
         form => {
-            let mut rest = Vec::new(alloc);
-            rest.push(second.copied()?)?;
+            let rest = Rest::of_one(alloc, second)?;
             Ok(Begun {
                 form: in_sequence(alloc, form, rest)?,
                 next,

@@ -1,8 +1,9 @@
 ghost use Rattle.std.specs.Prelude.{◌≡◌, map, option_map, IfOk, IsTrue, ◌↔◌};
 ghost use Rattle.behaviour_tree.specs.Terms as spec;
 ghost use Rattle.behaviour_tree.specs.View.{behaviour_view, path_view};
-ghost use Rattle.term_session.specs.View.{is_prot, state_view, term_view};
+ghost use Rattle.term_session.specs.View.{is_prot, term_view};
 
+use crate::rest::Rest;
 use behaviour_tree::{Behaviour, PathExpr};
 use jolie_trees::Tree;
 use std::alloc::{AllocError, Global};
@@ -23,7 +24,7 @@ pub enum Term {
         fault: u32,
         value: Tree,
     },
-    Seq(Box<Term>, Vec<Behaviour>),
+    Seq(Box<Term>, Rest),
     Scope {
         name: u32,
         body: Box<Term>,
@@ -73,7 +74,7 @@ impl Term {
             }),
             Term::Seq(head, rest) => Ok(Term::Seq(
                 Box::new(alloc, head.copied(alloc)?)?,
-                copied_list(alloc, rest)?,
+                rest.again()?,
             )),
             Term::Scope { name, body, state } => Ok(Term::Scope {
                 name: *name,
