@@ -10,10 +10,10 @@ use Rattle.jolie_parse.specs.declared.word.Word.{Word}
 use Rattle.jolie_parse.specs.declared.word.Word.TheVariants as word
 use Rattle.jolie_parse.specs.declared.class.Class.{Class}
 use Rattle.jolie_parse.specs.declared.class.Class.TheVariants as classed
-use Rattle.jolie_parse.specs.Words.{spelling, counted, word_of}
+use Rattle.jolie_parse.specs.Words.{spelling, counted_words, counted, word_of}
 use Rattle.jolie_parse.specs.Classes.{class_of, has, same}
+use Rattle.jolie_parse.proofs.Numbered.{same_eq}
 use Rattle.jolie_round_trip.proofs.Lexemes.{printed_spelling, Every}
-use Rattle.jolie_round_trip.proofs.Numbered.{same_eq}
 
 -- ---- words
 
@@ -37,9 +37,6 @@ found_spelled bytes None w h e k =
     let plain : counts word.Plain ≡ true = subst (λ x. counts x ≡ true) (sym e) k in
     cc
 found_spelled bytes (Some v) w h e k = subst (λ x. bytes ≡ spelling x) e (sym (h v refl))
-
-abbrev counted_words : List Word
-counted_words = word.Location ∷ word.Protocol ∷ word.Interfaces ∷ word.Concurrent ∷ word.Single ∷ word.Type ∷ word.Interface ∷ word.Service ∷ word.InputPort ∷ word.OutputPort ∷ word.Execution ∷ word.Cset ∷ word.Csets ∷ word.Init ∷ word.Main ∷ word.Scope ∷ word.Install ∷ word.Throw ∷ word.Comp ∷ word.InnerHandler ∷ word.This ∷ word.NullProcess ∷ word.If ∷ word.Else ∷ word.While ∷ word.For ∷ word.Undef ∷ word.IsDefined ∷ word.True ∷ word.False ∷ word.Void ∷ word.Bool ∷ word.Int ∷ word.Long ∷ word.Str ∷ word.Any ∷ word.Undefined ∷ word.Throws ∷ word.RequestResponse ∷ word.OneWay ∷ []
 
 -- a word that counts is written in its bytes
 pub word_spelled : (bytes : List ℕ) (w : Word) → word_of bytes ≡ w → counts w ≡ true → bytes ≡ spelling w

@@ -8,6 +8,7 @@ use Rattle.jolie_ast.specs.declared.expression.Term.{Term, roll-Term}
 use Rattle.jolie_ast.specs.Spacing as spacing
 use Rattle.jolie_ast.specs.Spacing.{Token}
 use Rattle.jolie_ast.specs.PrintedExpressions.{maybe, multiplicative_token, additive_token, comparison_token, expr_tokens, operand_tokens, factor_tokens, term_tokens}
+use Rattle.jolie_ast.proofs.PrintedExpressions.{product_shown, sum_shown, compare_shown, and_shown, or_shown}
 use Rattle.jolie_parse.specs.declared.class.Class.{Class}
 use Rattle.jolie_parse.specs.Classes as c
 use Rattle.jolie_parse.specs.Classes.{Spelled, class}
@@ -19,7 +20,7 @@ use Rattle.jolie_round_trip.proofs.Lexemes.{IsValid, Every, Every-left}
 use Rattle.jolie_round_trip.proofs.Echo.{Echo, pair_kept, echo_means}
 use Rattle.jolie_round_trip.proofs.Parts.{Inner, Printable}
 use Rattle.jolie_round_trip.proofs.PlacelessExpressions.{factor_rolled, term_rolled}
-use Rattle.jolie_round_trip.proofs.PrintedForms.{product_shown, sum_shown, compare_shown, and_shown, or_shown, factor_printed, term_printed}
+use Rattle.jolie_round_trip.proofs.PrintedForms.{factor_printed, term_printed}
 use Rattle.jolie_round_trip.proofs.Reprints.{Reprints, reprints_both, reprints_means, reprints_many}
 use Rattle.jolie_round_trip.proofs.ReprintsTokens.{reprints_among}
 use Rattle.jolie_round_trip.proofs.ReprintsForms.{reprints_separated, reprints_optional}

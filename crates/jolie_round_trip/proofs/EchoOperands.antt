@@ -5,8 +5,9 @@ use Rattle.jolie_ast.specs.declared.expression.ExprForm.{ExprForm}
 use Rattle.jolie_ast.specs.declared.expression.ExprForm.TheVariants as form
 use Rattle.jolie_ast.specs.Spacing.{Token}
 use Rattle.jolie_ast.specs.PrintedExpressions.{simple, form_shown, operand_tokens, cast_token}
+use Rattle.jolie_ast.proofs.PrintedExpressions.{path_form_shown, size_shown, defined_shown, cast_shown, literal_shown, minus_shown, not_shown}
 use Rattle.jolie_parse.specs.Classes as c
-use Rattle.jolie_parse.specs.Classes.{Spelled, class, place, same}
+use Rattle.jolie_parse.specs.Classes.{class, place, same}
 use Rattle.jolie_parse.specs.Meanings as means_as
 use Rattle.jolie_parse.specs.Meanings.{expression}
 use Rattle.jolie_parse.specs.Syntax.{Part, an_expression, an_operand, a_path, some_members, Meant, Lang}
@@ -15,7 +16,6 @@ use Rattle.jolie_round_trip.specs.Placeless.{form_placeless, expr_placeless}
 use Rattle.jolie_round_trip.proofs.Lexemes.{IsValid, Every, Every-left}
 use Rattle.jolie_round_trip.proofs.Parts.{Inner, Printable}
 use Rattle.jolie_round_trip.proofs.PlacelessExpressions.{path_form_placeless, size_placeless, is_defined_placeless, cast_placeless, literal_placeless, minus_placeless, not_placeless}
-use Rattle.jolie_round_trip.proofs.PrintedForms.{path_form_shown, size_shown, is_defined_shown, cast_shown, literal_shown, minus_shown, not_shown}
 use Rattle.jolie_round_trip.proofs.Reprints.{reprints_both}
 use Rattle.jolie_round_trip.proofs.ReprintsTokens.{reprints_one, reprints_among, reprints_inside, reprints_between, reprints_prefix}
 use Rattle.jolie_round_trip.proofs.ReprintsPaths.{path_reprints}
@@ -62,7 +62,7 @@ module _ {w : (r : Part) → Lang (Meant r)} (inner : Inner w) where
   defined_shows =
       shows_simple (λ q. expression (place q.0) (form.IsDefined q.1)) (λ z. expression 0 (form.IsDefined z.1))
       (λ q. at_placeless (place q.0) (form.IsDefined q.1) _ (is_defined_placeless q.1))
-      (λ q. at_shown (place q.0) (form.IsDefined q.1) _ (is_defined_shown q.1))
+      (λ q. at_shown (place q.0) (form.IsDefined q.1) _ (defined_shown q.1))
       defined_operand (reprints_both (reprints_one c.the_is_defined refl) (reprints_between inner c.sign_open_paren a_path c.sign_close_paren refl refl))
 
   cast_shows : Shows w cast

@@ -7,10 +7,11 @@ use Rattle.jolie_ast.specs.declared.expression.ExprForm.{ExprForm}
 use Rattle.jolie_ast.specs.declared.expression.ExprForm.TheVariants as form
 use Rattle.jolie_ast.specs.Spacing.{Token}
 use Rattle.jolie_ast.specs.PrintedExpressions.{simple, Shown, form_shown, expr_shown, int_token, long_token, quoted_token, truth_token}
+use Rattle.jolie_ast.proofs.PrintedExpressions.{int_shown, long_shown, text_shown, truth_shown}
 use Rattle.jolie_parse.specs.declared.class.Class.{Class}
 use Rattle.jolie_parse.specs.declared.class.Class.TheVariants as classed
 use Rattle.jolie_parse.specs.Classes as c
-use Rattle.jolie_parse.specs.Classes.{Spelled, class, class_of, place, has, same}
+use Rattle.jolie_parse.specs.Classes.{Spelled, class_of, place, has, same}
 use Rattle.jolie_parse.specs.Words.{word_of}
 use Rattle.jolie_parse.specs.Meanings as means_as
 use Rattle.jolie_parse.specs.Meanings.{expression}
@@ -22,7 +23,7 @@ use Rattle.jolie_round_trip.proofs.ClassTokens.{every_has}
 use Rattle.jolie_round_trip.proofs.Echo.{Echo, echo_left, echo_right, echo_means}
 use Rattle.jolie_round_trip.proofs.Parts.{Printable}
 use Rattle.jolie_round_trip.proofs.PlacelessExpressions.{expression_placeless, int_placeless, long_placeless, string_placeless, truth_placeless}
-use Rattle.jolie_round_trip.proofs.PrintedForms.{expression_shown, int_shown, long_shown, string_shown, truth_shown}
+use Rattle.jolie_round_trip.proofs.PrintedForms.{expression_shown}
 use Rattle.jolie_round_trip.proofs.Reprints.{Reprints}
 use Rattle.jolie_round_trip.proofs.ReprintsTokens.{reprints_among, reprints_kinds}
 use Rattle.jolie_round_trip.proofs.ExprLevels.{printable_simple}
@@ -156,7 +157,7 @@ module _ {w : (r : Part) → Lang (Meant r)} where
   text_shows =
       shows_simple (λ t. expression (place t) (form.Str (means_as.meant_text t))) (λ k. expression 0 (form.Str (text_of k)))
       (λ t. at_placeless (place t) (form.Str (means_as.meant_text t)) _ (string_placeless (means_as.meant_text t)))
-      (λ t. at_shown (place t) (form.Str (means_as.meant_text t)) _ (string_shown (means_as.meant_text t)))
+      (λ t. at_shown (place t) (form.Str (means_as.meant_text t)) _ (text_shown (means_as.meant_text t)))
       text_operand (reprints_kinds (c.quoted_text ∷ []) (λ k. quoted_token (text_of k)) text_bytes)
 
   pub truth_shows : Shows w truth

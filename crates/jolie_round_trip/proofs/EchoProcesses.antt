@@ -12,9 +12,9 @@ use Rattle.jolie_ast.specs.declared.process.Block.{Block}
 use Rattle.jolie_ast.specs.declared.process.If.{If, roll-If}
 use Rattle.jolie_ast.specs.declared.process.Handler.{roll-Handler}
 use Rattle.jolie_ast.specs.Spacing as spacing
-use Rattle.jolie_ast.specs.Spacing.{Token}
 use Rattle.jolie_ast.specs.PrintedExpressions.{in_parens, maybe, expr_tokens}
 use Rattle.jolie_ast.specs.PrintedProcesses.{thrown_tokens, key_token, process_tokens, block_tokens, if_tokens, otherwise_tokens, handler_tokens}
+use Rattle.jolie_ast.proofs.PrintedProcesses as printed
 use Rattle.jolie_parse.specs.declared.process.IfParts.{IfParts}
 use Rattle.jolie_parse.specs.Classes as c
 use Rattle.jolie_parse.specs.Classes.{Spelled, place}
@@ -25,7 +25,6 @@ use Rattle.jolie_round_trip.specs.Placeless.{key_placeless, process_placeless, i
 use Rattle.jolie_round_trip.proofs.Parts.{Inner, if_parts_placeless, if_parts_tokens, throw_parts_placeless}
 use Rattle.jolie_round_trip.proofs.PlacelessProcesses as placeless
 use Rattle.jolie_round_trip.proofs.PlacelessProcesses.{if_rolled, handler_rolled}
-use Rattle.jolie_round_trip.proofs.PrintedStatements as printed
 use Rattle.jolie_round_trip.proofs.PrintedStatements.{if_printed, handler_printed}
 use Rattle.jolie_round_trip.proofs.Reprints.{Reprints, reprints_give, reprints_both, reprints_either, reprints_means}
 use Rattle.jolie_round_trip.proofs.ReprintsTokens.{reprints_one, reprints_between, reprints_prefix}
@@ -42,9 +41,9 @@ sequence_same (p ∷ []) = refl
 sequence_same (p ∷ q ∷ ps) = placeless.sequence_placeless (p ∷ q ∷ ps)
 
 sequence_tokens : (ps : List Process) → process_tokens (means_as.sequence_of ps) ≡ spacing.separated (codes ";") process_tokens ps
-sequence_tokens [] = printed.sequence_printed []
+sequence_tokens [] = printed.sequence_shown []
 sequence_tokens (p ∷ []) = sym (append-nil (process_tokens p))
-sequence_tokens (p ∷ q ∷ ps) = printed.sequence_printed (p ∷ q ∷ ps)
+sequence_tokens (p ∷ q ∷ ps) = printed.sequence_shown (p ∷ q ∷ ps)
 
 parallel_same : (ps : List Process) → process_placeless (means_as.parallel_of ps) ≡ means_as.parallel_of (map process_placeless ps)
 parallel_same [] = placeless.parallel_placeless []
@@ -52,9 +51,9 @@ parallel_same (p ∷ []) = refl
 parallel_same (p ∷ q ∷ ps) = placeless.parallel_placeless (p ∷ q ∷ ps)
 
 parallel_tokens : (ps : List Process) → process_tokens (means_as.parallel_of ps) ≡ spacing.separated (codes "|") process_tokens ps
-parallel_tokens [] = printed.parallel_printed []
+parallel_tokens [] = printed.parallel_shown []
 parallel_tokens (p ∷ []) = sym (append-nil (process_tokens p))
-parallel_tokens (p ∷ q ∷ ps) = printed.parallel_printed (p ∷ q ∷ ps)
+parallel_tokens (p ∷ q ∷ ps) = printed.parallel_shown (p ∷ q ∷ ps)
 
 -- ---- `if`
 
@@ -90,14 +89,14 @@ module _ {w : (r : Part) → Lang (Meant r)} (inner : Inner w) where
   unfolding undefine
   undefine_reprints =
       reprints_means (λ q. process.Undef (place q.0) q.1) process_placeless process_tokens (λ z. process.Undef 0 z.1)
-      (λ q. placeless.undef_placeless (place q.0) q.1) (λ q. printed.undef_printed (place q.0) q.1)
+      (λ q. placeless.undef_placeless (place q.0) q.1) (λ q. printed.undef_shown (place q.0) q.1)
       (reprints_both (reprints_one c.the_undef refl) (reprints_between inner c.sign_open_paren a_path c.sign_close_paren refl refl))
 
   repetition_reprints : Reprints w repetition process_placeless process_tokens
   unfolding repetition
   repetition_reprints =
       reprints_means (λ q. process.While (place q.0) q.1.0 q.1.1) process_placeless process_tokens (λ z. process.While 0 z.1.0 z.1.1)
-      (λ q. placeless.while_placeless (place q.0) q.1.0 q.1.1) (λ q. printed.while_printed (place q.0) q.1.0 q.1.1)
+      (λ q. placeless.while_placeless (place q.0) q.1.0 q.1.1) (λ q. printed.while_shown (place q.0) q.1.0 q.1.1)
       (reprints_both (reprints_one c.the_while refl) (reprints_both (reprints_between inner c.sign_open_paren an_expression c.sign_close_paren refl refl) (block_reprints inner)))
 
   counted_loop_reprints : Reprints w counted_loop process_placeless process_tokens
@@ -105,52 +104,52 @@ module _ {w : (r : Part) → Lang (Meant r)} (inner : Inner w) where
   counted_loop_reprints =
       reprints_means (λ q. means_as.for_of q.0 q.1.0 q.1.1) process_placeless process_tokens (λ z. process.For 0 z.1.0.path z.1.0.first z.1.0.test z.1.0.stepped z.1.0.step z.1.1)
       (λ q. placeless.for_placeless (place q.0) q.1.0.path q.1.0.first q.1.0.test q.1.0.stepped q.1.0.step q.1.1)
-      (λ q. printed.for_printed (place q.0) q.1.0.path q.1.0.first q.1.0.test q.1.0.stepped q.1.0.step q.1.1)
+      (λ q. printed.for_shown (place q.0) q.1.0.path q.1.0.first q.1.0.test q.1.0.stepped q.1.0.step q.1.1)
       (reprints_both (reprints_one c.the_for refl) (reprints_both (reprints_between inner c.sign_open_paren for_parts c.sign_close_paren refl refl) (block_reprints inner)))
 
   scope_reprints : Reprints w scope process_placeless process_tokens
   unfolding scope
   scope_reprints =
       reprints_means (λ q. process.Scope (place q.0) q.1.0 q.1.1) process_placeless process_tokens (λ z. process.Scope 0 z.1.0 z.1.1)
-      (λ q. placeless.scope_placeless (place q.0) q.1.0 q.1.1) (λ q. printed.scope_printed (place q.0) q.1.0 q.1.1)
+      (λ q. placeless.scope_placeless (place q.0) q.1.0 q.1.1) (λ q. printed.scope_shown (place q.0) q.1.0 q.1.1)
       (reprints_both (reprints_one c.the_scope refl) (reprints_both (reprints_between inner c.sign_open_paren a_name c.sign_close_paren refl refl) (block_reprints inner)))
 
   install_reprints : Reprints w install process_placeless process_tokens
   unfolding install
   install_reprints =
       reprints_means (λ q. process.Install (place q.0) q.1) process_placeless process_tokens (λ z. process.Install 0 z.1)
-      (λ q. placeless.install_placeless (place q.0) q.1) (λ q. printed.install_printed (place q.0) q.1)
+      (λ q. placeless.install_placeless (place q.0) q.1) (λ q. printed.install_shown (place q.0) q.1)
       (reprints_both (reprints_one c.the_install refl) (reprints_between inner c.sign_open_paren some_handlers c.sign_close_paren refl refl))
 
   throw_reprints : Reprints w throw process_placeless process_tokens
   unfolding throw
   throw_reprints =
       reprints_means (λ q. process.Throw (place q.0) q.1.0 q.1.1) process_placeless process_tokens (λ z. process.Throw 0 z.1.0 z.1.1)
-      (λ q. placeless.throw_placeless (place q.0) q.1.0 q.1.1) (λ q. printed.throw_printed (place q.0) q.1.0 q.1.1)
+      (λ q. placeless.throw_placeless (place q.0) q.1.0 q.1.1) (λ q. printed.throw_shown (place q.0) q.1.0 q.1.1)
       (reprints_both (reprints_one c.the_throw refl) (reprints_between inner c.sign_open_paren throw_parts c.sign_close_paren refl refl))
 
   compensate_reprints : Reprints w compensate process_placeless process_tokens
   unfolding compensate
   compensate_reprints =
       reprints_means (λ q. process.Compensate (place q.0) q.1) process_placeless process_tokens (λ z. process.Compensate 0 z.1)
-      (λ q. placeless.compensate_placeless (place q.0) q.1) (λ q. printed.compensate_printed (place q.0) q.1)
+      (λ q. placeless.compensate_placeless (place q.0) q.1) (λ q. printed.compensate_shown (place q.0) q.1)
       (reprints_both (reprints_one c.the_comp refl) (reprints_between inner c.sign_open_paren a_name c.sign_close_paren refl refl))
 
   inner_handler_reprints : Reprints w inner_handler process_placeless process_tokens
   unfolding inner_handler
   inner_handler_reprints =
       reprints_means (λ t. process.InnerHandler (place t)) process_placeless process_tokens (λ z. process.InnerHandler 0)
-      (λ t. placeless.inner_handler_placeless (place t)) (λ t. printed.inner_handler_printed (place t)) (reprints_one c.the_inner_handler refl)
+      (λ t. placeless.inner_handler_placeless (place t)) (λ t. printed.inner_handler_shown (place t)) (reprints_one c.the_inner_handler refl)
 
   nothing_reprints : Reprints w nothing process_placeless process_tokens
   unfolding nothing
   nothing_reprints =
       reprints_means (λ t. process.Nothing (place t)) process_placeless process_tokens (λ z. process.Nothing 0)
-      (λ t. placeless.nothing_placeless (place t)) (λ t. printed.nothing_printed (place t)) (reprints_one c.the_null_process refl)
+      (λ t. placeless.nothing_placeless (place t)) (λ t. printed.nothing_shown (place t)) (reprints_one c.the_null_process refl)
 
   block_statement_reprints : Reprints w block_statement process_placeless process_tokens
   unfolding block_statement
-  block_statement_reprints = reprints_means process.Block process_placeless process_tokens process.Block placeless.block_statement_placeless printed.block_statement_printed (block_reprints inner)
+  block_statement_reprints = reprints_means process.Block process_placeless process_tokens process.Block placeless.block_statement_placeless printed.block_form_shown (block_reprints inner)
 
   -- ---- `if`
 
@@ -163,7 +162,7 @@ module _ {w : (r : Part) → Lang (Meant r)} (inner : Inner w) where
   conditional_reprints a =
       reprints_means (λ q. process.If (means_as.if_of q.0 q.1)) process_placeless process_tokens (λ z. process.If (if_of_parts z.1))
       (λ q. placeless.conditional_placeless (means_as.if_of q.0 q.1) ∙ ap process.If (if_same q.0 q.1))
-      (λ q. printed.conditional_printed (means_as.if_of q.0 q.1) ∙ if_printed_at q.0 q.1)
+      (λ q. printed.conditional_shown (means_as.if_of q.0 q.1) ∙ if_printed_at q.0 q.1)
       (reprints_both (reprints_one c.the_if refl) (if_parts_reprint a))
 
   pub else_parts_reprint : Reprints w else_parts otherwise_placeless otherwise_tokens
@@ -172,11 +171,11 @@ module _ {w : (r : Part) → Lang (Meant r)} (inner : Inner w) where
       reprints_either
       (reprints_means (λ q. otherwise.ElseIf (means_as.if_of q.0 q.1)) otherwise_placeless otherwise_tokens (λ z. otherwise.ElseIf (if_of_parts z.1))
       (λ q. placeless.else_if_placeless (means_as.if_of q.0 q.1) ∙ ap otherwise.ElseIf (if_same q.0 q.1))
-      (λ q. printed.else_if_printed (means_as.if_of q.0 q.1) ∙ ap (λ ts. codes "else" ∷ ts) (if_printed_at q.0 q.1))
+      (λ q. printed.else_if_shown (means_as.if_of q.0 q.1) ∙ ap (λ ts. codes "else" ∷ ts) (if_printed_at q.0 q.1))
       (reprints_behind c.the_else refl (reprints_prefix inner (c.the_if ∷ []) an_else_if (λ k. codes "if") ((refl, refl), tt))))
       (reprints_either
-      (reprints_means otherwise.Else otherwise_placeless otherwise_tokens otherwise.Else placeless.else_placeless printed.else_printed (reprints_behind c.the_else refl (block_reprints inner)))
-      (reprints_give otherwise_placeless otherwise_tokens otherwise.Nothing printed.no_else_printed))
+      (reprints_means otherwise.Else otherwise_placeless otherwise_tokens otherwise.Else placeless.else_placeless printed.else_shown (reprints_behind c.the_else refl (block_reprints inner)))
+      (reprints_give otherwise_placeless otherwise_tokens otherwise.Nothing printed.no_else_shown))
 
   -- ---- statements
 
@@ -198,7 +197,7 @@ module _ {w : (r : Part) → Lang (Meant r)} (inner : Inner w) where
   unfolding statement
   statement_reprints =
       reprints_either nothing_reprints
-      (reprints_either (reprints_means process.Input process_placeless process_tokens process.Input placeless.input_statement_placeless printed.input_statement_printed (input_reprints inner))
+      (reprints_either (reprints_means process.Input process_placeless process_tokens process.Input placeless.input_statement_placeless printed.input_form_shown (input_reprints inner))
       (reprints_either (output_reprints inner)
       (reprints_either (assign_reprints inner) marked_reprints)))
 

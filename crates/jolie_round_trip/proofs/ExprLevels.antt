@@ -14,8 +14,8 @@ use Rattle.jolie_ast.specs.declared.expression.Member.{Member}
 use Rattle.jolie_ast.specs.declared.expression.Path.{Path}
 use Rattle.jolie_ast.specs.declared.expression.Step.{Step}
 use Rattle.jolie_ast.specs.Spacing.{Token}
-use Rattle.jolie_ast.specs.PrintedExpressions as printed
-use Rattle.jolie_ast.specs.PrintedExpressions.{Shown, simple, operation, operand, in_parens, form_shown, expr_shown, factor_tokens, term_tokens, member_tokens, path_tokens, step_tokens, expr_tokens, operand_tokens}
+use Rattle.jolie_ast.specs.PrintedExpressions.{simple, operation, operand, in_parens, expr_shown, expr_tokens, operand_tokens}
+use Rattle.jolie_ast.proofs.PrintedExpressions.{expr_is}
 use Rattle.jolie_parse.specs.declared.class.Class.{Class}
 use Rattle.jolie_parse.specs.Classes as c
 use Rattle.jolie_parse.specs.Classes.{Spelled, class, place}
@@ -38,15 +38,11 @@ pub out_placeless : (e : Expr) → expr_placeless e ≡ expression 0 (form_place
 unfolding form_placeless expr_placeless factor_placeless term_placeless member_placeless path_placeless step_placeless
 out_placeless e = fold_out-Expr ExprForm Expr Factor Member Path Step Term placeless.form_level placeless.expr_level placeless.factor_level placeless.member_level placeless.path_level placeless.step_level placeless.term_level e
 
-pub out_shown : (e : Expr) → expr_shown e ≡ form_shown (out-Expr e).form
-unfolding form_shown expr_shown factor_tokens term_tokens member_tokens path_tokens step_tokens
-out_shown e = fold_out-Expr Shown Shown (List Token) (List Token) (List Token) (List Token) (List Token) printed.form_level printed.expr_level printed.factor_level printed.member_level printed.path_level printed.step_level printed.term_level e
-
 pub begun_placeless : (at : ℕ) (e : Expr) → expr_placeless (means_as.begun_at at e) ≡ expr_placeless e
 begun_placeless at e = expression_placeless at (out-Expr e).form ∙ sym (out_placeless e)
 
 pub begun_shown : (at : ℕ) (e : Expr) → expr_shown (means_as.begun_at at e) ≡ expr_shown e
-begun_shown at e = expression_shown at (out-Expr e).form ∙ sym (out_shown e)
+begun_shown at e = expression_shown at (out-Expr e).form ∙ sym (expr_is e)
 
 -- ---- what is kept of operations
 

@@ -14,9 +14,10 @@ use Rattle.jolie_ast.specs.declared.expression.Member.{Member, roll-Member}
 use Rattle.jolie_ast.specs.declared.expression.Path.{Path, roll-Path}
 use Rattle.jolie_ast.specs.declared.expression.Step.{Step, roll-Step}
 use Rattle.jolie_ast.specs.PrintedExpressions.{Shown, simple, operation, operand, in_parens, in_brackets, in_braces, additive_token, multiplicative_token, comparison_token, cast_token, form_shown, expr_shown, factor_tokens, member_tokens, path_tokens, step_tokens, term_tokens, expr_tokens, operand_tokens}
+use Rattle.jolie_ast.proofs.PrintedExpressions.{path_form_shown, size_shown, defined_shown, cast_shown, literal_shown, minus_shown, not_shown, product_shown, sum_shown, compare_shown, and_shown, or_shown}
 use Rattle.jolie_round_trip.specs.Placeless.{name_placeless, form_placeless, expr_placeless, factor_placeless, member_placeless, path_placeless, step_placeless, term_placeless}
 use Rattle.jolie_round_trip.proofs.PlacelessExpressions.{int_placeless, long_placeless, string_placeless, truth_placeless, path_form_placeless, size_placeless, is_defined_placeless, cast_placeless, literal_placeless, minus_placeless, not_placeless, product_placeless, sum_placeless, compare_placeless, and_placeless, or_placeless, expression_placeless, factor_rolled, term_rolled, member_rolled, path_rolled, step_rolled}
-use Rattle.jolie_round_trip.proofs.PrintedForms.{path_form_shown, size_shown, is_defined_shown, cast_shown, literal_shown, minus_shown, not_shown, product_shown, sum_shown, compare_shown, and_shown, or_shown, expression_shown, factor_printed, term_printed, member_printed, path_printed, step_printed}
+use Rattle.jolie_round_trip.proofs.PrintedForms.{expression_shown, factor_printed, term_printed, member_printed, path_printed, step_printed}
 use Rattle.jolie_round_trip.proofs.ListsAlike.{known_lists, known_separated}
 
 -- ---- what is printed of each is printed of it without places
@@ -91,7 +92,7 @@ form_known (ExprForm-F.Bool b) = bare_alike (form.rolls-Bool b) (truth_placeless
 form_known (ExprForm-F.Path (p, k)) = form_alike (form.rolls-Path p) (path_form_placeless p) (path_form_shown (path_placeless p)) (ap simple k) (path_form_shown p)
 form_known (ExprForm-F.Size (p, k)) = form_alike (form.rolls-Size p) (size_placeless p) (size_shown (path_placeless p)) (ap (λ ts. simple (codes "#" ∷ ts)) k) (size_shown p)
 form_known (ExprForm-F.IsDefined (p, k)) =
-    form_alike (form.rolls-IsDefined p) (is_defined_placeless p) (is_defined_shown (path_placeless p)) (ap (λ ts. simple (codes "is_defined" ∷ in_parens ts)) k) (is_defined_shown p)
+    form_alike (form.rolls-IsDefined p) (is_defined_placeless p) (defined_shown (path_placeless p)) (ap (λ ts. simple (codes "is_defined" ∷ in_parens ts)) k) (defined_shown p)
 form_known (ExprForm-F.Cast to (e, k)) =
     form_alike (form.rolls-Cast to e) (cast_placeless to e) (cast_shown to (expr_placeless e)) (ap (λ s. simple (cast_token to ∷ in_parens s.tokens)) k) (cast_shown to e)
 form_known (ExprForm-F.Literal members) =

@@ -6,7 +6,7 @@ use Rattle.jolie_tokens.specs.declared.token.Token.{Token}
 use Rattle.jolie_tokens.specs.declared.token.TokenKind.{TokenKind}
 use Rattle.jolie_tokens.specs.Bytes.{is_blank}
 use Rattle.jolie_tokens.specs.Pieces as pieces
-use Rattle.jolie_tokens.specs.Pieces.{Piece, written, kind_of, IsPiece, StandsBefore}
+use Rattle.jolie_tokens.specs.Pieces.{Piece, written, kind_of, StandsBefore}
 use Rattle.jolie_tokens.specs.Texts.{all_written, Stand, token_of, tokens_of, IsRead}
 use Rattle.jolie_ast.specs.Spacing.{spaced, text_of}
 use Rattle.jolie_parse.specs.Classes.{Spelled, spelled_one, spelled}

@@ -78,9 +78,6 @@ kind_class (kind.Sign s) spelling = refl
 pub printed_class : (l : Lexeme) → lexeme_class (printed_form l) ≡ lexeme_class l
 printed_class l = kind_class l.kind l.spelling
 
-pub class_from_lexeme : (t : Spelled) (l : Lexeme) → lexeme_of t ≡ l → class t ≡ lexeme_class l
-class_from_lexeme t l e = ap lexeme_class e
-
 -- ---- lists of them
 
 pub Every-append : {A : Type 0} (P : A → Type 0) (xs ys : List A) → Every P xs → Every P ys → Every P (xs ++ ys)

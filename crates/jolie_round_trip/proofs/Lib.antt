@@ -15,7 +15,6 @@ pub mod TypesAlike
 pub mod PrintedAlike
 pub mod Nesting
 pub mod Echo
-pub mod Numbered
 pub mod ClassTokens
 pub mod Parts
 pub mod EchoTokens

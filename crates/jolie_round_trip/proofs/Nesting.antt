@@ -3,21 +3,7 @@ use Rattle.std.proofs.Common.{◌≡◌, ℕ, zero, suc, ◌≤◌, inl, inr, �
 use Rattle.jolie_parse.specs.Classes.{Spelled}
 use Rattle.jolie_parse.specs.Syntax.{Syn, token, give, both, either, many, means, inside, prefix, Part, Meant, Lang, Derives, Many}
 use Rattle.jolie_parse.specs.Grammar.{production, Allowed}
-
-Many_more : {A : Type 0} (D E : Lang A) → ((ts : List Spelled) (v : A) → D ts v → E ts v) → (ts : List Spelled) (vs : List A) → Many D ts vs → Many E ts vs
-Many_more D E h ts [] d = d
-Many_more D E h ts (v ∷ vs) d = (d.0, d.1, d.2, h d.0 v d.3, Many_more D E h d.1 vs d.4)
-
-module _ (w w2 : (r : Part) → Lang (Meant r)) (more : (r : Part) (ts : List Spelled) (v : Meant r) → w r ts v → w2 r ts v) where
-  Derives_more : {A : Type 0} (s : Syn A) (ts : List Spelled) (v : A) → Derives w s ts v → Derives w2 s ts v
-  Derives_more (token ks) ts v d = d
-  Derives_more (give a) ts v d = d
-  Derives_more (both s t) ts v d = (d.0, d.1, d.2, Derives_more s d.0 v.0 d.3, Derives_more t d.1 v.1 d.4)
-  Derives_more (either s t) ts v d = elim d [ inl h ↦ inl (Derives_more s ts v h) | inr h ↦ inr (Derives_more t ts v h) ]
-  Derives_more (many s) ts v d = Many_more (Derives w s) (Derives w2 s) (Derives_more s) ts v d
-  Derives_more (means f s) ts v d = (d.0, d.1, Derives_more s ts d.0 d.2)
-  Derives_more (inside o r c) ts v d = (d.0, d.1, d.2, d.3, d.4, more r d.1 v.1 d.5)
-  Derives_more (prefix ks r) ts v d = (d.0, d.1, d.2, more r d.0 v.1 d.3)
+use Rattle.jolie_parse.proofs.Unique.{Derives_more}
 
 Allowed_more : (n m : ℕ) → n ≤ m → (r : Part) (ts : List Spelled) (v : Meant r) → Allowed n r ts v → Allowed m r ts v
 Allowed_more zero m le r ts v d = absurd d

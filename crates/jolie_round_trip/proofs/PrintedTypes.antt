@@ -1,5 +1,5 @@
--- What is printed of each form of a type, and what is kept of it without its places.
-use Rattle.std.proofs.Common.{◌≡◌, ℕ, List, [], ◌∷◌, ◌++◌, map, Option, Some, None, refl, sym, ap, ◌∙◌, codes}
+-- What is printed of a root type and of a field, and what is kept of each form of a type without its places.
+use Rattle.std.proofs.Common.{◌≡◌, ℕ, List, ◌∷◌, ◌++◌, map, Option, Some, None, refl, sym, ap, ◌∙◌, codes}
 use Rattle.std.specs.Prelude.{option_map, flat_map}
 use Rattle.jolie_ast.specs.declared.name.Name.{Name}
 use Rattle.jolie_ast.specs.declared.types.RootKind.{RootKind}
@@ -13,9 +13,9 @@ use Rattle.jolie_ast.specs.Spacing.{Token}
 use Rattle.jolie_ast.specs.PrintedExpressions.{in_braces, maybe}
 use Rattle.jolie_ast.specs.Printed as printed
 use Rattle.jolie_ast.specs.Printed.{root_token, maybe_cardinality, cardinality_tokens, body_tokens, field_tokens}
+use Rattle.jolie_ast.proofs.Spacing.{mapped_tokens}
 use Rattle.jolie_round_trip.specs.Placeless as placeless
 use Rattle.jolie_round_trip.specs.Placeless.{name_placeless, body_placeless, field_placeless}
-use Rattle.jolie_round_trip.proofs.PrintedForms.{flat_map_map}
 
 -- ---- without places
 
@@ -49,17 +49,7 @@ root_printed at kind None =
 root_printed at kind (Some fields) =
     ap body_tokens (sym (body.rolls-Root at kind (Some fields)))
     ∙ fold-roll-TypeBody (List Token) (List Token) printed.body_level printed.field_level (TypeBody-F.Root at kind (Some fields))
-    ∙ ap (λ ts. root_token kind ∷ in_braces ts) (flat_map_map field_tokens fields)
-
-pub named_printed : (name : Name) → body_tokens (body.Named name) ≡ name.text ∷ []
-unfolding body_tokens field_tokens
-named_printed name =
-    ap body_tokens (sym (body.rolls-Named name)) ∙ fold-roll-TypeBody (List Token) (List Token) printed.body_level printed.field_level (TypeBody-F.Named name)
-
-pub undefined_printed : (at : ℕ) → body_tokens (body.Undefined at) ≡ codes "undefined" ∷ []
-unfolding body_tokens field_tokens
-undefined_printed at =
-    ap body_tokens (sym (body.rolls-Undefined at)) ∙ fold-roll-TypeBody (List Token) (List Token) printed.body_level printed.field_level (TypeBody-F.Undefined at)
+    ∙ ap (λ ts. root_token kind ∷ in_braces ts) (mapped_tokens (λ ts. ts) field_tokens fields)
 
 cardinality_printed : (cardinality : Option Cardinality) → maybe_cardinality cardinality ≡ maybe (option_map cardinality_tokens cardinality)
 cardinality_printed None = refl

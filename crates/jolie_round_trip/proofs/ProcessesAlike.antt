@@ -26,9 +26,10 @@ use Rattle.jolie_ast.specs.declared.process.Otherwise.TheVariants as otherwise
 use Rattle.jolie_ast.specs.Spacing.{Token, separated}
 use Rattle.jolie_ast.specs.PrintedExpressions.{in_parens, in_brackets, in_braces, expr_tokens}
 use Rattle.jolie_ast.specs.PrintedProcesses.{assignment_tokens, for_step_tokens, key_token, path_parens, value_parens, thrown_tokens, process_tokens, block_tokens, if_tokens, otherwise_tokens, input_tokens, reply_tokens, branch_tokens, answer_tokens, handler_tokens}
+use Rattle.jolie_ast.proofs.PrintedProcesses.{nothing_shown, assign_shown, undef_shown, correlate_shown, conditional_shown, while_shown, for_shown, input_form_shown, choice_shown, output_shown, scope_shown, install_shown, throw_shown, compensate_shown, inner_handler_shown, block_form_shown, sequence_shown, parallel_shown, else_if_shown, else_shown, block_made, input_made}
 use Rattle.jolie_round_trip.specs.Placeless.{name_placeless, expr_placeless, path_placeless, assignment_placeless, for_step_placeless, key_placeless, process_placeless, block_placeless, if_placeless, otherwise_placeless, input_placeless, reply_placeless, branch_placeless, answer_placeless, handler_placeless}
 use Rattle.jolie_round_trip.proofs.PlacelessProcesses.{nothing_placeless, assign_placeless, undef_placeless, correlate_placeless, conditional_placeless, while_placeless, for_placeless, input_statement_placeless, choice_placeless, output_placeless, scope_placeless, install_placeless, throw_placeless, compensate_placeless, inner_handler_placeless, block_statement_placeless, sequence_placeless, parallel_placeless, no_else_placeless, else_if_placeless, else_placeless, block_rolled, if_rolled, input_rolled, reply_rolled, branch_rolled, answer_rolled, handler_rolled}
-use Rattle.jolie_round_trip.proofs.PrintedStatements.{nothing_printed, assign_printed, undef_printed, correlate_printed, conditional_printed, while_printed, for_printed, input_statement_printed, choice_printed, output_printed, scope_printed, install_printed, throw_printed, compensate_printed, inner_handler_printed, block_statement_printed, sequence_printed, parallel_printed, else_if_printed, else_printed, block_printed, if_printed, input_printed, reply_printed, branch_printed, answer_printed, handler_printed}
+use Rattle.jolie_round_trip.proofs.PrintedStatements.{if_printed, reply_printed, branch_printed, answer_printed, handler_printed}
 use Rattle.jolie_round_trip.proofs.ListsAlike.{known_lists, known_separated}
 use Rattle.jolie_round_trip.proofs.ExpressionsAlike.{expr_tokens_alike, path_alike}
 
@@ -136,60 +137,60 @@ process_alike : {x p q : Process} {ts us : List Token} → x ≡ p → process_p
 process_alike rolls left printed same whole = subst ProcessAlike (sym rolls) (ap process_tokens left ∙ printed ∙ same ∙ sym whole)
 
 process_known : (y : Process-F KnownOtherwise KnownProcess KnownAnswer KnownBlock KnownBranch KnownHandler KnownIf KnownInput KnownReply) → ProcessAlike (process_of y)
-process_known (Process-F.«Process::Nothing» at) = process_alike (process.rolls-Nothing at) (nothing_placeless at) (nothing_printed 0) refl (nothing_printed at)
+process_known (Process-F.«Process::Nothing» at) = process_alike (process.rolls-Nothing at) (nothing_placeless at) (nothing_shown 0) refl (nothing_shown at)
 process_known (Process-F.Assign path change) =
-    process_alike (process.rolls-Assign path change) (assign_placeless path change) (assign_printed (path_placeless path) (assignment_placeless change)) (rw (path_alike path, assignment_alike change) refl) (assign_printed path change)
-process_known (Process-F.Undef at path) = process_alike (process.rolls-Undef at path) (undef_placeless at path) (undef_printed 0 (path_placeless path)) (rw (path_alike path) refl) (undef_printed at path)
+    process_alike (process.rolls-Assign path change) (assign_placeless path change) (assign_shown (path_placeless path) (assignment_placeless change)) (rw (path_alike path, assignment_alike change) refl) (assign_shown path change)
+process_known (Process-F.Undef at path) = process_alike (process.rolls-Undef at path) (undef_placeless at path) (undef_shown 0 (path_placeless path)) (rw (path_alike path) refl) (undef_shown at path)
 process_known (Process-F.Correlate at variable value) =
-    process_alike (process.rolls-Correlate at variable value) (correlate_placeless at variable value) (correlate_printed 0 (name_placeless variable) (expr_placeless value)) (rw (expr_tokens_alike value) refl) (correlate_printed at variable value)
-process_known (Process-F.If (i, k)) = process_alike (process.rolls-If i) (conditional_placeless i) (conditional_printed (if_placeless i)) k (conditional_printed i)
+    process_alike (process.rolls-Correlate at variable value) (correlate_placeless at variable value) (correlate_shown 0 (name_placeless variable) (expr_placeless value)) (rw (expr_tokens_alike value) refl) (correlate_shown at variable value)
+process_known (Process-F.If (i, k)) = process_alike (process.rolls-If i) (conditional_placeless i) (conditional_shown (if_placeless i)) k (conditional_shown i)
 process_known (Process-F.While at test (body, k)) =
-    process_alike (process.rolls-While at test body) (while_placeless at test body) (while_printed 0 (expr_placeless test) (block_placeless body)) (rw (expr_tokens_alike test, k) refl) (while_printed at test body)
+    process_alike (process.rolls-While at test body) (while_placeless at test body) (while_shown 0 (expr_placeless test) (block_placeless body)) (rw (expr_tokens_alike test, k) refl) (while_shown at test body)
 process_known (Process-F.For at path first test stepped step (body, k)) =
     process_alike (process.rolls-For at path first test stepped step body) (for_placeless at path first test stepped step body)
-    (for_printed 0 (path_placeless path) (expr_placeless first) (expr_placeless test) (path_placeless stepped) (for_step_placeless step) (block_placeless body))
+    (for_shown 0 (path_placeless path) (expr_placeless first) (expr_placeless test) (path_placeless stepped) (for_step_placeless step) (block_placeless body))
     (rw (path_alike path, expr_tokens_alike first, expr_tokens_alike test, path_alike stepped, for_step_alike step, k) refl)
-    (for_printed at path first test stepped step body)
-process_known (Process-F.Input (i, k)) = process_alike (process.rolls-Input i) (input_statement_placeless i) (input_statement_printed (input_placeless i)) k (input_statement_printed i)
+    (for_shown at path first test stepped step body)
+process_known (Process-F.Input (i, k)) = process_alike (process.rolls-Input i) (input_statement_placeless i) (input_form_shown (input_placeless i)) k (input_form_shown i)
 process_known (Process-F.Choice at branches) =
     let bs : List Branch = map (λ b. b.0) branches in
-    process_alike (process.rolls-Choice at bs) (choice_placeless at bs) (choice_printed 0 (map branch_placeless bs)) (known_lists branch_placeless branch_tokens (λ b k. k) branches) (choice_printed at bs)
+    process_alike (process.rolls-Choice at bs) (choice_placeless at bs) (choice_shown 0 (map branch_placeless bs)) (known_lists branch_placeless branch_tokens (λ b k. k) branches) (choice_shown at bs)
 process_known (Process-F.Output operation port value None) =
-    process_alike (process.rolls-Output operation port value None) (output_placeless operation port value None) (output_printed (name_placeless operation) (name_placeless port) (option_map expr_placeless value) None)
-    (ap (λ ts. operation.text ∷ (codes "@" ∷ (port.text ∷ (ts ++ [])))) (value_alike value)) (output_printed operation port value None)
+    process_alike (process.rolls-Output operation port value None) (output_placeless operation port value None) (output_shown (name_placeless operation) (name_placeless port) (option_map expr_placeless value) None)
+    (ap (λ ts. operation.text ∷ (codes "@" ∷ (port.text ∷ (ts ++ [])))) (value_alike value)) (output_shown operation port value None)
 process_known (Process-F.Output operation port value (Some (answer, k))) =
     process_alike (process.rolls-Output operation port value (Some answer)) (output_placeless operation port value (Some answer))
-    (output_printed (name_placeless operation) (name_placeless port) (option_map expr_placeless value) (Some (answer_placeless answer)))
+    (output_shown (name_placeless operation) (name_placeless port) (option_map expr_placeless value) (Some (answer_placeless answer)))
     (ap (λ ts. operation.text ∷ (codes "@" ∷ (port.text ∷ (ts ++ answer_tokens (answer_placeless answer))))) (value_alike value) ∙ ap (λ ts. operation.text ∷ (codes "@" ∷ (port.text ∷ (value_parens value ++ ts)))) k)
-    (output_printed operation port value (Some answer))
+    (output_shown operation port value (Some answer))
 process_known (Process-F.Scope at name (body, k)) =
-    process_alike (process.rolls-Scope at name body) (scope_placeless at name body) (scope_printed 0 (name_placeless name) (block_placeless body)) (rw k refl) (scope_printed at name body)
+    process_alike (process.rolls-Scope at name body) (scope_placeless at name body) (scope_shown 0 (name_placeless name) (block_placeless body)) (rw k refl) (scope_shown at name body)
 process_known (Process-F.Install at handlers) =
     let hs : List Handler = map (λ h. h.0) handlers in
-    process_alike (process.rolls-Install at hs) (install_placeless at hs) (install_printed 0 (map handler_placeless hs))
-    (ap (λ ts. codes "install" ∷ in_parens ts) (known_separated (codes ",") handler_placeless handler_tokens (λ h k. k) handlers)) (install_printed at hs)
+    process_alike (process.rolls-Install at hs) (install_placeless at hs) (install_shown 0 (map handler_placeless hs))
+    (ap (λ ts. codes "install" ∷ in_parens ts) (known_separated (codes ",") handler_placeless handler_tokens (λ h k. k) handlers)) (install_shown at hs)
 process_known (Process-F.Throw at fault value) =
-    process_alike (process.rolls-Throw at fault value) (throw_placeless at fault value) (throw_printed 0 (name_placeless fault) (option_map expr_placeless value)) (rw (thrown_alike value) refl) (throw_printed at fault value)
-process_known (Process-F.Compensate at name) = process_alike (process.rolls-Compensate at name) (compensate_placeless at name) (compensate_printed 0 (name_placeless name)) refl (compensate_printed at name)
-process_known (Process-F.InnerHandler at) = process_alike (process.rolls-InnerHandler at) (inner_handler_placeless at) (inner_handler_printed 0) refl (inner_handler_printed at)
-process_known (Process-F.Block (b, k)) = process_alike (process.rolls-Block b) (block_statement_placeless b) (block_statement_printed (block_placeless b)) k (block_statement_printed b)
+    process_alike (process.rolls-Throw at fault value) (throw_placeless at fault value) (throw_shown 0 (name_placeless fault) (option_map expr_placeless value)) (rw (thrown_alike value) refl) (throw_shown at fault value)
+process_known (Process-F.Compensate at name) = process_alike (process.rolls-Compensate at name) (compensate_placeless at name) (compensate_shown 0 (name_placeless name)) refl (compensate_shown at name)
+process_known (Process-F.InnerHandler at) = process_alike (process.rolls-InnerHandler at) (inner_handler_placeless at) (inner_handler_shown 0) refl (inner_handler_shown at)
+process_known (Process-F.Block (b, k)) = process_alike (process.rolls-Block b) (block_statement_placeless b) (block_form_shown (block_placeless b)) k (block_form_shown b)
 process_known (Process-F.Sequence statements) =
     let ps : List Process = map (λ p. p.0) statements in
-    process_alike (process.rolls-Sequence ps) (sequence_placeless ps) (sequence_printed (map process_placeless ps)) (known_separated (codes ";") process_placeless process_tokens (λ p k. k) statements) (sequence_printed ps)
+    process_alike (process.rolls-Sequence ps) (sequence_placeless ps) (sequence_shown (map process_placeless ps)) (known_separated (codes ";") process_placeless process_tokens (λ p k. k) statements) (sequence_shown ps)
 process_known (Process-F.Parallel members) =
     let ps : List Process = map (λ p. p.0) members in
-    process_alike (process.rolls-Parallel ps) (parallel_placeless ps) (parallel_printed (map process_placeless ps)) (known_separated (codes "|") process_placeless process_tokens (λ p k. k) members) (parallel_printed ps)
+    process_alike (process.rolls-Parallel ps) (parallel_placeless ps) (parallel_shown (map process_placeless ps)) (known_separated (codes "|") process_placeless process_tokens (λ p k. k) members) (parallel_shown ps)
 
 otherwise_known : (y : Otherwise-F KnownOtherwise KnownProcess KnownAnswer KnownBlock KnownBranch KnownHandler KnownIf KnownInput KnownReply) → OtherwiseAlike (otherwise_of y)
 otherwise_known Otherwise-F.«Otherwise::Nothing» = subst OtherwiseAlike (sym otherwise.rolls-Nothing) (ap otherwise_tokens no_else_placeless)
 otherwise_known (Otherwise-F.ElseIf (i, k)) =
-    subst OtherwiseAlike (sym (otherwise.rolls-ElseIf i)) (ap otherwise_tokens (else_if_placeless i) ∙ else_if_printed (if_placeless i) ∙ ap (λ ts. codes "else" ∷ ts) k ∙ sym (else_if_printed i))
+    subst OtherwiseAlike (sym (otherwise.rolls-ElseIf i)) (ap otherwise_tokens (else_if_placeless i) ∙ else_if_shown (if_placeless i) ∙ ap (λ ts. codes "else" ∷ ts) k ∙ sym (else_if_shown i))
 otherwise_known (Otherwise-F.Else (b, k)) =
-    subst OtherwiseAlike (sym (otherwise.rolls-Else b)) (ap otherwise_tokens (else_placeless b) ∙ else_printed (block_placeless b) ∙ ap (λ ts. codes "else" ∷ ts) k ∙ sym (else_printed b))
+    subst OtherwiseAlike (sym (otherwise.rolls-Else b)) (ap otherwise_tokens (else_placeless b) ∙ else_shown (block_placeless b) ∙ ap (λ ts. codes "else" ∷ ts) k ∙ sym (else_shown b))
 
 block_known : (at : ℕ) (body : Option KnownProcess) → BlockAlike (block_of at body)
-block_known at None = ap block_tokens (block_rolled at None) ∙ block_printed 0 None ∙ sym (block_printed at None)
-block_known at (Some (p, k)) = ap block_tokens (block_rolled at (Some p)) ∙ block_printed 0 (Some (process_placeless p)) ∙ ap in_braces k ∙ sym (block_printed at (Some p))
+block_known at None = ap block_tokens (block_rolled at None) ∙ block_made 0 None ∙ sym (block_made at None)
+block_known at (Some (p, k)) = ap block_tokens (block_rolled at (Some p)) ∙ block_made 0 (Some (process_placeless p)) ∙ ap in_braces k ∙ sym (block_made at (Some p))
 
 if_known : (at : ℕ) (test : Expr) (body : KnownBlock) (rest : KnownOtherwise) → IfAlike (roll-If (record { at = at; test = test; body = body.0; otherwise = rest.0 }))
 if_known at test (body, j) (rest, k) =
@@ -203,15 +204,15 @@ if_known at test (body, j) (rest, k) =
 input_known : (operation : Name) (request : Option Path) (reply : Option KnownReply) → InputAlike (input_of operation request reply)
 input_known operation request None =
     ap input_tokens (input_rolled operation request None)
-    ∙ input_printed (name_placeless operation) (option_map path_placeless request) None
+    ∙ input_made (name_placeless operation) (option_map path_placeless request) None
     ∙ ap (λ ts. operation.text ∷ (ts ++ [])) (parens_alike request)
-    ∙ sym (input_printed operation request None)
+    ∙ sym (input_made operation request None)
 input_known operation request (Some (reply, k)) =
     ap input_tokens (input_rolled operation request (Some reply))
-    ∙ input_printed (name_placeless operation) (option_map path_placeless request) (Some (reply_placeless reply))
+    ∙ input_made (name_placeless operation) (option_map path_placeless request) (Some (reply_placeless reply))
     ∙ ap (λ ts. operation.text ∷ (ts ++ reply_tokens (reply_placeless reply))) (parens_alike request)
     ∙ ap (λ ts. operation.text ∷ (path_parens request ++ ts)) k
-    ∙ sym (input_printed operation request (Some reply))
+    ∙ sym (input_made operation request (Some reply))
 
 reply_known : (path : Option Path) (body : KnownBlock) → ReplyAlike (roll-Reply (record { path = path; body = body.0 }))
 reply_known path (body, k) =

@@ -13,9 +13,10 @@ use Rattle.jolie_ast.specs.declared.process.Branch.{Branch, roll-Branch, out-Bra
 use Rattle.jolie_ast.specs.declared.process.Answer.{roll-Answer}
 use Rattle.jolie_ast.specs.PrintedExpressions.{maybe}
 use Rattle.jolie_ast.specs.PrintedProcesses.{count_token, assignment_tokens, for_step_tokens, path_parens, process_tokens, block_tokens, input_tokens, reply_tokens, branch_tokens, answer_tokens}
+use Rattle.jolie_ast.proofs.PrintedProcesses.{block_made, input_made, choice_shown, output_shown, assign_shown, correlate_shown}
 use Rattle.jolie_parse.specs.declared.class.Class.{Class}
 use Rattle.jolie_parse.specs.Classes as c
-use Rattle.jolie_parse.specs.Classes.{Spelled, class, place, same}
+use Rattle.jolie_parse.specs.Classes.{class, place, same}
 use Rattle.jolie_parse.specs.Meanings as means_as
 use Rattle.jolie_parse.specs.Syntax.{Part, a_body, maybe_path, maybe_expression, an_input, some_handlers, Meant, Lang}
 use Rattle.jolie_parse.specs.Grammar.{parens, block, reply, input_parts, input, branch, choice, answer, output_parts, output, count, change, assign, correlate, last_change, loop_parts}
@@ -23,7 +24,7 @@ use Rattle.jolie_round_trip.specs.Placeless.{path_placeless, assignment_placeles
 use Rattle.jolie_round_trip.proofs.Echo.{pair_kept}
 use Rattle.jolie_round_trip.proofs.Parts.{Inner, for_parts_placeless, for_parts_tokens}
 use Rattle.jolie_round_trip.proofs.PlacelessProcesses.{block_rolled, reply_rolled, input_rolled, branch_rolled, answer_rolled, choice_placeless, output_placeless, assign_placeless, correlate_placeless}
-use Rattle.jolie_round_trip.proofs.PrintedStatements.{block_printed, reply_printed, input_printed, branch_printed, answer_printed, choice_printed, output_printed, assign_printed, correlate_printed}
+use Rattle.jolie_round_trip.proofs.PrintedStatements.{reply_printed, branch_printed, answer_printed}
 use Rattle.jolie_round_trip.proofs.Reprints.{Reprints, reprints_both, reprints_either, reprints_means}
 use Rattle.jolie_round_trip.proofs.ReprintsTokens.{reprints_one, reprints_among, reprints_inside, reprints_between}
 use Rattle.jolie_round_trip.proofs.ReprintsForms.{reprints_behind, reprints_some, reprints_optional}
@@ -37,8 +38,8 @@ choice_same [] = choice_placeless 0 []
 choice_same (b ∷ bs) = choice_placeless (out-Branch b).at (b ∷ bs)
 
 choice_tokens : (bs : List Branch) → process_tokens (means_as.choice_of bs) ≡ flat_map branch_tokens bs
-choice_tokens [] = choice_printed 0 []
-choice_tokens (b ∷ bs) = choice_printed (out-Branch b).at (b ∷ bs)
+choice_tokens [] = choice_shown 0 []
+choice_tokens (b ∷ bs) = choice_shown (out-Branch b).at (b ∷ bs)
 
 -- the count of a class: `++` or `--`
 abbrev pub class_count : Class → Count
@@ -54,7 +55,7 @@ module _ {w : (r : Part) → Lang (Meant r)} (inner : Inner w) where
   unfolding block
   block_reprints =
       reprints_means means_as.block_of block_placeless block_tokens (λ z. roll-Block (record { at = 0; body = z }))
-      (λ q. block_rolled (place q.0) q.1) (λ q. block_printed (place q.0) q.1)
+      (λ q. block_rolled (place q.0) q.1) (λ q. block_made (place q.0) q.1)
       (reprints_inside inner c.sign_open_brace a_body c.sign_close_brace refl refl)
 
   path_in_parens : Reprints w (parens maybe_path) (option_map path_placeless) path_parens
@@ -77,7 +78,7 @@ module _ {w : (r : Part) → Lang (Meant r)} (inner : Inner w) where
   unfolding input
   input_reprints =
       reprints_means (λ q. means_as.input_of q.0 q.1) input_placeless input_tokens (λ z. roll-Input (record { operation = name_spelled z.0; request = z.1.0; reply = z.1.1 }))
-      (λ q. input_rolled (means_as.name_of q.0) q.1.0 q.1.1) (λ q. input_printed (means_as.name_of q.0) q.1.0 q.1.1)
+      (λ q. input_rolled (means_as.name_of q.0) q.1.0 q.1.1) (λ q. input_made (means_as.name_of q.0) q.1.0 q.1.1)
       (reprints_both id_reprints input_parts_reprint)
 
   branch_reprints : Reprints w branch branch_placeless branch_tokens
@@ -104,7 +105,7 @@ module _ {w : (r : Part) → Lang (Meant r)} (inner : Inner w) where
   unfolding output output_parts
   output_reprints =
       reprints_means (λ q. means_as.output_of q.0 q.1) process_placeless process_tokens (λ z. process.Output (name_spelled z.0) (name_spelled z.1.0) z.1.1.0 z.1.1.1)
-      (λ q. output_placeless (means_as.name_of q.0) (means_as.name_of q.1.0) q.1.1.0 q.1.1.1) (λ q. output_printed (means_as.name_of q.0) (means_as.name_of q.1.0) q.1.1.0 q.1.1.1)
+      (λ q. output_placeless (means_as.name_of q.0) (means_as.name_of q.1.0) q.1.1.0 q.1.1.1) (λ q. output_shown (means_as.name_of q.0) (means_as.name_of q.1.0) q.1.1.0 q.1.1.1)
       (reprints_both id_reprints
       (reprints_behind c.sign_at refl
       (reprints_both id_reprints
@@ -125,14 +126,14 @@ module _ {w : (r : Part) → Lang (Meant r)} (inner : Inner w) where
   unfolding assign
   assign_reprints =
       reprints_means (λ q. process.Assign q.0 q.1) process_placeless process_tokens (λ z. process.Assign z.0 z.1)
-      (λ q. assign_placeless q.0 q.1) (λ q. assign_printed q.0 q.1)
+      (λ q. assign_placeless q.0 q.1) (λ q. assign_shown q.0 q.1)
       (reprints_both (path_reprints inner) change_reprints)
 
   pub correlate_reprints : Reprints w correlate process_placeless process_tokens
   unfolding correlate
   correlate_reprints =
       reprints_means (λ q. process.Correlate (place q.0) (means_as.name_of q.1.0) q.1.1) process_placeless process_tokens (λ z. process.Correlate 0 (name_spelled z.1.0) z.1.1)
-      (λ q. correlate_placeless (place q.0) (means_as.name_of q.1.0) q.1.1) (λ q. correlate_printed (place q.0) (means_as.name_of q.1.0) q.1.1)
+      (λ q. correlate_placeless (place q.0) (means_as.name_of q.1.0) q.1.1) (λ q. correlate_shown (place q.0) (means_as.name_of q.1.0) q.1.1)
       (reprints_both (reprints_one c.the_csets refl) (reprints_both (reprints_behind c.sign_dot refl id_reprints) (reprints_behind c.sign_assign refl (expr_reprints inner))))
 
   last_change_reprints : Reprints w last_change for_step_placeless for_step_tokens

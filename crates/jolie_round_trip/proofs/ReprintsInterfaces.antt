@@ -12,7 +12,7 @@ use Rattle.jolie_ast.specs.Spacing.{Token}
 use Rattle.jolie_ast.specs.PrintedExpressions.{in_parens, maybe}
 use Rattle.jolie_ast.specs.Printed.{type_name_token, fault_data, fault_tokens, throws_tokens, request_response_tokens, one_way_tokens, group_tokens, interface_tokens}
 use Rattle.jolie_parse.specs.Classes as c
-use Rattle.jolie_parse.specs.Classes.{Spelled, place}
+use Rattle.jolie_parse.specs.Classes.{place}
 use Rattle.jolie_parse.specs.Meanings as means_as
 use Rattle.jolie_parse.specs.Syntax.{Part, Meant, Lang, a_type_name, some_operations, behind, some_of}
 use Rattle.jolie_parse.specs.Grammar.{parens, fault, throws, request_response, one_way, request_responses, one_ways, operation_group, interface}

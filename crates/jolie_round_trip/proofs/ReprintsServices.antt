@@ -17,7 +17,7 @@ use Rattle.jolie_ast.specs.PrintedProcesses.{block_tokens}
 use Rattle.jolie_ast.specs.Printed.{execution_token, protocol_tokens, port_tokens, alias_tokens, variable_tokens, clause_tokens, service_tokens, definition_tokens}
 use Rattle.jolie_parse.specs.declared.class.Class.{Class}
 use Rattle.jolie_parse.specs.Classes as c
-use Rattle.jolie_parse.specs.Classes.{Spelled, class, class_of, place, same}
+use Rattle.jolie_parse.specs.Classes.{Spelled, class, place, same}
 use Rattle.jolie_parse.specs.Meanings as means_as
 use Rattle.jolie_parse.specs.Syntax.{Part, Meant, Lang, port_parts, some_variables, some_clauses}
 use Rattle.jolie_parse.specs.Grammar.{one, block, alias, variable, execution_clause, port_body, port, correlation_set, init_clause, main_clause, clauses, service, file_part, file}

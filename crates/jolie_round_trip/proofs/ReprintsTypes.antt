@@ -16,9 +16,10 @@ use Rattle.jolie_ast.specs.declared.interface.TypeName.TheVariants as type_name
 use Rattle.jolie_ast.specs.Spacing.{Token}
 use Rattle.jolie_ast.specs.PrintedExpressions.{in_braces, int_token}
 use Rattle.jolie_ast.specs.Printed.{root_token, most_token, cardinality_tokens, body_tokens, field_tokens, defined_tokens, type_tokens, type_name_token}
+use Rattle.jolie_ast.proofs.PrintedTypes.{named_body, undefined_body}
 use Rattle.jolie_parse.specs.declared.class.Class.TheVariants as classed
 use Rattle.jolie_parse.specs.Classes as c
-use Rattle.jolie_parse.specs.Classes.{Spelled, class, class_of, place, has, same, ids, words}
+use Rattle.jolie_parse.specs.Classes.{Spelled, class, class_of, place, same}
 use Rattle.jolie_parse.specs.Meanings as means_as
 use Rattle.jolie_parse.specs.Syntax.{Part, Meant, Lang, Syn, Derives, some_bounds, some_fields, between, token}
 use Rattle.jolie_parse.specs.Grammar.{one, kinds, root_type, type_body, bounds, cardinal, field, defined_type, type_definition, type_named, braces, Allowed}
@@ -32,7 +33,7 @@ use Rattle.jolie_round_trip.proofs.ReprintsTokens.{kind_kept, reprints_token, re
 use Rattle.jolie_round_trip.proofs.ReprintsForms.{reprints_behind, reprints_optional, reprints_dropped, reprints_dropped_after}
 use Rattle.jolie_round_trip.proofs.ReprintsPaths.{id_reprints, word_reprints, name_spelled}
 use Rattle.jolie_round_trip.proofs.EchoPrimaries.{int_of, int_bytes}
-use Rattle.jolie_round_trip.proofs.PrintedTypes.{root_placeless, named_placeless, undefined_placeless, field_rolled, root_printed, named_printed, undefined_printed, field_printed}
+use Rattle.jolie_round_trip.proofs.PrintedTypes.{root_placeless, named_placeless, undefined_placeless, field_rolled, root_printed, field_printed}
 
 -- ---- types by name
 
@@ -158,8 +159,8 @@ module _ {w : (r : Part) → Lang (Meant r)} (inner : Inner w) where
   type_body_reprints =
       reprints_either root_type_reprints
       (reprints_either
-      (reprints_means (λ t. body.Named (means_as.name_of t)) body_placeless body_tokens (λ text. body.Named (name_spelled text)) (λ t. named_placeless (means_as.name_of t)) (λ t. named_printed (means_as.name_of t)) id_reprints)
-      (reprints_means (λ t. body.Undefined (place t)) body_placeless body_tokens (λ z. body.Undefined 0) (λ t. undefined_placeless (place t)) (λ t. undefined_printed (place t)) (reprints_one c.the_undefined refl)))
+      (reprints_means (λ t. body.Named (means_as.name_of t)) body_placeless body_tokens (λ text. body.Named (name_spelled text)) (λ t. named_placeless (means_as.name_of t)) (λ t. named_body (means_as.name_of t)) id_reprints)
+      (reprints_means (λ t. body.Undefined (place t)) body_placeless body_tokens (λ z. body.Undefined 0) (λ t. undefined_placeless (place t)) (λ t. undefined_body (place t)) (reprints_one c.the_undefined refl)))
 
   -- a field of its name, cardinality and type
   abbrev field_spelled : List ℕ × (Option Cardinality × TypeBody) → Field

@@ -13,8 +13,9 @@ use Rattle.jolie_ast.specs.declared.types.DefinedType.TheVariants as defined
 use Rattle.jolie_ast.specs.declared.types.TypeDefinition.{TypeDefinition}
 use Rattle.jolie_ast.specs.PrintedExpressions.{in_braces, maybe}
 use Rattle.jolie_ast.specs.Printed.{root_token, cardinality_tokens, body_tokens, field_tokens, defined_tokens, type_tokens}
+use Rattle.jolie_ast.proofs.PrintedTypes.{named_body, undefined_body}
 use Rattle.jolie_round_trip.specs.Placeless.{name_placeless, body_placeless, field_placeless, defined_placeless, type_placeless}
-use Rattle.jolie_round_trip.proofs.PrintedTypes.{root_placeless, named_placeless, undefined_placeless, field_rolled, root_printed, named_printed, undefined_printed, field_printed}
+use Rattle.jolie_round_trip.proofs.PrintedTypes.{root_placeless, named_placeless, undefined_placeless, field_rolled, root_printed, field_printed}
 use Rattle.jolie_round_trip.proofs.ListsAlike.{lists_alike, known_lists}
 
 abbrev BodyAlike : TypeBody → Type 0
@@ -43,8 +44,8 @@ body_known (TypeBody-F.Root at kind (Some fields)) =
     ∙ root_printed 0 kind (Some (map field_placeless fs))
     ∙ ap (λ ts. root_token kind ∷ in_braces ts) (known_lists field_placeless field_tokens (λ f k. k) fields)
     ∙ sym (root_printed at kind (Some fs)))
-body_known (TypeBody-F.Named name) = subst BodyAlike (sym (body.rolls-Named name)) (ap body_tokens (named_placeless name) ∙ named_printed (name_placeless name) ∙ sym (named_printed name))
-body_known (TypeBody-F.Undefined at) = subst BodyAlike (sym (body.rolls-Undefined at)) (ap body_tokens (undefined_placeless at) ∙ undefined_printed 0 ∙ sym (undefined_printed at))
+body_known (TypeBody-F.Named name) = subst BodyAlike (sym (body.rolls-Named name)) (ap body_tokens (named_placeless name) ∙ named_body (name_placeless name) ∙ sym (named_body name))
+body_known (TypeBody-F.Undefined at) = subst BodyAlike (sym (body.rolls-Undefined at)) (ap body_tokens (undefined_placeless at) ∙ undefined_body 0 ∙ sym (undefined_body at))
 
 field_known : (name : Name) (count : Option Cardinality) (ty : KnownBody) → FieldAlike (roll-Field (record { name = name; cardinality = count; body = ty.0 }))
 field_known name count (ty, k) =
