@@ -1,5 +1,4 @@
-ghost use Rattle.std.specs.Prelude.{◌≡◌, option_map};
-ghost use Rattle.jolie_trees.specs.declared.root.Root.TheVariants as root;
+ghost use Rattle.std.specs.Prelude.{◌≡◌};
 ghost use Rattle.behaviour_tree.specs.Comparisons as spec;
 ghost use Rattle.behaviour_tree.specs.Operators.{both};
 

@@ -1,4 +1,4 @@
-ghost use Rattle.std.specs.Prelude.{◌≡◌, ◌∷◌, [], map, not, option_and_then, option_map, IfOk, is_some, OnOk};
+ghost use Rattle.std.specs.Prelude.{◌≡◌, ◌∷◌, map, not, option_and_then, option_map, IfOk, is_some, OnOk};
 ghost use Rattle.behaviour_tree.specs.Data.{PathTree};
 ghost use Rattle.behaviour_tree.specs.View.{expr_view, exps_of, member_list_of, member_view, mul_part_view, mul_parts_of, path_view, step_of, step_view, sum_part_view, sum_parts_of};
 ghost use Rattle.jolie_trees.specs.declared.root.Root.TheVariants as root;

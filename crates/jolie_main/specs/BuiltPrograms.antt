@@ -1,4 +1,4 @@
--- Which programs run so far: those of one service, whose main begins with its one input.
+-- Which programs run so far: those of one service, whose main begins with an input, or a choice of several, and has no other.
 use Rattle.std.specs.Prelude.{◌≡◌, Bool, true, false, not, ◌&&◌, List, [], ◌∷◌, Option, None, Some, is_some}
 use Rattle.behaviour_tree.specs.declared.program.Execution.{Execution}
 use Rattle.behaviour_tree.specs.declared.program.Execution.TheVariants.{Concurrent, Single}
@@ -39,7 +39,7 @@ are_served parts (one_way o x after bs) =
 are_served parts (request o x y body after bs) =
     has_response (operation_at parts 0 o) && is_fixed_target x && is_fixed_target y && is_inward body && is_inward after && are_served parts bs
 
--- a behaviour whose one input is its first
+-- a behaviour that begins with an input, or a choice of several, and has no other
 abbrev pub begins_with_input : ProgramParts → Proc → Bool
 begins_with_input parts (choice bs) = are_served parts bs
 begins_with_input parts (sequence (proc p ps)) = begins_with_input parts p && are_inward ps
@@ -55,7 +55,8 @@ abbrev pub has_none : {A : Type 0} → List A → Bool
 has_none [] = true
 has_none (x ∷ xs) = false
 
--- a service whose sessions run beside each other without correlation sets, whose init acts on the store alone, and whose main begins with its one input
+-- a service whose sessions run beside each other without correlation sets, whose init acts on the
+-- store alone, and whose main begins with an input, or a choice of several, and has no other
 abbrev pub is_served_service : ProgramParts → ServicePart → Bool
 is_served_service parts s =
     is_concurrent s.execution && has_none s.sets && is_inward s.init && begins_with_input parts s.main

@@ -19,7 +19,7 @@ pub fn one_service_is_built(program: &Program)
     ensures known { 0 < length (parts_of program.now).services }
 {}
 
-/// Whether a program is of one service whose main begins with its one input.
+/// Whether a program is of one service whose main begins with an input, or a choice of several, and has no other.
 pub fn is_built(program: &Program) -> bool
     ensures { result ≡ is_built_program (parts_of program.now) }
 {
@@ -47,7 +47,7 @@ fn is_concurrent(execution: Execution) -> bool
     }
 }
 
-/// Whether a behaviour has one input, which is its first.
+/// Whether a behaviour begins with an input, or a choice of several, and has no other.
 #[cycle(begins)]
 fn begins_with_input(program: &Program, behaviour: &Behaviour) -> bool
     ensures { result ≡ begins_with_input (parts_of program.now) (behaviour_view behaviour.now) }

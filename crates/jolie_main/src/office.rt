@@ -3,7 +3,7 @@ ghost use Rattle.std.specs.Option.{option_copied};
 ghost use Rattle.behaviour_tree.specs.PartsView.{operation_view, parts_of};
 ghost use Rattle.jolie_main.specs.declared.history.Act.TheVariants as acts;
 ghost use Rattle.jolie_main.specs.Legal.{first_worker};
-ghost use Rattle.jolie_main.specs.Route.{routed, routed_to, started, is_full as full};
+ghost use Rattle.jolie_main.specs.Route.{routed, started, is_full as full};
 ghost use Rattle.jolie_main.specs.Turns.{entry};
 ghost use Rattle.jolie_main.specs.Messages.{births, operation_of, weight as tree_weight, outcome_weight as outcome_weight_of};
 ghost use Rattle.jolie_trees.specs.Data.{Tree};

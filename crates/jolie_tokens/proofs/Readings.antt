@@ -7,7 +7,7 @@ use Rattle.jolie_tokens.specs.declared.lex_error.LexError.TheVariants as error
 use Rattle.jolie_tokens.specs.declared.token.Token.{Token}
 use Rattle.jolie_tokens.specs.Bytes.{begins, is_letter}
 use Rattle.jolie_tokens.specs.Pieces as p
-use Rattle.jolie_tokens.specs.Pieces.{Piece, inside, written, IsPiece, StandsBefore, kind_of}
+use Rattle.jolie_tokens.specs.Pieces.{Piece, written, IsPiece, StandsBefore, kind_of}
 use Rattle.jolie_tokens.specs.Refusals.{IsStuck, IsBadByte, of_nothing, of_string, of_line, of_block}
 use Rattle.jolie_tokens.specs.Texts.{all_written, Stand, Reads, token_of, tokens_of, IsRead, IsRefused}
 use Rattle.jolie_tokens.specs.Laws.{HaveOneReading}

@@ -18,10 +18,6 @@ long-choice : (b : Bool) (z : ℤ) → wide_root kind.Long (if b then root.Int z
 long-choice true z = refl
 long-choice false z = refl
 
--- what is exact is not of any kind
-exact-any : (fields : TypeFields) → is_exact (plain kind.Any fields) ≡ true → are_exact fields ≡ true
-exact-any fields h = absurd (false≢true h)
-
 exact-fields : (k : RootKind) (fields : TypeFields) → is_exact (plain k fields) ≡ true → are_exact fields ≡ true
 exact-fields kind.Void fields h = h
 exact-fields kind.Bool fields h = h

@@ -3,10 +3,9 @@ ghost use Rattle.std.specs.Option.{option_copied};
 ghost use Rattle.serde_json.specs.Data as json;
 ghost use Rattle.serde_json.specs.Data.{array};
 ghost use Rattle.behaviour_tree.specs.Data.{undefined as undefined_type};
-ghost use Rattle.serde_json.specs.View.{view, items_view, members_view};
+ghost use Rattle.serde_json.specs.View.{view, members_view};
 ghost use Rattle.behaviour_tree.specs.Conforms.{shape, at_most};
 ghost use Rattle.behaviour_tree.specs.View.{field_view, type_fields_of, type_view};
-ghost use Rattle.jolie_trees.specs.Extents.{children_of};
 ghost use Rattle.jolie_trees.specs.TreeView.{trees_of};
 ghost use Rattle.jsonrpc_text.specs.ToJson as spec;
 

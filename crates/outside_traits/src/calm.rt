@@ -1,7 +1,7 @@
-ghost use Rattle.std.specs.Prelude.{◌≡◌, ◌≤◌, ◌<◌, ◌↔◌, [], Ok, IfOk, IfErr, IsErr, IfSome, Some, length, take, min};
+ghost use Rattle.std.specs.Prelude.{◌≡◌, ◌<◌, ◌↔◌, [], Ok, IfOk, IsErr, Some, length, take, min};
 ghost use Rattle.std.specs.Io.{ReadsAtMost, WritesAtMost};
 ghost use Rattle.std.specs.Io.KnownBytes.{ReadConsumes, WriteAppends};
-ghost use Rattle.outside_traits.specs.Causes.{HasCause, HasCallCause};
+ghost use Rattle.outside_traits.specs.Causes.{HasCause};
 ghost use Rattle.outside_traits.specs.Memory.{room_left};
 
 use crate::errors::{CallError, Failed};
