@@ -1,0 +1,116 @@
+#!/bin/sh
+# Runs the proved program as a person would, over real words, files and streams, and compares what it prints and its status: what `main`
+# of `crates/roqsulei` and the adapters over files and streams do, which no contract says. Outside the gate: bench/program.sh
+set -eu
+top=$(cd "$(dirname "$0")/.." && pwd)
+program=$top/crates/roqsulei/out/roqsulei
+work=$(mktemp -d)
+trap 'rm -rf "$work"' EXIT
+[ -x "$program" ] || { echo "no proved program: run rt ci first" >&2; exit 2; }
+
+rows=0
+odd=0
+
+# Whether a row, named by what it shows, has that status, output and notes.
+row() {
+    rows=$((rows + 1))
+    if [ "$status" != "$2" ] || [ "$(cat "$work/output")" != "$3" ] || [ "$(cat "$work/notes")" != "$4" ]; then
+        echo "$1: status $status, output: $(cat "$work/output"), notes: $(cat "$work/notes")"
+        odd=$((odd + 1))
+    fi
+}
+
+# Runs the program over an input, a file or a stream.
+over() {
+    input=$1
+    shift
+    status=0
+    "$program" "$@" < "$input" > "$work/output" 2> "$work/notes" || status=$?
+}
+
+twice=$top/examples/twice.ol
+answer='{"id":1,"jsonrpc":"2.0","result":42}'
+usage="For more information, try '--help'."
+printf '{"jsonrpc":"2.0","method":"twice","params":{"n":21},"id":1}\n' > "$work/one"
+printf '{"jsonrpc":"2.0","method":"twice","params":{"n":21},"id":1}' > "$work/open"
+printf '\n\n' > "$work/blank"
+printf 'service S { main { comp(q) } }' > "$work/bad.ol"
+printf 'type Req: void { n: int } // x' > "$work/type.ol"
+printf 'service S { main { x = 1 } } \377' > "$work/bytes.ol"
+awk 'BEGIN { for (n = 0; n < 1048570; n++) printf " "; printf "type " }' > "$work/long.ol"
+printf 'T: int ' >> "$work/long.ol"
+awk 'BEGIN { for (n = 0; n < 1048570; n++) printf " "; printf "type T" }' > "$work/most.ol"
+: > "$work/empty"
+
+over "$work/empty" check "$twice"
+row 'a program is ok' 0 ok ''
+over "$work/empty" check "$work/bad.ol"
+row 'a refusal is one line with its place' 3 'refused check CompOutsideHandler 19' ''
+over "$work/empty" print "$work/type.ol"
+row 'what is printed has one space between every two tokens' 0 'type Req : void { n : int }' ''
+over "$work/empty" check "$work/bytes.ol"
+row 'a byte that begins no token has its place' 3 'refused lex BadByte 29' ''
+over "$work/empty" check "$work/long.ol"
+row 'a text is too long from its byte 1,048,577 on' 3 'refused lex TooLong 1048576' ''
+over "$work/empty" check "$work/most.ol"
+row 'a text of 1,048,576 bytes is read' 3 'refused parse Syntax 1048576' ''
+over "$work/empty" check "$work/none.ol"
+row 'a file that is not there is nothing that is said' 2 '' ''
+over "$work/empty" check "$work"
+row 'a directory is no file' 2 '' ''
+over "$work/empty" print "$work/empty"
+row 'an empty file has no token to print' 0 '' ''
+over "$work/empty" check "$work/empty"
+row 'a file without a service is no program' 3 'refused check NoStart 0' ''
+over "$work/one" run "$twice"
+row 'a line is answered' 0 "$answer" ''
+over "$work/open" run "$twice"
+row 'a last line without its end is answered' 0 "$answer" ''
+over "$work/blank" run "$twice"
+row 'blank lines have no answer' 0 '' ''
+over "$work/empty" run "$twice"
+row 'an empty input is read to its end' 0 '' ''
+over "$work" run "$twice"
+row 'an input that is a directory fails' 4 '' ''
+over "$work/one" run "$top/examples/order.ol"
+row 'a program that does not run yet is refused' 3 'refused first Form 0' ''
+over "$work/empty" run
+row 'words without a FILE are faulty' 1 '' "error: the following required arguments were not provided:
+  <FILE>
+
+Usage: roqsulei run <FILE>
+
+$usage"
+over "$work/empty" walk "$twice"
+row 'a command that is none is faulty' 1 '' "error: unrecognized subcommand 'walk'
+
+Usage: roqsulei <COMMAND>
+
+$usage"
+over "$work/empty" "$(printf '\377')"
+row 'a word that is no UTF-8 is faulty' 1 '' "error: invalid UTF-8 was detected in one or more arguments
+
+Usage: roqsulei <COMMAND>
+
+$usage"
+over "$work/empty" --version
+row 'the version has its line' 0 'roqsulei 0.1.0' ''
+
+# An output that takes nothing, and one that is closed.
+if [ -w /dev/full ]; then
+    for words in "check $twice" "print $twice" "run $twice" "--help"; do
+        status=0
+        # The words have no blanks of their own unless the checkout's path has.
+        # shellcheck disable=SC2086
+        "$program" $words < "$work/one" > /dev/full 2> "$work/notes" || status=$?
+        : > "$work/output"
+        row "an output that is full fails: $words" 5 '' ''
+    done
+fi
+status=0
+"$program" run "$twice" < "$work/one" 2> "$work/notes" >&- || status=$?
+: > "$work/output"
+row 'an output that is closed fails' 5 '' ''
+
+echo "$rows rows, $odd of them wrong"
+[ "$odd" = 0 ]
