@@ -1,3 +1,6 @@
+//! The words of a command line: what they ask for, and what is told and noted.
+
+use crate::tests::{Run, SERVICE, gives, notes, over, ran};
 use jolie_main::{Action, Words, understood};
 use std::alloc::{AllocError, Global};
 use std::test::Fail;
@@ -44,6 +47,10 @@ Usage: roqsulei run <FILE>
 
 For more information, try '--help'.
 ";
+
+const UNKNOWN_COMMAND: &str = "error: unrecognized subcommand 'walk'\n\n\
+    Usage: roqsulei <COMMAND>\n\n\
+    For more information, try '--help'.\n";
 
 fn said_of(alloc: Global, words: &[&str]) -> Result<Words, AllocError> {
     let mut line = Vec::new(alloc);
@@ -128,5 +135,40 @@ fn help_and_the_version_are_told(rt: HostRuntime) -> Result<(), Fail> {
     for (words, expected) in cases {
         assert!(rt; is_told(rt.alloc(), words, expected)?, "{words:?}");
     }
+    Ok(())
+}
+
+#[test]
+fn faulty_words_are_noted(rt: HostRuntime) -> Result<(), Fail> {
+    let row = over("walk", SERVICE);
+    assert!(rt; notes(rt.alloc(), row, UNKNOWN_COMMAND)?);
+    let failing = Run {
+        failing_note: 2,
+        piece: 3,
+        ..row
+    };
+    assert!(rt; notes(rt.alloc(), failing, "error:")?);
+    Ok(())
+}
+
+#[test]
+fn the_version_is_told(rt: HostRuntime) -> Result<(), Fail> {
+    let row = over("--version", SERVICE);
+    assert!(rt; gives(rt.alloc(), row, 0, "roqsulei 0.1.0\n")?);
+    let failing = Run {
+        failing_write: 1,
+        piece: 8,
+        ..row
+    };
+    assert!(rt; gives(rt.alloc(), failing, 5, "roqsulei")?);
+    Ok(())
+}
+
+#[test]
+fn help_is_told(rt: HostRuntime) -> Result<(), Fail> {
+    let (ended, written, noted) = ran(rt.alloc(), over("--help", SERVICE))?;
+    assert_eq!(rt; ended.status, 0);
+    assert!(rt; written.starts_with("Checks, prints and runs services written in Jolie\n"));
+    assert!(rt; noted.is_empty());
     Ok(())
 }
