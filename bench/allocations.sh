@@ -1,12 +1,9 @@
 #!/bin/sh
 # Refuses each allocation of twelve calls of the proved program in turn: each run has to end with status 9 and a part of the
 # right output at most. It needs a C compiler and a program that `rt ci` has proved, outside the gate: bench/allocations.sh
-set -eu
-top=$(cd "$(dirname "$0")/.." && pwd)
-program=$top/crates/roqsulei/out/roqsulei
-work=$(mktemp -d)
-trap 'rm -rf "$work"' EXIT
-[ -x "$program" ] || { echo "no proved program: run rt ci first" >&2; exit 2; }
+# shellcheck source=bench/common.sh
+. "$(dirname "$0")/common.sh"
+find_program
 
 # A malloc that gives nothing at the call that REFUSED names, and tells at the end how often it was called.
 cat > "$work/malloc.c" <<'END'

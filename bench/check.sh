@@ -2,12 +2,9 @@
 # Times `check` of the proved program over a file with 200 types, operations and services and over one with 2,000, from its start to its
 # end, and prints both times and their ratio, which is to be at most 25. It needs a program that `rt ci` has proved, outside the gate:
 # bench/check.sh
-set -eu
-top=$(cd "$(dirname "$0")/.." && pwd)
-program=$top/crates/roqsulei/out/roqsulei
-work=$(mktemp -d)
-trap 'rm -rf "$work"' EXIT
-[ -x "$program" ] || { echo "no proved program: run rt ci first" >&2; exit 2; }
+# shellcheck source=bench/common.sh
+. "$(dirname "$0")/common.sh"
+find_program
 
 # A file with so many types, each of which has a field of the one before, so many operations in one interface, whose
 # messages one service takes, and so many services, each of which sends to the one before.
@@ -32,17 +29,15 @@ file() {
 file 200 > "$work/short.txt"
 file 2000 > "$work/long.txt"
 
-# The least microseconds of 20 runs.
-least() {
-    for _ in $(seq 20); do
-        begun=$(date +%s%N)
-        "$program" check "$1" > "$work/out"
-        ended=$(date +%s%N)
-        echo $(((ended - begun) / 1000))
-    done | sort -n | head -1
+# The microseconds of one run; the least of 20 runs counts.
+micros() {
+    begun=$(date +%s%N)
+    "$program" check "$1" > "$work/out"
+    ended=$(date +%s%N)
+    echo $(((ended - begun) / 1000))
 }
-short=$(least "$work/short.txt")
-long=$(least "$work/long.txt")
+short=$(least 20 micros "$work/short.txt")
+long=$(least 20 micros "$work/long.txt")
 echo "$short $(wc -c < "$work/short.txt") $long $(wc -c < "$work/long.txt")" | awk '{
     printf "200 of each:   %.2f ms, %d bytes\n", $1 / 1000, $2
     printf "2,000 of each: %.2f ms, %d bytes\n", $3 / 1000, $4

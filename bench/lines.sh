@@ -1,19 +1,11 @@
 #!/bin/sh
 # Times the reading of a line of 6,000 and of one of 60,000 bytes, and the writing of an answer with the same tree, and prints
 # the times and their ratios, each of which is to be at most 12. It runs in a folder of its own, outside the gate: bench/lines.sh
-set -eu
-top=$(cd "$(dirname "$0")/.." && pwd)
-work=$(mktemp -d)
-trap 'rm -rf "$work"' EXIT
+# shellcheck source=bench/common.sh
+. "$(dirname "$0")/common.sh"
 
-mkdir -p "$work/crates/line_times/src"
-for crate in jolie_trees jolie_tokens jolie_ast jolie_parse behaviour_tree service_check jsonrpc_text; do
-    cp -r "$top/crates/$crate" "$work/crates/"
-done
-rm -rf "$work"/crates/*/out
-grep -E '^(jolie_(trees|tokens|ast|parse)|behaviour_tree|service_check|jsonrpc_text):' "$top/crates.txt" > "$work/crates.txt"
-echo 'line_times: jsonrpc_text service_check jolie_parse jolie_ast jolie_tokens behaviour_tree jolie_trees' >> "$work/crates.txt"
-cat > "$work/crates/line_times/src/main.rt" <<'END'
+make_crate 'line_times: jsonrpc_text service_check jolie_parse jolie_ast jolie_tokens behaviour_tree jolie_trees' \
+    jolie_trees jolie_tokens jolie_ast jolie_parse behaviour_tree service_check jsonrpc_text <<'END'
 //! The times of reading the line that the argument names and of writing an answer with its params, in microseconds, and the
 //! bytes of both.
 #![tactic(auto)]
@@ -89,18 +81,17 @@ line() {
 line 187 > "$work/short.txt"
 line 1880 > "$work/long.txt"
 
-cd "$work/crates/line_times"
-rt run -- "$work/short.txt" > "$work/log" 2>&1 || { cat "$work/log" >&2; exit 1; }
+build_crate "$work/short.txt"
 
-# Each run is a process of its own; the least of 40 times counts.
-least() {
-    for _ in $(seq 40); do
-        "$work/crates/line_times/out/line_times" "$1" | cut -d ' ' -f "$2"
-    done | sort -n | head -1
+# One of the times of a run. Each run is a process of its own; the least of 40 times counts.
+micros() {
+    run_crate "$1" | cut -d ' ' -f "$2"
 }
 bytes=$(wc -c < "$work/short.txt")
 more=$(wc -c < "$work/long.txt")
-echo "$(least "$work/short.txt" 1) $(least "$work/long.txt" 1) $(least "$work/short.txt" 2) $(least "$work/long.txt" 2) $bytes $more" | awk '{
+reading="$(least 40 micros "$work/short.txt" 1) $(least 40 micros "$work/long.txt" 1)"
+writing="$(least 40 micros "$work/short.txt" 2) $(least 40 micros "$work/long.txt" 2)"
+echo "$reading $writing $bytes $more" | awk '{
     printf "reading: %.2f ms of %d bytes, %.2f ms of %d bytes, ratio %.1f (at most 12)\n", $1 / 1000, $5, $2 / 1000, $6, $2 / $1
     printf "writing: %.2f ms, %.2f ms, ratio %.1f (at most 12)\n", $3 / 1000, $4 / 1000, $4 / $3
     exit !($2 <= 12 * $1 && $4 <= 12 * $3)

@@ -1,10 +1,8 @@
 #!/bin/sh
 # Times the parsing of a service of 100 KiB and of one of 1 MiB, and prints both times and their ratio, which is to be at
 # most 12. It runs in a folder of its own, outside the gate: bench/parse.sh
-set -eu
-top=$(cd "$(dirname "$0")/.." && pwd)
-work=$(mktemp -d)
-trap 'rm -rf "$work"' EXIT
+# shellcheck source=bench/common.sh
+. "$(dirname "$0")/common.sh"
 
 # A service of whole lines of statements, with at most so many bytes.
 service() {
@@ -16,14 +14,7 @@ service() {
 service 102400 > "$work/short.txt"
 service 1048576 > "$work/long.txt"
 
-mkdir -p "$work/crates/parse_times/src"
-for crate in jolie_trees jolie_tokens jolie_ast jolie_parse; do
-    cp -r "$top/crates/$crate" "$work/crates/"
-done
-rm -rf "$work"/crates/*/out
-grep -E '^jolie_(trees|tokens|ast|parse):' "$top/crates.txt" > "$work/crates.txt"
-echo 'parse_times: jolie_parse jolie_ast jolie_tokens' >> "$work/crates.txt"
-cat > "$work/crates/parse_times/src/main.rt" <<'EOF'
+make_crate 'parse_times: jolie_parse jolie_ast jolie_tokens' jolie_trees jolie_tokens jolie_ast jolie_parse <<'EOF'
 //! The time of parsing the text that the argument names, in microseconds, and how many tokens it has.
 #![tactic(auto)]
 
@@ -52,17 +43,11 @@ fn main(rt: HostRuntime) -> io::Result<()> {
     Ok(())
 }
 EOF
-cd "$work/crates/parse_times"
-rt run -- "$work/short.txt" > "$work/log" 2>&1 || { cat "$work/log" >&2; exit 1; }
+build_crate "$work/short.txt"
 
 # Each run is a process of its own, so that both texts begin with no memory; the least of 40 times counts.
-least() {
-    for _ in $(seq 40); do
-        "$work/crates/parse_times/out/parse_times" "$1"
-    done | sort -n | head -1
-}
-short=$(least "$work/short.txt")
-long=$(least "$work/long.txt")
+short=$(least 40 run_crate "$work/short.txt")
+long=$(least 40 run_crate "$work/long.txt")
 echo "$short $long" | awk '{
     printf "100 KiB: %.2f ms, %d tokens\n", $1 / 1000, $2
     printf "1 MiB:   %.2f ms, %d tokens\n", $3 / 1000, $4

@@ -1,12 +1,9 @@
 #!/bin/sh
 # Runs the proved program as a person would, over real words, files and streams, and compares what it prints and its status: what `main`
 # of `crates/roqsulei` and the adapters over files and streams do, which no contract says. Outside the gate: bench/program.sh
-set -eu
-top=$(cd "$(dirname "$0")/.." && pwd)
-program=$top/crates/roqsulei/out/roqsulei
-work=$(mktemp -d)
-trap 'rm -rf "$work"' EXIT
-[ -x "$program" ] || { echo "no proved program: run rt ci first" >&2; exit 2; }
+# shellcheck source=bench/common.sh
+. "$(dirname "$0")/common.sh"
+find_program
 
 rows=0
 odd=0

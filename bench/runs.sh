@@ -2,12 +2,9 @@
 # Times the proved program: lines a second of `run` on a body of one statement and on bodies of 10, 100 and 1,000, with those of a plain
 # program in Rust of the same kind (bench/baseline.rs) where there is a compiler for it, and `check` on a file of 2,000 types,
 # operations and services. It has no limits; it needs a program that `rt ci` has proved, outside the gate: bench/runs.sh
-set -eu
-top=$(cd "$(dirname "$0")/.." && pwd)
-program=$top/crates/roqsulei/out/roqsulei
-work=$(mktemp -d)
-trap 'rm -rf "$work"' EXIT
-[ -x "$program" ] || { echo "no proved program: run rt ci first" >&2; exit 2; }
+# shellcheck source=bench/common.sh
+. "$(dirname "$0")/common.sh"
+find_program
 
 # A service whose body has so many statements.
 service() {

@@ -1,24 +1,14 @@
 #!/bin/sh
 # Times the lexing of a dense text of 100 KiB and of one of 1 MiB, and prints both times and their ratio, which is to be
 # at most 12. It runs in a folder of its own, outside the gate: bench/tokens.sh
-set -eu
-top=$(cd "$(dirname "$0")/.." && pwd)
-work=$(mktemp -d)
-trap 'rm -rf "$work"' EXIT
+# shellcheck source=bench/common.sh
+. "$(dirname "$0")/common.sh"
 
 line='x1=a.b[0]+12L*"s\n"<=y&&!z;{p++|q<<#r}/*c*/(1,22,333);'
 yes "$line" | head -c 102400 > "$work/short.txt"
 yes "$line" | head -c 1048576 > "$work/long.txt"
 
-mkdir -p "$work/crates/token_times/src"
-cp -r "$top/crates/jolie_trees" "$top/crates/jolie_tokens" "$work/crates/"
-rm -rf "$work"/crates/*/out
-cat > "$work/crates.txt" <<'EOF'
-jolie_trees: sqlite_items thiserror
-jolie_tokens: jolie_trees thiserror sqlite_items
-token_times: jolie_tokens
-EOF
-cat > "$work/crates/token_times/src/main.rt" <<'EOF'
+make_crate 'token_times: jolie_tokens' jolie_trees jolie_tokens <<'EOF'
 //! The time of lexing the text that the argument names, in microseconds, and how many tokens it has.
 #![tactic(auto)]
 
@@ -43,17 +33,11 @@ fn main(rt: HostRuntime) -> io::Result<()> {
     Ok(())
 }
 EOF
-cd "$work/crates/token_times"
-rt run -- "$work/short.txt" > "$work/log" 2>&1 || { cat "$work/log" >&2; exit 1; }
+build_crate "$work/short.txt"
 
 # Each run is a process of its own, so that both texts begin with no memory; the least of 40 times counts.
-least() {
-    for _ in $(seq 40); do
-        "$work/crates/token_times/out/token_times" "$1"
-    done | sort -n | head -1
-}
-short=$(least "$work/short.txt")
-long=$(least "$work/long.txt")
+short=$(least 40 run_crate "$work/short.txt")
+long=$(least 40 run_crate "$work/long.txt")
 echo "$short $long" | awk '{
     printf "100 KiB: %.2f ms, %d tokens\n", $1 / 1000, $2
     printf "1 MiB:   %.2f ms, %d tokens\n", $3 / 1000, $4

@@ -2,19 +2,10 @@
 # Times 10,000 `get` and 10,000 `set` of twenty paths in a tree of about 60 nodes and in one of about 60,000, and prints the times
 # and their ratios; that of `get` is to be at most 4. The third line tells what 10,000 `get` of as many paths cost in the large
 # tree, where each waits for the memory. It runs in a folder of its own, outside the gate: bench/trees.sh
-set -eu
-top=$(cd "$(dirname "$0")/.." && pwd)
-work=$(mktemp -d)
-trap 'rm -rf "$work"' EXIT
+# shellcheck source=bench/common.sh
+. "$(dirname "$0")/common.sh"
 
-mkdir -p "$work/crates/tree_times/src"
-cp -r "$top/crates/jolie_trees" "$work/crates/"
-rm -rf "$work"/crates/*/out
-cat > "$work/crates.txt" <<'END'
-jolie_trees: sqlite_items thiserror
-tree_times: jolie_trees sqlite_items
-END
-cat > "$work/crates/tree_times/src/main.rt" <<'END'
+make_crate 'tree_times: jolie_trees sqlite_items' jolie_trees <<'END'
 //! The time of 10,000 `get` of twenty prices, or with a second word `set` or `all` of 10,000 `set` or of `get` of other prices each
 //! time, in an order of as many lines as the first word says, each with an id and a price, in microseconds, and how many nodes the
 //! order has.
@@ -120,17 +111,15 @@ fn write(alloc: Global, tree: &mut Tree, lines: u32) -> Result<(), SetError> {
     Ok(())
 }
 END
-cd "$work/crates/tree_times"
-rt run -- 1 > "$work/log" 2>&1 || { cat "$work/log" >&2; exit 1; }
+build_crate 1
 
-# The least of so many runs counts, each a process of its own.
-least() {
-    for _ in $(seq "$1"); do
-        # shellcheck disable=SC2086
-        "$work/crates/tree_times/out/tree_times" $2 | cut -d ' ' -f 1
-    done | sort -n | head -1
+# The time of a run. The least of so many runs counts, each a process of its own.
+micros() {
+    run_crate "$@" | cut -d ' ' -f 1
 }
-echo "$(least 20 20) $(least 20 20000) $(least 5 '20 set') $(least 1 '20000 set') $(least 20 '20000 all')" | awk '{
+gets="$(least 20 micros 20) $(least 20 micros 20000)"
+sets="$(least 5 micros 20 set) $(least 1 micros 20000 set)"
+echo "$gets $sets $(least 20 micros 20000 all)" | awk '{
     printf "10,000 get: %.2f ms in 61 nodes, %.2f ms in 60,001 nodes, ratio %.1f (at most 4)\n", $1 / 1000, $2 / 1000, $2 / $1
     printf "10,000 set: %.2f ms in 61 nodes, %.2f ms in 60,001 nodes, ratio %.1f\n", $3 / 1000, $4 / 1000, $4 / $3
     printf "10,000 get of other paths each time: %.2f ms in 60,001 nodes\n", $5 / 1000
