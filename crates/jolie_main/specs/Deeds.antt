@@ -4,4 +4,4 @@ use Rattle.jolie_main.specs.Turns.{Deeds}
 
 -- the deeds
 abbrev pub deeds_of : declared.Deeds → Deeds
-deeds_of d = record { history = d.history; sessions = d.sessions }
+deeds_of d = record { history = d.office; sessions = d.sessions }

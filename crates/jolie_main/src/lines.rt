@@ -43,7 +43,7 @@ impl Progress {
             line: Vec::new(alloc),
             postings: 0,
             deeds: Deeds {
-                history: Office::new(alloc),
+                office: Office::new(alloc),
                 sessions: Items::new(alloc),
             },
             written: Bytes::new(alloc),
@@ -117,7 +117,7 @@ fn take_piece<K: Sink>(
     progress: &mut Progress,
 ) -> Result<bool, AllocError>
     requires built { IsBuiltProgram (parts_of program.now) }
-    requires settled { length progress.old.deeds.sessions ≡ births progress.old.deeds.history }
+    requires settled { length progress.old.deeds.sessions ≡ births progress.old.deeds.office }
     requires is_open { IsOpen progress.old.line.items }
     ensures goes { IfOk result (λ all. (lines : List (List ℕ)) → IsUnderWay (parts_of program.now) lines progress.old.postings (deeds_of progress.old.deeds) progress.old.written
         → Goes all (parts_of program.now) (lines ++ (split (progress.old.line.items ++ piece.now)).0) progress.new.postings (deeds_of progress.new.deeds) progress.new.written) }
@@ -147,10 +147,10 @@ fn answer_line<K: Sink>(
     progress: &mut Progress,
 ) -> Result<bool, AllocError>
     requires built { IsBuiltProgram (parts_of program.now) }
-    requires settled { length progress.old.deeds.sessions ≡ births progress.old.deeds.history }
+    requires settled { length progress.old.deeds.sessions ≡ births progress.old.deeds.office }
     ensures goes { IfOk result (λ all. (lines : List (List ℕ)) → IsUnderWay (parts_of program.now) lines progress.old.postings (deeds_of progress.old.deeds) progress.old.written
         → Goes all (parts_of program.now) (lines ++ line.now ∷ []) progress.new.postings (deeds_of progress.new.deeds) progress.new.written) }
-    ensures settled { OnOk result (length progress.new.deeds.sessions ≡ births progress.new.deeds.history) }
+    ensures settled { OnOk result (length progress.new.deeds.sessions ≡ births progress.new.deeds.office) }
     ensures line { OnOk result (progress.new.line.items ≡ progress.old.line.items) }
     ensures written { OnOk result ((start : Option (List ℕ)) → Appends start (K.taken output.old) progress.old.written → Appends start (K.taken output.new) progress.new.written) }
     ensures cause { IfOk result (λ all. AllOrFault all (K.faults output.old) (K.faults output.new)) }

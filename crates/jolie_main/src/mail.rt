@@ -38,17 +38,17 @@ pub fn post_calls(
     program: &Program,
     posting: u32,
     calls: &[ReadCall],
-    history: &mut Office,
+    office: &mut Office,
 ) -> Result<Posts, AllocError>
-    ensures history { OnOk result (history.new ≡ after_posts (parts_of program.now) posting 0 history.old calls.now) }
-    ensures fates { IfOk result (λ posts. posts.fates.items ≡ fates (parts_of program.now) posting 0 history.old calls.now) }
-    ensures mails { IfOk result (λ posts. (n : ℕ) → AreWaiting (parts_of program.now) n history.old [] → AreWaiting (parts_of program.now) n history.new posts.mails.items) }
+    ensures office { OnOk result (office.new ≡ after_posts (parts_of program.now) posting 0 office.old calls.now) }
+    ensures fates { IfOk result (λ posts. posts.fates.items ≡ fates (parts_of program.now) posting 0 office.old calls.now) }
+    ensures mails { IfOk result (λ posts. (n : ℕ) → AreWaiting (parts_of program.now) n office.old [] → AreWaiting (parts_of program.now) n office.new posts.mails.items) }
 {
     let mut fates = Vec::new(alloc);
     let mut mails = Vec::new(alloc);
     for (place, call) in calls.iter().enumerate() {
         let index = numbered(place)?;
-        let fate = post_call(program, posting, index, call, history, &mut mails)?;
+        let fate = post_call(program, posting, index, call, office, &mut mails)?;
         fates.push(fate)?;
     }
     Ok(Posts { fates, mails })
@@ -61,15 +61,15 @@ fn post_call(
     posting: u32,
     index: u32,
     call: &ReadCall,
-    history: &mut Office,
+    office: &mut Office,
     mails: &mut Vec<Mail>,
 ) -> Result<Fate, AllocError>
-    ensures history { OnOk result (history.new ≡ history.old ++ call_entries (parts_of program.now) posting index history.old call.now) }
-    ensures fate { IfOk result (λ fate. fate ≡ fate_of (parts_of program.now) history.old call.now) }
-    ensures mails { OnOk result ((n : ℕ) → AreWaiting (parts_of program.now) n history.old mails.old.items → AreWaiting (parts_of program.now) n history.new mails.new.items) }
+    ensures office { OnOk result (office.new ≡ office.old ++ call_entries (parts_of program.now) posting index office.old call.now) }
+    ensures fate { IfOk result (λ fate. fate ≡ fate_of (parts_of program.now) office.old call.now) }
+    ensures mails { OnOk result ((n : ℕ) → AreWaiting (parts_of program.now) n office.old mails.old.items → AreWaiting (parts_of program.now) n office.new mails.new.items) }
 {
     match &call.what {
-        Ok((name, value)) => post_message(program, posting, index, name, value, history, mails),
+        Ok((name, value)) => post_message(program, posting, index, name, value, office, mails),
         Err(early) => Ok(Fate::Early(*early)),
     }
 }
@@ -81,19 +81,19 @@ fn post_message(
     index: u32,
     name: &Text,
     value: &Tree,
-    history: &mut Office,
+    office: &mut Office,
     mails: &mut Vec<Mail>,
 ) -> Result<Fate, AllocError>
-    ensures history { OnOk result (history.new ≡ history.old ++ post_entry (parts_of program.now) posting index history.old (message_to (name.now, value.now)) ∷ []) }
-    ensures fate { IfOk result (λ fate. fate ≡ fate_of_reply (routed (parts_of program.now) history.old (message_to (name.now, value.now)))) }
-    ensures mails { OnOk result ((n : ℕ) → AreWaiting (parts_of program.now) n history.old mails.old.items → AreWaiting (parts_of program.now) n history.new mails.new.items) }
+    ensures office { OnOk result (office.new ≡ office.old ++ post_entry (parts_of program.now) posting index office.old (message_to (name.now, value.now)) ∷ []) }
+    ensures fate { IfOk result (λ fate. fate ≡ fate_of_reply (routed (parts_of program.now) office.old (message_to (name.now, value.now)))) }
+    ensures mails { OnOk result ((n : ℕ) → AreWaiting (parts_of program.now) n office.old mails.old.items → AreWaiting (parts_of program.now) n office.new mails.new.items) }
 {
     let posted = Posted {
         service: 0,
         op: name.copied()?,
         value: value.copied()?,
     };
-    match history.post(program, posting, index, posted)? {
+    match office.post(program, posting, index, posted)? {
         PostReply::Refused(reason) => Ok(Fate::Refused(reason)),
         PostReply::Accepted(message) => {
             mails.push(mail_of(program, message, name, value.copied()?))?;

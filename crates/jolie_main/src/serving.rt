@@ -22,9 +22,9 @@ pub fn serve_all(
     deeds: &mut Deeds,
 ) -> Result<Vec<Outcome>, AllocError>
     requires built { IsBuiltProgram (parts_of program.now) }
-    requires waiting { AreWaiting (parts_of program.now) (length deeds.old.sessions) deeds.old.history mails.items }
+    requires waiting { AreWaiting (parts_of program.now) (length deeds.old.sessions) deeds.old.office mails.items }
     ensures serves { IfOk result (λ outcomes. Serves (parts_of program.now) (deeds_of deeds.old) (deeds_of deeds.new) outcomes.items) }
-    ensures all { OnOk result (length deeds.new.sessions ≡ births deeds.new.history) }
+    ensures all { OnOk result (length deeds.new.sessions ≡ births deeds.new.office) }
 {
     let mut outcomes = Vec::new(alloc);
     for mail in mails {
@@ -41,7 +41,7 @@ fn serve_next(
     deeds: &mut Deeds,
 ) -> Result<Outcome, AllocError>
     requires built { IsBuiltProgram (parts_of program.now) }
-    requires next { IsNext (parts_of program.now) (length deeds.old.sessions) deeds.old.history mail }
+    requires next { IsNext (parts_of program.now) (length deeds.old.sessions) deeds.old.office mail }
     ensures { IfOk result (λ outcome. Serves (parts_of program.now) (deeds_of deeds.old) (deeds_of deeds.new) (outcome ∷ [])) }
 {
     let Mail {
@@ -51,27 +51,27 @@ fn serve_next(
         is_request,
     } = mail;
     let Served { events, how } = serve(alloc, program, message, op, value)?;
-    note_session(message, &how, &mut deeds.history)?;
+    note_session(message, &how, &mut deeds.office)?;
     deeds.sessions.push(events)?;
     Ok(answer_of(alloc, is_request, how))
 }
 
 /// Notes what a session did of the office, from its start to its end.
-fn note_session(message: u32, how: &Lived, history: &mut Office) -> Result<(), AllocError>
-    ensures { OnOk result (history.new ≡ history.old ++ session_entries message how.now) }
+fn note_session(message: u32, how: &Lived, office: &mut Office) -> Result<(), AllocError>
+    ensures { OnOk result (office.new ≡ office.old ++ session_entries message how.now) }
 {
-    history.adopt(message)?;
+    office.adopt(message)?;
     match how {
         Lived::Answered(outcome) => {
-            history.take(message, message)?;
-            history.reply(message, message, outcome.copied()?)?;
-            history.end(message)
+            office.take(message, message)?;
+            office.reply(message, message, outcome.copied()?)?;
+            office.end(message)
         }
         Lived::Silent => {
-            history.take(message, message)?;
-            history.end(message)
+            office.take(message, message)?;
+            office.end(message)
         }
-        Lived::Untaken => history.end(message),
+        Lived::Untaken => office.end(message),
     }
 }
 
@@ -96,13 +96,13 @@ fn answer_of(alloc: Global, is_request: bool, how: Lived) -> Outcome
 pub fn collect_answers(
     first: u32,
     outcomes: &[Outcome],
-    history: &mut Office,
+    office: &mut Office,
 ) -> Result<(), AllocError>
-    requires { first + length outcomes.now ≡ births history.old }
-    ensures { OnOk result (history.new ≡ history.old ++ collect_entries first outcomes.now) }
+    requires { first + length outcomes.now ≡ births office.old }
+    ensures { OnOk result (office.new ≡ office.old ++ collect_entries first outcomes.now) }
 {
-    for (message, outcome) in (first..history.births()).zip(outcomes) {
-        history.collect(message, outcome.copied()?)?;
+    for (message, outcome) in (first..office.births()).zip(outcomes) {
+        office.collect(message, outcome.copied()?)?;
     }
     Ok(())
 }

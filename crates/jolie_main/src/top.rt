@@ -114,16 +114,16 @@ fn run_program<S: Source, K: Sink>(
         written,
     } = progress;
     let Deeds {
-        mut history,
+        mut office,
         sessions,
     } = deeds;
-    history.close()?;
-    history.stop()?;
+    office.close()?;
+    office.stop()?;
     let mut traffic = Items::new(alloc);
     traffic.push(Traffic { read, written })?;
     let report = Record {
         program: text,
-        history: history.into_history(),
+        history: office.into_history(),
         sessions,
         traffic,
     };

@@ -27,10 +27,10 @@ pub enum Fate {
     Accepted(u32),
 }
 
-/// What a run has done: its history and the events of each session.
+/// What a run has done: its office, which keeps the history, and the events of each session.
 #[derive(Drop)]
 pub struct Deeds {
-    pub history: Office,
+    pub office: Office,
     pub sessions: Items<Events>,
 }
 
@@ -43,20 +43,20 @@ pub fn take_turn(
     deeds: &mut Deeds,
 ) -> Result<Option<Text>, AllocError>
     requires built { IsBuiltProgram (parts_of program.now) }
-    requires settled { length deeds.old.sessions ≡ births deeds.old.history }
+    requires settled { length deeds.old.sessions ≡ births deeds.old.office }
     ensures turn { IfOk result (λ text. Turn (parts_of program.now) posting (read_of line.now) (deeds_of deeds.old) (deeds_of deeds.new) text) }
-    ensures settled { OnOk result (length deeds.new.sessions ≡ births deeds.new.history) }
+    ensures settled { OnOk result (length deeds.new.sessions ≡ births deeds.new.office) }
 {
-    let first = deeds.history.births();
+    let first = deeds.office.births();
     let read = read_message(alloc, line)?;
     let Posts { fates, mails } = post_calls(
         alloc,
         program,
         posting,
         read.calls.as_slice(),
-        &mut deeds.history,
+        &mut deeds.office,
     )?;
     let outcomes = serve_all(alloc, program, mails, deeds)?;
-    collect_answers(first, &outcomes, &mut deeds.history)?;
+    collect_answers(first, &outcomes, &mut deeds.office)?;
     response_to(alloc, program, &read, &fates, &outcomes)
 }

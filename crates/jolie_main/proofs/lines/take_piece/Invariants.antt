@@ -12,7 +12,7 @@ invariant-loop-byte g l = record {
   goes : (lines : List (List ℕ)) → IsUnderWay (parts_of l.program) lines l.fn.progress.postings (deeds_of l.fn.progress.deeds) l.fn.progress.written
       → IsUnderWay (parts_of l.program) (lines ++ (split (l.fn.progress.line.items ++ take l.byte-index l.piece)).0) l.progress.postings (deeds_of l.progress.deeds) l.progress.written;
   line : l.progress.line.items ≡ (split (l.fn.progress.line.items ++ take l.byte-index l.piece)).1;
-  settled : length l.progress.deeds.sessions ≡ births l.progress.deeds.history;
+  settled : length l.progress.deeds.sessions ≡ births l.progress.deeds.office;
   told : Tells (g.K.Sink.taken l.fn.output) l.fn.progress.written (g.K.Sink.taken l.output) l.progress.written;
   calm : g.K.Sink.faults l.output ≡ g.K.Sink.faults l.fn.output;
 }

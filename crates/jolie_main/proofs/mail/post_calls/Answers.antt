@@ -10,9 +10,9 @@ loop-place-preserved c =
     let at = c.loop-place in
     let call = c.index-calls-place.result in
     record {
-      posted = after_posts-next parts c.args.posting at.place c.in_ok-index.index c.args.calls.now call at.history c.post_call.new.history
-          c.loop-place-test.true c.index-calls-place.is c.in_ok-index.ensures c.in_ok-fate.ensures.history ∙ at.invariant.posted;
-      became = fates-next parts c.args.posting at.place c.in_ok-index.index c.args.calls.now call at.history c.post_call.new.history
-          c.loop-place-test.true c.index-calls-place.is c.in_ok-index.ensures c.in_ok-fate.ensures.history _ _ _ c.in_ok-fate.ensures.fate c.in_ok-push.ensures.items ∙ at.invariant.became;
+      posted = after_posts-next parts c.args.posting at.place c.in_ok-index.index c.args.calls.now call at.office c.post_call.new.office
+          c.loop-place-test.true c.index-calls-place.is c.in_ok-index.ensures c.in_ok-fate.ensures.office ∙ at.invariant.posted;
+      became = fates-next parts c.args.posting at.place c.in_ok-index.index c.args.calls.now call at.office c.post_call.new.office
+          c.loop-place-test.true c.index-calls-place.is c.in_ok-index.ensures c.in_ok-fate.ensures.office _ _ _ c.in_ok-fate.ensures.fate c.in_ok-push.ensures.items ∙ at.invariant.became;
       waiting = λ n w. c.in_ok-fate.ensures.mails n (at.invariant.waiting n w);
     }

@@ -17,7 +17,7 @@ nothing_left (x ∷ xs) e = absurd (omega arith)
 pub loop-mail-init : goal.loop-mail-init
 loop-mail-init c = record {
   ran = subst (λ t. Serves (parts_of c.args.program.now) (deeds_of c.args.deeds.now) (deeds_of c.args.deeds.now) t) (sym c.new-outcomes.ensures.items) (none_served (deeds_of c.args.deeds.now));
-  waiting = subst (λ t. AreWaiting (parts_of c.args.program.now) (length c.args.deeds.now.sessions) c.args.deeds.now.history t) (sym c.into_iter-mail-iterator.ensures.into_iter_gives.0) c.requires.waiting;
+  waiting = subst (λ t. AreWaiting (parts_of c.args.program.now) (length c.args.deeds.now.sessions) c.args.deeds.now.office t) (sym c.into_iter-mail-iterator.ensures.into_iter_gives.0) c.requires.waiting;
   left = search rules;
 }
 
@@ -26,8 +26,8 @@ serve_next-requires-clause-next c =
     let parts = parts_of c.args.program.now in
     let at = c.loop-mail in
     let steps : into_iter_items at.mail-iterator ≡ c.in-Some.mail ∷ into_iter_items c.next.new.self = c.in-Some.ensures.steps.0 in
-    waiting-next parts (length at.deeds.sessions) at.deeds.history c.in-Some.mail (into_iter_items c.next.new.self)
-    (subst (λ t. AreWaiting parts (length at.deeds.sessions) at.deeds.history t) steps at.invariant.waiting)
+    waiting-next parts (length at.deeds.sessions) at.deeds.office c.in-Some.mail (into_iter_items c.next.new.self)
+    (subst (λ t. AreWaiting parts (length at.deeds.sessions) at.deeds.office t) steps at.invariant.waiting)
 
 pub loop-mail-preserved : goal.loop-mail-preserved
 loop-mail-preserved c =
@@ -37,8 +37,8 @@ loop-mail-preserved c =
     let steps : into_iter_items at.mail-iterator ≡ c.in-Some.mail ∷ into_iter_items c.next.new.self = c.in-Some.ensures.steps.0 in
     record {
       ran = subst (λ t. Serves parts (deeds_of c.args.deeds.now) (deeds_of c.serve_next.new.deeds) t) (sym {A = List Outcome} c.in_ok-push.ensures.items) (serves_join at.invariant.ran served);
-      waiting = waiting-rest parts (length at.deeds.sessions) (length c.serve_next.new.deeds.sessions) at.deeds.history c.serve_next.new.deeds.history c.in-Some.mail (into_iter_items c.next.new.self)
-          (serves_messages served) (serves_sessions served) (subst (λ t. AreWaiting parts (length at.deeds.sessions) at.deeds.history t) steps at.invariant.waiting);
+      waiting = waiting-rest parts (length at.deeds.sessions) (length c.serve_next.new.deeds.sessions) at.deeds.office c.serve_next.new.deeds.office c.in-Some.mail (into_iter_items c.next.new.self)
+          (serves_messages served) (serves_sessions served) (subst (λ t. AreWaiting parts (length at.deeds.sessions) at.deeds.office t) steps at.invariant.waiting);
       left =
           let was = at.invariant.left in
           let gone = c.in-Some.ensures.steps.1 in
@@ -52,4 +52,4 @@ returns-clause-all c =
     let at = c.loop-mail in
     let none = c.in-None.ensures.steps in
     let empty : into_iter_items at.mail-iterator ≡ [] = nothing_left _ (sym at.invariant.left ∙ none.0) in
-    none_waits parts (length at.deeds.sessions) at.deeds.history (subst (λ t. AreWaiting parts (length at.deeds.sessions) at.deeds.history t) empty at.invariant.waiting)
+    none_waits parts (length at.deeds.sessions) at.deeds.office (subst (λ t. AreWaiting parts (length at.deeds.sessions) at.deeds.office t) empty at.invariant.waiting)

@@ -9,6 +9,6 @@ use Rattle.jolie_main.proofs.serving.serve_all.Given as goal
 abbrev pub invariant-loop-mail : goal.invariant-loop-mail
 invariant-loop-mail l = record {
   ran : Serves (parts_of l.program) (deeds_of l.fn.deeds) (deeds_of l.deeds) l.outcomes.items;
-  waiting : AreWaiting (parts_of l.program) (length l.deeds.sessions) l.deeds.history (into_iter_items l.mail-iterator);
+  waiting : AreWaiting (parts_of l.program) (length l.deeds.sessions) l.deeds.office (into_iter_items l.mail-iterator);
   left : into_iter_len l.mail-iterator ≡ length (into_iter_items l.mail-iterator);
 }
