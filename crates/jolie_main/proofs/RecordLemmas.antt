@@ -23,15 +23,15 @@ use Rattle.jolie_main.proofs.DidLaws.{Did-sessions, Did-legal, Did-answered, Did
 use Rattle.jolie_main.proofs.KnownLemmas.{Tells, Appends-nil}
 
 -- what was done, with the lines that it serves, is the record
-recorded_with : (parts : ProgramParts) (all : List Read) (deeds : Deeds) (bytes : List ℕ) (s : ℕ) (report : Record) (traffic : Traffic) (left : Option (List ℕ)) → Did parts all deeds bytes
-    → IsProgram report.program parts → report.traffic ≡ traffic ∷ [] → report.history.entries ≡ deeds.history ++ closing_entries → report.sessions ≡ deeds.sessions
-    → ServesLines parts s (deeds.history ++ closing_entries) traffic left → IsRecord s report left
-recorded_with parts all deeds bytes s report traffic left did program one entries sessions lines = record {
+recorded_with : (parts : ProgramParts) (all : List Read) (deeds : Deeds) (bytes : List ℕ) (s : ℕ) (run : Record) (traffic : Traffic) (left : Option (List ℕ)) → Did parts all deeds bytes
+    → IsProgram run.program parts → run.traffic ≡ traffic ∷ [] → run.history.entries ≡ deeds.history ++ closing_entries → run.sessions ≡ deeds.sessions
+    → ServesLines parts s (deeds.history ++ closing_entries) traffic left → IsRecord s run left
+recorded_with parts all deeds bytes s run traffic left did program one entries sessions lines = record {
   parts = parts;
   traffic = traffic;
   program = program;
   one_front = one;
-  sessions = subst (λ h. HasSessions parts h report.sessions) (sym entries) (subst (λ t. HasSessions parts (deeds.history ++ closing_entries) t) (sym sessions) (Did-sessions did));
+  sessions = subst (λ h. HasSessions parts h run.sessions) (sym entries) (subst (λ t. HasSessions parts (deeds.history ++ closing_entries) t) (sym sessions) (Did-sessions did));
   legal = subst (λ h. IsLegal parts h) (sym entries) (Did-legal did);
   answered = subst (λ h. AnswersEach parts h) (sym entries) (Did-answered did);
   still = subst (λ h. IsStill parts h) (sym entries) (Did-still did);
@@ -52,31 +52,31 @@ stopped_short parts lines deeds written k =
     (Did-cut (postings_by lines) k.piece k.did k.turn k.cut k.front)
 
 -- the record of a run whose lines ended so
-pub recorded : (parts : ProgramParts) (e : End) (read : List ℕ) (deeds : Deeds) (written : List ℕ) (s : ℕ) (report : Record) (left : Option (List ℕ)) → s ≡ status e
+pub recorded : (parts : ProgramParts) (e : End) (read : List ℕ) (deeds : Deeds) (written : List ℕ) (s : ℕ) (run : Record) (left : Option (List ℕ)) → s ≡ status e
     → IsFinished parts e read deeds written → (e ≡ ends.StoppedLast → IsAtEnd left)
-    → IsProgram report.program parts → report.traffic ≡ record { read = read; written = written } ∷ [] → report.history.entries ≡ deeds.history ++ closing_entries → report.sessions ≡ deeds.sessions
-    → Ran s × IsRecord s report left
-recorded parts ends.Whole read deeds written s report left at did none program one entries sessions = (
+    → IsProgram run.program parts → run.traffic ≡ record { read = read; written = written } ∷ [] → run.history.entries ≡ deeds.history ++ closing_entries → run.sessions ≡ deeds.sessions
+    → Ran s × IsRecord s run left
+recorded parts ends.Whole read deeds written s run left at did none program one entries sessions = (
   inl at,
-  recorded_with parts (postings_by (all_lines read)) deeds written s report (record { read = read; written = written }) left did program one entries sessions
+  recorded_with parts (postings_by (all_lines read)) deeds written s run (record { read = read; written = written }) left did program one entries sessions
       (record { whole = λ x. Did-written did; cut = λ x. absurd (omega arith); stopped = λ x. absurd (omega arith) }),
 )
-recorded parts ends.Cut read deeds written s report left at did none program one entries sessions = (
+recorded parts ends.Cut read deeds written s run left at did none program one entries sessions = (
   inr (inl at),
-  recorded_with parts (postings_by (whole_lines read)) deeds written s report (record { read = read; written = written }) left did program one entries sessions
+  recorded_with parts (postings_by (whole_lines read)) deeds written s run (record { read = read; written = written }) left did program one entries sessions
       (record { whole = λ x. absurd (omega arith); cut = λ x. Did-written did; stopped = λ x. absurd (omega arith) }),
 )
-recorded parts ends.Stopped read deeds written s report left at k none program one entries sessions =
+recorded parts ends.Stopped read deeds written s run left at k none program one entries sessions =
     let short = stopped_short parts (whole_lines read) deeds written k in (
       inr (inr at),
-      recorded_with parts (k.done ++ k.last ∷ []) deeds (k.bytes ++ line_if k.text) s report (record { read = read; written = written }) left
+      recorded_with parts (k.done ++ k.last ∷ []) deeds (k.bytes ++ line_if k.text) s run (record { read = read; written = written }) left
           (stopped_did parts (whole_lines read) deeds written k) program one entries sessions
           (record { whole = λ x. absurd (omega arith); cut = λ x. absurd (omega arith); stopped = λ x. inl short }),
     )
-recorded parts ends.StoppedLast read deeds written s report left at k last program one entries sessions =
+recorded parts ends.StoppedLast read deeds written s run left at k last program one entries sessions =
     let short = stopped_short parts (all_lines read) deeds written k in (
       inr (inr at),
-      recorded_with parts (k.done ++ k.last ∷ []) deeds (k.bytes ++ line_if k.text) s report (record { read = read; written = written }) left
+      recorded_with parts (k.done ++ k.last ∷ []) deeds (k.bytes ++ line_if k.text) s run (record { read = read; written = written }) left
           (stopped_did parts (all_lines read) deeds written k) program one entries sessions
           (record { whole = λ x. absurd (omega arith); cut = λ x. absurd (omega arith); stopped = λ x. inr (last refl, short) }),
     )
@@ -89,10 +89,10 @@ whole_only ends.Stopped h = absurd (omega arith)
 whole_only ends.StoppedLast h = absurd (omega arith)
 
 -- the bytes of a run
-pub bytes_told : (e : End) (s : ℕ) (report : Record) (left left_now taken taken_now : Option (List ℕ)) (read written before : List ℕ) → s ≡ status e
-    → report.traffic ≡ record { read = read; written = written } ∷ [] → Consumes left left_now read → before ≡ [] → Tells taken before taken_now written
-    → (e ≡ ends.Whole → IsAtEnd left_now) → HasBytes s report left left_now taken taken_now
-bytes_told e s report left left_now taken taken_now read written before at one given empty told end = record {
+pub bytes_told : (e : End) (s : ℕ) (run : Record) (left left_now taken taken_now : Option (List ℕ)) (read written before : List ℕ) → s ≡ status e
+    → run.traffic ≡ record { read = read; written = written } ∷ [] → Consumes left left_now read → before ≡ [] → Tells taken before taken_now written
+    → (e ≡ ends.Whole → IsAtEnd left_now) → HasBytes s run left left_now taken taken_now
+bytes_told e s run left left_now taken taken_now read written before at one given empty told end = record {
   traffic = record { read = read; written = written };
   one = one;
   read = given;

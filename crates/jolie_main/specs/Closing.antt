@@ -13,9 +13,9 @@ abbrev pub IsClosed : List Entry → Type 0
 IsClosed h = (before : List Entry) × (h ≡ before ++ (record { actor = first_worker; act = act.Close } ∷ (record { actor = first_worker; act = act.Stop } ∷ [])))
 
 -- The traffic has what the source gave and what the output took, and a source that was read to its end has nothing left.
-pub record HasBytes (status : ℕ) (report : Record) (left left_now taken taken_now : Option (List ℕ)) : Type 0 where
+pub record HasBytes (status : ℕ) (run : Record) (left left_now taken taken_now : Option (List ℕ)) : Type 0 where
   pub traffic : Traffic
-  pub one : report.traffic ≡ traffic ∷ []
+  pub one : run.traffic ≡ traffic ∷ []
   pub read : Consumes left left_now traffic.read
   pub written : Appends taken taken_now traffic.written
   pub end : status ≡ 0 → IsAtEnd left_now

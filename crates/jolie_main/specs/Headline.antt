@@ -40,24 +40,24 @@ pub record ServesLines (parts : ProgramParts) (status : ℕ) (h : List Entry) (t
 
 -- The record of a run that came to its end: of which program it is, its sessions, its history and how that ends, its answers
 -- and its bytes. `left` is what the source has left, as far as the outside tells.
-pub record IsRecord (status : ℕ) (report : Record) (left : Option (List ℕ)) : Type 0 where
+pub record IsRecord (status : ℕ) (run : Record) (left : Option (List ℕ)) : Type 0 where
   pub parts : ProgramParts
   pub traffic : Traffic
-  pub program : IsProgram report.program parts
-  pub one_front : report.traffic ≡ traffic ∷ []
-  pub sessions : HasSessions parts report.history.entries report.sessions
-  pub legal : IsLegal parts report.history.entries
-  pub answered : AnswersEach parts report.history.entries
-  pub still : IsStill parts report.history.entries
-  pub closed : IsClosed report.history.entries
-  pub lines : ServesLines parts status report.history.entries traffic left
+  pub program : IsProgram run.program parts
+  pub one_front : run.traffic ≡ traffic ∷ []
+  pub sessions : HasSessions parts run.history.entries run.sessions
+  pub legal : IsLegal parts run.history.entries
+  pub answered : AnswersEach parts run.history.entries
+  pub still : IsStill parts run.history.entries
+  pub closed : IsClosed run.history.entries
+  pub lines : ServesLines parts status run.history.entries traffic left
 
 -- nothing was recorded
-pub record IsEmptyRecord (report : Record) : Type 0 where
-  pub program : report.program ≡ []
-  pub history : report.history.entries ≡ []
-  pub sessions : report.sessions ≡ []
-  pub traffic : report.traffic ≡ []
+pub record IsEmptyRecord (run : Record) : Type 0 where
+  pub program : run.program ≡ []
+  pub history : run.history.entries ≡ []
+  pub sessions : run.sessions ≡ []
+  pub traffic : run.traffic ≡ []
 
 -- ---- a text
 
@@ -80,11 +80,11 @@ pub data Prints (text : List ℕ) (status : ℕ) (before now : Stream) : Type 0 
 -- status 3. Of a run the record holds the text, the traffic has what the input gave and the output took, and the statuses
 -- 4 and 5 have their causes.
 pub data Runs (text : List ℕ) (ended : Ended) (input input_now output output_now : Stream) : Type 0 where
-  ran : ended.report.program ≡ text → Ran ended.status → IsRecord ended.status ended.report input_now.bytes
-      → HasBytes ended.status ended.report input.bytes input_now.bytes output.bytes output_now.bytes
+  ran : ended.record.program ≡ text → Ran ended.status → IsRecord ended.status ended.record input_now.bytes
+      → HasBytes ended.status ended.record input.bytes input_now.bytes output.bytes output_now.bytes
       → HasOwnCauses ended.status input.faults input_now.faults output.faults output_now.faults
       → Runs text ended input input_now output output_now
-  refused : (line : List ℕ) → IsNotRunBy text line → ended.status ≡ 3 → IsEmptyRecord ended.report
+  refused : (line : List ℕ) → IsNotRunBy text line → ended.status ≡ 3 → IsEmptyRecord ended.record
       → input_now ≡ input → IsWritten line output output_now
       → Runs text ended input input_now output output_now
 
@@ -92,7 +92,7 @@ pub data Runs (text : List ℕ) (ended : Ended) (input input_now output output_n
 
 -- nothing is recorded and nothing read of the input
 abbrev pub ShowsAlone : Ended → Outside → Outside → Type 0
-ShowsAlone ended before now = IsEmptyRecord ended.report × (now.input ≡ before.input)
+ShowsAlone ended before now = IsEmptyRecord ended.record × (now.input ≡ before.input)
 
 -- what a command does with the text of its file
 abbrev pub Does : Action → List ℕ → Ended → Outside → Outside → Type 0
@@ -104,7 +104,7 @@ Does action.Run text ended before now = Runs text ended before.input now.input b
 -- nothing is read, written or recorded.
 pub data Obeys (act : Action) (told : Option (List ℕ)) (ended : Ended) (before now : Outside) : Type 0 where
   read : (text : List ℕ) → IsReadOf told text → now.file_faults ≡ before.file_faults → Does act text ended before now → Obeys act told ended before now
-  failed : ended.status ≡ 2 → Rose before.file_faults now.file_faults → IsEmptyRecord ended.report
+  failed : ended.status ≡ 2 → Rose before.file_faults now.file_faults → IsEmptyRecord ended.record
       → now.input ≡ before.input → now.output ≡ before.output → Obeys act told ended before now
 
 -- ---- the words
@@ -112,7 +112,7 @@ pub data Obeys (act : Action) (told : Option (List ℕ)) (ended : Ended) (before
 -- A text of help or of the version goes to the output, and that is all.
 pub record Tells (text : List ℕ) (ended : Ended) (before now : Outside) : Type 0 where
   pub said : Says text ended.status before.output now.output
-  pub empty : IsEmptyRecord ended.report
+  pub empty : IsEmptyRecord ended.record
   pub files : now.file_faults ≡ before.file_faults
   pub input : now.input ≡ before.input
   pub notes : now.notes ≡ before.notes
@@ -121,7 +121,7 @@ pub record Tells (text : List ℕ) (ended : Ended) (before now : Outside) : Type
 pub record Rebukes (text : List ℕ) (ended : Ended) (before now : Outside) : Type 0 where
   pub status : ended.status ≡ 1
   pub noted : IsWritten text before.notes now.notes
-  pub empty : IsEmptyRecord ended.report
+  pub empty : IsEmptyRecord ended.record
   pub files : now.file_faults ≡ before.file_faults
   pub input : now.input ≡ before.input
   pub output : now.output ≡ before.output

@@ -23,5 +23,5 @@ pub struct Record {
 #[derive(Drop)]
 pub struct Ended {
     pub status: u8,
-    pub report: Record,
+    pub record: Record,
 }

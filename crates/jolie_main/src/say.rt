@@ -26,7 +26,7 @@ pub fn say<K: Sink>(alloc: Global, text: &[u8], output: &mut K) -> Result<bool, 
 /// Writes the text that was asked for: the status is 0, or 5 where the output failed.
 pub fn answer<K: Sink>(alloc: Global, text: &[u8], output: &mut K) -> Result<Ended, AllocError>
     ensures says { IfOk result (λ ended. Says text.now ended.status (stream (K.taken output.old) (K.faults output.old)) (stream (K.taken output.new) (K.faults output.new))) }
-    ensures empty { IfOk result (λ ended. IsEmptyRecord ended.report) }
+    ensures empty { IfOk result (λ ended. IsEmptyRecord ended.record) }
 {
     let status = if say(alloc, text, output)? { 0 } else { 5 };
     Ok(without_record(alloc, status))
@@ -40,7 +40,7 @@ pub fn refuse<K: Sink>(
 ) -> Result<Ended, AllocError>
     ensures status { IfOk result (λ ended. ended.status ≡ 3) }
     ensures written { IfOk result (λ ended. IsWritten (line_of refusal.now) (stream (K.taken output.old) (K.faults output.old)) (stream (K.taken output.new) (K.faults output.new))) }
-    ensures empty { IfOk result (λ ended. IsEmptyRecord ended.report) }
+    ensures empty { IfOk result (λ ended. IsEmptyRecord ended.record) }
 {
     let line = refusal.line(alloc)?;
     say(alloc, line.as_bytes(), output)?;
@@ -51,7 +51,7 @@ pub fn refuse<K: Sink>(
 pub fn rebuke<N: Sink>(alloc: Global, text: &[u8], notes: &mut N) -> Result<Ended, AllocError>
     ensures status { IfOk result (λ ended. ended.status ≡ 1) }
     ensures written { IfOk result (λ ended. IsWritten text.now (stream (N.taken notes.old) (N.faults notes.old)) (stream (N.taken notes.new) (N.faults notes.new))) }
-    ensures empty { IfOk result (λ ended. IsEmptyRecord ended.report) }
+    ensures empty { IfOk result (λ ended. IsEmptyRecord ended.record) }
 {
     say(alloc, text, notes)?;
     Ok(without_record(alloc, 1))
@@ -60,9 +60,9 @@ pub fn rebuke<N: Sink>(alloc: Global, text: &[u8], notes: &mut N) -> Result<Ende
 /// The end of a call that ran no program.
 pub fn without_record(alloc: Global, status: u8) -> Ended
     ensures status { result.status ≡ status }
-    ensures empty { IsEmptyRecord result.report }
+    ensures empty { IsEmptyRecord result.record }
 {
-    let report = Record {
+    let record = Record {
         program: Bytes::new(alloc),
         history: History {
             entries: Items::new(alloc),
@@ -70,5 +70,5 @@ pub fn without_record(alloc: Global, status: u8) -> Ended
         sessions: Items::new(alloc),
         traffic: Items::new(alloc),
     };
-    Ended { status, report }
+    Ended { status, record }
 }

@@ -100,9 +100,9 @@ fn run_program<S: Source, K: Sink>(
     output: &mut K,
 ) -> Result<Ended, AllocError>
     requires { IsProgram text (parts_of program.now) }
-    ensures record { IfOk result (λ ended. Ran ended.status × IsRecord ended.status ended.report (S.left input.new)) }
-    ensures program { IfOk result (λ ended. ended.report.program ≡ text) }
-    ensures traffic { IfOk result (λ ended. HasBytes ended.status ended.report (S.left input.old) (S.left input.new) (K.taken output.old) (K.taken output.new)) }
+    ensures record { IfOk result (λ ended. Ran ended.status × IsRecord ended.status ended.record (S.left input.new)) }
+    ensures program { IfOk result (λ ended. ended.record.program ≡ text) }
+    ensures traffic { IfOk result (λ ended. HasBytes ended.status ended.record (S.left input.old) (S.left input.new) (K.taken output.old) (K.taken output.new)) }
     ensures causes { IfOk result (λ ended. HasOwnCauses ended.status (S.faults input.old) (S.faults input.new) (K.faults output.old) (K.faults output.new)) }
 {
     let mut progress = Progress::new(alloc);
@@ -121,7 +121,7 @@ fn run_program<S: Source, K: Sink>(
     office.stop()?;
     let mut traffic = Items::new(alloc);
     traffic.push(Traffic { read, written })?;
-    let report = Record {
+    let record = Record {
         program: text,
         history: office.into_history(),
         sessions,
@@ -129,7 +129,7 @@ fn run_program<S: Source, K: Sink>(
     };
     Ok(Ended {
         status: status_of(end),
-        report,
+        record,
     })
 }
 
