@@ -15,8 +15,8 @@ use Rattle.service_check.specs.declared.refusal.CheckName.{CheckName}
 use Rattle.service_check.specs.declared.refusal.CheckName.TheVariants as check
 use Rattle.jolie_main.specs.declared.refusal.Stage.{Stage}
 use Rattle.jolie_main.specs.declared.refusal.Stage.TheVariants as stage
-use Rattle.jolie_main.specs.declared.refusal.Fault.{Fault}
-use Rattle.jolie_main.specs.declared.refusal.Fault.TheVariants as fault
+use Rattle.jolie_main.specs.declared.refusal.Cause.{Cause}
+use Rattle.jolie_main.specs.declared.refusal.Cause.TheVariants as cause
 use Rattle.jolie_main.specs.declared.refusal.Refusal.{Refusal}
 use Rattle.jolie_main.specs.declared.verdict.Verdict.{Verdict}
 use Rattle.jolie_main.specs.declared.verdict.Verdict.TheVariants as verdict
@@ -34,13 +34,13 @@ lex_line (lex.BadByte at) = refusal (codes "lex") (codes "BadByte") at
 lex_line (lex.OpenString at) = refusal (codes "lex") (codes "OpenString") at
 lex_line (lex.OpenComment at) = refusal (codes "lex") (codes "OpenComment") at
 lex_line (lex.BadNumber at) = refusal (codes "lex") (codes "BadNumber") at
-lex_line (lex.Memory cause) = []
+lex_line (lex.Memory memory) = []
 
 -- of tokens that are no file: the one at that place stops beginning one, or opens level 65
 abbrev pub parse_line : ParseError → List ℕ
 parse_line (parse.Syntax at) = refusal (codes "parse") (codes "Syntax") at
 parse_line (parse.TooDeep at) = refusal (codes "parse") (codes "TooDeep") at
-parse_line (parse.Memory cause) = []
+parse_line (parse.Memory memory) = []
 
 -- the name of a check
 abbrev pub check_word : CheckName → List ℕ
@@ -87,30 +87,30 @@ stage_word stage.Parse = codes "parse"
 stage_word stage.Check = codes "check"
 stage_word stage.First = codes "first"
 
--- the word of a fault
-abbrev pub fault_word : Fault → List ℕ
-fault_word fault.TooLong = codes "TooLong"
-fault_word fault.BadByte = codes "BadByte"
-fault_word fault.OpenString = codes "OpenString"
-fault_word fault.OpenComment = codes "OpenComment"
-fault_word fault.BadNumber = codes "BadNumber"
-fault_word fault.Syntax = codes "Syntax"
-fault_word fault.TooDeep = codes "TooDeep"
-fault_word (fault.Check name) = check_word name
-fault_word fault.Form = codes "Form"
+-- the word of a cause
+abbrev pub cause_word : Cause → List ℕ
+cause_word cause.TooLong = codes "TooLong"
+cause_word cause.BadByte = codes "BadByte"
+cause_word cause.OpenString = codes "OpenString"
+cause_word cause.OpenComment = codes "OpenComment"
+cause_word cause.BadNumber = codes "BadNumber"
+cause_word cause.Syntax = codes "Syntax"
+cause_word cause.TooDeep = codes "TooDeep"
+cause_word (cause.Check name) = check_word name
+cause_word cause.Form = codes "Form"
 
 -- the line of a refusal
 abbrev pub line_of : Refusal → List ℕ
-line_of r = refusal (stage_word r.stage) (fault_word r.fault) r.at
+line_of r = refusal (stage_word r.stage) (cause_word r.cause) r.at
 
 -- the error is no want of memory, and the refusal has its line
 abbrev pub IsLexRefusal : LexError → Refusal → Type 0
-IsLexRefusal (lex.Memory cause) r = ⊥
+IsLexRefusal (lex.Memory memory) r = ⊥
 IsLexRefusal e r = line_of r ≡ lex_line e
 
 -- the same of an error of the parser
 abbrev pub IsParseRefusal : ParseError → Refusal → Type 0
-IsParseRefusal (parse.Memory cause) r = ⊥
+IsParseRefusal (parse.Memory memory) r = ⊥
 IsParseRefusal e r = line_of r ≡ parse_line e
 
 -- what is said of the text is right

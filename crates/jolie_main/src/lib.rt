@@ -23,6 +23,6 @@ mod words;
 pub use built::one_service_is_built;
 pub use checked::program_in;
 pub use record::{Ended, Record, Traffic};
-pub use refusal::{Fault, Refusal, Stage};
+pub use refusal::{Cause, Refusal, Stage};
 pub use top::run;
 pub use words::{Action, Command, Words, understood};

@@ -2,7 +2,7 @@
 
 ghost use Rattle.std.specs.Prelude.{◌≡◌, Some, IfOk, string_bytes};
 ghost use Rattle.jolie_main.specs.Programs.{form_line};
-ghost use Rattle.jolie_main.specs.Verdicts.{stage_word, fault_word, check_word as spelled_check, check_line, line_of, IsLexRefusal, IsParseRefusal};
+ghost use Rattle.jolie_main.specs.Verdicts.{stage_word, cause_word, check_word as spelled_check, check_line, line_of, IsLexRefusal, IsParseRefusal};
 
 use jolie_parse::ParseError;
 use jolie_tokens::LexError;
@@ -34,7 +34,7 @@ impl Stage {
 
 /// What is wrong with a text.
 #[derive(Clone, Copy, Debug, PartialEq, Eq)]
-pub enum Fault {
+pub enum Cause {
     TooLong,
     BadByte,
     OpenString,
@@ -46,20 +46,20 @@ pub enum Fault {
     Form,
 }
 
-impl Fault {
+impl Cause {
     pub fn as_str(self) -> &'static str
-        ensures { result.now ≡ fault_word self }
+        ensures { result.now ≡ cause_word self }
     {
         match self {
-            Fault::TooLong => "TooLong",
-            Fault::BadByte => "BadByte",
-            Fault::OpenString => "OpenString",
-            Fault::OpenComment => "OpenComment",
-            Fault::BadNumber => "BadNumber",
-            Fault::Syntax => "Syntax",
-            Fault::TooDeep => "TooDeep",
-            Fault::Check(name) => check_word(name),
-            Fault::Form => "Form",
+            Cause::TooLong => "TooLong",
+            Cause::BadByte => "BadByte",
+            Cause::OpenString => "OpenString",
+            Cause::OpenComment => "OpenComment",
+            Cause::BadNumber => "BadNumber",
+            Cause::Syntax => "Syntax",
+            Cause::TooDeep => "TooDeep",
+            Cause::Check(name) => check_word(name),
+            Cause::Form => "Form",
         }
     }
 }
@@ -87,7 +87,7 @@ fn check_word(name: CheckName) -> &'static str
 #[derive(Clone, Copy, Debug, PartialEq, Eq)]
 pub struct Refusal {
     pub stage: Stage,
-    pub fault: Fault,
+    pub cause: Cause,
     pub at: u32,
 }
 
@@ -98,7 +98,7 @@ impl Refusal {
     {
         Refusal {
             stage: Stage::First,
-            fault: Fault::Form,
+            cause: Cause::Form,
             at: 0,
         }
     }
@@ -107,17 +107,17 @@ impl Refusal {
     pub fn by_lex(error: LexError) -> Result<Refusal, AllocError>
         ensures { IfOk result (λ refusal. IsLexRefusal error refusal) }
     {
-        let (fault, at) = match error {
-            LexError::TooLong => (Fault::TooLong, 1_048_576),
-            LexError::BadByte(at) => (Fault::BadByte, at),
-            LexError::OpenString(at) => (Fault::OpenString, at),
-            LexError::OpenComment(at) => (Fault::OpenComment, at),
-            LexError::BadNumber(at) => (Fault::BadNumber, at),
-            LexError::Memory(cause) => return Err(cause),
+        let (cause, at) = match error {
+            LexError::TooLong => (Cause::TooLong, 1_048_576),
+            LexError::BadByte(at) => (Cause::BadByte, at),
+            LexError::OpenString(at) => (Cause::OpenString, at),
+            LexError::OpenComment(at) => (Cause::OpenComment, at),
+            LexError::BadNumber(at) => (Cause::BadNumber, at),
+            LexError::Memory(memory) => return Err(memory),
         };
         Ok(Refusal {
             stage: Stage::Lex,
-            fault,
+            cause,
             at,
         })
     }
@@ -126,14 +126,14 @@ impl Refusal {
     pub fn by_parse(error: ParseError) -> Result<Refusal, AllocError>
         ensures { IfOk result (λ refusal. IsParseRefusal error refusal) }
     {
-        let (fault, at) = match error {
-            ParseError::Syntax(at) => (Fault::Syntax, at),
-            ParseError::TooDeep(at) => (Fault::TooDeep, at),
-            ParseError::Memory(cause) => return Err(cause),
+        let (cause, at) = match error {
+            ParseError::Syntax(at) => (Cause::Syntax, at),
+            ParseError::TooDeep(at) => (Cause::TooDeep, at),
+            ParseError::Memory(memory) => return Err(memory),
         };
         Ok(Refusal {
             stage: Stage::Parse,
-            fault,
+            cause,
             at,
         })
     }
@@ -144,7 +144,7 @@ impl Refusal {
     {
         Refusal {
             stage: Stage::Check,
-            fault: Fault::Check(name),
+            cause: Cause::Check(name),
             at,
         }
     }
@@ -162,8 +162,8 @@ impl fmt::Display for Refusal {
 
     fn fmt<W: fmt::Write>(&self, f: &mut fmt::Formatter<W>) -> fmt::Result {
         let stage = self.stage.as_str();
-        let fault = self.fault.as_str();
+        let cause = self.cause.as_str();
         let at = self.at;
-        write!(f, "refused {stage} {fault} {at}\n")
+        write!(f, "refused {stage} {cause} {at}\n")
     }
 }
