@@ -20,7 +20,7 @@ pub fn one_service_is_built(program: &Program)
 {}
 
 /// Whether a program is of one service whose main begins with an input, or a choice of several, and has no other.
-pub fn is_built(program: &Program) -> bool
+pub fn can_run(program: &Program) -> bool
     ensures { result ≡ is_built_program (parts_of program.now) }
 {
     match program.parts().services.as_slice() {

@@ -5,7 +5,7 @@ ghost use Rattle.behaviour_tree.specs.PartsView.{parts_of};
 ghost use Rattle.jolie_main.specs.Programs.{IsChecked, IsUncheckedBy, IsProgram, IsNotRunBy};
 ghost use Rattle.jolie_main.specs.Verdicts.{line_of};
 
-use crate::built::is_built;
+use crate::built::can_run;
 use crate::refusal::Refusal;
 use crate::verdict::{Verdict, verdict_of};
 use behaviour_tree::Program;
@@ -37,7 +37,7 @@ pub fn program_in(alloc: Global, text: &[u8]) -> Result<Result<Program, Refusal>
         Ok(program) => program,
         Err(refusal) => return Ok(Err(refusal)),
     };
-    if is_built(&program) {
+    if can_run(&program) {
         Ok(Ok(program))
     } else {
         Ok(Err(Refusal::of_form()))
