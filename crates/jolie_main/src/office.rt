@@ -19,7 +19,7 @@ use std::alloc::{AllocError, Global};
 use std::marker::Model;
 
 /// The worker that reads the lines, as an actor.
-pub const WORKER: u32 = 4096;
+pub const FIRST_WORKER: u32 = 4096;
 
 /// The most messages, sessions and weight of a run.
 const MOST_MESSAGES: u32 = 65_536;
@@ -87,7 +87,7 @@ impl Office {
         let weight = weight_of(&posted.value);
         let reply = self.route(program, weight, &posted);
         self.entries.push(Entry {
-            actor: WORKER,
+            actor: FIRST_WORKER,
             act: Act::Post {
                 posting,
                 index,
@@ -195,7 +195,7 @@ impl Office {
         ensures err { OnErr result (self.new ≡ self.old) }
     {
         self.entries.push(Entry {
-            actor: WORKER,
+            actor: FIRST_WORKER,
             act: Act::Collect { message, outcome },
         })
     }
@@ -206,7 +206,7 @@ impl Office {
         ensures err { OnErr result (self.new ≡ self.old) }
     {
         self.entries.push(Entry {
-            actor: WORKER,
+            actor: FIRST_WORKER,
             act: Act::Close,
         })
     }
@@ -217,7 +217,7 @@ impl Office {
         ensures err { OnErr result (self.new ≡ self.old) }
     {
         self.entries.push(Entry {
-            actor: WORKER,
+            actor: FIRST_WORKER,
             act: Act::Stop,
         })
     }
