@@ -17,7 +17,7 @@ use Rattle.jolie_main.specs.declared.words.Words.TheVariants as words
 use Rattle.jolie_main.specs.Usage.{IsUnderstood}
 use Rattle.jolie_ast.specs.Printed.{printed_text}
 use Rattle.jolie_main.specs.Programs.{IsChecked, IsUncheckedBy, IsProgram, IsNotRunBy}
-use Rattle.jolie_main.specs.Verdicts.{IsVerdict, line_of}
+use Rattle.jolie_main.specs.Verdicts.{IsVerdict, refusal_line}
 use Rattle.jolie_main.specs.Outside.{Stream, Outside, outside, program_bytes, IsWritten}
 use Rattle.jolie_main.specs.Headline.{Says, Checks, Prints, Runs, IsEmptyRecord, Does, Obeys, Promises}
 use Rattle.jolie_main.specs.Headline as headline
@@ -31,34 +31,34 @@ printed text v file said (Err e) before now right is same says = tt
 
 -- and another is refused
 pub not_printed : (text : List ℕ) (v : Verdict) (refusal : Refusal) (r : Result Ended AllocError) (before now : Stream) → IsVerdict text v → v ≡ verdict.Refused refusal
-    → IfOk r (λ ended. ended.status ≡ 3) → IfOk r (λ ended. IsWritten (line_of refusal) before now) → IfOk r (λ ended. Prints text ended.status before now)
-not_printed text v refusal (Ok ended) before now right is status written = headline.refused (line_of refusal) (subst (λ x. IsVerdict text x) is right) status written
+    → IfOk r (λ ended. ended.status ≡ 3) → IfOk r (λ ended. IsWritten (refusal_line refusal) before now) → IfOk r (λ ended. Prints text ended.status before now)
+not_printed text v refusal (Ok ended) before now right is status written = headline.refused (refusal_line refusal) (subst (λ x. IsVerdict text x) is right) status written
 not_printed text v refusal (Err e) before now right is status written = tt
 
 -- `ok` is said of a program
 pub passed : (text said : List ℕ) (found : Result Program Refusal) (program : Program) (r : Result Ended AllocError) (before now : Stream)
-    → MatchResult found (λ p. IsChecked text (parts_of p)) (λ why. IsUncheckedBy text (line_of why)) → found ≡ Ok program → said ≡ codes "ok\n"
+    → MatchResult found (λ p. IsChecked text (parts_of p)) (λ why. IsUncheckedBy text (refusal_line why)) → found ≡ Ok program → said ≡ codes "ok\n"
     → IfOk r (λ ended. Says said ended.status before now) → IfOk r (λ ended. Checks text ended.status before now)
 passed text said found program (Ok ended) before now right is same says =
-    headline.passed (parts_of program) (subst (λ x. MatchResult x (λ p. IsChecked text (parts_of p)) (λ why. IsUncheckedBy text (line_of why))) is right)
+    headline.passed (parts_of program) (subst (λ x. MatchResult x (λ p. IsChecked text (parts_of p)) (λ why. IsUncheckedBy text (refusal_line why))) is right)
     (subst (λ t. Says t ended.status before now) same says)
 passed text said found program (Err e) before now right is same says = tt
 
 -- and another text is refused
 pub not_passed : (text : List ℕ) (found : Result Program Refusal) (refusal : Refusal) (r : Result Ended AllocError) (before now : Stream)
-    → MatchResult found (λ p. IsChecked text (parts_of p)) (λ why. IsUncheckedBy text (line_of why)) → found ≡ Err refusal
-    → IfOk r (λ ended. ended.status ≡ 3) → IfOk r (λ ended. IsWritten (line_of refusal) before now) → IfOk r (λ ended. Checks text ended.status before now)
+    → MatchResult found (λ p. IsChecked text (parts_of p)) (λ why. IsUncheckedBy text (refusal_line why)) → found ≡ Err refusal
+    → IfOk r (λ ended. ended.status ≡ 3) → IfOk r (λ ended. IsWritten (refusal_line refusal) before now) → IfOk r (λ ended. Checks text ended.status before now)
 not_passed text found refusal (Ok ended) before now right is status written =
-    headline.unchecked (line_of refusal) (subst (λ x. MatchResult x (λ p. IsChecked text (parts_of p)) (λ why. IsUncheckedBy text (line_of why))) is right) status written
+    headline.unchecked (refusal_line refusal) (subst (λ x. MatchResult x (λ p. IsChecked text (parts_of p)) (λ why. IsUncheckedBy text (refusal_line why))) is right) status written
 not_passed text found refusal (Err e) before now right is status written = tt
 
 -- a text that is not run is refused
 pub run_refused : (text given : List ℕ) (found : Result Program Refusal) (refusal : Refusal) (r : Result Ended AllocError) (input output output_now : Stream)
-    → MatchResult found (λ p. IsProgram given (parts_of p)) (λ why. IsNotRunBy given (line_of why)) → found ≡ Err refusal → given ≡ text
-    → IfOk r (λ ended. ended.status ≡ 3) → IfOk r (λ ended. IsWritten (line_of refusal) output output_now) → IfOk r (λ ended. IsEmptyRecord ended.record)
+    → MatchResult found (λ p. IsProgram given (parts_of p)) (λ why. IsNotRunBy given (refusal_line why)) → found ≡ Err refusal → given ≡ text
+    → IfOk r (λ ended. ended.status ≡ 3) → IfOk r (λ ended. IsWritten (refusal_line refusal) output output_now) → IfOk r (λ ended. IsEmptyRecord ended.record)
     → IfOk r (λ ended. Runs text ended input input output output_now)
 run_refused text given found refusal (Ok ended) input output output_now right is same status written empty =
-    headline.refused (line_of refusal) (subst (λ t. IsNotRunBy t (line_of refusal)) same (subst (λ x. MatchResult x (λ p. IsProgram given (parts_of p)) (λ why. IsNotRunBy given (line_of why))) is right)) status empty refl written
+    headline.refused (refusal_line refusal) (subst (λ t. IsNotRunBy t (refusal_line refusal)) same (subst (λ x. MatchResult x (λ p. IsProgram given (parts_of p)) (λ why. IsNotRunBy given (refusal_line why))) is right)) status empty refl written
 run_refused text given found refusal (Err e) input output output_now right is same status written empty = tt
 
 -- A command over a file that was read, by the name that it was read by.

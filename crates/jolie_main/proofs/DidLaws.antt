@@ -5,11 +5,11 @@ use Rattle.jsonrpc_text.specs.declared.message.ReadCall.{ReadCall}
 use Rattle.jsonrpc_text.specs.declared.message.Read.{Read}
 use Rattle.jolie_main.specs.Replies.{first_answer}
 use Rattle.jolie_main.specs.Legal.{IsLegal}
-use Rattle.jolie_main.specs.Written.{post_in, posts, text_of, line_if, line_of, lines_from, IsFront, IsProperFront, IsAnswered, IsCutShort}
+use Rattle.jolie_main.specs.Written.{post_in, posts, text_of, line_if, posting_line, lines_from, IsFront, IsProperFront, IsAnswered, IsCutShort}
 use Rattle.jolie_main.specs.Turns.{closing_entries, Deeds, Turn, Did, one_more}
 use Rattle.jolie_main.specs.Sentences.{HasSessions, AnswersEach, IsStill}
 use Rattle.jolie_main.proofs.MessagesLemmas.{filter_map-aside}
-use Rattle.jolie_main.proofs.WrittenLemmas.{text_of-same, line_of-same, lines_from-same, reply_to-aside}
+use Rattle.jolie_main.proofs.WrittenLemmas.{text_of-same, posting_line-same, lines_from-same, reply_to-aside}
 use Rattle.jolie_main.proofs.SettledLemmas.{IsSettled, did_settled, did_unposted, closing_answers, closing_sessions, closing_is_legal, closing_answered, closing_still}
 use Rattle.jolie_main.proofs.PostingsLemmas.{turn_adds, lines_kept, did_written}
 
@@ -28,8 +28,8 @@ cut_so_far {parts} {done} {last} {old} {new} {bytes} {text} all piece did turn p
     let added = turn_adds turn (did_settled did) (did_unposted did) in
     let told = did_written did in
     let more = did_written (one_more done old bytes last new text did turn) in
-    let said_now : line_of parts new.history (length done) last ≡ line_if text =
-    ap (λ h. line_of parts h (length done) last) added.1 ∙ ap line_if (added.2.text_is (λ i. told.unposted (length done) i (le_refl (length done)))) in
+    let said_now : posting_line parts new.history (length done) last ≡ line_if text =
+    ap (λ h. posting_line parts h (length done) last) added.1 ∙ ap line_if (added.2.text_is (λ i. told.unposted (length done) i (le_refl (length done)))) in
     let kept : lines_from parts new.history 0 done ≡ lines_from parts old.history 0 done =
     ap (λ h. lines_from parts h 0 done) added.1 ∙ lines_kept parts old.history added.0 done (λ n i lt. added.2.others n i (λ e. omega arith)) added.2.same told.named in
     record {
@@ -71,7 +71,7 @@ module _ (parts : ProgramParts) (deeds : Deeds) (settled : IsSettled parts deeds
     piece = k.piece;
     front = k.front;
     posted = closing_posts ∙ k.posted;
-    cut = subst (λ t. IsProperFront k.piece t) (sym (line_of-same parts deeds.history (deeds.history ++ closing_entries) (length k.done) k.last (closing_text (length k.done)))) k.cut;
+    cut = subst (λ t. IsProperFront k.piece t) (sym (posting_line-same parts deeds.history (deeds.history ++ closing_entries) (length k.done) k.last (closing_text (length k.done)))) k.cut;
     answered = k.answered ∙ ap (λ t. t ++ k.piece) (sym (closing_lines k.done));
   }
 

@@ -13,7 +13,7 @@ use Rattle.jolie_parse.specs.Classes.{spelled}
 use Rattle.jolie_parse.specs.Grammar.{IsFile}
 use Rattle.jolie_parse.specs.Answers.{IsRefusedAt, IsTooDeepAt}
 use Rattle.jolie_main.specs.declared.refusal.Refusal.{Refusal}
-use Rattle.jolie_main.specs.Verdicts.{IsAccepted, IsRefusedBy, too_long, no_tokens, no_file, too_deep, line_of, IsLexRefusal, IsParseRefusal}
+use Rattle.jolie_main.specs.Verdicts.{IsAccepted, IsRefusedBy, too_long, no_tokens, no_file, too_deep, refusal_line, IsLexRefusal, IsParseRefusal}
 
 -- a text that has tokens is not too long
 pub fits : (r : Result (List Token) LexError) (tokens : List Token) (n : ℕ) → r ≡ Ok tokens → (IsErrOf r lex.TooLong ↔ longest < n) → n ≤ longest
@@ -24,7 +24,7 @@ pub accepted : (text : List ℕ) (tokens : List Token) (file : List Definition) 
 accepted text tokens file fit read derived = record { fits = fit; tokens = tokens; read = read; derived = derived }
 
 -- a text that has no tokens
-pub refused_by_lex : (text : List ℕ) (e : LexError) (r : Refusal) → IsCause text e → IsLexRefusal e r → IsRefusedBy text (line_of r)
+pub refused_by_lex : (text : List ℕ) (e : LexError) (r : Refusal) → IsCause text e → IsLexRefusal e r → IsRefusedBy text (refusal_line r)
 refused_by_lex text lex.TooLong r cause line = subst (λ l. IsRefusedBy text l) (sym line) (too_long cause)
 refused_by_lex text (lex.BadByte at) r cause line = subst (λ l. IsRefusedBy text l) (sym line) (no_tokens (lex.BadByte at) cause.0 cause.1)
 refused_by_lex text (lex.OpenString at) r cause line = subst (λ l. IsRefusedBy text l) (sym line) (no_tokens (lex.OpenString at) cause.0 cause.1)
@@ -35,7 +35,7 @@ refused_by_lex text (lex.Memory why) r cause line = absurd line
 -- a text whose tokens are no file
 pub refused_by_parse : (text : List ℕ) (tokens : List Token) (result : Result (List Definition) ParseError) (e : ParseError) (r : Refusal) → length text ≤ longest → IsRead text tokens → result ≡ Err e
     → ((at : ℕ) → result ≡ Err (parse.Syntax at) → IsRefusedAt 64 (length text) (spelled text tokens) at)
-    → ((at : ℕ) → result ≡ Err (parse.TooDeep at) → IsTooDeepAt 64 (length text) (spelled text tokens) at) → IsParseRefusal e r → IsRefusedBy text (line_of r)
+    → ((at : ℕ) → result ≡ Err (parse.TooDeep at) → IsTooDeepAt 64 (length text) (spelled text tokens) at) → IsParseRefusal e r → IsRefusedBy text (refusal_line r)
 refused_by_parse text tokens result (parse.Syntax at) r fit read is syntax deep line = subst (λ l. IsRefusedBy text l) (sym line) (no_file tokens at fit read (syntax at is))
 refused_by_parse text tokens result (parse.TooDeep at) r fit read is syntax deep line = subst (λ l. IsRefusedBy text l) (sym line) (too_deep tokens at fit read (deep at is))
 refused_by_parse text tokens result (parse.Memory cause) r fit read is syntax deep line = absurd line

@@ -11,7 +11,7 @@ use Rattle.jolie_main.specs.declared.history.Entry.{Entry}
 use Rattle.jolie_main.specs.declared.history.PostReply.{PostReply}
 use Rattle.jolie_main.specs.declared.history.PostReply.TheVariants as reply
 use Rattle.jolie_main.specs.Replies.{answer_of}
-use Rattle.jolie_main.specs.Written.{posts_of, posts_from, reply_in, first_of, reply_to, said_if, said_of, has_id, said_to, text_of, texts_of, response_of, line_if, line_of, lines_from}
+use Rattle.jolie_main.specs.Written.{posts_of, posts_from, reply_in, first_of, reply_to, said_if, said_of, has_id, said_to, text_of, texts_of, response_of, line_if, posting_line, lines_from}
 use Rattle.jolie_main.proofs.MessagesLemmas.{filter_map-aside}
 
 -- a call by its parts
@@ -30,8 +30,8 @@ pub lines_from-append : (parts : ProgramParts) (h : List Entry) (j : ℕ) (xs ys
     → lines_from parts h j (xs ++ ys) ≡ lines_from parts h j xs ++ lines_from parts h (j + length xs) ys
 lines_from-append parts h j [] ys = ap (λ k. lines_from parts h k ys) (omega arith)
 lines_from-append parts h j (r ∷ xs) ys =
-    ap (λ t. line_of parts h j r ++ t) (lines_from-append parts h (j + 1) xs ys ∙ ap (λ k. lines_from parts h (j + 1) xs ++ lines_from parts h k ys) (omega arith))
-    ∙ sym (append_assoc (line_of parts h j r) (lines_from parts h (j + 1) xs) (lines_from parts h (j + length (r ∷ xs)) ys))
+    ap (λ t. posting_line parts h j r ++ t) (lines_from-append parts h (j + 1) xs ys ∙ ap (λ k. lines_from parts h (j + 1) xs ++ lines_from parts h k ys) (omega arith))
+    ∙ sym (append_assoc (posting_line parts h j r) (lines_from parts h (j + 1) xs) (lines_from parts h (j + length (r ∷ xs)) ys))
 
 -- the posts of one posting more
 pub posts_from-more : (all : List Read) (r : Read) → posts_from 0 (all ++ r ∷ []) ≡ posts_from 0 all ++ posts_of (length all) 0 r.calls
@@ -40,10 +40,10 @@ posts_from-more all r =
     ∙ ap (λ t. posts_from 0 all ++ t) (append-nil (posts_of (length all) 0 r.calls))
 
 -- the line of one posting more
-pub lines_from-more : (parts : ProgramParts) (h : List Entry) (all : List Read) (r : Read) → lines_from parts h 0 (all ++ r ∷ []) ≡ lines_from parts h 0 all ++ line_of parts h (length all) r
+pub lines_from-more : (parts : ProgramParts) (h : List Entry) (all : List Read) (r : Read) → lines_from parts h 0 (all ++ r ∷ []) ≡ lines_from parts h 0 all ++ posting_line parts h (length all) r
 lines_from-more parts h all r =
     lines_from-append parts h 0 all (r ∷ []) ∙ ap (λ k. lines_from parts h 0 all ++ lines_from parts h k (r ∷ [])) (zero-add (length all))
-    ∙ ap (λ t. lines_from parts h 0 all ++ t) (append-nil (line_of parts h (length all) r))
+    ∙ ap (λ t. lines_from parts h 0 all ++ t) (append-nil (posting_line parts h (length all) r))
 
 -- ---- a longer history says the same
 
@@ -72,15 +72,15 @@ module _ (parts : ProgramParts) (h h' : List Entry) where
   texts_of-same j i (c ∷ cs) f = ap₂ (λ t rest. t ++ rest) (f i c) (texts_of-same j (i + 1) cs f)
 
   -- the line of a posting is the same where the texts of its calls are
-  pub line_of-same : (j : ℕ) (r : Read) → ((k : ℕ) (c : ReadCall) → text_of parts h' j k c ≡ text_of parts h j k c) → line_of parts h' j r ≡ line_of parts h j r
-  line_of-same j r f = ap (λ t. line_if (response_of r.batch t)) (texts_of-same j 0 r.calls f)
+  pub posting_line-same : (j : ℕ) (r : Read) → ((k : ℕ) (c : ReadCall) → text_of parts h' j k c ≡ text_of parts h j k c) → posting_line parts h' j r ≡ posting_line parts h j r
+  posting_line-same j r f = ap (λ t. line_if (response_of r.batch t)) (texts_of-same j 0 r.calls f)
 
   -- the lines of postings are the same where each is
   pub lines_from-same : (j : ℕ) (all : List Read) → ((n k : ℕ) → n < j + length all → (c : ReadCall) → text_of parts h' n k c ≡ text_of parts h n k c)
       → lines_from parts h' j all ≡ lines_from parts h j all
   lines_from-same j [] f = refl
   lines_from-same j (r ∷ all) f =
-      ap₂ (λ t rest. t ++ rest) (line_of-same j r (λ k c. f j k (omega arith) c)) (lines_from-same (j + 1) all (λ n k lt c. f n k (omega arith) c))
+      ap₂ (λ t rest. t ++ rest) (posting_line-same j r (λ k c. f j k (omega arith) c)) (lines_from-same (j + 1) all (λ n k lt c. f n k (omega arith) c))
 
 -- entries that reply to other calls
 pub reply_to-aside : (h es : List Entry) (j i : ℕ) → filter_map (reply_in j i) es ≡ [] → reply_to (h ++ es) j i ≡ reply_to h j i

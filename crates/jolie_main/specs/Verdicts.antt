@@ -100,20 +100,20 @@ cause_word (cause.Check name) = check_word name
 cause_word cause.Form = codes "Form"
 
 -- the line of a refusal
-abbrev pub line_of : Refusal → List ℕ
-line_of r = refusal (stage_word r.stage) (cause_word r.cause) r.at
+abbrev pub refusal_line : Refusal → List ℕ
+refusal_line r = refusal (stage_word r.stage) (cause_word r.cause) r.at
 
 -- the error is no want of memory, and the refusal has its line
 abbrev pub IsLexRefusal : LexError → Refusal → Type 0
 IsLexRefusal (lex.Memory memory) r = ⊥
-IsLexRefusal e r = line_of r ≡ lex_line e
+IsLexRefusal e r = refusal_line r ≡ lex_line e
 
 -- the same of an error of the parser
 abbrev pub IsParseRefusal : ParseError → Refusal → Type 0
 IsParseRefusal (parse.Memory memory) r = ⊥
-IsParseRefusal e r = line_of r ≡ parse_line e
+IsParseRefusal e r = refusal_line r ≡ parse_line e
 
 -- what is said of the text is right
 abbrev pub IsVerdict : List ℕ → Verdict → Type 0
 IsVerdict text (verdict.File file) = IsAccepted text file
-IsVerdict text (verdict.Refused r) = IsRefusedBy text (line_of r)
+IsVerdict text (verdict.Refused r) = IsRefusedBy text (refusal_line r)

@@ -139,13 +139,13 @@ line_if None = []
 line_if (Some text) = text ++ 10 ∷ []
 
 -- what is written for posting j
-abbrev pub line_of : ProgramParts → List Entry → ℕ → Read → List ℕ
-line_of parts h j r = line_if (response parts h j r)
+abbrev pub posting_line : ProgramParts → List Entry → ℕ → Read → List ℕ
+posting_line parts h j r = line_if (response parts h j r)
 
 -- what is written for postings, the first having the number j
 abbrev pub lines_from : ProgramParts → List Entry → ℕ → List Read → List ℕ
 lines_from parts h j [] = []
-lines_from parts h j (r ∷ rest) = line_of parts h j r ++ lines_from parts h (j + 1) rest
+lines_from parts h j (r ∷ rest) = posting_line parts h j r ++ lines_from parts h (j + 1) rest
 
 -- ---- a run
 
@@ -170,5 +170,5 @@ pub record IsCutShort (parts : ProgramParts) (h : List Entry) (all : List Read) 
   pub piece : List ℕ
   pub front : IsFront (done ++ last ∷ []) all
   pub posted : posts h ≡ posts_from 0 (done ++ last ∷ [])
-  pub cut : IsProperFront piece (line_of parts h (length done) last)
+  pub cut : IsProperFront piece (posting_line parts h (length done) last)
   pub answered : written ≡ lines_from parts h 0 done ++ piece

@@ -3,7 +3,7 @@
 ghost use Rattle.std.specs.Prelude.{IfOk, MatchResult};
 ghost use Rattle.behaviour_tree.specs.PartsView.{parts_of};
 ghost use Rattle.jolie_main.specs.Programs.{IsChecked, IsUncheckedBy, IsProgram, IsNotRunBy};
-ghost use Rattle.jolie_main.specs.Verdicts.{line_of};
+ghost use Rattle.jolie_main.specs.Verdicts.{refusal_line};
 
 use crate::built::can_run;
 use crate::refusal::Refusal;
@@ -15,7 +15,7 @@ use std::alloc::{AllocError, Global};
 /// The program that a text is, or why it is none.
 #[tactic(auto, using(crate::proofs::ProgramLemmas::unread, crate::proofs::ProgramLemmas::passed, crate::proofs::ProgramLemmas::refused))]
 pub fn checked_program(alloc: Global, text: &[u8]) -> Result<Result<Program, Refusal>, AllocError>
-    ensures { IfOk result (λ found. MatchResult found (λ program. IsChecked text.now (parts_of program)) (λ refusal. IsUncheckedBy text.now (line_of refusal))) }
+    ensures { IfOk result (λ found. MatchResult found (λ program. IsChecked text.now (parts_of program)) (λ refusal. IsUncheckedBy text.now (refusal_line refusal))) }
 {
     let file = match verdict_of(alloc, text)? {
         Verdict::File(file) => file,
@@ -31,7 +31,7 @@ pub fn checked_program(alloc: Global, text: &[u8]) -> Result<Result<Program, Ref
 /// The program that a text is, if it runs, or why it does not.
 #[tactic(auto, using(crate::proofs::ProgramLemmas::runs, crate::proofs::ProgramLemmas::unchecked))]
 pub fn program_in(alloc: Global, text: &[u8]) -> Result<Result<Program, Refusal>, AllocError>
-    ensures { IfOk result (λ found. MatchResult found (λ program. IsProgram text.now (parts_of program)) (λ refusal. IsNotRunBy text.now (line_of refusal))) }
+    ensures { IfOk result (λ found. MatchResult found (λ program. IsProgram text.now (parts_of program)) (λ refusal. IsNotRunBy text.now (refusal_line refusal))) }
 {
     let program = match checked_program(alloc, text)? {
         Ok(program) => program,

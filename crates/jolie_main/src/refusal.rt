@@ -2,7 +2,7 @@
 
 ghost use Rattle.std.specs.Prelude.{◌≡◌, Some, IfOk, string_bytes};
 ghost use Rattle.jolie_main.specs.Programs.{form_line};
-ghost use Rattle.jolie_main.specs.Verdicts.{stage_word, cause_word, check_word as spelled_check, check_line, line_of, IsLexRefusal, IsParseRefusal};
+ghost use Rattle.jolie_main.specs.Verdicts.{stage_word, cause_word, check_word as spelled_check, check_line, refusal_line, IsLexRefusal, IsParseRefusal};
 
 use jolie_parse::ParseError;
 use jolie_tokens::LexError;
@@ -94,7 +94,7 @@ pub struct Refusal {
 impl Refusal {
     /// The refusal of a program of a form that does not run yet.
     pub fn of_form() -> Refusal
-        ensures { line_of result ≡ form_line }
+        ensures { refusal_line result ≡ form_line }
     {
         Refusal {
             stage: Stage::First,
@@ -140,7 +140,7 @@ impl Refusal {
 
     /// The refusal of a file by a check.
     pub fn by_check(name: CheckName, at: u32) -> Refusal
-        ensures { line_of result ≡ check_line name at }
+        ensures { refusal_line result ≡ check_line name at }
     {
         Refusal {
             stage: Stage::Check,
@@ -151,14 +151,14 @@ impl Refusal {
 
     /// The line that says it.
     pub fn line(&self, alloc: Global) -> Result<String, AllocError>
-        ensures { IfOk result (λ line. string_bytes line ≡ line_of self.now) }
+        ensures { IfOk result (λ line. string_bytes line ≡ refusal_line self.now) }
     {
         format!(in alloc; "{self}")
     }
 }
 
 impl fmt::Display for Refusal {
-    ghost output = { λ refusal. Some (line_of refusal) };
+    ghost output = { λ refusal. Some (refusal_line refusal) };
 
     fn fmt<W: fmt::Write>(&self, f: &mut fmt::Formatter<W>) -> fmt::Result {
         let stage = self.stage.as_str();

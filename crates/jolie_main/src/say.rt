@@ -3,7 +3,7 @@
 ghost use Rattle.std.specs.Prelude.{◌≡◌, IfOk};
 ghost use Rattle.jolie_main.specs.Headline.{Says, IsEmptyRecord};
 ghost use Rattle.jolie_main.specs.Outside.{stream, IsSaid, IsWritten};
-ghost use Rattle.jolie_main.specs.Verdicts.{line_of};
+ghost use Rattle.jolie_main.specs.Verdicts.{refusal_line};
 
 use crate::history::History;
 use crate::lines::write_text;
@@ -39,7 +39,7 @@ pub fn refuse<K: Sink>(
     output: &mut K,
 ) -> Result<Ended, AllocError>
     ensures status { IfOk result (λ ended. ended.status ≡ 3) }
-    ensures written { IfOk result (λ ended. IsWritten (line_of refusal.now) (stream (K.taken output.old) (K.faults output.old)) (stream (K.taken output.new) (K.faults output.new))) }
+    ensures written { IfOk result (λ ended. IsWritten (refusal_line refusal.now) (stream (K.taken output.old) (K.faults output.old)) (stream (K.taken output.new) (K.faults output.new))) }
     ensures empty { IfOk result (λ ended. IsEmptyRecord ended.record) }
 {
     let line = refusal.line(alloc)?;
