@@ -24,7 +24,7 @@ pub fn say<K: Sink>(alloc: Global, text: &[u8], output: &mut K) -> Result<bool, 
 }
 
 /// Writes the text that was asked for: the status is 0, or 5 where the output failed.
-pub fn answer<K: Sink>(alloc: Global, text: &[u8], output: &mut K) -> Result<Ended, AllocError>
+pub fn tell<K: Sink>(alloc: Global, text: &[u8], output: &mut K) -> Result<Ended, AllocError>
     ensures says { IfOk result (λ ended. Says text.now ended.status (stream (K.taken output.old) (K.faults output.old)) (stream (K.taken output.new) (K.faults output.new))) }
     ensures empty { IfOk result (λ ended. IsEmptyRecord ended.record) }
 {

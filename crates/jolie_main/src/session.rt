@@ -75,7 +75,7 @@ fn live(
         Need::Take { .. } => {
             let mail = Given::Mail { message, op, value };
             go_on(session, program, mail, events)?;
-            answer(session, program, events)
+            live_on(session, program, events)
         }
         Need::Finish => {
             go_on(session, program, Given::Nothing, events)?;
@@ -86,7 +86,7 @@ fn live(
 }
 
 /// Runs a session that took its message, to its end.
-fn answer(
+fn live_on(
     session: &mut TermSession,
     program: &Program,
     events: &mut Events,
@@ -100,7 +100,7 @@ fn answer(
     match go_to_call(session, program, events)? {
         Need::Reply { outcome, .. } => {
             go_on(session, program, Given::Nothing, events)?;
-            end(session, program, events)?;
+            run_to_end(session, program, events)?;
             Ok(Lived::Answered(outcome))
         }
         Need::Finish => {
@@ -112,7 +112,11 @@ fn answer(
 }
 
 /// Runs a session that has only to end, to its end.
-fn end(session: &mut TermSession, program: &Program, events: &mut Events) -> Result<(), AllocError>
+fn run_to_end(
+    session: &mut TermSession,
+    program: &Program,
+    events: &mut Events,
+) -> Result<(), AllocError>
     requires built { IsBuiltService (parts_of program.now) 0 }
     requires first { service_of session.old ≡ 0 }
     requires came { (calls : List Call) × Came (parts_of program.now) (StandsAt (parts_of program.now) to_end) calls events.old (config_of session.old) }

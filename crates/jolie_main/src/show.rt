@@ -6,7 +6,7 @@ ghost use Rattle.jolie_main.specs.Outside.{stream};
 
 use crate::checked::checked_program;
 use crate::record::Ended;
-use crate::say::{answer, refuse};
+use crate::say::{refuse, tell};
 use crate::verdict::{Verdict, verdict_of};
 use jolie_ast::print;
 use outside_traits::Sink;
@@ -21,7 +21,7 @@ pub fn check_text<K: Sink>(alloc: Global, text: &[u8], output: &mut K) -> Result
         Ok(_) => {}
         Err(refusal) => return refuse(alloc, &refusal, output),
     }
-    answer(alloc, b"ok\n", output)
+    tell(alloc, b"ok\n", output)
 }
 
 /// Prints the definitions of a text.
@@ -34,5 +34,5 @@ pub fn print_text<K: Sink>(alloc: Global, text: &[u8], output: &mut K) -> Result
         Verdict::Refused(refusal) => return refuse(alloc, &refusal, output),
     };
     let printed = print(alloc, &file)?;
-    answer(alloc, printed.as_str().as_bytes(), output)
+    tell(alloc, printed.as_str().as_bytes(), output)
 }

@@ -12,7 +12,7 @@ ghost use Rattle.jolie_main.specs.Closing.{HasBytes, HasOwnCauses};
 use crate::checked::program_in;
 use crate::lines::{End, Progress, answer_lines};
 use crate::record::{Ended, Record, Traffic};
-use crate::say::{answer, rebuke, refuse, without_record};
+use crate::say::{rebuke, refuse, tell, without_record};
 use crate::show::{check_text, print_text};
 use crate::turn::Deeds;
 use crate::words::{Action, Command, Words, understood};
@@ -45,7 +45,7 @@ pub fn run<F: Files, S: Source, K: Sink, N: Sink>(
 {
     match understood(alloc, words)? {
         Words::Command(command) => obey(alloc, &command, files, input, output),
-        Words::Told(text) => answer(alloc, text.as_str().as_bytes(), output),
+        Words::Told(text) => tell(alloc, text.as_str().as_bytes(), output),
         Words::Refused(text) => rebuke(alloc, text.as_str().as_bytes(), notes),
     }
 }

@@ -17,8 +17,8 @@ go_on-requires-clause-enabled c =
     let each = subst (AsksFor (parts_of c.args.program.now) (config_of c.go_to_call.new.session)) c.in-Take.is on.next in
     take_enabled (on.came (to_take c.args.op) [] c.requires.came) c.in-Take.ops each c.args.message c.args.value
 
-pub answer-requires-clause-taken : goal.answer-requires-clause-taken
-answer-requires-clause-taken c =
+pub live_on-requires-clause-taken : goal.live_on-requires-clause-taken
+live_on-requires-clause-taken c =
     let on = c.in_ok-go_to_call.ensures in
     let each = subst (AsksFor (parts_of c.args.program.now) (config_of c.go_to_call.new.session)) c.in-Take.is on.next in
     let taken = took (on.came (to_take c.args.op) [] c.requires.came) c.in-Take.ops each c.args.message c.args.value c.in_ok-go_on-in-Take.ensures.done in
@@ -41,10 +41,10 @@ returns-in_ok-go_on-in-Take-clause-run c =
     let each = subst (AsksFor (parts_of c.args.program.now) (config_of c.go_to_call.new.session)) c.in-Take.is on.next in
     let taken = took (on.came (to_take c.args.op) [] c.requires.came) c.in-Take.ops each c.args.message c.args.value c.in_ok-go_on-in-Take.ensures.done in
     let parts = parts_of c.args.program.now in
-    if_ok c.answer.result
-    (λ how. (m op : ℕ) (value : Tree) → HasTaken parts m op value c.go_on.new.events (config_of c.go_on.new.session) → IsWholeRun parts m op value c.answer.new.events how)
-    (λ how. IsWholeRun parts c.args.message c.args.op c.args.value c.answer.new.events how)
-    (λ how h. h c.args.message c.args.op c.args.value taken) c.answer.ensures.run
+    if_ok c.live_on.result
+    (λ how. (m op : ℕ) (value : Tree) → HasTaken parts m op value c.go_on.new.events (config_of c.go_on.new.session) → IsWholeRun parts m op value c.live_on.new.events how)
+    (λ how. IsWholeRun parts c.args.message c.args.op c.args.value c.live_on.new.events how)
+    (λ how h. h c.args.message c.args.op c.args.value taken) c.live_on.ensures.run
 
 pub returns-in_ok-go_on-in-Take-clause-lived : goal.returns-in_ok-go_on-in-Take-clause-lived
 returns-in_ok-go_on-in-Take-clause-lived c =
@@ -52,10 +52,10 @@ returns-in_ok-go_on-in-Take-clause-lived c =
     let each = subst (AsksFor (parts_of c.args.program.now) (config_of c.go_to_call.new.session)) c.in-Take.is on.next in
     let taken = took (on.came (to_take c.args.op) [] c.requires.came) c.in-Take.ops each c.args.message c.args.value c.in_ok-go_on-in-Take.ensures.done in
     let parts = parts_of c.args.program.now in
-    if_ok c.answer.result
+    if_ok c.live_on.result
     (λ how. (m op : ℕ) (value : Tree) → HasTaken parts m op value c.go_on.new.events (config_of c.go_on.new.session) → IsLived (asks_answer (operation_at parts 0 op)) how)
     (λ how. IsLived (asks_answer (operation_at parts 0 c.args.op)) how)
-    (λ how h. h c.args.message c.args.op c.args.value taken) c.answer.ensures.lived
+    (λ how h. h c.args.message c.args.op c.args.value taken) c.live_on.ensures.lived
 
 pub returns-in_ok-go_on-in-Finish-clause-run : goal.returns-in_ok-go_on-in-Finish-clause-run
 returns-in_ok-go_on-in-Finish-clause-run c =

@@ -4,7 +4,7 @@ use Rattle.behaviour_tree.specs.PartsView.{parts_of}
 use Rattle.jolie_main.specs.Stages.{AsksFor}
 use Rattle.jolie_main.specs.Turns.{taking, answering}
 use Rattle.jolie_main.proofs.CallsMade.{taken_on, reply_enabled, its_request, reply_came, replied_whole, end_enabled, its_silence, silent_whole, no_more}
-use Rattle.jolie_main.proofs.session.answer.Goals as goal
+use Rattle.jolie_main.proofs.session.live_on.Goals as goal
 use Rattle.term_session.specs.Sessions.{config_of}
 
 pub go_on-requires-clause-enabled : goal.go_on-requires-clause-enabled
@@ -13,8 +13,8 @@ go_on-requires-clause-enabled c =
     let each = subst (AsksFor (parts_of c.args.program.now) (config_of c.go_to_call.new.session)) c.in-Reply.is on.next in
     reply_enabled (taken_on c.requires.taken.3 on.came) c.in-Reply.message c.in-Reply.outcome each
 
-pub end-requires-clause-came : goal.end-requires-clause-came
-end-requires-clause-came c =
+pub run_to_end-requires-clause-came : goal.run_to_end-requires-clause-came
+run_to_end-requires-clause-came c =
     let on = c.in_ok-outcome.ensures in
     let t = taken_on c.requires.taken.3 on.came in
     let each = subst (AsksFor (parts_of c.args.program.now) (config_of c.go_to_call.new.session)) c.in-Reply.is on.next in (
@@ -33,16 +33,16 @@ unreachable-requires c =
     let on = c.in_ok-outcome.ensures in
     no_more (taken_on c.requires.taken.3 on.came) c.in_ok-outcome.field-0 on.next on.calls c.in_default.not-Reply c.in_default.not-Finish
 
-pub returns-in_ok-end-in-Reply-clause-run : goal.returns-in_ok-end-in-Reply-clause-run
-returns-in_ok-end-in-Reply-clause-run c = λ m op value taken.
+pub returns-in_ok-run_to_end-in-Reply-clause-run : goal.returns-in_ok-run_to_end-in-Reply-clause-run
+returns-in_ok-run_to_end-in-Reply-clause-run c = λ m op value taken.
     let on = c.in_ok-outcome.ensures in
     let t = taken_on taken on.came in
     let each = subst (AsksFor (parts_of c.args.program.now) (config_of c.go_to_call.new.session)) c.in-Reply.is on.next in
     let came = reply_came t c.in-Reply.message c.in-Reply.outcome each c.in_ok-go_on-in-Reply.ensures.done in
-    replied_whole t c.in-Reply.message c.in-Reply.outcome each (c.in_ok-end-in-Reply.ensures (taking t.ops m op value ∷ answering m c.in-Reply.outcome ∷ []) came)
+    replied_whole t c.in-Reply.message c.in-Reply.outcome each (c.in_ok-run_to_end-in-Reply.ensures (taking t.ops m op value ∷ answering m c.in-Reply.outcome ∷ []) came)
 
-pub returns-in_ok-end-in-Reply-clause-lived : goal.returns-in_ok-end-in-Reply-clause-lived
-returns-in_ok-end-in-Reply-clause-lived c = λ m op value taken.
+pub returns-in_ok-run_to_end-in-Reply-clause-lived : goal.returns-in_ok-run_to_end-in-Reply-clause-lived
+returns-in_ok-run_to_end-in-Reply-clause-lived c = λ m op value taken.
     let on = c.in_ok-outcome.ensures in
     let each = subst (AsksFor (parts_of c.args.program.now) (config_of c.go_to_call.new.session)) c.in-Reply.is on.next in
     its_request (taken_on taken on.came) c.in-Reply.message c.in-Reply.outcome each
