@@ -184,7 +184,7 @@ fn is_number(index: &Expr) -> bool
     ensures { result ≡ is_number (expr_view index.now) }
 {
     match index {
-        Expr::Value(Root::Int(n)) => *n >= 0,
+        Expr::Value(Root::Int(number)) => *number >= 0,
         _ => false,
     }
 }

@@ -75,13 +75,13 @@ pub fn answer_lines<S: Source, K: Sink>(
     requires built { IsBuiltProgram (parts_of program.now) }
     requires begins { progress.old.line.items ≡ [] }
     requires nothing_yet { IsUnderWay (parts_of program.now) [] progress.old.postings (deeds_of progress.old.deeds) progress.old.written }
-    ensures served { IfOk result (λ e. IsFinished (parts_of program.now) e.0 e.1 (deeds_of progress.new.deeds) progress.new.written) }
-    ensures read { IfOk result (λ e. Consumes (S.left input.old) (S.left input.new) e.1) }
-    ensures end { IfOk result (λ e. e.0 ≡ ends.Whole → IsAtEnd (S.left input.new)) }
-    ensures last { IfOk result (λ e. e.0 ≡ ends.StoppedLast → IsAtEnd (S.left input.new)) }
+    ensures served { IfOk result (λ told. IsFinished (parts_of program.now) told.0 told.1 (deeds_of progress.new.deeds) progress.new.written) }
+    ensures read { IfOk result (λ told. Consumes (S.left input.old) (S.left input.new) told.1) }
+    ensures end { IfOk result (λ told. told.0 ≡ ends.Whole → IsAtEnd (S.left input.new)) }
+    ensures last { IfOk result (λ told. told.0 ≡ ends.StoppedLast → IsAtEnd (S.left input.new)) }
     ensures written { OnOk result ((start : Option (List ℕ)) → Appends start (K.taken output.old) progress.old.written → Appends start (K.taken output.new) progress.new.written) }
-    ensures source { IfOk result (λ e. SourceCause e.0 (S.faults input.old) (S.faults input.new)) }
-    ensures sink { IfOk result (λ e. SinkCause e.0 (K.faults output.old) (K.faults output.new)) }
+    ensures source { IfOk result (λ told. SourceCause told.0 (S.faults input.old) (S.faults input.new)) }
+    ensures sink { IfOk result (λ told. SinkCause told.0 (K.faults output.old) (K.faults output.new)) }
 {
     let mut read = Vec::new(alloc);
     let mut buffer = [0u8; PIECE];

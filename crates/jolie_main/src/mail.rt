@@ -42,7 +42,7 @@ pub fn post_calls(
 ) -> Result<Posts, AllocError>
     ensures office { OnOk result (office.new ≡ after_posts (parts_of program.now) posting 0 office.old calls.now) }
     ensures fates { IfOk result (λ posts. posts.fates.items ≡ fates (parts_of program.now) posting 0 office.old calls.now) }
-    ensures mails { IfOk result (λ posts. (n : ℕ) → AreWaiting (parts_of program.now) n office.old [] → AreWaiting (parts_of program.now) n office.new posts.mails.items) }
+    ensures mails { IfOk result (λ posts. (first : ℕ) → AreWaiting (parts_of program.now) first office.old [] → AreWaiting (parts_of program.now) first office.new posts.mails.items) }
 {
     let mut fates = Vec::new(alloc);
     let mut mails = Vec::new(alloc);
@@ -66,7 +66,7 @@ fn post_call(
 ) -> Result<Fate, AllocError>
     ensures office { OnOk result (office.new ≡ office.old ++ call_entries (parts_of program.now) posting index office.old call.now) }
     ensures fate { IfOk result (λ fate. fate ≡ fate_of (parts_of program.now) office.old call.now) }
-    ensures mails { OnOk result ((n : ℕ) → AreWaiting (parts_of program.now) n office.old mails.old.items → AreWaiting (parts_of program.now) n office.new mails.new.items) }
+    ensures mails { OnOk result ((first : ℕ) → AreWaiting (parts_of program.now) first office.old mails.old.items → AreWaiting (parts_of program.now) first office.new mails.new.items) }
 {
     match &call.what {
         Ok((name, value)) => post_message(program, posting, index, name, value, office, mails),
@@ -86,7 +86,7 @@ fn post_message(
 ) -> Result<Fate, AllocError>
     ensures office { OnOk result (office.new ≡ office.old ++ post_entry (parts_of program.now) posting index office.old (message_to (name.now, value.now)) ∷ []) }
     ensures fate { IfOk result (λ fate. fate ≡ fate_of_reply (routed (parts_of program.now) office.old (message_to (name.now, value.now)))) }
-    ensures mails { OnOk result ((n : ℕ) → AreWaiting (parts_of program.now) n office.old mails.old.items → AreWaiting (parts_of program.now) n office.new mails.new.items) }
+    ensures mails { OnOk result ((first : ℕ) → AreWaiting (parts_of program.now) first office.old mails.old.items → AreWaiting (parts_of program.now) first office.new mails.new.items) }
 {
     let posted = Posted {
         service: 0,

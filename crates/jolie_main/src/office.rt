@@ -48,9 +48,9 @@ impl Model for Office {
 
     ghost coded = { coded_list entry_row.the_row.coded };
 
-    ghost view = { λ o. o.entries };
+    ghost view = { λ office. office.entries };
 
-    ghost invariant = { λ o. (o.accepted ≡ births o.entries) × (o.weight ≡ in_u64 (total_weight o.entries)) };
+    ghost invariant = { λ office. (office.accepted ≡ births office.entries) × (office.weight ≡ in_u64 (total_weight office.entries)) };
 }
 
 #[tactic(auto, using(crate::proofs::OfficeLemmas::births_more, crate::proofs::OfficeLemmas::weight_more))]

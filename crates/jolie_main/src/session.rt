@@ -93,9 +93,9 @@ fn live_on(
 ) -> Result<Lived, AllocError>
     requires built { IsBuiltService (parts_of program.now) 0 }
     requires first { service_of session.old ≡ 0 }
-    requires taken { (m : ℕ) × (op : ℕ) × (value : Value) × HasTaken (parts_of program.now) m op value events.old (config_of session.old) }
-    ensures run { IfOk result (λ how. (m op : ℕ) (value : Value) → HasTaken (parts_of program.now) m op value events.old (config_of session.old) → IsWholeRun (parts_of program.now) m op value events.new how) }
-    ensures lived { IfOk result (λ how. (m op : ℕ) (value : Value) → HasTaken (parts_of program.now) m op value events.old (config_of session.old) → IsLived (asks_answer (operation_at (parts_of program.now) 0 op)) how) }
+    requires taken { (message : ℕ) × (op : ℕ) × (value : Value) × HasTaken (parts_of program.now) message op value events.old (config_of session.old) }
+    ensures run { IfOk result (λ how. (message op : ℕ) (value : Value) → HasTaken (parts_of program.now) message op value events.old (config_of session.old) → IsWholeRun (parts_of program.now) message op value events.new how) }
+    ensures lived { IfOk result (λ how. (message op : ℕ) (value : Value) → HasTaken (parts_of program.now) message op value events.old (config_of session.old) → IsLived (asks_answer (operation_at (parts_of program.now) 0 op)) how) }
 {
     match go_to_call(session, program, events)? {
         Need::Reply { outcome, .. } => {
@@ -154,7 +154,7 @@ fn go_to_call(
 fn next_need(session: &TermSession, program: &Program) -> Result<Need, AllocError>
     requires built { IsBuiltService (parts_of program.now) 0 }
     requires first { service_of session.now ≡ 0 }
-    requires awaits { (g : Gift) × IsSome (next_of (parts_of program.now) (config_of session.now) g) }
+    requires awaits { (gift : Gift) × IsSome (next_of (parts_of program.now) (config_of session.now) gift) }
     ensures { IfOk result (AsksFor (parts_of program.now) (config_of session.now)) }
 {
     match session.need(program, 0)? {
