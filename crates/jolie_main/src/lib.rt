@@ -15,6 +15,7 @@ mod serving;
 mod session;
 mod show;
 mod starting;
+pub mod status;
 mod top;
 mod turn;
 mod verdict;

@@ -9,6 +9,7 @@ use crate::history::History;
 use crate::lines::write_text;
 use crate::record::{Ended, Record};
 use crate::refusal::Refusal;
+use crate::status::{DONE, FAULTY_WORDS, OUTPUT_FAILED, REFUSED};
 use jolie_trees::Bytes;
 use outside_traits::Sink;
 use sqlite_items::Items;
@@ -28,7 +29,11 @@ pub fn tell<K: Sink>(alloc: Global, text: &[u8], output: &mut K) -> Result<Ended
     ensures says { IfOk result (λ ended. Says text.now ended.status (stream (K.taken output.old) (K.faults output.old)) (stream (K.taken output.new) (K.faults output.new))) }
     ensures empty { IfOk result (λ ended. IsEmptyRecord ended.record) }
 {
-    let status = if say(alloc, text, output)? { 0 } else { 5 };
+    let status = if say(alloc, text, output)? {
+        DONE
+    } else {
+        OUTPUT_FAILED
+    };
     Ok(without_record(alloc, status))
 }
 
@@ -44,7 +49,7 @@ pub fn refuse<K: Sink>(
 {
     let line = refusal.line(alloc)?;
     say(alloc, line.as_bytes(), output)?;
-    Ok(without_record(alloc, 3))
+    Ok(without_record(alloc, REFUSED))
 }
 
 /// Writes what is wrong with the words: the status is 1, whether or not the notes take it.
@@ -54,7 +59,7 @@ pub fn rebuke<N: Sink>(alloc: Global, text: &[u8], notes: &mut N) -> Result<Ende
     ensures empty { IfOk result (λ ended. IsEmptyRecord ended.record) }
 {
     say(alloc, text, notes)?;
-    Ok(without_record(alloc, 1))
+    Ok(without_record(alloc, FAULTY_WORDS))
 }
 
 /// The end of a call that ran no program.

@@ -14,6 +14,7 @@ use crate::lines::{End, Progress, answer_lines};
 use crate::record::{Ended, Record, Traffic};
 use crate::say::{rebuke, refuse, tell, without_record};
 use crate::show::{check_text, print_text};
+use crate::status::{DONE, FILE_FAILED, INPUT_FAILED, OUTPUT_FAILED};
 use crate::turn::Deeds;
 use crate::words::{Action, Command, Words, understood};
 use behaviour_tree::Program;
@@ -64,7 +65,7 @@ fn obey<F: Files, S: Source, K: Sink>(
 {
     let text = match files.read(command.file.as_str(), MOST) {
         Ok(text) => text,
-        Err(CallError::Failed) => return Ok(without_record(alloc, 2)),
+        Err(CallError::Failed) => return Ok(without_record(alloc, FILE_FAILED)),
         Err(CallError::Memory(cause)) => return Err(cause),
     };
     match command.action {
@@ -137,8 +138,8 @@ fn status_of(end: End) -> u8
     ensures { result ≡ status end }
 {
     match end {
-        End::Whole => 0,
-        End::Cut => 4,
-        End::Stopped | End::StoppedLast => 5,
+        End::Whole => DONE,
+        End::Cut => INPUT_FAILED,
+        End::Stopped | End::StoppedLast => OUTPUT_FAILED,
     }
 }

@@ -4,6 +4,7 @@ ghost use Rattle.clap.specs.declared.builder.Command.TheViews.{out-Command as fi
 ghost use Rattle.jolie_main.specs.Commands.{action_of, spelled};
 ghost use Rattle.jolie_main.specs.Usage.{IsUnderstood, bare_program, command_entered, command_in, command_of_file, file_in, program};
 
+use crate::status::MEANINGS;
 use clap::error::ErrorKind;
 use clap::{Arg, ArgMatches, Error};
 use jolie_trees::Text;
@@ -11,16 +12,6 @@ use std::alloc::{AllocError, Global};
 
 /// The version of the program.
 const VERSION: &str = "0.1.0";
-
-/// What the statuses mean, as the help ends.
-const STATUSES: &str = "Status:
-  0  all was done
-  1  the words are faulty
-  2  FILE can't be read
-  3  FILE is refused, by one line with the reason and the place
-  4  the input failed
-  5  the output failed
-  9  out of memory";
 
 /// What a person asks for.
 #[derive(Clone, Copy, Debug, PartialEq, Eq)]
@@ -92,7 +83,7 @@ fn bare_program<'a>(alloc: Global) -> Result<clap::Command<'a>, AllocError>
     clap::Command::new(alloc, "roqsulei")
         .version(VERSION)
         .about("Checks, prints and runs services written in Jolie")
-        .after_help(STATUSES)
+        .after_help(MEANINGS)
         .no_binary_name(true)
         .subcommand_required(true)
         .arg_required_else_help(true)

@@ -2,15 +2,10 @@
 #![tactic(auto)]
 
 use jolie_main::run;
+use jolie_main::status::{FAULTY_WORDS, OUT_OF_MEMORY};
 use outside_traits::{Inputs, Outputs, Storage};
 use std::process::ExitCode;
 use std::{env, io};
-
-/// The status of faulty words.
-const FAULTY_WORDS: u8 = 1;
-
-/// The status for want of memory.
-const OUT_OF_MEMORY: u8 = 9;
 
 /// What is wrong with words of which one is no UTF-8.
 const NOT_UTF8: &str = "error: invalid UTF-8 was detected in one or more arguments\n\n\
