@@ -19,6 +19,7 @@ pub mod Moments
 pub mod NeedsTold
 pub mod OfficeLemmas
 pub mod Origins
+pub mod Outgoing
 pub mod Plain
 pub mod PostedLemmas
 pub mod PostingsLemmas
@@ -29,7 +30,6 @@ pub mod RecordLemmas
 pub mod RepliesLemmas
 pub mod Runs
 pub mod SayingLemmas
-pub mod SendingLemmas
 pub mod ServedProgram
 pub mod ServingLemmas
 pub mod SessionsLemmas

@@ -11,6 +11,7 @@ mod record;
 mod refusal;
 mod respond;
 mod say;
+mod sending;
 mod serving;
 mod session;
 mod show;

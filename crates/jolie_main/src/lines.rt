@@ -1,3 +1,5 @@
+//! The lines of a run: how far it has come, and what each line has it do.
+
 ghost use Rattle.std.specs.Prelude.{◌≡◌, ◌++◌, ◌∷◌, [], ℕ, List, IfOk, OnOk, IsTrue, Option, length};
 ghost use Rattle.std.specs.Io.KnownBytes.{Appends, Consumes, IsAtEnd};
 ghost use Rattle.behaviour_tree.specs.PartsView.{parts_of};
@@ -6,14 +8,15 @@ ghost use Rattle.jolie_main.specs.BuiltPrograms.{IsBuiltProgram};
 ghost use Rattle.jolie_main.specs.Deeds.{deeds_of};
 ghost use Rattle.jolie_main.specs.Messages.{births};
 ghost use Rattle.jolie_main.specs.Turns.{no_deeds};
-ghost use Rattle.jolie_main.specs.Progress.{IsUnderWay, Goes, Sends, AllOrFault};
+ghost use Rattle.jolie_main.specs.Progress.{IsUnderWay, Goes, AllOrFault};
 ghost use Rattle.jolie_main.specs.Ends.{IsFinished, SourceCause, SinkCause};
 ghost use Rattle.jolie_main.specs.declared.lines.End.TheVariants as ends;
 
 use crate::office::Office;
+use crate::sending::write_line;
 use crate::turn::{Deeds, take_turn};
 use behaviour_tree::Program;
-use jolie_trees::{Bytes, Text};
+use jolie_trees::Bytes;
 use outside_traits::{Sink, Source};
 use sqlite_items::Items;
 use std::alloc::{AllocError, Global};
@@ -166,50 +169,9 @@ fn answer_line<K: Sink>(
     }
 }
 
-/// Writes a text and a line end. It says whether the output took all of it.
-fn write_line<K: Sink>(
-    alloc: Global,
-    text: &Text,
-    output: &mut K,
-    written: &mut Bytes,
-) -> Result<bool, AllocError>
-    ensures sends { IfOk result (λ all. Sends all (text.now ++ 10 ∷ []) written.old written.new) }
-    ensures told { OnOk result ((start : Option (List ℕ)) → Appends start (K.taken output.old) written.old → Appends start (K.taken output.new) written.new) }
-    ensures cause { IfOk result (λ all. AllOrFault all (K.faults output.old) (K.faults output.new)) }
-{
-    let mut line = String::new(alloc);
-    line.push_str(text.as_str())?;
-    line.push('\n')?;
-    write_text(output, line.as_bytes(), written)
-}
-
 fn is_blank(line: &[u8]) -> bool
     ensures { result ≡ blank line.now }
 {
     line.iter()
         .all(|byte| *byte == b' ' || *byte == b'\t' || *byte == b'\r')
-}
-
-/// Writes a text, and keeps what the output took of it. It says whether that is all.
-pub fn write_text<K: Sink>(
-    output: &mut K,
-    text: &[u8],
-    written: &mut Bytes,
-) -> Result<bool, AllocError>
-    ensures sends { IfOk result (λ all. Sends all text.now written.old written.new) }
-    ensures told { OnOk result ((start : Option (List ℕ)) → Appends start (K.taken output.old) written.old → Appends start (K.taken output.new) written.new) }
-    ensures cause { IfOk result (λ all. AllOrFault all (K.faults output.old) (K.faults output.new)) }
-{
-    let mut rest = text;
-    while !rest.is_empty() {
-        match output.write(rest) {
-            Ok(count) => {
-                let (front, back) = rest.split_at(count);
-                written.extend_from_slice(front)?;
-                rest = back;
-            }
-            Err(_) => return Ok(false),
-        }
-    }
-    Ok(true)
 }

@@ -6,9 +6,9 @@ ghost use Rattle.jolie_main.specs.Outside.{stream, IsSaid, IsWritten};
 ghost use Rattle.jolie_main.specs.Verdicts.{refusal_line};
 
 use crate::history::History;
-use crate::lines::write_text;
 use crate::record::{Ended, Record};
 use crate::refusal::Refusal;
+use crate::sending::write_text;
 use crate::status::{DONE, FAULTY_WORDS, OUTPUT_FAILED, REFUSED};
 use jolie_trees::Bytes;
 use outside_traits::Sink;

@@ -1,7 +1,7 @@
 use Rattle.std.proofs.Common.{◌≡◌, length}
 use Rattle.jolie_main.proofs.KnownLemmas.{Tells}
-use Rattle.jolie_main.proofs.SendingLemmas.{Sending}
-use Rattle.jolie_main.proofs.lines.write_text.Given as goal
+use Rattle.jolie_main.proofs.Outgoing.{Sending}
+use Rattle.jolie_main.proofs.sending.write_text.Given as goal
 
 abbrev pub invariant-loop-rest : goal.invariant-loop-rest
 invariant-loop-rest g l = record {
