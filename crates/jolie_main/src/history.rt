@@ -1,3 +1,5 @@
+//! The calls of the office, as the record has them.
+
 use behaviour_tree::{Outcome, Reason};
 use jolie_trees::{Root, Text, Tree};
 use sqlite_items::Items;

@@ -1,3 +1,5 @@
+//! The calls of a posting are posted, and each accepted message waits for its session as a mail.
+
 ghost use Rattle.std.specs.Prelude.{◌≡◌, [], ◌∷◌, ◌++◌, ℕ, true, IfOk, OnOk};
 ghost use Rattle.behaviour_tree.specs.PartsView.{parts_of};
 ghost use Rattle.jolie_main.specs.Mails.{AreWaiting, IsMail, IsTakenBy};

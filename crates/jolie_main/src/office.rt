@@ -1,3 +1,5 @@
+//! The office: it routes messages, and keeps the history of its calls.
+
 ghost use Rattle.std.specs.Prelude.{◌≡◌, ◌++◌, ◌∷◌, [], IfOk, OnOk, OnErr, option_map};
 ghost use Rattle.std.specs.Option.{option_copied};
 ghost use Rattle.behaviour_tree.specs.PartsView.{operation_view, parts_of};

@@ -1,3 +1,5 @@
+//! What a run leaves behind.
+
 use crate::history::History;
 use behaviour_tree::Events;
 use jolie_trees::Bytes;

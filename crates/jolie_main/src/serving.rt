@@ -1,3 +1,5 @@
+//! Sessions run one after another, each to its end, and their answers are collected.
+
 ghost use Rattle.std.specs.Prelude.{◌≡◌, ◌+◌, ◌∷◌, ◌++◌, [], IfOk, OnOk, length};
 ghost use Rattle.behaviour_tree.specs.PartsView.{parts_of};
 ghost use Rattle.jolie_main.specs.BuiltPrograms.{IsBuiltProgram};

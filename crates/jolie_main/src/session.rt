@@ -1,3 +1,5 @@
+//! A session runs from its start to its end.
+
 ghost use Rattle.std.specs.Prelude.{◌≡◌, ◌++◌, ℕ, List, [], ◌∷◌, IfOk, IsSome, OnOk, true};
 ghost use Rattle.jolie_trees.specs.Data.{Tree as Value};
 ghost use Rattle.behaviour_tree.specs.Built.{IsBuiltService};

@@ -1,3 +1,5 @@
+//! What the words of the command line ask for is done.
+
 ghost use Rattle.std.specs.Prelude.{◌≡◌, IfOk};
 ghost use Rattle.jolie_main.specs.declared.words.Words.{Words as Said};
 ghost use Rattle.behaviour_tree.specs.PartsView.{parts_of};

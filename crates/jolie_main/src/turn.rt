@@ -1,3 +1,5 @@
+//! What a line asks is done, and answered.
+
 ghost use Rattle.std.specs.Prelude.{◌≡◌, IfOk, OnOk, length};
 ghost use Rattle.behaviour_tree.specs.PartsView.{parts_of};
 ghost use Rattle.jsonrpc_text.specs.Posted.{posted as read_of};
