@@ -1,13 +1,12 @@
 -- Behaviours that act on the store alone begin and go on in forms of that kind, and with no more actions than they have.
 use Rattle.std.proofs.Common.{◌≡◌, ℕ, ◌+◌, ◌≤◌, true, refl, sym, subst, arith}
-use Rattle.std.proofs.lemmas.Bool.{false≢true}
+use Rattle.std.proofs.lemmas.Bool.{false≢true, and_parts}
 use Rattle.behaviour_tree.specs.Data.{Proc, nothing, assign, undef, copy, sequence, Procs, no_procs, proc}
 use Rattle.behaviour_tree.specs.Tables.{Table}
 use Rattle.behaviour_tree.specs.Terms.{Term, done, place, thrown, seq, in_scope, exec, fail, prot, State, last, zombie, seq_of, prot_of, scope_of}
 use Rattle.behaviour_tree.specs.Start.{Begun, begun, start, start_head, settle, settle_head, begin_rest, then_rest, normal}
 use Rattle.jolie_main.specs.BuiltPrograms.{is_inward, are_inward}
 use Rattle.jolie_main.specs.Stages.{Acts, an_action, a_fault, acts_first, IsInward, all_done, acting, Answers, at_body, answers_first}
-use Rattle.jolie_main.proofs.Halves.{left_holds, right_holds}
 
 -- ---- rests
 
@@ -59,11 +58,11 @@ mutual
   -- so is the head of a sequence
   pub inward_settle_head : (ps : Procs) → are_inward ps ≡ true → (k n : ℕ) → IsInward (settle_head ps (start_head ps k).form n).form
   inward_settle_head no_procs h k n = all_done
-  inward_settle_head (proc p no_procs) h k n = inward_settle p (left_holds (is_inward p) true h) k n
+  inward_settle_head (proc p no_procs) h k n = inward_settle p (and_parts (is_inward p) true h).0 k n
   inward_settle_head (proc p ps) h k n =
       let b = settle p (start p k).form n in
-      let rest = right_holds (is_inward p) (are_inward ps) h in
-      inward_chosen b.form (inward_settle p (left_holds (is_inward p) (are_inward ps) h) k n) b.next ps rest (inward_rest ps rest)
+      let rest = (and_parts (is_inward p) (are_inward ps) h).1 in
+      inward_chosen b.form (inward_settle p (and_parts (is_inward p) (are_inward ps) h).0 k n) b.next ps rest (inward_rest ps rest)
 
   -- and so are rests that begin
   pub inward_rest : (ps : Procs) → are_inward ps ≡ true → (n : ℕ) → IsInward (begin_rest ps n).form
@@ -71,8 +70,8 @@ mutual
   inward_rest (proc p ps) h n =
       let s = start p n in
       let b = settle p s.form s.next in
-      let rest = right_holds (is_inward p) (are_inward ps) h in
-      inward_chosen b.form (inward_settle p (left_holds (is_inward p) (are_inward ps) h) n s.next) b.next ps rest (inward_rest ps rest)
+      let rest = (and_parts (is_inward p) (are_inward ps) h).1 in
+      inward_chosen b.form (inward_settle p (and_parts (is_inward p) (are_inward ps) h).0 n s.next) b.next ps rest (inward_rest ps rest)
 
 -- what an inward head and its rests leave
 pub inward_then : {t : Term} → IsInward t → (ps : Procs) → are_inward ps ≡ true → (n : ℕ) → IsInward (then_rest t ps n).form
@@ -91,10 +90,10 @@ mutual
   -- so does the head of a sequence
   pub inward_normal_head : (ps : Procs) → are_inward ps ≡ true → (k n : ℕ) → IsInward (normal (start_head ps k).form n).form
   inward_normal_head no_procs h k n = all_done
-  inward_normal_head (proc p no_procs) h k n = inward_normal p (left_holds (is_inward p) true h) k n
+  inward_normal_head (proc p no_procs) h k n = inward_normal p (and_parts (is_inward p) true h).0 k n
   inward_normal_head (proc p ps) h k n =
-      let i = inward_normal p (left_holds (is_inward p) (are_inward ps) h) k n in
-      inward_then i ps (right_holds (is_inward p) (are_inward ps) h) (normal (start p k).form n).next
+      let i = inward_normal p (and_parts (is_inward p) (are_inward ps) h).0 k n in
+      inward_then i ps (and_parts (is_inward p) (are_inward ps) h).1 (normal (start p k).form n).next
 
 -- ---- how many actions are left
 

@@ -1,7 +1,6 @@
 pub mod Actions
 pub mod Answering
 pub mod BuiltForms
-pub mod BuiltLemmas
 pub mod CallsLemmas
 pub mod CallsMade
 pub mod CommandLemmas
@@ -9,7 +8,6 @@ pub mod DidLaws
 pub mod EndLemmas
 pub mod Entered
 pub mod Found
-pub mod Halves
 pub mod InwardForms
 pub mod KnownLemmas
 pub mod LegalLemmas

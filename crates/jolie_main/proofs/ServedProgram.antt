@@ -1,7 +1,7 @@
 -- A program that runs: its service is built, and a session of it begins with its message still to come.
-use Rattle.std.proofs.Common.{◌≡◌, ℕ, true, false, List, [], ◌∷◌, Some, option_map, refl, sym, ap, subst, ◌∙◌}
+use Rattle.std.proofs.Common.{◌≡◌, ℕ, ◌<◌, true, false, List, [], ◌∷◌, length, Some, option_map, refl, sym, ap, subst, ◌∙◌, arith}
 use Rattle.std.specs.Prelude.{IsTrue, slice_get, ◌&&◌}
-use Rattle.std.proofs.lemmas.Bool.{false≢true}
+use Rattle.std.proofs.lemmas.Bool.{false≢true, and_from, and_parts}
 use Rattle.std.proofs.lemmas.Option.{same_Some}
 use Rattle.behaviour_tree.specs.Data.{Proc, nothing, assign, undef, copy, sequence, choice, Procs, no_procs, proc, Branches, no_branches, one_way, request, ServicePart, ProgramParts, behaviour_of}
 use Rattle.behaviour_tree.specs.Built.{is_built, are_built, are_built_branches, is_fixed_target, IsBuiltService}
@@ -12,7 +12,6 @@ use Rattle.behaviour_tree.specs.Runs.{start_of}
 use Rattle.jolie_main.specs.BuiltPrograms.{is_inward, are_inward, has_response, has_no_response, are_served, begins_with_input, is_concurrent, has_none, is_served_service, IsBuiltProgram}
 use Rattle.jolie_main.specs.Stages.{to_take, StandsAt}
 use Rattle.jolie_main.specs.Starting.{first_input, starting_operations}
-use Rattle.jolie_main.proofs.Halves.{left_holds, right_holds, both_hold}
 use Rattle.jolie_main.proofs.InwardForms.{inward_settle}
 use Rattle.jolie_main.proofs.Waiting.{init_chosen}
 
@@ -29,35 +28,35 @@ mutual
 
   all_inward_built : (ps : Procs) → are_inward ps ≡ true → are_built ps ≡ true
   all_inward_built no_procs h = refl
-  all_inward_built (proc p ps) h = both_hold (is_built p) (are_built ps) (inward_built p (left_holds (is_inward p) (are_inward ps) h)) (all_inward_built ps (right_holds (is_inward p) (are_inward ps) h))
+  all_inward_built (proc p ps) h = and_from (is_built p) (are_built ps) (inward_built p (and_parts (is_inward p) (are_inward ps) h).0) (all_inward_built ps (and_parts (is_inward p) (are_inward ps) h).1)
 
 module _ (parts : ProgramParts) where
   served_built : (bs : Branches) → are_served parts bs ≡ true → are_built_branches bs ≡ true
   served_built no_branches h = refl
   served_built (one_way o x after bs) h =
       let kind = has_no_response (operation_at parts 0 o) in
-      let two = left_holds (kind && is_fixed_target x && is_inward after) (are_served parts bs) h in
-      let fixed = right_holds kind (is_fixed_target x) (left_holds (kind && is_fixed_target x) (is_inward after) two) in
-      let built = inward_built after (right_holds (kind && is_fixed_target x) (is_inward after) two) in
-      both_hold (is_fixed_target x && is_built after) (are_built_branches bs) (both_hold (is_fixed_target x) (is_built after) fixed built)
-      (served_built bs (right_holds (kind && is_fixed_target x && is_inward after) (are_served parts bs) h))
+      let two = (and_parts (kind && is_fixed_target x && is_inward after) (are_served parts bs) h).0 in
+      let fixed = (and_parts kind (is_fixed_target x) (and_parts (kind && is_fixed_target x) (is_inward after) two).0).1 in
+      let built = inward_built after (and_parts (kind && is_fixed_target x) (is_inward after) two).1 in
+      and_from (is_fixed_target x && is_built after) (are_built_branches bs) (and_from (is_fixed_target x) (is_built after) fixed built)
+      (served_built bs (and_parts (kind && is_fixed_target x && is_inward after) (are_served parts bs) h).1)
   served_built (request o x y body after bs) h =
       let kind = has_response (operation_at parts 0 o) in
-      let four = left_holds (kind && is_fixed_target x && is_fixed_target y && is_inward body && is_inward after) (are_served parts bs) h in
-      let three = left_holds (kind && is_fixed_target x && is_fixed_target y && is_inward body) (is_inward after) four in
-      let two = left_holds (kind && is_fixed_target x && is_fixed_target y) (is_inward body) three in
-      let paths = both_hold (is_fixed_target x) (is_fixed_target y) (right_holds kind (is_fixed_target x) (left_holds (kind && is_fixed_target x) (is_fixed_target y) two))
-      (right_holds (kind && is_fixed_target x) (is_fixed_target y) two) in
-      let inside = inward_built body (right_holds (kind && is_fixed_target x && is_fixed_target y) (is_inward body) three) in
-      let behind = inward_built after (right_holds (kind && is_fixed_target x && is_fixed_target y && is_inward body) (is_inward after) four) in
-      both_hold (is_fixed_target x && is_fixed_target y && is_built body && is_built after) (are_built_branches bs)
-      (both_hold (is_fixed_target x && is_fixed_target y && is_built body) (is_built after) (both_hold (is_fixed_target x && is_fixed_target y) (is_built body) paths inside) behind)
-      (served_built bs (right_holds (kind && is_fixed_target x && is_fixed_target y && is_inward body && is_inward after) (are_served parts bs) h))
+      let four = (and_parts (kind && is_fixed_target x && is_fixed_target y && is_inward body && is_inward after) (are_served parts bs) h).0 in
+      let three = (and_parts (kind && is_fixed_target x && is_fixed_target y && is_inward body) (is_inward after) four).0 in
+      let two = (and_parts (kind && is_fixed_target x && is_fixed_target y) (is_inward body) three).0 in
+      let paths = and_from (is_fixed_target x) (is_fixed_target y) (and_parts kind (is_fixed_target x) (and_parts (kind && is_fixed_target x) (is_fixed_target y) two).0).1
+      (and_parts (kind && is_fixed_target x) (is_fixed_target y) two).1 in
+      let inside = inward_built body (and_parts (kind && is_fixed_target x && is_fixed_target y) (is_inward body) three).1 in
+      let behind = inward_built after (and_parts (kind && is_fixed_target x && is_fixed_target y && is_inward body) (is_inward after) four).1 in
+      and_from (is_fixed_target x && is_fixed_target y && is_built body && is_built after) (are_built_branches bs)
+      (and_from (is_fixed_target x && is_fixed_target y && is_built body) (is_built after) (and_from (is_fixed_target x && is_fixed_target y) (is_built body) paths inside) behind)
+      (served_built bs (and_parts (kind && is_fixed_target x && is_fixed_target y && is_inward body && is_inward after) (are_served parts bs) h).1)
 
   begins_built : (p : Proc) → begins_with_input parts p ≡ true → is_built p ≡ true
   begins_built (choice bs) h = served_built bs h
   begins_built (sequence (proc p ps)) h =
-      both_hold (is_built p) (are_built ps) (begins_built p (left_holds (begins_with_input parts p) (are_inward ps) h)) (all_inward_built ps (right_holds (begins_with_input parts p) (are_inward ps) h))
+      and_from (is_built p) (are_built ps) (begins_built p (and_parts (begins_with_input parts p) (are_inward ps) h).0) (all_inward_built ps (and_parts (begins_with_input parts p) (are_inward ps) h).1)
   begins_built p h = absurd (false≢true h)
 
 -- ---- the one service
@@ -79,23 +78,29 @@ served parts built = go parts.services refl built
     go : (services : List ServicePart) → parts.services ≡ services → (elim services [ [] ↦ false | s ∷ ss ↦ has_none ss && is_served_service parts s ]) ≡ true → Served parts
     go [] is h = absurd (false≢true h)
     go (s ∷ ss) is h =
-        let alone = none ss (left_holds (has_none ss) (is_served_service parts s) h) in
-        let kept = right_holds (has_none ss) (is_served_service parts s) h in
+        let alone = none ss (and_parts (has_none ss) (is_served_service parts s) h).0 in
+        let kept = (and_parts (has_none ss) (is_served_service parts s) h).1 in
         let begins = begins_with_input parts s.main in
         record {
           service = s;
           one = is ∙ ap (λ (xs : List ServicePart). s ∷ xs) alone;
-          init = right_holds (is_concurrent s.execution && has_none s.sets) (is_inward s.init) (left_holds (is_concurrent s.execution && has_none s.sets && is_inward s.init) begins kept);
-          begins = right_holds (is_concurrent s.execution && has_none s.sets && is_inward s.init) begins kept;
+          init = (and_parts (is_concurrent s.execution && has_none s.sets) (is_inward s.init) (and_parts (is_concurrent s.execution && has_none s.sets && is_inward s.init) begins kept).0).1;
+          begins = (and_parts (is_concurrent s.execution && has_none s.sets && is_inward s.init) begins kept).1;
         }
+
+-- it is there
+pub some_service : (parts : ProgramParts) → IsBuiltProgram parts → 0 < length parts.services
+some_service parts built =
+    let it = served parts built in
+    subst (λ (xs : List ServicePart). 0 < length xs) (sym it.one) (omega arith)
 
 module _ (parts : ProgramParts) (built : IsBuiltProgram parts) where
   -- its one service is built
   behaviour_built : (s : ServicePart) → (served parts built).service ≡ s → IsTrue (is_built (behaviour_of s))
   behaviour_built s e =
       let it = served parts built in
-      let whole = both_hold (is_built it.service.init) (is_built it.service.main && true) (inward_built it.service.init it.init)
-      (both_hold (is_built it.service.main) true (begins_built parts it.service.main it.begins) refl) in
+      let whole = and_from (is_built it.service.init) (is_built it.service.main && true) (inward_built it.service.init it.init)
+      (and_from (is_built it.service.main) true (begins_built parts it.service.main it.begins) refl) in
       subst (λ x. IsTrue (is_built (behaviour_of x))) e whole
 
   pub first_built : IsBuiltService parts 0

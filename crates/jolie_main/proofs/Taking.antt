@@ -1,7 +1,7 @@
 -- What strand 0 does for a message in a term that waits for one: it takes it, and goes on as its operation asks.
 use Rattle.std.proofs.Common.{◌≡◌, ℕ, suc, ◌==◌, Bool, true, false, List, [], ◌∷◌, Option, Some, None, option_map, nat_eq, if◌then◌else◌, refl, sym, ap, subst, ◌∙◌, arith, eqb-true, inl, inr}
-use Rattle.std.specs.Prelude.{not, Contains, is_some, pos, option_and_then, ◌&&◌}
-use Rattle.std.proofs.lemmas.Bool.{false≢true, or_cases}
+use Rattle.std.specs.Prelude.{Contains, is_some, pos, option_and_then, ◌&&◌, ◌||◌}
+use Rattle.std.proofs.lemmas.Bool.{false≢true, and_from, and_parts, not-true, or_cases}
 use Rattle.jolie_trees.specs.declared.path.Step.{Step}
 use Rattle.jolie_trees.specs.declared.root.Root.TheVariants as root
 use Rattle.jolie_trees.specs.Data.{Tree}
@@ -19,7 +19,6 @@ use Rattle.behaviour_tree.specs.After.{Move, Effect, faults, stores, stored, rec
 use Rattle.jolie_main.specs.BuiltPrograms.{is_inward, are_inward, has_response, has_no_response, are_served}
 use Rattle.jolie_main.specs.Messages.{asks_answer}
 use Rattle.jolie_main.specs.Stages.{a_fault, IsInward, acting, Waits, at_choice, waits_first, Answers, at_body}
-use Rattle.jolie_main.proofs.Halves.{left_holds, right_holds, both_hold, other_holds}
 use Rattle.jolie_main.proofs.InwardForms.{inward_then, inward_normal, answers_then}
 use Rattle.jolie_main.proofs.Actions.{Moves, moves_first}
 
@@ -37,8 +36,8 @@ fixed_steps (step name p) h store =
     let r = fixed_steps p h store in
     (stepped name None ∷ r.0, ap (option_map (λ steps. stepped name None ∷ steps)) r.1)
 fixed_steps (step_at name e p) h store =
-    let i = number_index e (left_holds (is_number e) (is_fixed_path p) h) store in
-    let r = fixed_steps p (right_holds (is_number e) (is_fixed_path p) h) store in (
+    let i = number_index e (and_parts (is_number e) (is_fixed_path p) h).0 store in
+    let r = fixed_steps p (and_parts (is_number e) (is_fixed_path p) h).1 store in (
       stepped name (Some i.0) ∷ r.0,
       ap (option_and_then (λ n. option_map (λ steps. stepped name (Some n) ∷ steps) (steps_of store p))) i.1
           ∙ ap (option_map (λ steps. stepped name (Some i.0) ∷ steps)) r.1,
@@ -65,18 +64,19 @@ among_is (o ∷ ops) op h =
       | inr later ↦ later_among ops o op (among_is ops op later)
     ]
 
+-- one side holds where the other does not
+other_holds : (a b : Bool) → (a || b) ≡ true → a ≡ false → b ≡ true
+other_holds true b h none = absurd (false≢true (sym none))
+other_holds false b h none = h
+
 -- whether an operation asks for an answer
 asks_with : (o : Option OperationPart) → has_response o ≡ true → asks_answer o ≡ true
 asks_with None h = absurd (false≢true h)
 asks_with (Some o) h = h
 
-not_asks : (b : Bool) → not b ≡ true → b ≡ false
-not_asks true h = absurd (false≢true h)
-not_asks false h = refl
-
 asks_without : (o : Option OperationPart) → has_no_response o ≡ true → asks_answer o ≡ false
 asks_without None h = absurd (false≢true h)
-asks_without (Some o) h = not_asks (is_some o.response) h
+asks_without (Some o) h = not-true (is_some o.response) h
 
 -- ---- a message comes
 
@@ -132,10 +132,10 @@ module _ (m op : ℕ) (v store : Tree) (next : ℕ) (ops : List ℕ) where
   request_left : (branch o : ℕ) (y : Option PathTree) (body after : Proc) → is_inward body ≡ true → is_inward after ≡ true → (e : Effect) (k : ℕ)
       → Answers m (normal (comes_request 0 m branch ops next store o y body after e).form k).form
   request_left branch o y body after b i (faults f) k =
-      answers_then (at_body o y (thrown f void_tree) (acting _ (a_fault f void_tree))) (proc after no_procs) (both_hold (is_inward after) true i refl) k
+      answers_then (at_body o y (thrown f void_tree) (acting _ (a_fault f void_tree))) (proc after no_procs) (and_from (is_inward after) true i refl) k
   request_left branch o y body after b i (stores s) k =
       let inside = normal (start body next).form k in
-      answers_then (at_body o y inside.form (inward_normal body b next k)) (proc after no_procs) (both_hold (is_inward after) true i refl) inside.next
+      answers_then (at_body o y inside.form (inward_normal body b next k)) (proc after no_procs) (and_from (is_inward after) true i refl) inside.next
 
   request_strand : (branch o : ℕ) (y : Option PathTree) (body after : Proc) (e : Effect) → (comes_request 0 m branch ops next store o y body after e).event.strand ≡ 0
   request_strand branch o y body after (faults f) = refl
@@ -164,26 +164,26 @@ module _ (parts : ProgramParts) (m op : ℕ) (v store : Tree) (next : ℕ) (ops 
   comes_first branch no_branches served among = absurd (false≢true among)
   comes_first branch (one_way o x after bs) served among =
       let kind = has_no_response (operation_at parts 0 o) in
-      let two = left_holds (kind && is_fixed_target x && is_inward after) (are_served parts bs) served in
-      let one = left_holds (kind && is_fixed_target x) (is_inward after) two in
-      let here = comes_without m op v store next ops branch x after (right_holds kind (is_fixed_target x) one) (right_holds (kind && is_fixed_target x) (is_inward after) two) in
-      let silent : (o ≡ op) → asks_answer (operation_at parts 0 op) ≡ false = λ e. subst (λ j. asks_answer (operation_at parts 0 j) ≡ false) e (asks_without (operation_at parts 0 o) (left_holds kind (is_fixed_target x) one)) in
+      let two = (and_parts (kind && is_fixed_target x && is_inward after) (are_served parts bs) served).0 in
+      let one = (and_parts (kind && is_fixed_target x) (is_inward after) two).0 in
+      let here = comes_without m op v store next ops branch x after (and_parts kind (is_fixed_target x) one).1 (and_parts (kind && is_fixed_target x) (is_inward after) two).1 in
+      let silent : (o ≡ op) → asks_answer (operation_at parts 0 op) ≡ false = λ e. subst (λ j. asks_answer (operation_at parts 0 j) ≡ false) e (asks_without (operation_at parts 0 o) (and_parts kind (is_fixed_target x) one).0) in
       comes_if m op v store next ops (asks_answer (operation_at parts 0 op)) (nat_eq o op) (option_map (comes_one_way 0 m branch ops next store after) (received store x v)) (comes 0 m op v ops next store (suc branch) bs)
       (λ e. subst (λ b. Comes m op v store next ops b (option_map (comes_one_way 0 m branch ops next store after) (received store x v))) (sym (silent (eqb-true o op e))) here)
-      (λ e. comes_first (suc branch) bs (right_holds (kind && is_fixed_target x && is_inward after) (are_served parts bs) served) (other_holds (o == op) (is_among (ops_of bs) op) among e))
+      (λ e. comes_first (suc branch) bs (and_parts (kind && is_fixed_target x && is_inward after) (are_served parts bs) served).1 (other_holds (o == op) (is_among (ops_of bs) op) among e))
   comes_first branch (request o x y body after bs) served among =
       let kind = has_response (operation_at parts 0 o) in
-      let four = left_holds (kind && is_fixed_target x && is_fixed_target y && is_inward body && is_inward after) (are_served parts bs) served in
-      let three = left_holds (kind && is_fixed_target x && is_fixed_target y && is_inward body) (is_inward after) four in
-      let two = left_holds (kind && is_fixed_target x && is_fixed_target y) (is_inward body) three in
-      let one = left_holds (kind && is_fixed_target x) (is_fixed_target y) two in
-      let here = comes_with m op v store next ops branch op x y body after (right_holds kind (is_fixed_target x) one)
-      (right_holds (kind && is_fixed_target x && is_fixed_target y) (is_inward body) three)
-      (right_holds (kind && is_fixed_target x && is_fixed_target y && is_inward body) (is_inward after) four) in
-      let asked : (o ≡ op) → asks_answer (operation_at parts 0 op) ≡ true = λ e. subst (λ j. asks_answer (operation_at parts 0 j) ≡ true) e (asks_with (operation_at parts 0 o) (left_holds kind (is_fixed_target x) one)) in
+      let four = (and_parts (kind && is_fixed_target x && is_fixed_target y && is_inward body && is_inward after) (are_served parts bs) served).0 in
+      let three = (and_parts (kind && is_fixed_target x && is_fixed_target y && is_inward body) (is_inward after) four).0 in
+      let two = (and_parts (kind && is_fixed_target x && is_fixed_target y) (is_inward body) three).0 in
+      let one = (and_parts (kind && is_fixed_target x) (is_fixed_target y) two).0 in
+      let here = comes_with m op v store next ops branch op x y body after (and_parts kind (is_fixed_target x) one).1
+      (and_parts (kind && is_fixed_target x && is_fixed_target y) (is_inward body) three).1
+      (and_parts (kind && is_fixed_target x && is_fixed_target y && is_inward body) (is_inward after) four).1 in
+      let asked : (o ≡ op) → asks_answer (operation_at parts 0 op) ≡ true = λ e. subst (λ j. asks_answer (operation_at parts 0 j) ≡ true) e (asks_with (operation_at parts 0 o) (and_parts kind (is_fixed_target x) one).0) in
       comes_if m op v store next ops (asks_answer (operation_at parts 0 op)) (nat_eq o op) (option_map (comes_request 0 m branch ops next store op y body after) (received store x v)) (comes 0 m op v ops next store (suc branch) bs)
       (λ e. subst (λ b. Comes m op v store next ops b (option_map (comes_request 0 m branch ops next store op y body after) (received store x v))) (sym (asked (eqb-true o op e))) here)
-      (λ e. comes_first (suc branch) bs (right_holds (kind && is_fixed_target x && is_fixed_target y && is_inward body && is_inward after) (are_served parts bs) served) (other_holds (o == op) (is_among (ops_of bs) op) among e))
+      (λ e. comes_first (suc branch) bs (and_parts (kind && is_fixed_target x && is_fixed_target y && is_inward body && is_inward after) (are_served parts bs) served).1 (other_holds (o == op) (is_among (ops_of bs) op) among e))
 
 -- ---- a term that waits
 

@@ -1,6 +1,6 @@
 -- A main that begins with its input comes to wait for it.
 use Rattle.std.proofs.Common.{◌≡◌, ℕ, true, refl, sym, subst}
-use Rattle.std.proofs.lemmas.Bool.{false≢true}
+use Rattle.std.proofs.lemmas.Bool.{false≢true, and_parts}
 use Rattle.behaviour_tree.specs.Data.{Proc, sequence, choice, Procs, no_procs, proc, ProgramParts}
 use Rattle.behaviour_tree.specs.Names.{main}
 use Rattle.behaviour_tree.specs.Operations.{is_among}
@@ -10,7 +10,6 @@ use Rattle.behaviour_tree.specs.Start.{Begun, start, settle, begin_rest, then_re
 use Rattle.jolie_main.specs.BuiltPrograms.{are_inward, begins_with_input}
 use Rattle.jolie_main.specs.Stages.{Acts, an_action, a_fault, acts_first, IsInward, all_done, acting, Waits, at_choice, waits_first, IsToTake, init_runs, main_waits}
 use Rattle.jolie_main.specs.Starting.{first_input, first_of_sequence}
-use Rattle.jolie_main.proofs.Halves.{left_holds, right_holds}
 use Rattle.jolie_main.proofs.InwardForms.{chosen, chosen_is}
 
 module _ (parts : ProgramParts) (op : ℕ) where
@@ -38,12 +37,12 @@ module _ (parts : ProgramParts) (op : ℕ) where
   main_settles : (p : Proc) → begins_with_input parts p ≡ true → is_among (first_input p) op ≡ true → (k n : ℕ) → Waits parts op (settle p (start p k).form n).form
   main_settles (choice bs) h among k n = at_choice bs h among
   main_settles (sequence (proc p no_procs)) h among k n =
-      let first = left_holds (begins_with_input parts p) true h in
+      let first = (and_parts (begins_with_input parts p) true h).0 in
       main_settles p first (among_its p no_procs first among) k n
   main_settles (sequence (proc p ps)) h among k n =
       let b = settle p (start p k).form n in
-      let first = left_holds (begins_with_input parts p) (are_inward ps) h in
-      waits_chosen b.form (main_settles p first (among_its p ps first among) k n) b.next ps (right_holds (begins_with_input parts p) (are_inward ps) h)
+      let first = (and_parts (begins_with_input parts p) (are_inward ps) h).0 in
+      waits_chosen b.form (main_settles p first (among_its p ps first among) k n) b.next ps (and_parts (begins_with_input parts p) (are_inward ps) h).1
   main_settles p h among k n = absurd (false≢true h)
 
   main_begins : (p : Proc) → begins_with_input parts p ≡ true → is_among (first_input p) op ≡ true → (n : ℕ) → Waits parts op (begin_rest (proc p no_procs) n).form

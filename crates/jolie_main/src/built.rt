@@ -12,7 +12,7 @@ use behaviour_tree::{Behaviour, Branch, Execution, Expr, PathExpr, PathStep, Pro
 use jolie_trees::Root;
 
 /// The one service of a program that runs is of a form that sessions follow: a law, whose call does nothing.
-#[tactic(auto, using(crate::proofs::BuiltLemmas::some_service))]
+#[tactic(auto, using(crate::proofs::ServedProgram::some_service))]
 pub fn one_service_is_built(program: &Program)
     requires runs { IsBuiltProgram (parts_of program.now) }
     ensures built { IsBuiltService (parts_of program.now) 0 }

@@ -1,5 +1,6 @@
 -- A session takes its message where it asks for one, and else ends without it.
 use Rattle.std.proofs.Common.{ℕ, [], subst}
+use Rattle.std.proofs.lemmas.Result.{IfOk-weaker}
 use Rattle.jolie_trees.specs.Data.{Tree}
 use Rattle.behaviour_tree.specs.Operations.{operation_at}
 use Rattle.behaviour_tree.specs.PartsView.{parts_of}
@@ -7,7 +8,6 @@ use Rattle.jolie_main.specs.Messages.{asks_answer}
 use Rattle.jolie_main.specs.Stages.{to_take, AsksFor, HasTaken}
 use Rattle.jolie_main.specs.Turns.{IsLived, IsWholeRun}
 use Rattle.jolie_main.proofs.CallsMade.{take_enabled, took, untaken_enabled, untaken_whole, nothing_else_next}
-use Rattle.jolie_main.proofs.Halves.{if_ok}
 use Rattle.jolie_main.proofs.session.live.Goals as goal
 use Rattle.term_session.specs.Sessions.{config_of}
 
@@ -41,7 +41,7 @@ returns-in_ok-go_on-in-Take-clause-run c =
     let each = subst (AsksFor (parts_of c.args.program.now) (config_of c.go_to_call.new.session)) c.in-Take.is on.next in
     let taken = took (on.came (to_take c.args.op) [] c.requires.came) c.in-Take.ops each c.args.message c.args.value c.in_ok-go_on-in-Take.ensures.done in
     let parts = parts_of c.args.program.now in
-    if_ok c.live_on.result
+    IfOk-weaker c.live_on.result
     (λ how. (m op : ℕ) (value : Tree) → HasTaken parts m op value c.go_on.new.events (config_of c.go_on.new.session) → IsWholeRun parts m op value c.live_on.new.events how)
     (λ how. IsWholeRun parts c.args.message c.args.op c.args.value c.live_on.new.events how)
     (λ how h. h c.args.message c.args.op c.args.value taken) c.live_on.ensures.run
@@ -52,7 +52,7 @@ returns-in_ok-go_on-in-Take-clause-lived c =
     let each = subst (AsksFor (parts_of c.args.program.now) (config_of c.go_to_call.new.session)) c.in-Take.is on.next in
     let taken = took (on.came (to_take c.args.op) [] c.requires.came) c.in-Take.ops each c.args.message c.args.value c.in_ok-go_on-in-Take.ensures.done in
     let parts = parts_of c.args.program.now in
-    if_ok c.live_on.result
+    IfOk-weaker c.live_on.result
     (λ how. (m op : ℕ) (value : Tree) → HasTaken parts m op value c.go_on.new.events (config_of c.go_on.new.session) → IsLived (asks_answer (operation_at parts 0 op)) how)
     (λ how. IsLived (asks_answer (operation_at parts 0 c.args.op)) how)
     (λ how h. h c.args.message c.args.op c.args.value taken) c.live_on.ensures.lived
