@@ -1,5 +1,6 @@
 -- How it is decided, part by part, whether a program is of a form that runs.
-use Rattle.std.proofs.Common.{◌≡◌, ℕ, suc, ◌+◌, ◌<◌, Bool, true, false, ◌&&◌, List, [], ◌∷◌, map, drop, length, get_or, Option, Some, None, refl, sym, ap, ◌∙◌, arith, drop-cons}
+use Rattle.std.proofs.Common.{◌≡◌, ℕ, ◌+◌, ◌<◌, Bool, true, false, ◌&&◌, List, [], ◌∷◌, map, drop, length, get_or, Option, Some, None, refl, sym, ap, ◌∙◌}
+use Rattle.std.proofs.lemmas.List.{at_drop_more}
 use Rattle.behaviour_tree.specs.Built.{is_fixed_path, is_fixed_target, is_number}
 use Rattle.behaviour_tree.specs.Data.{Exp, PathTree, here, Proc, Branches, no_branches, ProgramParts}
 use Rattle.behaviour_tree.specs.Operations.{operation_at}
@@ -17,12 +18,9 @@ and_true false = refl
 
 -- ---- what holds of all elements of a list, from a place on
 
-taken_off : {A : Type 0} (xs : List A) (i : ℕ) (x : A) → i < length xs → x ≡ get_or xs i x → drop i xs ≡ x ∷ drop (i + 1) xs
-taken_off xs i x h is = let f : i + 1 ≡ suc i = omega arith in rw f (drop-cons xs i x h ∙ ap (λ y. y ∷ drop (suc i) xs) (sym is))
-
 module _ {A : Type 0} (holds : A → Bool) (all : List A → Bool) (step : (x : A) (xs : List A) → all (x ∷ xs) ≡ (holds x && all xs)) where
   at : (xs : List A) (i : ℕ) (x : A) (b : Bool) → i < length xs → x ≡ get_or xs i x → holds x ≡ b → all (drop i xs) ≡ (b && all (drop (i + 1) xs))
-  at xs i x b h is e = ap all (taken_off xs i x h is) ∙ step x (drop (i + 1) xs) ∙ ap (λ d. d && all (drop (i + 1) xs)) e
+  at xs i x b h is e = at_drop_more all xs i x h ∙ ap (λ y. all (y ∷ drop (i + 1) xs)) (sym is) ∙ step x (drop (i + 1) xs) ∙ ap (λ d. d && all (drop (i + 1) xs)) e
 
   -- an element of which it holds is passed
   pub passed : (xs : List A) (i : ℕ) (x : A) → i < length xs → x ≡ get_or xs i x → holds x ≡ true → all (drop (i + 1) xs) ≡ all (drop i xs)

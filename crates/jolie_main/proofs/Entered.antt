@@ -5,6 +5,11 @@ use Rattle.std.proofs.lemmas.Slice.Eq.{bytes_eq-Decides}
 use Rattle.clap.specs.Lexer.{long_of, short_of}
 use Rattle.clap.specs.Walk.{Text, Rule, Held, Names, Outcome, Waiting, idle, option, positional, Step, Walk, next, trailing, subcommand, value, done, waits, plain, refused, plain_word, after_flag, long_or_other, short_or_plain, subcommand_or_other, subcommand_met, word_met, to_positional, after_step, walked_from, walked, walk_from, nothing_held, arg_by_index, answers_to, stop_after, long_met, arg_by_long, bundle}
 
+-- what holds of the elements of two lists holds of both together
+pub each_append : {X : Type 0} (P : X → Type 0) (xs ys : List X) → Each P xs → Each P ys → Each P (xs ++ ys)
+each_append P [] ys a b = b
+each_append P (x ∷ xs) ys a b = (a.0, each_append P xs ys a.1 b)
+
 pub answers_is : (word name : Text) (aliases : List Text) → aliases ≡ [] → answers_to word (name, aliases) ≡ true → name ≡ word
 answers_is word name aliases none answers = (bytes_eq-Decides name word).0 (or_none (bytes_eq name word) (subst (λ (aliases : List Text). answers_to word (name, aliases) ≡ true) none answers))
   where
@@ -23,10 +28,6 @@ module _ (P : Text → Type 0) (rules : List Rule) (names : Names) (bare : Each 
   HasName (trailing position) = ⊤
   HasName (subcommand name) = P name
   HasName value = ⊤
-
-  stop_append : (xs ys : List Text) → Each P xs → Each P ys → Each P (xs ++ ys)
-  stop_append [] ys a b = b
-  stop_append (x ∷ xs) ys a b = (a.0, stop_append xs ys a.1 b)
 
   found_named : (word : Text) (some : Names) → Each (λ s. s.1 ≡ []) some → P word → IfSome (find (answers_to word) some) (λ s. P s.0)
   found_named word [] none p = tt
@@ -94,7 +95,7 @@ module _ (P : Text → Type 0) (rules : List Rule) (names : Names) (bare : Each 
 
   walked_from_stops : (stopped : Option (Text × List Text)) (w : Walk) (word : Text) → P word → HasStop stopped → HasStop w.stopped
       → HasStop (walked_from rules names stopped w word).stopped
-  walked_from_stops (Some s) w word p has also = (has.0, stop_append s.1 (word ∷ []) has.1 (p, tt))
+  walked_from_stops (Some s) w word p has also = (has.0, each_append P s.1 (word ∷ []) has.1 (p, tt))
   walked_from_stops None w word p has also =
       let met = word_met rules names w.is_trailing w.waiting w.position word w.held in
       after_step_stops word w met.0 met.1 (word_met_named w.is_trailing w.waiting w.position word w.held p) also

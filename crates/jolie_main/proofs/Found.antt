@@ -1,13 +1,12 @@
 use Rattle.std.specs.Prelude.{◌≡◌, List, ℕ, Option, Some, None, option_map, codes, refl}
 use Rattle.std.proofs.Common.{◌∙◌, ap, ap₂, sym}
-use Rattle.std.proofs.lemmas.Option.{none-some}
+use Rattle.std.proofs.lemmas.Option.{none-some, same_Some}
 use Rattle.clap.specs.Words.{Row, first_value, found_of, rows_of, subcommand_name_of, subcommand_rows_of}
 use Rattle.clap.specs.declared.parser.ArgMatches.{ArgMatches}
 use Rattle.clap.proofs.WalkLemmas.{first_value-rows}
 use Rattle.jolie_main.specs.Commands.{action_of}
 use Rattle.jolie_main.specs.Usage.{command_entered, file_in}
 use Rattle.jolie_main.specs.declared.words.Action.{Action}
-use Rattle.jolie_main.proofs.Plain.{same_value}
 use Rattle.jolie_main.proofs.WordsUnderstood.{with_file}
 
 map_of_map : {X Y Z : Type 0} (f : Y → Z) (g : X → Y) (o : Option X) → option_map (λ x. f (g x)) o ≡ option_map f (option_map g o)
@@ -19,7 +18,7 @@ name_entered m = map_of_map _ _ _
 
 entered_pair : (o : Option (List ℕ × List Row)) (name : List ℕ) (rows : List Row) → Some name ≡ option_map (λ p. p.0) o → Some rows ≡ option_map (λ p. p.1) o → o ≡ Some (name, rows)
 entered_pair None name rows e f = absurd (none-some name (sym e))
-entered_pair (Some p) name rows e f = ap₂ (λ (n : List ℕ) (r : List Row). Some (n, r)) (sym (same_value name p.0 e)) (sym (same_value rows p.1 f))
+entered_pair (Some p) name rows e f = ap₂ (λ (n : List ℕ) (r : List Row). Some (n, r)) (sym (same_Some name p.0 e)) (sym (same_Some rows p.1 f))
 
 pub entered_as : (m : ArgMatches) (name : List ℕ) (rows : List Row) (asked : Option Action) (file : Option (List ℕ))
     → Some name ≡ subcommand_name_of m → Some rows ≡ option_map (λ p. p.1) (subcommand_rows_of m) → asked ≡ action_of name → file ≡ file_in rows

@@ -1,6 +1,5 @@
 -- What the office keeps beside its history, and when it takes a message.
-use Rattle.std.proofs.Common.{◌≡◌, ℕ, ◌+◌, ◌<◌, nat_le, leb-false, Bool, true, false, List, [], ◌∷◌, ◌++◌, length, Option, None, Some, refl, ap, ◌∙◌, length-append, zero-add, cond}
-use Rattle.std.proofs.lemmas.List.Elements.{filter_map-append}
+use Rattle.std.proofs.Common.{◌≡◌, ℕ, ◌+◌, ◌<◌, nat_le, leb-false, Bool, true, false, List, [], ◌∷◌, ◌++◌, Option, None, Some, refl, ap, ◌∙◌, zero-add, cond}
 use Rattle.std.proofs.lemmas.List.Sums.{sum_by-append}
 use Rattle.behaviour_tree.specs.Conforms.{conforms}
 use Rattle.behaviour_tree.specs.Data.{OperationPart, ProgramParts}
@@ -10,13 +9,10 @@ use Rattle.jolie_main.specs.declared.history.Entry.{Entry}
 use Rattle.jolie_main.specs.declared.history.Posted.{Posted}
 use Rattle.jolie_main.specs.declared.history.PostReply.TheVariants as reply
 use Rattle.jolie_main.specs.Mails.{IsTakenBy}
-use Rattle.jolie_main.specs.Messages.{accepted_in, messages, births, entry_weight, total_weight, operation_of}
+use Rattle.jolie_main.specs.Messages.{births, entry_weight, total_weight, operation_of}
 use Rattle.jolie_main.specs.Route.{most_sessions, is_full, started, routed_to, routed}
 use Rattle.jolie_main.specs.Starting.{is_starting}
-
--- the births of a longer history
-births-append : (h es : List Entry) → births (h ++ es) ≡ births h + births es
-births-append h es = ap length (filter_map-append accepted_in h es) ∙ length-append (messages h) (messages es)
+use Rattle.jolie_main.proofs.MessagesLemmas.{births-append}
 
 -- the births of a history with one entry more
 pub births_more : (h : List Entry) (e : Entry) → births (h ++ e ∷ []) ≡ births h + births (e ∷ [])

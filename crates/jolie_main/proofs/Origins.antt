@@ -9,6 +9,7 @@ use Rattle.clap.specs.declared.parser.matches.ValueSource.{ValueSource}
 use Rattle.clap.specs.declared.parser.matches.ValueSource.TheVariants.{CommandLine}
 use Rattle.clap.specs.Simple.{filled, with_index, help_rule}
 use Rattle.jolie_main.specs.Usage.{file_in, file_rule}
+use Rattle.jolie_main.proofs.Entered.{each_append}
 
 abbrev pub file_built : Rule
 file_built = with_index 1 (filled file_rule)
@@ -36,14 +37,6 @@ module _ (P : Text → Type 0) where
   abbrev pub IsFlag : Rule → Type 0
   IsFlag a = (takes_values a ≡ false) × IsHarmless a
 
-  each_append : (xs ys : List Text) → Each P xs → Each P ys → Each P (xs ++ ys)
-  each_append [] ys a b = b
-  each_append (x ∷ xs) ys a b = (a.0, each_append xs ys a.1 b)
-
-  rows_append : (xs ys : List Row) → HasRows xs → HasRows ys → HasRows (xs ++ ys)
-  rows_append [] ys a b = b
-  rows_append (x ∷ xs) ys a b = (a.0, rows_append xs ys a.1 b)
-
   rows_if : (b : Bool) (xs ys : List Row) → HasRows xs → HasRows ys → HasRows (if b then xs else ys)
   rows_if true xs ys a b = a
   rows_if false xs ys a b = b
@@ -52,7 +45,7 @@ module _ (P : Text → Type 0) where
       → HasRows (at_row id change missing rows)
   at_row_has id change missing [] changes m h = m
   at_row_has id change missing (r ∷ rs) changes m h =
-      rows_if (bytes_eq r.id id) (change r ++ rs) (r ∷ at_row id change missing rs) (rows_append (change r) rs (changes r h.0) h.1)
+      rows_if (bytes_eq r.id id) (change r ++ rs) (r ∷ at_row id change missing rs) (each_append (λ (row : Row). Each P row.values) (change r) rs (changes r h.0) h.1)
       (h.0, at_row_has id change missing rs changes m h.1)
 
   without_has : (id : Text) (rows : List Row) → HasRows rows → HasRows (without id rows)
@@ -62,7 +55,7 @@ module _ (P : Text → Type 0) where
       → HasRows (with_values id how source values rows)
   with_values_has id how source values rows v h =
       at_row_has id (more_values source values) (record { id = id; values = values; count = None; source = Some source; reading = how } ∷ []) rows
-      (λ r e. (each_append r.values values e v, tt)) (v, tt) h
+      (λ r e. (each_append P r.values values e v, tt)) (v, tt) h
 
   file_harmless : IsHarmless file_built
   file_harmless [] rows v h = with_values_has file_built.id (reading_by file_built) CommandLine [] (without file_built.id rows) tt (without_has file_built.id rows h)
@@ -104,7 +97,7 @@ module _ (P : Text → Type 0) where
 
   pending_pushed : (id word : Text) (pending : Option (Text × List Text)) → P word → HasPending pending → HasPending (Some ((started id pending).0, (started id pending).1 ++ word ∷ []))
   pending_pushed id word None w has = (w, tt)
-  pending_pushed id word (Some p) w has = each_append p.1 (word ∷ []) has (w, tt)
+  pending_pushed id word (Some p) w has = each_append P p.1 (word ∷ []) has (w, tt)
 
   pushed_has : (id word : Text) (h : Held) → P word → HasHeld h → HasHeld (pushed id word h)
   pushed_has id word h w has = (has.0, pending_pushed id word h.pending w has.1)

@@ -1,6 +1,6 @@
-use Rattle.std.specs.Prelude.{◌≡◌, ◌==◌, ℕ, Bool, true, false, List, [], ◌∷◌, Option, Some, None, if◌then◌else◌, codes, option_map, bytes_eq, refl, unwrap_or}
+use Rattle.std.specs.Prelude.{◌≡◌, ◌==◌, ℕ, Bool, true, false, List, [], ◌∷◌, Option, Some, None, if◌then◌else◌, codes, option_map, bytes_eq, refl}
 use Rattle.std.proofs.Common.{ap, sym, subst}
-use Rattle.std.proofs.lemmas.Option.{none-some}
+use Rattle.std.proofs.lemmas.Option.{none-some, same_Some}
 use Rattle.std.proofs.lemmas.Slice.Eq.{bytes_eq-Decides}
 use Rattle.clap.specs.Lexer.{long_of, short_of}
 use Rattle.clap.specs.Words.{subcommand_of, takes}
@@ -11,9 +11,6 @@ use Rattle.jolie_main.specs.Usage.{command_entered, program}
 use Rattle.jolie_main.specs.declared.words.Action.{Action}
 use Rattle.jolie_main.specs.declared.words.Action.TheVariants as action
 use Rattle.jolie_main.specs.declared.words.Command.{Command}
-
-pub same_value : {X : Type 0} (x y : X) → Some x ≡ Some y → x ≡ y
-same_value {X} x y e = ap (λ (found : Option X). unwrap_or found x) e
 
 -- ---- a word that is no option
 
@@ -54,9 +51,9 @@ plain_passes action.Run (b ∷ bs) e = rw (not_dashes b bs e, not_long b bs e, n
 action_from : (word : List ℕ) (x y z : Bool) (a : Action)
     → (x ≡ true → word ≡ name_of action.Check) → (y ≡ true → word ≡ name_of action.Print) → (z ≡ true → word ≡ name_of action.Run)
     → (if x then Some action.Check else if y then Some action.Print else if z then Some action.Run else None) ≡ Some a → word ≡ name_of a
-action_from word true y z a f g h e = subst (λ (asked : Action). word ≡ name_of asked) (same_value action.Check a e) (f refl)
-action_from word false true z a f g h e = subst (λ (asked : Action). word ≡ name_of asked) (same_value action.Print a e) (g refl)
-action_from word false false true a f g h e = subst (λ (asked : Action). word ≡ name_of asked) (same_value action.Run a e) (h refl)
+action_from word true y z a f g h e = subst (λ (asked : Action). word ≡ name_of asked) (same_Some action.Check a e) (f refl)
+action_from word false true z a f g h e = subst (λ (asked : Action). word ≡ name_of asked) (same_Some action.Print a e) (g refl)
+action_from word false false true a f g h e = subst (λ (asked : Action). word ≡ name_of asked) (same_Some action.Run a e) (h refl)
 action_from word false false false a f g h e = absurd (none-some a e)
 
 pub name_is : (word : List ℕ) (a : Action) → action_of word ≡ Some a → word ≡ name_of a
@@ -72,7 +69,7 @@ plain_from : (name file : List ℕ) (b : Bool) (asked : Option Action) (c : Comm
 plain_from name file true asked c not_option is e = absurd (none-some c e)
 plain_from name file false None c not_option is e = absurd (none-some c e)
 plain_from name file false (Some a) c not_option is e =
-    subst (IsPlain (name ∷ file ∷ [])) (same_value (command_of a file) c e) (not_option, ap (λ (word : List ℕ). word ∷ file ∷ []) (name_is name a is))
+    subst (IsPlain (name ∷ file ∷ [])) (same_Some (command_of a file) c e) (not_option, ap (λ (word : List ℕ). word ∷ file ∷ []) (name_is name a is))
 
 pub plain_is : (line : List (List ℕ)) (c : Command) → commands.plain line ≡ Some c → IsPlain line c
 plain_is [] c e = absurd (none-some c e)

@@ -1,6 +1,5 @@
 -- What it says that sessions ran one after another.
 use Rattle.std.proofs.Common.{◌≡◌, ℕ, ◌+◌, List, [], ◌∷◌, ◌++◌, length, option_and_then, refl, sym, ap, ◌∙◌, subst, append-nil, append_assoc, add-zero, length-append, arith}
-use Rattle.std.proofs.lemmas.List.Elements.{filter_map-append}
 use Rattle.behaviour_tree.specs.declared.words.Event.{Event}
 use Rattle.behaviour_tree.specs.declared.words.Outcome.{Outcome}
 use Rattle.behaviour_tree.specs.Data.{ProgramParts}
@@ -8,26 +7,14 @@ use Rattle.behaviour_tree.specs.Operations.{operation_at}
 use Rattle.jolie_main.specs.declared.history.Entry.{Entry}
 use Rattle.jolie_main.specs.declared.mail.Mail.{Mail}
 use Rattle.jolie_main.specs.declared.session.Lived.{Lived}
-use Rattle.jolie_main.specs.declared.session.Lived.TheVariants as lived
 use Rattle.jolie_main.specs.Mails.{IsNext}
 use Rattle.jolie_main.specs.Messages.{accepted_in, messages, births, asks_answer, operation_of, is_request}
 use Rattle.jolie_main.specs.Turns.{Deeds, deeds, Serves, none_served, one_served, session_entries, collect_entries, outcome_of, IsLived, IsWholeRun, IsWholeSession}
+use Rattle.jolie_main.proofs.MessagesLemmas.{births-aside, filter_map-aside, session_messages, collect_messages}
 
--- the entries of a session accept no message
-session_messages : (m : ℕ) (how : Lived) → messages (session_entries m how) ≡ []
-session_messages m (lived.Answered o) = refl
-session_messages m lived.Silent = refl
-session_messages m lived.Untaken = refl
-
--- nor do the entries by which answers are collected
-collect_messages : (m : ℕ) (os : List Outcome) → messages (collect_entries m os) ≡ []
-collect_messages m [] = refl
-collect_messages m (o ∷ os) = collect_messages (m + 1) os
-
--- so the births stay where answers are collected
+-- the births stay where answers are collected
 pub births-collected : (h h1 : List Entry) (m : ℕ) (os : List Outcome) → h1 ≡ h ++ collect_entries m os → births h1 ≡ births h
-births-collected h h1 m os e =
-    ap births e ∙ ap length (filter_map-append accepted_in h (collect_entries m os) ∙ ap (λ t. messages h ++ t) (collect_messages m os) ∙ append-nil (messages h))
+births-collected h h1 m os e = ap births e ∙ births-aside h (collect_entries m os) (collect_messages m os)
 
 module _ {parts : ProgramParts} where
   -- sessions that ran, and then others
@@ -41,8 +28,7 @@ module _ {parts : ProgramParts} where
   pub serves_messages : {a b : Deeds} {os : List Outcome} → Serves parts a b os → messages b.history ≡ messages a.history
   serves_messages (none_served a) = refl
   serves_messages (one_served a mid outcomes posted events how before at whole) =
-      filter_map-append accepted_in mid.history (session_entries (length mid.sessions) how)
-      ∙ ap (λ t. messages mid.history ++ t) (session_messages (length mid.sessions) how) ∙ append-nil (messages mid.history) ∙ serves_messages before
+      filter_map-aside accepted_in mid.history (session_entries (length mid.sessions) how) (session_messages (length mid.sessions) how) ∙ serves_messages before
 
   -- a session for each answer
   pub serves_sessions : {a b : Deeds} {os : List Outcome} → Serves parts a b os → length b.sessions ≡ length a.sessions + length os

@@ -31,6 +31,7 @@ use Rattle.jolie_main.specs.Written.{message_to}
 use Rattle.jolie_main.specs.Turns.{entry, post_entry, call_entries, after_posts, session_entries, outcome_of, collect_entries, IsWholeSession, Deeds, Serves, none_served, one_served, Turn, no_deeds, Did, nothing_yet, one_more, closing_entries}
 use Rattle.jolie_main.specs.Sentences.{HasSessions, AnswersEach, IsStill}
 use Rattle.jolie_main.proofs.MessagesLemmas.{list_any-aside, filter_map-aside, births-append, births-aside, posters-length, slice_get-last, slice_get-more, slice_get-kept, slice_get-there, message_kept, session_messages, session_posters, session_goes_on, session_unclosed, collect_messages}
+use Rattle.jolie_main.proofs.ServingLemmas.{serves_sessions}
 use Rattle.jolie_main.proofs.RepliesLemmas.{IsSeen, IsAside, seen_aside, seen_as, seen_accepted, answers-aside, is_open-unborn, at_birth, IsOver, over_aside, over_collected, over_closed, refused_aside, accepted_aside, session_aside, collected_aside, closed_aside, closing_aside, AreAnswers, KeepsAnswers, AreAnswers-more, AreAnswers-kept}
 use Rattle.jolie_main.proofs.LegalLemmas.{AreLegalAfter-append, post_legal, collect_legal, closing_legal, IsWaiting, session_seen, session_legal}
 use Rattle.jolie_main.proofs.SessionsLemmas.{calls_of-aside, post_no_call, collect_no_call, session_no_call, closing_no_call, IsSession-same, whole_session}
@@ -379,20 +380,11 @@ module _ (parts : ProgramParts) (c : ℕ) (h : List Entry) (sessions : List (Lis
 -- ---- the sessions of a posting
 
 module _ {parts : ProgramParts} where
-  -- each gives one answer
-  pub serves_count : {old new : Deeds} {os : List Outcome} → Serves parts old new os → length new.sessions ≡ length old.sessions + length os
-  serves_count (none_served old) = omega arith
-  serves_count (one_served old mid os posted events how before there whole) =
-      let rest = serves_count before in
-      let one : length (mid.sessions ++ events ∷ []) ≡ length mid.sessions + 1 = length-append mid.sessions (events ∷ []) in
-      let two : length (os ++ outcome_of (is_request parts posted) how ∷ []) ≡ length os + 1 = length-append os (outcome_of (is_request parts posted) how ∷ []) in
-      omega arith
-
   -- they leave the answers of earlier sessions
   pub serves_kept : {old new : Deeds} {os : List Outcome} → Serves parts old new os → KeepsAnswers parts (length old.sessions) old.history new.history
   serves_kept (none_served old) = λ s lt. refl
   serves_kept (one_served old mid os posted events how before there whole) = λ s lt.
-      let count = serves_count before in
+      let count = serves_sessions before in
       answers-aside parts s mid.history (session_entries (length mid.sessions) how) (session_aside parts s mid.history (length mid.sessions) how (ne_eqb s (length mid.sessions) (λ e. omega arith))).answers
       ∙ serves_kept before s lt
 
@@ -414,7 +406,7 @@ module _ {parts : ProgramParts} where
   serves_answers c (one_served old mid os posted events how before there whole) k =
       let m : ℕ = length mid.sessions in
       let es : List Entry = session_entries m how in
-      let count : m ≡ length old.sessions + length os = serves_count before in
+      let count : m ≡ length old.sessions + length os = serves_sessions before in
       let kept : KeepsAnswers parts m mid.history (mid.history ++ es) = λ s lt. answers-aside parts s mid.history es (session_aside parts s mid.history m how (ne_eqb s m (λ e. omega arith))).answers in
       let over = session_over parts c mid.history mid.sessions posted events how (serves_at c before k) there whole in
       let last : answers parts (mid.history ++ es) m ≡ outcome_of (is_request parts posted) how ∷ [] = over.seen.answers_are in
@@ -529,7 +521,7 @@ module _ {parts : ProgramParts} {j : ℕ} {read : Read} {old new : Deeds} {text 
     pub turn_births : births new.history ≡ births old.history + length turn.outcomes
     turn_births =
         let born = before.born in
-        let count = serves_count turn.serves in
+        let count = serves_sessions turn.serves in
         let all = turn.all_served in
         let same : births new.history ≡ births turn.served.history =
         ap births turn.history_is ∙ births-aside turn.served.history (collect_entries (length old.sessions) turn.outcomes) (collect_messages (length old.sessions) turn.outcomes) in
@@ -555,7 +547,7 @@ module _ {parts : ProgramParts} {j : ℕ} {read : Read} {old new : Deeds} {text 
       pub turn_settled : IsSettled parts new
       turn_settled =
           let m : ℕ = length old.sessions in
-          let count : length turn.served.sessions ≡ m + length turn.outcomes = serves_count turn.serves in
+          let count : length turn.served.sessions ≡ m + length turn.outcomes = serves_sessions turn.serves in
           let served : IsAt parts m turn.served.history turn.served.sessions = serves_at m turn.serves turn_posted in
           let collected : IsAt parts (m + length turn.outcomes) (turn.served.history ++ collect_entries m turn.outcomes) turn.served.sessions =
           collects_at parts m turn.served.history turn.served.sessions turn.outcomes (omega arith) (serves_answers m turn.serves turn_posted) served in

@@ -1,7 +1,7 @@
 use Rattle.std.specs.Prelude.{◌≡◌, ◌⊎◌, ℕ, Bool, true, false, List, [], ◌∷◌, Option, Some, None, option_map, option_and_then, find, refl, IfSome, Contains}
 use Rattle.std.specs.List.{AllByRecursion as Each}
 use Rattle.std.proofs.Common.{◌∙◌, ap, sym, subst, cond, inl, inr}
-use Rattle.std.proofs.lemmas.Option.{none-some}
+use Rattle.std.proofs.lemmas.Option.{none-some, same_Some}
 use Rattle.std.proofs.lemmas.List.Elements.{All-contains_itself, recursion_from_All}
 use Rattle.clap.specs.Walk.{Rule, Text, answers_to, rows_after, stop_after}
 use Rattle.clap.specs.Simple.{Shape, built, entered, label_of, names_of, rows_at}
@@ -13,7 +13,7 @@ use Rattle.jolie_main.specs.declared.words.Action.TheVariants as action
 use Rattle.jolie_main.specs.declared.words.Command.{Command}
 use Rattle.jolie_main.specs.declared.words.Words.{Words}
 use Rattle.jolie_main.specs.declared.words.Words.TheVariants as words
-use Rattle.jolie_main.proofs.Plain.{command_of, same_value, plain_line_enters, plain_line_passes}
+use Rattle.jolie_main.proofs.Plain.{command_of, plain_line_enters, plain_line_passes}
 use Rattle.jolie_main.proofs.Origins.{file_has, rules_of_file}
 use Rattle.jolie_main.proofs.Entered.{HasStop, answers_is, stop_has}
 
@@ -58,7 +58,7 @@ module _ (P : Text → Type 0) where
   command_comes : (asked : Action) (file : Option Text) (c : Command) → P (name_of asked) → IfSome file P
       → option_map (λ file. command_of asked file) file ≡ Some c → ComesFrom c
   command_comes asked None c name has e = absurd (none-some c e)
-  command_comes asked (Some file) c name has e = subst ComesFrom (same_value (command_of asked file) c e) (name, has)
+  command_comes asked (Some file) c name has e = subst ComesFrom (same_Some (command_of asked file) c e) (name, has)
 
   file_comes : (rules : List Rule) (words : List Text) → rules ≡ rules_of_file → Each P words → IfSome (file_in (rows_after rules [] words)) P
   file_comes rules words is has = subst (λ (rules : List Rule). IfSome (file_in (rows_after rules [] words)) P) (sym is) (file_has P words has)
@@ -89,7 +89,7 @@ pub line_has_command : (line : List (List ℕ)) (c : Command) → command_entere
 line_has_command line c e = line_comes (Contains line) line c (recursion_from_All (Contains line) line (All-contains_itself line)) e
 
 said_command : (said : Words) (c : Command) → command_in said ≡ Some c → said ≡ words.Command c
-said_command (words.Command d) c e = ap (λ (c : Command). words.Command c) (same_value d c e)
+said_command (words.Command d) c e = ap (λ (c : Command). words.Command c) (same_Some d c e)
 said_command (words.Told text) c e = absurd (none-some c e)
 said_command (words.Refused text) c e = absurd (none-some c e)
 
