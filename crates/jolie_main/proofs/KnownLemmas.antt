@@ -20,5 +20,5 @@ Consumes-trans (Some x) (Some y) None xs ys p q = absurd q
 Consumes-trans (Some x) (Some y) (Some z) xs ys p q = p ∙ ap (λ l. xs ++ l) q ∙ sym (append_assoc xs ys z)
 
 -- Whatever was taken from a start on is what was written.
-abbrev pub Tells : Option (List ℕ) → List ℕ → Option (List ℕ) → List ℕ → Type 0
-Tells taken written taken_now written_now = (start : Option (List ℕ)) → Appends start taken written → Appends start taken_now written_now
+abbrev pub TakenAsWritten : Option (List ℕ) → List ℕ → Option (List ℕ) → List ℕ → Type 0
+TakenAsWritten taken written taken_now written_now = (start : Option (List ℕ)) → Appends start taken written → Appends start taken_now written_now

@@ -11,8 +11,8 @@ use Rattle.jolie_main.specs.Serving.{next_of}
 use Rattle.jolie_main.specs.Stages.{AsksFor}
 
 -- what is said of a session's need
-abbrev pub Tells : ProgramParts → ℕ → Option Config → Option Need → Type 0
-Tells parts service now o = IfSome now (λ c. MatchOption o (¬ HasEvent parts service c 0)
+abbrev pub SaysNeed : ProgramParts → ℕ → Option Config → Option Need → Type 0
+SaysNeed parts service now o = IfSome now (λ c. MatchOption o (¬ HasEvent parts service c 0)
     (λ n. HasEvent parts service c 0 × ((g : Given) (d : Done) → after parts service c 0 g ≡ Some d → d.need ≡ n)))
 
 some_is : {A : Type 0} (o : Option A) → IsSome o → (x : A) × (o ≡ Some x)
@@ -21,21 +21,21 @@ some_is (Some x) h = (x, refl)
 
 module _ (parts : ProgramParts) (service : ℕ) (first : service ≡ 0) where
   -- the session of the first service
-  told_first : (now : Option Config) (o : Option Need) → Tells parts service now o → Tells parts 0 now o
-  told_first now o told = subst (λ s. Tells parts s now o) first told
+  told_first : (now : Option Config) (o : Option Need) → SaysNeed parts service now o → SaysNeed parts 0 now o
+  told_first now o told = subst (λ s. SaysNeed parts s now o) first told
 
-  has_need : (now : Option Config) (g : Given) → IsSome (next_of parts now g) → Tells parts 0 now None → ⊥
+  has_need : (now : Option Config) (g : Given) → IsSome (next_of parts now g) → SaysNeed parts 0 now None → ⊥
   has_need None g h told = false≢true h
   has_need (Some c) g h told = let d = some_is (after parts 0 c 0 g) h in told (g, d.0, d.1)
 
-  its_need : (now : Option Config) (n : Need) → Tells parts 0 now (Some n) → AsksFor parts now n
+  its_need : (now : Option Config) (n : Need) → SaysNeed parts 0 now (Some n) → AsksFor parts now n
   its_need None n told g d e = absurd (none-some d e)
   its_need (Some c) n told g d e = told.1 g d e
 
   -- what has an event needs something
-  pub something_needed : (now : Option Config) (o : Option Need) (g : Given) → IsSome (next_of parts now g) → o ≡ None → Tells parts service now o → ⊥
-  something_needed now o g h none told = has_need now g h (subst (Tells parts 0 now) none (told_first now o told))
+  pub something_needed : (now : Option Config) (o : Option Need) (g : Given) → IsSome (next_of parts now g) → o ≡ None → SaysNeed parts service now o → ⊥
+  something_needed now o g h none told = has_need now g h (subst (SaysNeed parts 0 now) none (told_first now o told))
 
   -- and what it needs is what every event asks for
-  pub asked_as_told : (now : Option Config) (o : Option Need) (n : Need) → o ≡ Some n → Tells parts service now o → AsksFor parts now n
-  asked_as_told now o n is told = its_need now n (subst (Tells parts 0 now) is (told_first now o told))
+  pub asked_as_told : (now : Option Config) (o : Option Need) (n : Need) → o ≡ Some n → SaysNeed parts service now o → AsksFor parts now n
+  asked_as_told now o n is told = its_need now n (subst (SaysNeed parts 0 now) is (told_first now o told))

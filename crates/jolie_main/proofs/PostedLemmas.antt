@@ -23,7 +23,7 @@ use Rattle.jolie_main.specs.Written.{post_in, posts, message_to, post_of, posts_
 use Rattle.jolie_main.specs.Turns.{entry, post_entry, call_entries, after_posts, session_entries, collect_entries, Deeds, Serves, none_served, one_served}
 use Rattle.jolie_main.proofs.MessagesLemmas.{filter_map-aside, births-append}
 use Rattle.jolie_main.proofs.WrittenLemmas.{call_with}
-use Rattle.jolie_main.proofs.SettledLemmas.{routed_accepted}
+use Rattle.jolie_main.proofs.OfficeLemmas.{routed-accepted}
 
 -- ---- entries that post nothing
 
@@ -139,7 +139,7 @@ module _ (parts : ProgramParts) (j : ℕ) where
       let first : first_of (filter_map (reply_in j n) (own ++ later)) ≡ Some (routed parts h (message_to w)) =
       ap (λ k. first_of (filter_map (reply_in j k) (own ++ later))) same ∙ first_reply (reply_in j i) (post_entry parts j i h (message_to w)) later (routed parts h (message_to w)) (call_reply i h (message_to w)) in
       let accepted : routed parts h (message_to w) ≡ reply.Accepted m = same_Some (routed parts h (message_to w)) (reply.Accepted m) (sym first ∙ e) in
-      let number : m ≡ births h = (routed_accepted parts h (message_to w) m accepted).0 in
+      let number : m ≡ births h = (routed-accepted parts h (message_to w) m accepted).number in
       let one : births own ≡ 1 = births_accepted i h (message_to w) m accepted in
       let both : births (own ++ later) ≡ births own + births later = births-append own later in
       let all : births (h ++ (own ++ later)) ≡ births h + births (own ++ later) = births-append h (own ++ later) in

@@ -26,7 +26,8 @@ use Rattle.jolie_main.proofs.PostedLemmas.{PostNothing, PostNothing-append, coll
 use Rattle.jolie_main.proofs.PostedLemmas as post
 use Rattle.jolie_main.proofs.RepliesLemmas.{AreAnswers, KeepsAnswers, answer_kept}
 use Rattle.jolie_main.proofs.QuietLemmas.{IsUnposted}
-use Rattle.jolie_main.proofs.SettledLemmas.{IsSettled, routed_accepted, did_settled, did_unposted, turn_births, turn_kept, turn_answers}
+use Rattle.jolie_main.proofs.OfficeLemmas.{routed-accepted}
+use Rattle.jolie_main.proofs.SettledLemmas.{IsSettled, did_settled, did_unposted, turn_births, turn_kept, turn_answers}
 
 -- ---- the texts of a turn
 
@@ -140,7 +141,7 @@ module _ (parts : ProgramParts) (all : List Entry) (j : ℕ) where
           absurd (omega arith)
       by_reply (reply.Accepted m) e (o ∷ os) k =
           accepted_text parts all j i x cs (fates parts j (i + 1) (h ++ call_entries parts j i h (call_with x (Ok w))) cs) w m o os (reply_there i h x w cs (o ∷ os) k ∙ ap Some e)
-          (ap (answer_of parts all) (routed_accepted parts h (message_to w) m e).0 ∙ ap first_answer k.answers.0)
+          (ap (answer_of parts all) (routed-accepted parts h (message_to w) m e).number ∙ ap first_answer k.answers.0)
           (rest os (behind_one i h x (Ok w) cs o os (post.births_accepted parts j i h (message_to w) m e) k))
 
   -- the texts of the calls are those that their fates and the answers give

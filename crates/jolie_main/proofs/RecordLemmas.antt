@@ -20,7 +20,7 @@ use Rattle.jolie_main.specs.Ends.{IsFinished, status}
 use Rattle.jolie_main.specs.Closing.{HasBytes}
 use Rattle.jolie_main.specs.Headline.{Ran, ServesLines, IsRecord}
 use Rattle.jolie_main.proofs.DidLaws.{Did-sessions, Did-legal, Did-answered, Did-still, Did-written, Did-cut}
-use Rattle.jolie_main.proofs.KnownLemmas.{Tells, Appends-nil}
+use Rattle.jolie_main.proofs.KnownLemmas.{TakenAsWritten, Appends-nil}
 
 -- what was done, with the lines that it serves, is the record
 recorded_with : (parts : ProgramParts) (all : List Read) (deeds : Deeds) (bytes : List ℕ) (s : ℕ) (run : Record) (traffic : Traffic) (left : Option (List ℕ)) → Did parts all deeds bytes
@@ -90,7 +90,7 @@ whole_only ends.StoppedLast h = absurd (omega arith)
 
 -- the bytes of a run
 pub bytes_told : (e : End) (s : ℕ) (run : Record) (left left_now taken taken_now : Option (List ℕ)) (read written before : List ℕ) → s ≡ status e
-    → run.traffic ≡ record { read = read; written = written } ∷ [] → Consumes left left_now read → before ≡ [] → Tells taken before taken_now written
+    → run.traffic ≡ record { read = read; written = written } ∷ [] → Consumes left left_now read → before ≡ [] → TakenAsWritten taken before taken_now written
     → (e ≡ ends.Whole → IsAtEnd left_now) → HasBytes s run left left_now taken taken_now
 bytes_told e s run left left_now taken taken_now read written before at one given empty told end = record {
   traffic = record { read = read; written = written };

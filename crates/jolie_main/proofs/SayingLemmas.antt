@@ -3,10 +3,10 @@ use Rattle.std.proofs.Common.{◌≡◌, refl, sym, subst, ◌∙◌, ℕ, Bool,
 use Rattle.std.specs.Io.KnownBytes.{Appends}
 use Rattle.jolie_main.specs.Outside.{stream, IsSaid}
 use Rattle.jolie_main.specs.Progress.{Sends, AllOrFault}
-use Rattle.jolie_main.proofs.KnownLemmas.{Tells, Appends-nil}
+use Rattle.jolie_main.proofs.KnownLemmas.{TakenAsWritten, Appends-nil}
 
 -- a text that was written from the first byte on
-pub said_so : (all : Bool) (text v w : List ℕ) (taken taken_now : Option (List ℕ)) (faults faults_now : ℕ) → v ≡ [] → Sends all text v w → Tells taken v taken_now w → AllOrFault all faults faults_now
+pub said_so : (all : Bool) (text v w : List ℕ) (taken taken_now : Option (List ℕ)) (faults faults_now : ℕ) → v ≡ [] → Sends all text v w → TakenAsWritten taken v taken_now w → AllOrFault all faults faults_now
     → IsSaid all text (stream taken faults) (stream taken_now faults_now)
 said_so true text v w taken taken_now faults faults_now none sends told calm = record {
   bytes = subst (λ t. Appends taken taken_now t) (sends.kept ∙ rw none sends.which) (told taken (subst (λ t. Appends taken taken t) (sym none) (Appends-nil taken)));

@@ -1,5 +1,5 @@
 -- What holds of the sessions of a run at any moment, inside a posting and between postings, and what that gives of the whole history.
-use Rattle.std.proofs.Common.{◌≡◌, ◌≢◌, ◌⊎◌, ⊎_elim, ℕ, ◌+◌, ◌<◌, ◌≤◌, Bool, true, false, nat_lt, nat_le, if◌then◌else◌, List, [], ◌∷◌, ◌++◌, length, Option, None, Some, Result, Ok, Err, slice_get, refl, sym, ap, subst, ◌∙◌, arith, append_assoc, append-nil, length-append, ne_eqb, leb-false, lt-ltb, le-ltb, le_refl}
+use Rattle.std.proofs.Common.{◌≡◌, ◌≢◌, ◌⊎◌, ⊎_elim, ℕ, ◌+◌, ◌<◌, ◌≤◌, true, false, nat_lt, List, [], ◌∷◌, ◌++◌, length, Option, Some, Result, Ok, Err, slice_get, refl, sym, ap, subst, ◌∙◌, arith, append_assoc, append-nil, length-append, ne_eqb, lt-ltb, le-ltb, le_refl}
 use Rattle.std.specs.List.{list_any}
 use Rattle.std.proofs.lemmas.Bool.{cases_lt, cases_eq, false≢true}
 use Rattle.std.proofs.lemmas.Option.{same_Some, slice_get_within}
@@ -8,9 +8,7 @@ use Rattle.jolie_trees.specs.Data.{Tree}
 use Rattle.behaviour_tree.specs.declared.words.Event.{Event}
 use Rattle.behaviour_tree.specs.declared.words.Outcome.{Outcome}
 use Rattle.behaviour_tree.specs.declared.words.Reason.{Reason}
-use Rattle.behaviour_tree.specs.declared.words.Reason.TheVariants as reason
-use Rattle.behaviour_tree.specs.Conforms.{conforms}
-use Rattle.behaviour_tree.specs.Data.{OperationPart, ProgramParts}
+use Rattle.behaviour_tree.specs.Data.{ProgramParts}
 use Rattle.jsonrpc_text.specs.declared.message.Early.{Early}
 use Rattle.jsonrpc_text.specs.declared.message.Read.{Read}
 use Rattle.jsonrpc_text.specs.declared.message.ReadCall.{ReadCall}
@@ -20,9 +18,8 @@ use Rattle.jolie_main.specs.declared.history.Posted.{Posted}
 use Rattle.jolie_main.specs.declared.history.PostReply.{PostReply}
 use Rattle.jolie_main.specs.declared.history.PostReply.TheVariants as reply
 use Rattle.jolie_main.specs.declared.session.Lived.{Lived}
-use Rattle.jolie_main.specs.Messages.{is_request, accepted_in, messages, poster_in, posters, births, operation_of, stops, closes, has_stopped, has_closed, was_collected}
-use Rattle.jolie_main.specs.Starting.{is_starting}
-use Rattle.jolie_main.specs.Route.{most_sessions, is_full, started, routed_to, routed}
+use Rattle.jolie_main.specs.Messages.{is_request, accepted_in, messages, poster_in, posters, births, stops, closes, has_stopped, has_closed, was_collected}
+use Rattle.jolie_main.specs.Route.{most_sessions, routed}
 use Rattle.jolie_main.specs.Replies.{answers, answers_after, is_open}
 use Rattle.jolie_main.specs.Legal.{first_worker, AreLegalAfter, IsLegal}
 use Rattle.jolie_main.specs.Sessions.{calls_of, IsSession}
@@ -31,6 +28,7 @@ use Rattle.jolie_main.specs.Written.{message_to}
 use Rattle.jolie_main.specs.Turns.{entry, post_entry, call_entries, after_posts, session_entries, outcome_of, collect_entries, IsWholeSession, Deeds, Serves, none_served, one_served, Turn, no_deeds, Did, nothing_yet, one_more, closing_entries}
 use Rattle.jolie_main.specs.Sentences.{HasSessions, AnswersEach, IsStill}
 use Rattle.jolie_main.proofs.MessagesLemmas.{list_any-aside, filter_map-aside, births-append, births-aside, posters-length, slice_get-last, slice_get-more, slice_get-kept, slice_get-there, message_kept, session_messages, session_posters, session_goes_on, session_unclosed, collect_messages}
+use Rattle.jolie_main.proofs.OfficeLemmas.{routed-accepted}
 use Rattle.jolie_main.proofs.ServingLemmas.{serves_sessions}
 use Rattle.jolie_main.proofs.RepliesLemmas.{IsSeen, IsAside, seen_aside, seen_as, seen_accepted, answers-aside, is_open-unborn, at_birth, IsOver, over_aside, over_collected, over_closed, refused_aside, accepted_aside, session_aside, collected_aside, closed_aside, closing_aside, AreAnswers, KeepsAnswers, AreAnswers-more, AreAnswers-kept}
 use Rattle.jolie_main.proofs.LegalLemmas.{AreLegalAfter-append, post_legal, collect_legal, closing_legal, IsWaiting, session_seen, session_legal}
@@ -107,33 +105,6 @@ event_within parts c h sessions s events k at = no_worker_at parts c h sessions 
 
 -- ---- a post
 
--- a message that starts a session has the next number, and there is room for it
-started_accepted : (h : List Entry) (starts : Bool) (m : ℕ) → started h starts ≡ reply.Accepted m → (m ≡ births h) × (births h < most_sessions)
-started_accepted h false m e = absurd (cc e)
-started_accepted h true m e = go (nat_le most_sessions (births h)) refl e
-  where
-    go : (b : Bool) → nat_le most_sessions (births h) ≡ b → (if b then reply.Refused reason.RunFull else reply.Accepted (births h)) ≡ reply.Accepted m → (m ≡ births h) × (births h < most_sessions)
-    go true f e = absurd (cc e)
-    go false f e = (cc e, leb-false most_sessions (births h) f)
-
--- one that is accepted of an operation that there is starts a session
-routed_to_accepted : (parts : ProgramParts) (h : List Entry) (posted : Posted) (o : Option OperationPart) (m : ℕ) → routed_to parts h posted o ≡ reply.Accepted m → started h (is_starting parts posted.op) ≡ reply.Accepted m
-routed_to_accepted parts h posted None m e = absurd (cc e)
-routed_to_accepted parts h posted (Some o) m e = go (conforms parts.types posted.value o.request) e
-  where
-    go : (b : Bool) → (if b then started h (is_starting parts posted.op) else reply.Refused reason.NotConforming) ≡ reply.Accepted m → started h (is_starting parts posted.op) ≡ reply.Accepted m
-    go true e = e
-    go false e = absurd (cc e)
-
--- a message that is accepted has the number of the next session, and a session may be born
-pub routed_accepted : (parts : ProgramParts) (h : List Entry) (posted : Posted) (m : ℕ) → routed parts h posted ≡ reply.Accepted m → (m ≡ births h) × (births h < most_sessions)
-routed_accepted parts h posted m e = started_accepted h (is_starting parts posted.op) m (routed_to_accepted parts h posted (operation_of parts posted.op) m (go (is_full h posted.value) e))
-  where
-    go : (b : Bool) → (if b then reply.Refused reason.RunFull else routed_to parts h posted (operation_of parts posted.op)) ≡ reply.Accepted m
-        → routed_to parts h posted (operation_of parts posted.op) ≡ reply.Accepted m
-    go true e = absurd (cc e)
-    go false e = e
-
 module _ (parts : ProgramParts) (c : ℕ) (h : List Entry) (sessions : List (List Event)) (j i : ℕ) (posted : Posted) (service : posted.service ≡ 0) (k : IsAt parts c h sessions)
     (first : list_any (posts_for j) h ≡ false → IsQuiet parts 0 h) where
   -- the history with the post
@@ -191,7 +162,7 @@ module _ (parts : ProgramParts) (c : ℕ) (h : List Entry) (sessions : List (Lis
   accepted_sound : (m : ℕ) → routed parts h posted ≡ reply.Accepted m → IsSound parts (with_post (reply.Accepted m))
   accepted_sound m e =
       let es : List Entry = entry first_worker (act.Post j i posted (reply.Accepted m)) ∷ [] in
-      let room = (routed_accepted parts h posted m e).1 in
+      let room = (routed-accepted parts h posted m e).room in
       let more : births (with_post (reply.Accepted m)) ≡ births h + 1 = births-append h es in
       record {
         within = omega arith;
@@ -207,7 +178,7 @@ module _ (parts : ProgramParts) (c : ℕ) (h : List Entry) (sessions : List (Lis
   accepted_at : (m : ℕ) → routed parts h posted ≡ reply.Accepted m → IsAt parts c (with_post (reply.Accepted m)) sessions
   accepted_at m e =
       let es : List Entry = entry first_worker (act.Post j i posted (reply.Accepted m)) ∷ [] in
-      let next : m ≡ births h = (routed_accepted parts h posted m e).0 in
+      let next : m ≡ births h = (routed-accepted parts h posted m e).number in
       let served = k.served in
       let more : births (with_post (reply.Accepted m)) ≡ births h + 1 = births-append h es in
       let aside = λ (s : ℕ) (no : s ≢ m). accepted_aside parts s h j i m posted (ne_eqb s m no) in
@@ -234,7 +205,7 @@ module _ (parts : ProgramParts) (c : ℕ) (h : List Entry) (sessions : List (Lis
 -- a post leaves the answers of earlier messages
 post_kept : (parts : ProgramParts) (h : List Entry) (j i : ℕ) (posted : Posted) (r : PostReply) → routed parts h posted ≡ r → KeepsAnswers parts (births h) h (h ++ entry first_worker (act.Post j i posted r) ∷ [])
 post_kept parts h j i posted (reply.Accepted m) e s lt =
-    let next : m ≡ births h = (routed_accepted parts h posted m e).0 in
+    let next : m ≡ births h = (routed-accepted parts h posted m e).number in
     let other : s ≢ m = λ same. omega arith in
     answers-aside parts s h (entry first_worker (act.Post j i posted (reply.Accepted m)) ∷ []) (accepted_aside parts s h j i m posted (ne_eqb s m other)).answers
 post_kept parts h j i posted (reply.Refused why) e s lt =

@@ -1,5 +1,5 @@
 -- What is ahead of a session at each stage: an event that makes no call and leaves it there, or the call that the stage is about.
-use Rattle.std.proofs.Common.{◌≡◌, ℕ, ◌<◌, ◌≤◌, Bool, true, false, List, [], refl, sym, subst, arith}
+use Rattle.std.proofs.Common.{◌≡◌, ℕ, ◌<◌, Bool, true, false, List, [], refl, sym, subst, lt_of_le_of_lt}
 use Rattle.std.specs.Prelude.{Contains}
 use Rattle.jolie_trees.specs.Data.{Tree}
 use Rattle.behaviour_tree.specs.declared.words.Need.TheVariants as need
@@ -8,7 +8,6 @@ use Rattle.behaviour_tree.specs.declared.words.Outcome.{Outcome}
 use Rattle.behaviour_tree.specs.Data.{Proc, no_procs, proc, ProgramParts}
 use Rattle.behaviour_tree.specs.Operations.{is_among, operation_at}
 use Rattle.behaviour_tree.specs.Terms.{Term, done, seq}
-use Rattle.behaviour_tree.specs.Start.{normal}
 use Rattle.behaviour_tree.specs.Throw.{ready}
 use Rattle.behaviour_tree.specs.After.{Config, is_finished}
 use Rattle.jolie_main.specs.BuiltPrograms.{begins_with_input}
@@ -61,10 +60,6 @@ module _ (parts : ProgramParts) where
     quietly : Next parts c given.Nothing need.Nothing (StandsNearer stage c) → Ahead stage c
     by_call : Calls c stage → Ahead stage c
 
--- numbers
-less_than : (x y z : ℕ) → x ≤ y → y < z → x < z
-less_than x y z h k = omega arith
-
 -- what is left of a term whose message was taken stands at the stage of its operation
 stands_after : (parts : ProgramParts) (b : Bool) (m : ℕ) (x : Term) → Taken b m x → Stands parts (stage_after b m) (in_main x)
 stands_after parts true m x h = body_runs x h
@@ -79,7 +74,7 @@ module _ (parts : ProgramParts) (store : Tree) (next call : ℕ) where
     is = q.goes.is;
     strand = q.goes.strand;
     asks = q.goes.asks;
-    then_is = λ k. (q.goes.then_is k, less_than (left_of (normal q.goes.move.form k).form) (left_of q.goes.move.form) (left_of t) (left_of-normal q.goes.move.form k) q.less);
+    then_is = λ k. (q.goes.then_is k, lt_of_le_of_lt (left_of-normal q.goes.move.form k) q.less);
   }
 
   quiet_in_main : {t : Term} {Left : Term → Type 0} (stage : Stage) → is_finished (in_main t) ≡ false

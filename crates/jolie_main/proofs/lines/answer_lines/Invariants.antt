@@ -4,7 +4,7 @@ use Rattle.behaviour_tree.specs.PartsView.{parts_of}
 use Rattle.jolie_main.specs.Lines.{split}
 use Rattle.jolie_main.specs.Deeds.{deeds_of}
 use Rattle.jolie_main.specs.Progress.{IsUnderWay}
-use Rattle.jolie_main.proofs.KnownLemmas.{Tells}
+use Rattle.jolie_main.proofs.KnownLemmas.{TakenAsWritten}
 use Rattle.jolie_main.proofs.lines.answer_lines.Given as goal
 
 abbrev pub invariant-loop-read : goal.invariant-loop-read
@@ -12,7 +12,7 @@ invariant-loop-read g l = record {
   goes : IsUnderWay (parts_of l.program) (split l.read.items).0 l.progress.postings (deeds_of l.progress.deeds) l.progress.written;
   line : l.progress.line.items ≡ (split l.read.items).1;
   given : Consumes (g.S.Source.left l.fn.input) (g.S.Source.left l.input) l.read.items;
-  told : Tells (g.K.Sink.taken l.fn.output) l.fn.progress.written (g.K.Sink.taken l.output) l.progress.written;
+  told : TakenAsWritten (g.K.Sink.taken l.fn.output) l.fn.progress.written (g.K.Sink.taken l.output) l.progress.written;
   calm_source : g.S.Source.faults l.input ≡ g.S.Source.faults l.fn.input;
   calm_sink : g.K.Sink.faults l.output ≡ g.K.Sink.faults l.fn.output;
 }
