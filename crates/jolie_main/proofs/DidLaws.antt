@@ -10,7 +10,8 @@ use Rattle.jolie_main.specs.Turns.{closing_entries, Deeds, Turn, Did, one_more}
 use Rattle.jolie_main.specs.Sentences.{HasSessions, AnswersEach, IsStill}
 use Rattle.jolie_main.proofs.MessagesLemmas.{filter_map-aside}
 use Rattle.jolie_main.proofs.WrittenLemmas.{text_of-same, posting_line-same, lines_from-same, reply_to-aside}
-use Rattle.jolie_main.proofs.SettledLemmas.{IsSettled, did_settled, did_unposted, closing_answers, closing_sessions, closing_is_legal, closing_answered, closing_still}
+use Rattle.jolie_main.proofs.SoundMoments.{IsSettled}
+use Rattle.jolie_main.proofs.SettledTurns.{did_settled, did_unposted, closing_answers, closing_sessions, closing_is_legal, closing_answered, closing_still}
 use Rattle.jolie_main.proofs.PostingsLemmas.{turn_adds, lines_kept, did_written}
 
 -- ---- the history between postings

@@ -31,7 +31,9 @@ pub mod SayingLemmas
 pub mod ServedProgram
 pub mod ServingLemmas
 pub mod SessionsLemmas
-pub mod SettledLemmas
+pub mod SettledTurns
+pub mod SoundMoments
+pub mod SoundSessions
 pub mod SplitLemmas
 pub mod StagesAhead
 pub mod Taking

@@ -27,7 +27,8 @@ use Rattle.jolie_main.proofs.PostedLemmas as post
 use Rattle.jolie_main.proofs.RepliesLemmas.{AreAnswers, KeepsAnswers, answer_kept}
 use Rattle.jolie_main.proofs.QuietLemmas.{IsUnposted}
 use Rattle.jolie_main.proofs.OfficeLemmas.{routed-accepted}
-use Rattle.jolie_main.proofs.SettledLemmas.{IsSettled, did_settled, did_unposted, turn_births, turn_kept, turn_answers}
+use Rattle.jolie_main.proofs.SoundMoments.{IsSettled}
+use Rattle.jolie_main.proofs.SettledTurns.{did_settled, did_unposted, turn_births, turn_kept, turn_answers}
 
 -- ---- the texts of a turn
 
