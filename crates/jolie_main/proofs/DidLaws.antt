@@ -8,11 +8,11 @@ use Rattle.jolie_main.specs.Legal.{IsLegal}
 use Rattle.jolie_main.specs.Written.{post_in, posts, text_of, line_if, posting_line, lines_from, IsFront, IsProperFront, IsAnswered, IsCutShort}
 use Rattle.jolie_main.specs.Turns.{closing_entries, Deeds, Turn, Did, one_more}
 use Rattle.jolie_main.specs.Sentences.{HasSessions, AnswersEach, IsStill}
-use Rattle.jolie_main.proofs.MessagesLemmas.{filter_map-aside}
-use Rattle.jolie_main.proofs.WrittenLemmas.{text_of-same, posting_line-same, lines_from-same, reply_to-aside}
+use Rattle.jolie_main.proofs.GrowingHistories.{filter_map-aside}
+use Rattle.jolie_main.proofs.WrittenLines.{text_of-same, posting_line-same, lines_from-same, reply_to-aside}
 use Rattle.jolie_main.proofs.SoundMoments.{IsSettled}
 use Rattle.jolie_main.proofs.SettledTurns.{did_settled, did_unposted, closing_answers, closing_sessions, closing_is_legal, closing_answered, closing_still}
-use Rattle.jolie_main.proofs.PostingsLemmas.{turn_adds, lines_kept, did_written}
+use Rattle.jolie_main.proofs.AddedByTurns.{turn_adds, lines_kept, did_written}
 
 -- ---- the history between postings
 

@@ -1,3 +1,4 @@
+-- The subcommand that words enter has its name from one of them.
 use Rattle.std.specs.Prelude.{◌≡◌, ◌||◌, ℕ, Bool, true, false, List, [], ◌∷◌, ◌++◌, Option, Some, None, if◌then◌else◌, option_map, bytes_eq, find, fold, ⊤, refl, IfSome}
 use Rattle.std.specs.List.{AllByRecursion as Each}
 use Rattle.std.proofs.Common.{sym, subst, cond}

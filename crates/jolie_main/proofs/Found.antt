@@ -1,3 +1,4 @@
+-- What is found by name is the command that the parser entered.
 use Rattle.std.specs.Prelude.{◌≡◌, List, ℕ, Option, Some, None, option_map, codes, refl}
 use Rattle.std.proofs.Common.{◌∙◌, ap, ap₂, sym}
 use Rattle.std.proofs.lemmas.Option.{none-some, same_Some}

@@ -1,3 +1,4 @@
+-- What is found of FILE has its values from the words.
 use Rattle.std.specs.Prelude.{◌≡◌, ◌&&◌, ℕ, Bool, zero, suc, true, false, not, List, [], ◌∷◌, ◌++◌, length, Option, Some, None, is_some, if◌then◌else◌, codes, option_and_then, bytes_eq, find, fold, ⊤, refl, IfSome, drop, encode_utf8, slice_get}
 use Rattle.std.specs.Str.{chars}
 use Rattle.std.specs.List.{AllByRecursion as Each}

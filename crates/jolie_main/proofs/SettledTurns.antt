@@ -13,12 +13,12 @@ use Rattle.jolie_main.specs.Legal.{first_worker, IsLegal}
 use Rattle.jolie_main.specs.Quiet.{IsQuiet, posts_for}
 use Rattle.jolie_main.specs.Turns.{entry, after_posts, outcome_of, collect_entries, Deeds, Turn, no_deeds, Did, nothing_yet, one_more, closing_entries}
 use Rattle.jolie_main.specs.Sentences.{HasSessions, AnswersEach, IsStill}
-use Rattle.jolie_main.proofs.MessagesLemmas.{list_any-aside, births-aside, slice_get-there, message_kept, collect_messages}
-use Rattle.jolie_main.proofs.ServingLemmas.{serves_sessions}
-use Rattle.jolie_main.proofs.RepliesLemmas.{answers-aside, is_open-unborn, IsOver, over_aside, over_closed, closed_aside, closing_aside, AreAnswers, KeepsAnswers, AreAnswers-kept}
-use Rattle.jolie_main.proofs.LegalLemmas.{AreLegalAfter-append, closing_legal}
-use Rattle.jolie_main.proofs.SessionsLemmas.{calls_of-aside, closing_no_call, IsSession-same}
-use Rattle.jolie_main.proofs.QuietLemmas.{quiet_when_ended, before_stop-append, still_aside, collect_posts_for, IsUnposted}
+use Rattle.jolie_main.proofs.GrowingHistories.{list_any-aside, births-aside, slice_get-there, message_kept, collect_messages}
+use Rattle.jolie_main.proofs.ServedInOrder.{serves_sessions}
+use Rattle.jolie_main.proofs.SessionsSeen.{answers-aside, is_open-unborn, IsOver, over_aside, over_closed, closed_aside, closing_aside, AreAnswers, KeepsAnswers, AreAnswers-kept}
+use Rattle.jolie_main.proofs.StaysLegal.{AreLegalAfter-append, closing_legal}
+use Rattle.jolie_main.proofs.WholeSessions.{calls_of-aside, closing_no_call, IsSession-same}
+use Rattle.jolie_main.proofs.QuietHistories.{quiet_when_ended, before_stop-append, still_aside, collect_posts_for, IsUnposted}
 use Rattle.jolie_main.proofs.SoundMoments.{IsSettled, IsAt, quiet_at, event_within, posts_at, posts_kept, posts_unposted}
 use Rattle.jolie_main.proofs.SoundSessions.{serves_kept, serves_unposted, serves_at, serves_answers, collects_kept, collects_at}
 

@@ -23,12 +23,12 @@ use Rattle.jolie_main.specs.Sessions.{calls_of, IsSession}
 use Rattle.jolie_main.specs.Quiet.{IsQuiet, posts_for}
 use Rattle.jolie_main.specs.Written.{message_to}
 use Rattle.jolie_main.specs.Turns.{entry, post_entry, call_entries, after_posts, Deeds}
-use Rattle.jolie_main.proofs.MessagesLemmas.{list_any-aside, filter_map-aside, births-append, births-aside, posters-length, slice_get-last, slice_get-more, slice_get-kept, slice_get-there}
-use Rattle.jolie_main.proofs.OfficeLemmas.{routed-accepted}
-use Rattle.jolie_main.proofs.RepliesLemmas.{IsSeen, seen_aside, seen_accepted, answers-aside, at_birth, IsOver, over_aside, refused_aside, accepted_aside, KeepsAnswers}
-use Rattle.jolie_main.proofs.LegalLemmas.{AreLegalAfter-append, post_legal}
-use Rattle.jolie_main.proofs.SessionsLemmas.{calls_of-aside, post_no_call, IsSession-same}
-use Rattle.jolie_main.proofs.QuietLemmas.{quiet_when_ended, WasStill, still_post, posted_for, posted_other}
+use Rattle.jolie_main.proofs.GrowingHistories.{list_any-aside, filter_map-aside, births-append, births-aside, posters-length, slice_get-last, slice_get-more, slice_get-kept, slice_get-there}
+use Rattle.jolie_main.proofs.Acceptance.{routed-accepted}
+use Rattle.jolie_main.proofs.SessionsSeen.{IsSeen, seen_aside, seen_accepted, answers-aside, at_birth, IsOver, over_aside, refused_aside, accepted_aside, KeepsAnswers}
+use Rattle.jolie_main.proofs.StaysLegal.{AreLegalAfter-append, post_legal}
+use Rattle.jolie_main.proofs.WholeSessions.{calls_of-aside, post_no_call, IsSession-same}
+use Rattle.jolie_main.proofs.QuietHistories.{quiet_when_ended, WasStill, still_post, posted_for, posted_other}
 
 -- ---- what holds at any moment
 

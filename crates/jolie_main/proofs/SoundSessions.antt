@@ -16,12 +16,12 @@ use Rattle.jolie_main.specs.Legal.{first_worker}
 use Rattle.jolie_main.specs.Sessions.{calls_of, IsSession}
 use Rattle.jolie_main.specs.Quiet.{posts_for}
 use Rattle.jolie_main.specs.Turns.{entry, session_entries, outcome_of, collect_entries, IsWholeSession, Deeds, Serves, none_served, one_served}
-use Rattle.jolie_main.proofs.MessagesLemmas.{list_any-aside, slice_get-more, slice_get-there, session_messages, session_posters, session_goes_on, session_unclosed}
-use Rattle.jolie_main.proofs.ServingLemmas.{serves_sessions}
-use Rattle.jolie_main.proofs.RepliesLemmas.{IsAside, seen_aside, seen_as, answers-aside, at_birth, IsOver, over_aside, over_collected, session_aside, collected_aside, AreAnswers, KeepsAnswers, AreAnswers-more, AreAnswers-kept}
-use Rattle.jolie_main.proofs.LegalLemmas.{collect_legal, IsWaiting, session_seen, session_legal}
-use Rattle.jolie_main.proofs.SessionsLemmas.{calls_of-aside, collect_no_call, session_no_call, IsSession-same, whole_session}
-use Rattle.jolie_main.proofs.QuietLemmas.{still_aside, session_posts_none, session_posts_for}
+use Rattle.jolie_main.proofs.GrowingHistories.{list_any-aside, slice_get-more, slice_get-there, session_messages, session_posters, session_goes_on, session_unclosed}
+use Rattle.jolie_main.proofs.ServedInOrder.{serves_sessions}
+use Rattle.jolie_main.proofs.SessionsSeen.{IsAside, seen_aside, seen_as, answers-aside, at_birth, IsOver, over_aside, over_collected, session_aside, collected_aside, AreAnswers, KeepsAnswers, AreAnswers-more, AreAnswers-kept}
+use Rattle.jolie_main.proofs.StaysLegal.{collect_legal, IsWaiting, session_seen, session_legal}
+use Rattle.jolie_main.proofs.WholeSessions.{calls_of-aside, collect_no_call, session_no_call, IsSession-same, whole_session}
+use Rattle.jolie_main.proofs.QuietHistories.{still_aside, session_posts_none, session_posts_for}
 use Rattle.jolie_main.proofs.SoundMoments.{IsSound, IsAt, same_births, message_before, sound_on, event_within}
 
 -- ---- a session, from its start to its end

@@ -1,3 +1,4 @@
+-- What is understood of words, from what the parser makes of them.
 use Rattle.std.specs.Prelude.{◌≡◌, ◌⊎◌, ℕ, Bool, true, false, List, [], ◌∷◌, Option, Some, None, option_map, option_and_then, find, refl, IfSome, Contains}
 use Rattle.std.specs.List.{AllByRecursion as Each}
 use Rattle.std.proofs.Common.{◌∙◌, ap, sym, subst, cond, inl, inr}

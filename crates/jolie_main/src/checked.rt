@@ -13,7 +13,7 @@ use service_check::{CheckError, check};
 use std::alloc::{AllocError, Global};
 
 /// The program that a text is, or why it is none.
-#[tactic(auto, using(crate::proofs::ProgramLemmas::unread, crate::proofs::ProgramLemmas::passed, crate::proofs::ProgramLemmas::refused))]
+#[tactic(auto, using(crate::proofs::TextsAsPrograms::unread, crate::proofs::TextsAsPrograms::passed, crate::proofs::TextsAsPrograms::refused))]
 pub fn checked_program(alloc: Global, text: &[u8]) -> Result<Result<Program, Refusal>, AllocError>
     ensures { IfOk result (λ found. MatchResult found (λ program. IsChecked text.now (parts_of program)) (λ refusal. IsUncheckedBy text.now (refusal_line refusal))) }
 {
@@ -29,7 +29,7 @@ pub fn checked_program(alloc: Global, text: &[u8]) -> Result<Result<Program, Ref
 }
 
 /// The program that a text is, if it runs, or why it does not.
-#[tactic(auto, using(crate::proofs::ProgramLemmas::runs, crate::proofs::ProgramLemmas::unchecked))]
+#[tactic(auto, using(crate::proofs::TextsAsPrograms::runs, crate::proofs::TextsAsPrograms::unchecked))]
 pub fn program_in(alloc: Global, text: &[u8]) -> Result<Result<Program, Refusal>, AllocError>
     ensures { IfOk result (λ found. MatchResult found (λ program. IsProgram text.now (parts_of program)) (λ refusal. IsNotRunBy text.now (refusal_line refusal))) }
 {

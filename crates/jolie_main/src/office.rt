@@ -55,7 +55,7 @@ impl Model for Office {
     ghost invariant = { λ office. (office.accepted ≡ births office.entries) × (office.weight ≡ in_u64 (total_weight office.entries)) };
 }
 
-#[tactic(auto, using(crate::proofs::OfficeLemmas::births_more, crate::proofs::OfficeLemmas::weight_more))]
+#[tactic(auto, using(crate::proofs::Acceptance::births_more, crate::proofs::Acceptance::weight_more))]
 impl Office {
     pub fn new(alloc: Global) -> Office
         ensures { result ≡ [] }

@@ -16,7 +16,7 @@ use sqlite_items::Items;
 use std::alloc::{AllocError, Global};
 
 /// Writes a text. It says whether the output took all of it.
-#[tactic(auto, using(crate::proofs::SayingLemmas::said_so))]
+#[tactic(auto, using(crate::proofs::Saying::said_so))]
 pub fn say<K: Sink>(alloc: Global, text: &[u8], output: &mut K) -> Result<bool, AllocError>
     ensures { IfOk result (λ all. IsSaid all text.now (stream (K.taken output.old) (K.faults output.old)) (stream (K.taken output.new) (K.faults output.new))) }
 {

@@ -17,7 +17,7 @@ pub enum Verdict {
 }
 
 /// What is said of a text.
-#[tactic(auto, using(crate::proofs::VerdictLemmas::fits, crate::proofs::VerdictLemmas::accepted, crate::proofs::VerdictLemmas::refused_by_lex, crate::proofs::VerdictLemmas::refused_by_parse))]
+#[tactic(auto, using(crate::proofs::ReadOrRefused::fits, crate::proofs::ReadOrRefused::accepted, crate::proofs::ReadOrRefused::refused_by_lex, crate::proofs::ReadOrRefused::refused_by_parse))]
 pub fn verdict_of(alloc: Global, text: &[u8]) -> Result<Verdict, AllocError>
     ensures { IfOk result (λ verdict. IsVerdict text.now verdict) }
 {

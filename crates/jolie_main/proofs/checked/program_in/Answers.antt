@@ -1,5 +1,5 @@
 -- A program of a form that does not run yet.
-use Rattle.jolie_main.proofs.ProgramLemmas.{unbuilt}
+use Rattle.jolie_main.proofs.TextsAsPrograms.{unbuilt}
 use Rattle.jolie_main.proofs.checked.program_in.Goals as goal
 
 pub returns-else-can_run : goal.returns-else-can_run

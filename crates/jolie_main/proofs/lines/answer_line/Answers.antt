@@ -1,6 +1,6 @@
 -- A blank line, or one behind the last posting, adds no posting; another adds one.
 use Rattle.std.proofs.Common.{◌∙◌, sym, arith}
-use Rattle.jolie_main.proofs.ProgressLemmas.{under_way-blank, under_way-full, line_sent, line_silent}
+use Rattle.jolie_main.proofs.LineByLine.{under_way-blank, under_way-full, line_sent, line_silent}
 use Rattle.jolie_main.proofs.lines.answer_line.Goals as goal
 use Rattle.jolie_main.proofs.lines.answer_line.Goals.{then-is_blank-via-then-is_blank, then-is_blank-via-else-is_blank+then-progress}
 

@@ -1,7 +1,7 @@
 -- Piece by piece, until the source ends or one of the two fails.
 use Rattle.std.proofs.Common.{◌∙◌, ap, refl}
-use Rattle.jolie_main.proofs.ProgressLemmas.{piece_answered, read_stopped, line-piece, finished_whole, finished_stopped, all_went}
-use Rattle.jolie_main.proofs.EndLemmas.{nothing_read, no_line, nothing_given, given_more, open_line, finished_so}
+use Rattle.jolie_main.proofs.LineByLine.{piece_answered, read_stopped, line-piece, finished_whole, finished_stopped, all_went}
+use Rattle.jolie_main.proofs.BeginningAndEnd.{nothing_read, no_line, nothing_given, given_more, open_line, finished_so}
 use Rattle.jolie_main.proofs.SettledTurns.{did_settled}
 use Rattle.jolie_main.proofs.lines.answer_lines.Goals as goal
 use Rattle.jolie_main.proofs.lines.answer_lines.Goals.{in-Err, in-Ok-eq0+in_ok-answer_line-in-Ok-eq0, then-branch, else-branch, in-Ok+in_ok-extend_from_slice-in-Ok+in_ok-take_piece-in-Ok+then-not-branch}

@@ -4,7 +4,7 @@ use Rattle.behaviour_tree.specs.PartsView.{parts_of}
 use Rattle.jolie_main.specs.Lines.{split}
 use Rattle.jolie_main.specs.Deeds.{deeds_of}
 use Rattle.jolie_main.specs.Progress.{IsUnderWay}
-use Rattle.jolie_main.proofs.KnownLemmas.{TakenAsWritten}
+use Rattle.jolie_main.proofs.GivenAndTaken.{TakenAsWritten}
 use Rattle.jolie_main.proofs.lines.answer_lines.Given as goal
 
 abbrev pub invariant-loop-read : goal.invariant-loop-read

@@ -1,6 +1,6 @@
 -- Byte by byte: one that ends a line has it answered, and another stands in the line under way.
 use Rattle.std.proofs.Common.{◌∙◌, ap, refl}
-use Rattle.jolie_main.proofs.ProgressLemmas.{piece_begins, piece_opens, byte_kept, line_grew, line_ended, line_answered, piece_stopped, all_went}
+use Rattle.jolie_main.proofs.LineByLine.{piece_begins, piece_opens, byte_kept, line_grew, line_ended, line_answered, piece_stopped, all_went}
 use Rattle.jolie_main.proofs.lines.take_piece.Goals as goal
 use Rattle.jolie_main.proofs.lines.take_piece.Goals.{then-byte-eq10+in_ok-answer_line+else-not-branch, else-byte-eq10+in_ok-push}
 

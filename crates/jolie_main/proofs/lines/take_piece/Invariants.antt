@@ -4,7 +4,7 @@ use Rattle.jolie_main.specs.Lines.{split}
 use Rattle.jolie_main.specs.Deeds.{deeds_of}
 use Rattle.jolie_main.specs.Messages.{births}
 use Rattle.jolie_main.specs.Progress.{IsUnderWay}
-use Rattle.jolie_main.proofs.KnownLemmas.{TakenAsWritten}
+use Rattle.jolie_main.proofs.GivenAndTaken.{TakenAsWritten}
 use Rattle.jolie_main.proofs.lines.take_piece.Given as goal
 
 abbrev pub invariant-loop-byte : goal.invariant-loop-byte

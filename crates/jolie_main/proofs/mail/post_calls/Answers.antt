@@ -1,7 +1,7 @@
 -- Call by call, each post goes on from the history that the earlier ones left.
 use Rattle.std.proofs.Common.{◌∙◌}
 use Rattle.behaviour_tree.specs.PartsView.{parts_of}
-use Rattle.jolie_main.proofs.CallsLemmas.{after_posts-next, fates-next}
+use Rattle.jolie_main.proofs.PostedCalls.{after_posts-next, fates-next}
 use Rattle.jolie_main.proofs.mail.post_calls.Goals as goal
 
 pub loop-place-preserved : goal.loop-place-preserved

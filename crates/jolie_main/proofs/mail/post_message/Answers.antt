@@ -1,6 +1,6 @@
 -- A message that was refused leaves those that wait as they are, and one that was accepted waits behind them.
 use Rattle.behaviour_tree.specs.PartsView.{parts_of}
-use Rattle.jolie_main.proofs.MailLemmas.{waiting-refused, waiting-accepted}
+use Rattle.jolie_main.proofs.WaitingMails.{waiting-refused, waiting-accepted}
 use Rattle.jolie_main.proofs.mail.post_message.Goals as goal
 
 pub returns-in-Refused-clause-mails : goal.returns-in-Refused-clause-mails

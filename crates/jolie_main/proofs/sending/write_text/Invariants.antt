@@ -1,5 +1,5 @@
 use Rattle.std.proofs.Common.{◌≡◌, length}
-use Rattle.jolie_main.proofs.KnownLemmas.{TakenAsWritten}
+use Rattle.jolie_main.proofs.GivenAndTaken.{TakenAsWritten}
 use Rattle.jolie_main.proofs.Outgoing.{Sending}
 use Rattle.jolie_main.proofs.sending.write_text.Given as goal
 

@@ -6,8 +6,8 @@ use Rattle.behaviour_tree.specs.PartsView.{parts_of}
 use Rattle.jolie_main.specs.Deeds.{deeds_of}
 use Rattle.jolie_main.specs.Mails.{AreWaiting}
 use Rattle.jolie_main.specs.Turns.{Serves, none_served}
-use Rattle.jolie_main.proofs.MailLemmas.{waiting-next, waiting-rest, none_waits}
-use Rattle.jolie_main.proofs.ServingLemmas.{serves_join, serves_messages, serves_sessions}
+use Rattle.jolie_main.proofs.WaitingMails.{waiting-next, waiting-rest, none_waits}
+use Rattle.jolie_main.proofs.ServedInOrder.{serves_join, serves_messages, serves_sessions}
 use Rattle.jolie_main.proofs.serving.serve_all.Goals as goal
 
 nothing_left : {X : Type 0} (xs : List X) → length xs ≡ 0 → xs ≡ []

@@ -1,5 +1,5 @@
 -- The next session, by what it did and by what was noted of it.
-use Rattle.jolie_main.proofs.ServingLemmas.{served_next}
+use Rattle.jolie_main.proofs.ServedInOrder.{served_next}
 use Rattle.jolie_main.proofs.serving.serve_next.Goals as goal
 
 pub returns : goal.returns

@@ -1,6 +1,6 @@
 -- What is said of a program, and of another text.
 use Rattle.std.proofs.Common.{refl}
-use Rattle.jolie_main.proofs.CommandLemmas.{passed, not_passed}
+use Rattle.jolie_main.proofs.CommandsDone.{passed, not_passed}
 use Rattle.jolie_main.proofs.show.check_text.Goals as goal
 
 pub returns-in-Err-clause-shows : goal.returns-in-Err-clause-shows

@@ -1,6 +1,6 @@
 -- What is printed of a text with definitions, and what is said of another.
 use Rattle.std.proofs.Common.{◌∙◌}
-use Rattle.jolie_main.proofs.CommandLemmas.{printed, not_printed}
+use Rattle.jolie_main.proofs.CommandsDone.{printed, not_printed}
 use Rattle.jolie_main.proofs.show.print_text.Goals as goal
 
 pub returns-in-Refused-clause-shows : goal.returns-in-Refused-clause-shows

@@ -1,5 +1,5 @@
 -- Each command does what it promises with what was read.
-use Rattle.jolie_main.proofs.CommandLemmas.{obeys_check, obeys_print, obeys_run}
+use Rattle.jolie_main.proofs.CommandsDone.{obeys_check, obeys_print, obeys_run}
 use Rattle.jolie_main.proofs.top.obey.Goals as goal
 
 pub returns-in-Check : goal.returns-in-Check

@@ -1,5 +1,5 @@
 -- Words that are a command.
-use Rattle.jolie_main.proofs.CommandLemmas.{promised}
+use Rattle.jolie_main.proofs.CommandsDone.{promised}
 use Rattle.jolie_main.proofs.top.run.Goals as goal
 
 pub returns-in-Command : goal.returns-in-Command

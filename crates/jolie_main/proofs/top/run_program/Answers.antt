@@ -1,7 +1,7 @@
 -- The record is what was done over the lines, and the two entries behind it.
 use Rattle.std.proofs.Common.{refl}
-use Rattle.jolie_main.proofs.EndLemmas.{begun}
-use Rattle.jolie_main.proofs.RecordLemmas.{recorded, bytes_told, closed, one_front}
+use Rattle.jolie_main.proofs.BeginningAndEnd.{begun}
+use Rattle.jolie_main.proofs.RunRecords.{recorded, bytes_told, closed, one_front}
 use Rattle.jolie_main.specs.Deeds.{deeds_of}
 use Rattle.jolie_main.proofs.top.run_program.Goals as goal
 

@@ -1,5 +1,5 @@
 -- A text that is not run is refused.
-use Rattle.jolie_main.proofs.CommandLemmas.{run_refused}
+use Rattle.jolie_main.proofs.CommandsDone.{run_refused}
 use Rattle.jolie_main.proofs.top.run_text.Goals as goal
 
 pub returns-in-Err : goal.returns-in-Err

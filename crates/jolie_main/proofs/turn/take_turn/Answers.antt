@@ -1,6 +1,6 @@
 -- Each accepted message of the turn has its answer, and afterwards each session that was born has run.
 use Rattle.std.proofs.Common.{◌∙◌, ap, sym, length, Result, Ok, Err, OnOk, arith}
-use Rattle.jolie_main.proofs.ServingLemmas.{serves_sessions, births-collected}
+use Rattle.jolie_main.proofs.ServedInOrder.{serves_sessions, births-collected}
 use Rattle.jolie_main.proofs.turn.take_turn.Goals as goal
 
 whatever : {T E P : Type 0} (r : Result T E) → P → OnOk r P

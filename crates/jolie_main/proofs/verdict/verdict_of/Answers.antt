@@ -1,5 +1,5 @@
 -- A text whose tokens are no file.
-use Rattle.jolie_main.proofs.VerdictLemmas.{fits, refused_by_parse}
+use Rattle.jolie_main.proofs.ReadOrRefused.{fits, refused_by_parse}
 use Rattle.jolie_main.proofs.verdict.verdict_of.Goals as goal
 
 pub returns : goal.returns

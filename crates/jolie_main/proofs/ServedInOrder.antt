@@ -10,7 +10,7 @@ use Rattle.jolie_main.specs.declared.session.Lived.{Lived}
 use Rattle.jolie_main.specs.Mails.{IsNext}
 use Rattle.jolie_main.specs.Messages.{accepted_in, messages, births, asks_answer, operation_of, is_request}
 use Rattle.jolie_main.specs.Turns.{Deeds, deeds, Serves, none_served, one_served, session_entries, collect_entries, outcome_of, IsLived, IsWholeRun, IsWholeSession}
-use Rattle.jolie_main.proofs.MessagesLemmas.{births-aside, filter_map-aside, session_messages, collect_messages}
+use Rattle.jolie_main.proofs.GrowingHistories.{births-aside, filter_map-aside, session_messages, collect_messages}
 
 -- the births stay where answers are collected
 pub births-collected : (h h1 : List Entry) (m : ℕ) (os : List Outcome) → h1 ≡ h ++ collect_entries m os → births h1 ≡ births h

@@ -12,7 +12,7 @@ use Rattle.jolie_main.specs.Written.{most_postings, postings_by, line_if, IsFron
 use Rattle.jolie_main.specs.Turns.{Deeds, Turn, no_deeds, Did, nothing_yet, one_more}
 use Rattle.jolie_main.specs.Progress.{IsUnderWay, IsStopped, Goes, Sends, AllOrFault}
 use Rattle.jolie_main.specs.Ends.{IsDone}
-use Rattle.jolie_main.proofs.SplitLemmas.{split-open, split-append, split-take, split-take_newline, split-take_byte}
+use Rattle.jolie_main.proofs.LinesAcrossPieces.{split-open, split-append, split-take, split-take_newline, split-take_byte}
 
 -- ---- the postings of more lines
 

@@ -19,7 +19,7 @@ use Rattle.jolie_main.specs.Messages.{messages, births, is_request, was_request,
 use Rattle.jolie_main.specs.Replies.{is_empty, is_open, given_by, answers_after, answers, first_answer, answer_of}
 use Rattle.jolie_main.specs.Legal.{first_worker}
 use Rattle.jolie_main.specs.Turns.{entry, session_entries, closing_entries, outcome_of, IsLived}
-use Rattle.jolie_main.proofs.MessagesLemmas.{list_any-aside, filter_map-aside, was_request_is, was_request-unborn}
+use Rattle.jolie_main.proofs.GrowingHistories.{list_any-aside, filter_map-aside, was_request_is, was_request-unborn}
 
 -- the answers of a longer list of later entries
 pub answers_after-append : (parts : ProgramParts) (m : ℕ) (h xs ys : List Entry) → answers_after parts m h (xs ++ ys) ≡ answers_after parts m h xs ++ answers_after parts m (h ++ xs) ys

@@ -3,7 +3,7 @@ use Rattle.std.proofs.Common.{◌≡◌, refl, sym, subst, ◌∙◌, ℕ, Bool,
 use Rattle.std.specs.Io.KnownBytes.{Appends}
 use Rattle.jolie_main.specs.Outside.{stream, IsSaid}
 use Rattle.jolie_main.specs.Progress.{Sends, AllOrFault}
-use Rattle.jolie_main.proofs.KnownLemmas.{TakenAsWritten, Appends-nil}
+use Rattle.jolie_main.proofs.GivenAndTaken.{TakenAsWritten, Appends-nil}
 
 -- a text that was written from the first byte on
 pub said_so : (all : Bool) (text v w : List ℕ) (taken taken_now : Option (List ℕ)) (faults faults_now : ℕ) → v ≡ [] → Sends all text v w → TakenAsWritten taken v taken_now w → AllOrFault all faults faults_now

@@ -12,7 +12,7 @@ use Rattle.jolie_main.specs.declared.history.PostReply.{PostReply}
 use Rattle.jolie_main.specs.declared.history.PostReply.TheVariants as reply
 use Rattle.jolie_main.specs.Replies.{answer_of}
 use Rattle.jolie_main.specs.Written.{posts_of, posts_from, reply_in, first_of, reply_to, said_if, said_of, has_id, said_to, text_of, texts_of, response_of, line_if, posting_line, lines_from}
-use Rattle.jolie_main.proofs.MessagesLemmas.{filter_map-aside}
+use Rattle.jolie_main.proofs.GrowingHistories.{filter_map-aside}
 
 -- a call by its parts
 abbrev pub call_with : Id → Result (List ℕ × Tree) Early → ReadCall

@@ -12,7 +12,7 @@ use Rattle.jolie_main.specs.Mails.{IsTakenBy}
 use Rattle.jolie_main.specs.Messages.{births, entry_weight, total_weight, operation_of}
 use Rattle.jolie_main.specs.Route.{most_sessions, is_full, started, routed_to, routed}
 use Rattle.jolie_main.specs.Starting.{is_starting}
-use Rattle.jolie_main.proofs.MessagesLemmas.{births-append}
+use Rattle.jolie_main.proofs.GrowingHistories.{births-append}
 
 -- the births of a history with one entry more
 pub births_more : (h : List Entry) (e : Entry) → births (h ++ e ∷ []) ≡ births h + births (e ∷ [])

@@ -16,7 +16,7 @@ use Rattle.jolie_main.specs.Messages.{accepted_in, messages, births}
 use Rattle.jolie_main.specs.Route.{routed}
 use Rattle.jolie_main.specs.Turns.{entry}
 use Rattle.jolie_main.specs.Written.{message_to}
-use Rattle.jolie_main.proofs.OfficeLemmas.{routed-accepted}
+use Rattle.jolie_main.proofs.Acceptance.{routed-accepted}
 
 -- the messages of a history with a post more, which was accepted
 messages-accepted : (h : List Entry) (actor j i m : ℕ) (posted : Posted) → messages (h ++ entry actor (act.Post j i posted (reply.Accepted m)) ∷ []) ≡ messages h ++ posted ∷ []

@@ -21,9 +21,9 @@ use Rattle.jolie_main.specs.Route.{routed}
 use Rattle.jolie_main.specs.Legal.{first_worker}
 use Rattle.jolie_main.specs.Written.{post_in, posts, message_to, post_of, posts_of, reply_in, first_of}
 use Rattle.jolie_main.specs.Turns.{entry, post_entry, call_entries, after_posts, session_entries, collect_entries, Deeds, Serves, none_served, one_served}
-use Rattle.jolie_main.proofs.MessagesLemmas.{filter_map-aside, births-append}
-use Rattle.jolie_main.proofs.WrittenLemmas.{call_with}
-use Rattle.jolie_main.proofs.OfficeLemmas.{routed-accepted}
+use Rattle.jolie_main.proofs.GrowingHistories.{filter_map-aside, births-append}
+use Rattle.jolie_main.proofs.WrittenLines.{call_with}
+use Rattle.jolie_main.proofs.Acceptance.{routed-accepted}
 
 -- ---- entries that post nothing
 

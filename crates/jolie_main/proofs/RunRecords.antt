@@ -20,7 +20,7 @@ use Rattle.jolie_main.specs.Ends.{IsFinished, status}
 use Rattle.jolie_main.specs.Closing.{HasBytes}
 use Rattle.jolie_main.specs.Headline.{Ran, ServesLines, IsRecord}
 use Rattle.jolie_main.proofs.DidLaws.{Did-sessions, Did-legal, Did-answered, Did-still, Did-written, Did-cut}
-use Rattle.jolie_main.proofs.KnownLemmas.{TakenAsWritten, Appends-nil}
+use Rattle.jolie_main.proofs.GivenAndTaken.{TakenAsWritten, Appends-nil}
 
 -- what was done, with the lines that it serves, is the record
 recorded_with : (parts : ProgramParts) (all : List Read) (deeds : Deeds) (bytes : List ℕ) (s : ℕ) (run : Record) (traffic : Traffic) (left : Option (List ℕ)) → Did parts all deeds bytes

@@ -9,9 +9,9 @@ use Rattle.jolie_main.specs.Deeds.{deeds_of}
 use Rattle.jolie_main.specs.Turns.{Deeds, no_deeds}
 use Rattle.jolie_main.specs.Progress.{IsUnderWay}
 use Rattle.jolie_main.specs.Ends.{IsFinished}
-use Rattle.jolie_main.proofs.SplitLemmas.{IsOpen-split}
-use Rattle.jolie_main.proofs.ProgressLemmas.{under_way-start}
-use Rattle.jolie_main.proofs.KnownLemmas.{Consumes-nil, Consumes-trans}
+use Rattle.jolie_main.proofs.LinesAcrossPieces.{IsOpen-split}
+use Rattle.jolie_main.proofs.LineByLine.{under_way-start}
+use Rattle.jolie_main.proofs.GivenAndTaken.{Consumes-nil, Consumes-trans}
 
 -- before the first line
 pub begun : (parts : ProgramParts) (p : ℕ) (d : Deeds) (w : List ℕ) → p ≡ 0 → d ≡ no_deeds → w ≡ [] → IsUnderWay parts [] p d w

@@ -19,8 +19,8 @@ use Rattle.jolie_main.specs.Route.{routed}
 use Rattle.jolie_main.specs.Replies.{is_empty, is_open, answers, answers_after, first_answer}
 use Rattle.jolie_main.specs.Legal.{first_worker, IsOfSession, IsLegalAct, AreLegalAfter}
 use Rattle.jolie_main.specs.Turns.{entry, session_entries, closing_entries, outcome_of, IsLived}
-use Rattle.jolie_main.proofs.MessagesLemmas.{list_any-aside, message_kept, was_request_is}
-use Rattle.jolie_main.proofs.RepliesLemmas.{IsSeen, seen_on, seen_as, at_birth, is_taken_by, replies_by, is_open-unasked}
+use Rattle.jolie_main.proofs.GrowingHistories.{list_any-aside, message_kept, was_request_is}
+use Rattle.jolie_main.proofs.SessionsSeen.{IsSeen, seen_on, seen_as, at_birth, is_taken_by, replies_by, is_open-unasked}
 
 -- legal entries after legal entries
 pub AreLegalAfter-append : (parts : ProgramParts) (h xs ys : List Entry) → AreLegalAfter parts h xs → AreLegalAfter parts (h ++ xs) ys → AreLegalAfter parts h (xs ++ ys)

@@ -20,13 +20,13 @@ use Rattle.jolie_main.specs.Route.{routed}
 use Rattle.jolie_main.specs.Replies.{first_answer, answer_of}
 use Rattle.jolie_main.specs.Written.{post_in, posts, posts_of, posts_from, message_to, reply_in, first_of, reply_to, said_if, said_of, has_id, text_of, texts_of, response_of, response, line_if, lines_from}
 use Rattle.jolie_main.specs.Turns.{post_entry, call_entries, fate_of_reply, fates, collect_entries, texts_by, Deeds, Turn, Did, nothing_yet, one_more}
-use Rattle.jolie_main.proofs.MessagesLemmas.{filter_map-aside, births-append}
-use Rattle.jolie_main.proofs.WrittenLemmas.{call_with, posts_from-more, lines_from-more, text_of-same, lines_from-same, reply_to-aside, reply_to-first}
-use Rattle.jolie_main.proofs.PostedLemmas.{PostNothing, PostNothing-append, collects_post_nothing, serves_nothing, post_entries, first_reply}
-use Rattle.jolie_main.proofs.PostedLemmas as post
-use Rattle.jolie_main.proofs.RepliesLemmas.{AreAnswers, KeepsAnswers, answer_kept}
-use Rattle.jolie_main.proofs.QuietLemmas.{IsUnposted}
-use Rattle.jolie_main.proofs.OfficeLemmas.{routed-accepted}
+use Rattle.jolie_main.proofs.GrowingHistories.{filter_map-aside, births-append}
+use Rattle.jolie_main.proofs.WrittenLines.{call_with, posts_from-more, lines_from-more, text_of-same, lines_from-same, reply_to-aside, reply_to-first}
+use Rattle.jolie_main.proofs.PostedByTurns.{PostNothing, PostNothing-append, collects_post_nothing, serves_nothing, post_entries, first_reply}
+use Rattle.jolie_main.proofs.PostedByTurns as post
+use Rattle.jolie_main.proofs.SessionsSeen.{AreAnswers, KeepsAnswers, answer_kept}
+use Rattle.jolie_main.proofs.QuietHistories.{IsUnposted}
+use Rattle.jolie_main.proofs.Acceptance.{routed-accepted}
 use Rattle.jolie_main.proofs.SoundMoments.{IsSettled}
 use Rattle.jolie_main.proofs.SettledTurns.{did_settled, did_unposted, turn_births, turn_kept, turn_answers}
 

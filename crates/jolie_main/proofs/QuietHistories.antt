@@ -17,7 +17,7 @@ use Rattle.jolie_main.specs.Messages.{births, has_ended, was_adopted, stops, has
 use Rattle.jolie_main.specs.Quiet.{before_stop, IsQuiet, posts_for, before_posts}
 use Rattle.jolie_main.specs.Legal.{first_worker}
 use Rattle.jolie_main.specs.Turns.{entry, session_entries, collect_entries}
-use Rattle.jolie_main.proofs.MessagesLemmas.{list_any-aside}
+use Rattle.jolie_main.proofs.GrowingHistories.{list_any-aside}
 
 -- what did end does not live
 not_live : (born ended : Bool) → (born ≡ true → ended ≡ true) → (born && not ended) ≡ true → ⊥

@@ -14,8 +14,8 @@ use Rattle.jolie_main.specs.Messages.{is_request, delivered, queue}
 use Rattle.jolie_main.specs.Legal.{first_worker}
 use Rattle.jolie_main.specs.Sessions.{ActAfter, is_call_of, calls_from, calls_of_after, calls_of, IsMessage, AreCalls, IsSession}
 use Rattle.jolie_main.specs.Turns.{entry, session_entries, session_calls, closing_entries, IsWholeSession}
-use Rattle.jolie_main.proofs.RepliesLemmas.{at_birth}
-use Rattle.jolie_main.proofs.LegalLemmas.{IsServing, IsWaiting, when_adopted, when_taken, when_replied, adopted_serving, serving_queue}
+use Rattle.jolie_main.proofs.SessionsSeen.{at_birth}
+use Rattle.jolie_main.proofs.StaysLegal.{IsServing, IsWaiting, when_adopted, when_taken, when_replied, adopted_serving, serving_queue}
 
 -- a call stands before the later ones
 call_first : (b : Bool) (p : ActAfter) (xs ys : List ActAfter) → (if b then p ∷ (xs ++ ys) else (xs ++ ys)) ≡ (if b then p ∷ xs else xs) ++ ys
