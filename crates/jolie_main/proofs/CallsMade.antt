@@ -16,7 +16,7 @@ use Rattle.jolie_main.specs.declared.session.Lived.{Lived}
 use Rattle.jolie_main.specs.declared.session.Lived.TheVariants as lived
 use Rattle.jolie_main.specs.BuiltPrograms.{IsBuiltProgram}
 use Rattle.jolie_main.specs.Messages.{asks_answer}
-use Rattle.jolie_main.specs.Serving.{next_of, GoesOn}
+use Rattle.jolie_main.specs.SessionSteps.{next_of, GoesOn}
 use Rattle.jolie_main.specs.Sessions.{Call, asks, calls_from}
 use Rattle.jolie_main.specs.Stages.{Stage, to_take, to_answer, to_end, stage_after, StandsAt, HasEnded, Came, HasTaken, AsksFor}
 use Rattle.jolie_main.specs.Starting.{starting_operations}

@@ -7,7 +7,7 @@ use Rattle.behaviour_tree.specs.declared.words.Need.{Need}
 use Rattle.behaviour_tree.specs.declared.words.Given.{Given}
 use Rattle.behaviour_tree.specs.Data.{ProgramParts}
 use Rattle.behaviour_tree.specs.After.{Config, Done, after, HasEvent}
-use Rattle.jolie_main.specs.Serving.{next_of}
+use Rattle.jolie_main.specs.SessionSteps.{next_of}
 use Rattle.jolie_main.specs.Stages.{AsksFor}
 
 -- what is said of a session's need

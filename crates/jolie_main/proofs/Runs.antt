@@ -13,7 +13,7 @@ use Rattle.behaviour_tree.specs.declared.words.Given.TheVariants as given
 use Rattle.behaviour_tree.specs.Data.{ProgramParts}
 use Rattle.behaviour_tree.specs.After.{Config, Done, after}
 use Rattle.behaviour_tree.specs.Runs.{TakenStep, Leads, start_of}
-use Rattle.jolie_main.specs.Serving.{next_of, GoesOn}
+use Rattle.jolie_main.specs.SessionSteps.{next_of, GoesOn}
 use Rattle.jolie_main.specs.Sessions.{Call, asks, call_if, calls_from}
 use Rattle.jolie_main.specs.Stages.{Stage, StandsAt, Came, AsksFor}
 use Rattle.jolie_main.proofs.InwardForms.{left_of}

@@ -1,4 +1,4 @@
--- How the lines of a source ended, and why.
+-- How the lines of a source ended, what was done and answered by then, and the cause and the status that each end has.
 use Rattle.std.specs.Prelude.{◌≡◌, ℕ, List}
 use Rattle.outside_traits.specs.Causes.{Rose}
 use Rattle.behaviour_tree.specs.Data.{ProgramParts}

@@ -11,7 +11,7 @@ pub mod Written
 pub mod Turns
 pub mod Mails
 pub mod Stages
-pub mod Serving
+pub mod SessionSteps
 pub mod Sentences
 pub mod Commands
 pub mod Usage

@@ -1,4 +1,4 @@
--- The lines of bytes.
+-- Which lines bytes have: those that have their end, all of them, and those that are not blank.
 use Rattle.std.specs.Prelude.{◌≢◌, ℕ, ◌==◌, ◌||◌, List, [], ◌∷◌, ◌++◌, Bool, not, if◌then◌else◌}
 use Rattle.std.specs.List.{filter, list_all}
 

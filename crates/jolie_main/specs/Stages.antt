@@ -13,7 +13,7 @@ use Rattle.behaviour_tree.specs.After.{Config, Done, ops_of}
 use Rattle.behaviour_tree.specs.Runs.{TakenStep, RunsTo, start_of}
 use Rattle.jolie_main.specs.BuiltPrograms.{are_inward, are_served, begins_with_input}
 use Rattle.jolie_main.specs.Messages.{asks_answer}
-use Rattle.jolie_main.specs.Serving.{next_of}
+use Rattle.jolie_main.specs.SessionSteps.{next_of}
 use Rattle.jolie_main.specs.Sessions.{Call, calls_from}
 use Rattle.jolie_main.specs.Starting.{first_input}
 use Rattle.jolie_main.specs.Turns.{taking}

@@ -8,7 +8,7 @@ ghost use Rattle.behaviour_tree.specs.PartsView.{parts_of};
 ghost use Rattle.behaviour_tree.specs.declared.words.Given.{Given as Gift};
 ghost use Rattle.jolie_main.specs.BuiltPrograms.{IsBuiltProgram};
 ghost use Rattle.jolie_main.specs.Messages.{asks_answer};
-ghost use Rattle.jolie_main.specs.Serving.{next_of, GoesOn};
+ghost use Rattle.jolie_main.specs.SessionSteps.{next_of, GoesOn};
 ghost use Rattle.jolie_main.specs.Sessions.{Call, asks};
 ghost use Rattle.jolie_main.specs.Stages.{Stage, to_take, to_end, StandsAt, HasEnded, Came, HasTaken, AsksFor};
 ghost use Rattle.jolie_main.specs.Starting.{starting_operations};

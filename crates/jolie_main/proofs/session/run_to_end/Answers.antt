@@ -3,7 +3,7 @@ use Rattle.std.proofs.Common.{List, [], ◌∷◌, ◌++◌}
 use Rattle.std.proofs.lemmas.Result.{IfOk-weaker}
 use Rattle.behaviour_tree.specs.PartsView.{parts_of}
 use Rattle.behaviour_tree.specs.declared.words.Given.TheVariants as given
-use Rattle.jolie_main.specs.Serving.{GoesOn}
+use Rattle.jolie_main.specs.SessionSteps.{GoesOn}
 use Rattle.jolie_main.specs.Sessions.{Call}
 use Rattle.jolie_main.specs.Stages.{to_end, StandsAt, HasEnded, Came}
 use Rattle.jolie_main.specs.Turns.{ending}
