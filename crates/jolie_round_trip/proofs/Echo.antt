@@ -13,16 +13,17 @@ pub record Echo {A B : Type 0} (kept : A → B) (s : Syn A) (v : A) (out : List 
   pub spelt : spellings lexemes ≡ out
   pub read : (us : List Spelled) → lexemes_of us ≡ lexemes → (w : A) × Derives Nested s us w × (kept w ≡ kept v)
 
+-- what has no lexemes has no tokens
+pub none_left : (us : List Spelled) → lexemes_of us ≡ [] → us ≡ []
+none_left [] e = refl
+none_left (u ∷ us) e = cc
+
 -- what is kept of a pair
 abbrev pub pair_kept : {A B C D : Type 0} → (A → B) → (C → D) → A × C → B × D
 pair_kept f g w = (f w.0, g w.1)
 
 pub echo_give : {A B : Type 0} (kept : A → B) (a : A) → Echo kept (give a) a []
-echo_give kept a = record { lexemes = []; printed = tt; spelt = refl; read = λ us e. (a, (nothing us e, refl), refl) }
-  where
-    nothing : (us : List Spelled) → lexemes_of us ≡ [] → us ≡ []
-    nothing [] e = refl
-    nothing (u ∷ us) e = cc
+echo_give kept a = record { lexemes = []; printed = tt; spelt = refl; read = λ us e. (a, (none_left us e, refl), refl) }
 
 module _ {A B C D : Type 0} {kept : A → B} {also : C → D} {s : Syn A} {t : Syn C} {v : A} {u : C} {x y : List Token} (a : Echo kept s v x) (b : Echo also t u y) where
   both_read : (us : List Spelled) → Split us a.lexemes b.lexemes → (w : A × C) × Derives Nested (both s t) us w × (pair_kept kept also w ≡ pair_kept kept also (v, u))
@@ -87,11 +88,7 @@ module _ {A B : Type 0} {kept : A → B} {s : Syn A} {v : A} {x : List Token} (a
   echo_as y same = record { lexemes = a.lexemes; printed = a.printed; spelt = a.spelt ∙ same; read = a.read }
 
 pub echo_nil : {A B : Type 0} (kept : A → B) (s : Syn A) → Echo (map kept) (many s) [] []
-echo_nil kept s = record { lexemes = []; printed = tt; spelt = refl; read = λ us e. ([], nothing us e, refl) }
-  where
-    nothing : (us : List Spelled) → lexemes_of us ≡ [] → us ≡ []
-    nothing [] e = refl
-    nothing (u ∷ us) e = cc
+echo_nil kept s = record { lexemes = []; printed = tt; spelt = refl; read = λ us e. ([], none_left us e, refl) }
 
 module _ {A B : Type 0} {kept : A → B} {s : Syn A} {v : A} {vs : List A} {x y : List Token} (a : Echo kept s v x) (b : Echo (map kept) (many s) vs y) where
   cons_read : (us : List Spelled) → Split us a.lexemes b.lexemes → (w : List A) × Derives Nested (many s) us w × (map kept w ≡ map kept (v ∷ vs))

@@ -5,14 +5,10 @@ use Rattle.jolie_parse.specs.declared.class.Class.{Class}
 use Rattle.jolie_parse.specs.Classes.{Spelled, class, has}
 use Rattle.jolie_parse.specs.Syntax.{token, inside, prefix, Part, Meant, Derives}
 use Rattle.jolie_parse.specs.Grammar.{production}
-use Rattle.jolie_round_trip.proofs.Lexemes.{Lexeme, lexeme_of, lexemes_of, lexeme_class, spellings-append, IsPrinted, Every-append, Begun, begun, Split, split}
+use Rattle.jolie_round_trip.proofs.Lexemes.{Lexeme, lexeme_of, lexeme_class, spellings-append, IsPrinted, Every-append, Begun, begun, Split, split}
 use Rattle.jolie_round_trip.proofs.Nesting.{Nested, nested}
-use Rattle.jolie_round_trip.proofs.Echo.{Echo}
+use Rattle.jolie_round_trip.proofs.Echo.{Echo, none_left}
 use Rattle.jolie_round_trip.proofs.Parts.{part_placeless}
-
-none_left : (us : List Spelled) → lexemes_of us ≡ [] → us ≡ []
-none_left [] e = refl
-none_left (u ∷ us) e = cc
 
 alone : (us : List Spelled) (l : Lexeme) (b : Begun us l []) → us ≡ b.head ∷ []
 alone us l b = b.whole ∙ ap (λ z. b.head ∷ z) (none_left b.tail b.is_tail)

@@ -1,6 +1,7 @@
 -- Which pieces may stand before a blank: each that is a token.
 use Rattle.std.proofs.Common.{◌≡◌, ℕ, ◌≤◌, Bool, true, false, ◌||◌, ◌&&◌, not, List, [], ◌∷◌, ◌++◌, length, refl, sym, ap, ◌∙◌, arith, Some}
 use Rattle.std.specs.Prelude.{◌==◌}
+use Rattle.std.proofs.lemmas.Bool.{and_parts}
 use Rattle.std.proofs.lemmas.Bool.Decides.{nat_tests}
 use Rattle.jolie_tokens.specs.declared.sign.Sign.{Sign}
 use Rattle.jolie_tokens.specs.declared.sign.Sign.TheVariants as sign
@@ -69,23 +70,18 @@ sign_has_no_blank sign.Hash = refl
 sign_has_no_blank sign.At = refl
 sign_has_no_blank sign.Question = refl
 
-both_true : (a b : Bool) → a && b ≡ true → (a ≡ true) × (b ≡ true)
-both_true true true e = (refl, refl)
-both_true true false e = absurd cc
-both_true false b e = absurd cc
-
 -- bytes without a blank that stand where these and a blank stand are no longer
 no_longer : (bs longer : List ℕ) (b : ℕ) (rest others : List ℕ) → is_blank b ≡ true → has_no_blank longer ≡ true → bs ++ b ∷ rest ≡ longer ++ others → length longer ≤ length bs
 no_longer bs [] b rest others blank none e = omega arith
 no_longer [] (c ∷ longer) b rest others blank none e =
     let same : b ≡ c = cc in
-    let here : not (is_blank c) ≡ true = (both_true (not (is_blank c)) (has_no_blank longer) none).0 in
+    let here : not (is_blank c) ≡ true = (and_parts (not (is_blank c)) (has_no_blank longer) none).0 in
     let there : is_blank c ≡ true = ap is_blank (sym same) ∙ blank in
     let never : not true ≡ true = ap not (sym there) ∙ here in
     absurd cc
 no_longer (d ∷ bs) (c ∷ longer) b rest others blank none e =
     let tails : bs ++ b ∷ rest ≡ longer ++ others = cc in
-    let le = no_longer bs longer b rest others blank (both_true (not (is_blank c)) (has_no_blank longer) none).1 tails in
+    let le = no_longer bs longer b rest others blank (and_parts (not (is_blank c)) (has_no_blank longer) none).1 tails in
     omega arith
 
 sign_is_longest : (s : Sign) (b : ℕ) (rest : List ℕ) → is_blank b ≡ true → IsLongest s (b ∷ rest)
