@@ -2,6 +2,7 @@
 use Rattle.std.specs.Prelude.{◌≡◌, ◌⊎◌, ℕ, Bool, true, false, List, [], ◌∷◌, Option, Some, None, option_map, option_and_then, find, refl, IfSome, Contains}
 use Rattle.std.specs.List.{AllByRecursion as Each}
 use Rattle.std.proofs.Common.{◌∙◌, ap, sym, subst, cond, inl, inr}
+use Rattle.std.proofs.lemmas.Bool.{false_from_ne_true}
 use Rattle.std.proofs.lemmas.Option.{none-some, same_Some}
 use Rattle.std.proofs.lemmas.List.Elements.{All-contains_itself, recursion_from_All}
 use Rattle.clap.specs.Walk.{Rule, Text, answers_to, rows_after, stop_after}
@@ -102,14 +103,9 @@ understood_entered line said e = record {
   of_file = λ c is. (line_has_command line c (sym e ∙ ap command_in is)).1;
 }
 
--- what is not so is not
-not_taken : (b : Bool) → (b ≡ true → ⊥) → b ≡ false
-not_taken true h = absurd (h refl)
-not_taken false h = refl
-
 pub understood_told : (line : List (List ℕ)) (said : Words) → (takes program line ≡ true → ⊥) → command_in said ≡ None → IsUnderstood line said
 understood_told line said fails none = record {
-  parsed = inr (not_taken (takes program line) fails, none);
+  parsed = inr (false_from_ne_true (takes program line) fails, none);
   plainly = λ c is. absurd (fails (plain_line_passes line c is));
   by_name = λ c is. absurd (none-some c (sym none ∙ ap command_in is));
   of_file = λ c is. absurd (none-some c (sym none ∙ ap command_in is));

@@ -1,5 +1,6 @@
 -- Session by session, until no mail is left.
-use Rattle.std.proofs.Common.{◌≡◌, ◌∙◌, [], ◌∷◌, length, List, sym, ap, refl, subst, arith, rules}
+use Rattle.std.proofs.Common.{◌≡◌, ◌∙◌, [], ◌∷◌, length, List, sym, ap, subst, arith, rules}
+use Rattle.std.proofs.lemmas.List.{nil_from_length}
 use Rattle.std.specs.Vec.Iter.{into_iter_items}
 use Rattle.behaviour_tree.specs.declared.words.Outcome.{Outcome}
 use Rattle.behaviour_tree.specs.PartsView.{parts_of}
@@ -9,10 +10,6 @@ use Rattle.jolie_main.specs.Turns.{Serves, none_served}
 use Rattle.jolie_main.proofs.WaitingMails.{waiting-next, waiting-rest, none_waits}
 use Rattle.jolie_main.proofs.ServedInOrder.{serves_join, serves_messages, serves_sessions}
 use Rattle.jolie_main.proofs.serving.serve_all.Goals as goal
-
-nothing_left : {X : Type 0} (xs : List X) → length xs ≡ 0 → xs ≡ []
-nothing_left [] e = refl
-nothing_left (x ∷ xs) e = absurd (omega arith)
 
 pub loop-mail-init : goal.loop-mail-init
 loop-mail-init c = record {
@@ -51,5 +48,5 @@ returns-clause-all c =
     let parts = parts_of c.args.program.now in
     let at = c.loop-mail in
     let none = c.in-None.ensures.steps in
-    let empty : into_iter_items at.mail-iterator ≡ [] = nothing_left _ (sym at.invariant.left ∙ none.0) in
+    let empty : into_iter_items at.mail-iterator ≡ [] = nil_from_length (into_iter_items at.mail-iterator) (sym at.invariant.left ∙ none.0) in
     none_waits parts (length at.deeds.sessions) at.deeds.office (subst (λ t. AreWaiting parts (length at.deeds.sessions) at.deeds.office t) empty at.invariant.waiting)
