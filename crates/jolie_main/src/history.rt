@@ -4,7 +4,7 @@ use behaviour_tree::{Outcome, Reason};
 use jolie_trees::{Root, Text, Tree};
 use sqlite_items::Items;
 
-/// A message as it comes in.
+/// A message as it comes in, to the first service, whose number is 0.
 #[derive(Drop)]
 pub struct Posted {
     pub service: u32,

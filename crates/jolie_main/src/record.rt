@@ -21,7 +21,7 @@ pub struct Record {
     pub traffic: Items<Traffic>,
 }
 
-/// How a run ended.
+/// How a call of the program ended: its status, one of those of `status`, and what a run did.
 #[derive(Drop)]
 pub struct Ended {
     pub status: u8,

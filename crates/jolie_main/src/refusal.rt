@@ -83,7 +83,8 @@ fn check_word(name: CheckName) -> &'static str
     }
 }
 
-/// Why a text is refused, and the place of the byte that is at fault.
+/// Why a text is refused, and the place of the byte that is at fault, counted from 0: that of the first byte too many where
+/// the text is too long, and 0 where its form does not run.
 #[derive(Clone, Copy, Debug, PartialEq, Eq)]
 pub struct Refusal {
     pub stage: Stage,

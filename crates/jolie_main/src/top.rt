@@ -25,7 +25,7 @@ use outside_traits::{CallError, Files, Sink, Source};
 use sqlite_items::Items;
 use std::alloc::{AllocError, Global};
 
-/// The most bytes that are read of a program.
+/// The most bytes that are read of a file: one more than a text may have, so that one that is too long shows.
 const MOST: u64 = 1_048_577;
 
 /// Does what the words of the command line say: `check FILE` says whether the file is a program, `print FILE` prints
