@@ -5,8 +5,7 @@ use Rattle.behaviour_tree.specs.Data.{ProgramParts}
 use Rattle.jolie_main.specs.declared.lines.End.{End}
 use Rattle.jolie_main.specs.declared.lines.Progress.{Progress}
 use Rattle.jolie_main.specs.Lines.{split, IsOpen}
-use Rattle.jolie_main.specs.Deeds.{deeds_of}
-use Rattle.jolie_main.specs.Turns.{Deeds, no_deeds}
+use Rattle.jolie_main.specs.Turns.{deeds_of, Deeds, no_deeds}
 use Rattle.jolie_main.specs.Progress.{IsUnderWay}
 use Rattle.jolie_main.specs.Ends.{IsFinished}
 use Rattle.jolie_main.proofs.LinesAcrossPieces.{IsOpen-split}

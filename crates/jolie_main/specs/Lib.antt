@@ -17,7 +17,6 @@ pub mod Commands
 pub mod Usage
 pub mod Verdicts
 pub mod Programs
-pub mod Deeds
 pub mod Progress
 pub mod Ends
 pub mod Closing

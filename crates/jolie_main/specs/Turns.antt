@@ -20,6 +20,7 @@ use Rattle.jolie_main.specs.declared.history.Act.TheVariants as act
 use Rattle.jolie_main.specs.declared.history.Posted.{Posted}
 use Rattle.jolie_main.specs.declared.history.PostReply.{PostReply}
 use Rattle.jolie_main.specs.declared.history.PostReply.TheVariants as reply
+use Rattle.jolie_main.specs.declared.turn.Deeds as declared
 use Rattle.jolie_main.specs.declared.turn.Fate.{Fate}
 use Rattle.jolie_main.specs.declared.turn.Fate.TheVariants as fate
 use Rattle.jolie_main.specs.declared.session.Lived.{Lived}
@@ -122,6 +123,10 @@ pub record Deeds : Type 0 where
 -- deeds from their parts
 abbrev pub deeds : List Entry → List (List Event) → Deeds
 deeds history sessions = record { history = history; sessions = sessions }
+
+-- the deeds that the program's own value has
+abbrev pub deeds_of : declared.Deeds → Deeds
+deeds_of d = record { history = d.office; sessions = d.sessions }
 
 -- the answer of a message whose session went so
 abbrev pub outcome_of : Bool → Lived → Outcome

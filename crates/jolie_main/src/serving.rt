@@ -3,10 +3,9 @@
 ghost use Rattle.std.specs.Prelude.{◌≡◌, ◌+◌, ◌∷◌, ◌++◌, [], IfOk, OnOk, length};
 ghost use Rattle.behaviour_tree.specs.PartsView.{parts_of};
 ghost use Rattle.jolie_main.specs.BuiltPrograms.{IsBuiltProgram};
-ghost use Rattle.jolie_main.specs.Deeds.{deeds_of};
 ghost use Rattle.jolie_main.specs.Mails.{AreWaiting, IsNext};
 ghost use Rattle.jolie_main.specs.Messages.{births};
-ghost use Rattle.jolie_main.specs.Turns.{Serves, collect_entries, outcome_of, session_entries};
+ghost use Rattle.jolie_main.specs.Turns.{deeds_of, Serves, collect_entries, outcome_of, session_entries};
 
 use crate::mail::Mail;
 use crate::office::Office;

@@ -5,8 +5,7 @@ ghost use Rattle.behaviour_tree.specs.PartsView.{parts_of};
 ghost use Rattle.jsonrpc_text.specs.Posted.{posted as read_of};
 ghost use Rattle.jolie_main.specs.BuiltPrograms.{IsBuiltProgram};
 ghost use Rattle.jolie_main.specs.Messages.{births};
-ghost use Rattle.jolie_main.specs.Turns.{Turn};
-ghost use Rattle.jolie_main.specs.Deeds.{deeds_of};
+ghost use Rattle.jolie_main.specs.Turns.{deeds_of, Turn};
 
 use crate::mail::{Posts, post_calls};
 use crate::office::Office;

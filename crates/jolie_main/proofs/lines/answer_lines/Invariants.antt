@@ -2,7 +2,7 @@ use Rattle.std.proofs.Common.{◌≡◌, ◌-◌, ◌^◌, vec_len}
 use Rattle.std.specs.Io.KnownBytes.{Consumes}
 use Rattle.behaviour_tree.specs.PartsView.{parts_of}
 use Rattle.jolie_main.specs.Lines.{split}
-use Rattle.jolie_main.specs.Deeds.{deeds_of}
+use Rattle.jolie_main.specs.Turns.{deeds_of}
 use Rattle.jolie_main.specs.Progress.{IsUnderWay}
 use Rattle.jolie_main.proofs.GivenAndTaken.{TakenAsWritten}
 use Rattle.jolie_main.proofs.lines.answer_lines.Given as goal

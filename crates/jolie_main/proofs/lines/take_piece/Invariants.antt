@@ -1,7 +1,7 @@
 use Rattle.std.proofs.Common.{◌≡◌, ◌++◌, ℕ, List, length, take}
 use Rattle.behaviour_tree.specs.PartsView.{parts_of}
 use Rattle.jolie_main.specs.Lines.{split}
-use Rattle.jolie_main.specs.Deeds.{deeds_of}
+use Rattle.jolie_main.specs.Turns.{deeds_of}
 use Rattle.jolie_main.specs.Messages.{births}
 use Rattle.jolie_main.specs.Progress.{IsUnderWay}
 use Rattle.jolie_main.proofs.GivenAndTaken.{TakenAsWritten}

@@ -4,9 +4,8 @@ use Rattle.std.proofs.lemmas.List.{nil_from_length}
 use Rattle.std.specs.Vec.Iter.{into_iter_items}
 use Rattle.behaviour_tree.specs.declared.words.Outcome.{Outcome}
 use Rattle.behaviour_tree.specs.PartsView.{parts_of}
-use Rattle.jolie_main.specs.Deeds.{deeds_of}
 use Rattle.jolie_main.specs.Mails.{AreWaiting}
-use Rattle.jolie_main.specs.Turns.{Serves, none_served}
+use Rattle.jolie_main.specs.Turns.{deeds_of, Serves, none_served}
 use Rattle.jolie_main.proofs.WaitingMails.{waiting-next, waiting-rest, none_waits}
 use Rattle.jolie_main.proofs.ServedInOrder.{serves_join, serves_messages, serves_sessions}
 use Rattle.jolie_main.proofs.serving.serve_all.Goals as goal

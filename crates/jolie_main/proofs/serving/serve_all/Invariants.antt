@@ -1,9 +1,8 @@
 use Rattle.std.proofs.Common.{◌≡◌, length}
 use Rattle.std.specs.Vec.Iter.{into_iter_items, into_iter_len}
 use Rattle.behaviour_tree.specs.PartsView.{parts_of}
-use Rattle.jolie_main.specs.Deeds.{deeds_of}
 use Rattle.jolie_main.specs.Mails.{AreWaiting}
-use Rattle.jolie_main.specs.Turns.{Serves}
+use Rattle.jolie_main.specs.Turns.{deeds_of, Serves}
 use Rattle.jolie_main.proofs.serving.serve_all.Given as goal
 
 abbrev pub invariant-loop-mail : goal.invariant-loop-mail

@@ -2,7 +2,7 @@
 use Rattle.std.proofs.Common.{refl}
 use Rattle.jolie_main.proofs.BeginningAndEnd.{begun}
 use Rattle.jolie_main.proofs.RunRecords.{recorded, bytes_told, closed, one_front}
-use Rattle.jolie_main.specs.Deeds.{deeds_of}
+use Rattle.jolie_main.specs.Turns.{deeds_of}
 use Rattle.jolie_main.proofs.top.run_program.Goals as goal
 
 pub answer_lines-requires-clause-nothing_yet : goal.answer_lines-requires-clause-nothing_yet
