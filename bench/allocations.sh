@@ -1,6 +1,6 @@
 #!/bin/sh
-# Refuses each allocation of twelve calls of the proved program in turn: each run has to end with status 9 and a part of the
-# right output at most. It needs a C compiler and a program that `rt ci` has proved, outside the gate: bench/allocations.sh
+# Refuses each allocation of calls of the proved program in turn, over the lines and texts of the worked rows: each run has to end with status 9 and a
+# part of the right output at most. It needs a C compiler and a program that `rt ci` has proved, outside the gate: bench/allocations.sh
 # shellcheck source=bench/common.sh
 . "$(dirname "$0")/common.sh"
 find_program
@@ -46,9 +46,42 @@ cat > "$work/calls.jsonl" <<'END'
 {"jsonrpc":"2.0","method":"twice","params":{"n":"x"},"id":3}
 x
 END
-printf 'service S { main { x = "a } }' > "$work/lex.ol"
-printf 'service S { main { x = } }' > "$work/parse.ol"
-printf 'service S { main { comp(q) } }' > "$work/check.ol"
+# What faults before it takes a message, and what it is called by.
+cat > "$work/faulty.ol" <<'END'
+interface GoI { RequestResponse: go(any)(any) OneWay: tell(any) }
+service Go {
+  execution: concurrent
+  inputPort In { location: "socket://localhost:8000" protocol: jsonrpc interfaces: GoI }
+  init { a = 1 / 0 }
+  main { [ go(x)(y) { y = 1 } ] { nullProcess } [ tell(x) ] { nullProcess } }
+}
+END
+cat > "$work/faulty.jsonl" <<'END'
+{"jsonrpc":"2.0","method":"go","id":1}
+{"jsonrpc":"2.0","method":"tell","id":1}
+END
+
+# Texts that are refused, one a line, by each name that a refusal has.
+cat > "$work/refused" <<'END'
+service S { main { x = "a } }
+service S { main { x = 1 } /*
+service S { main { x = 2147483648 } }
+service S { main { x = 1 ? } }
+service S { main { x = } }
+type A: int type A: int service S { main { nullProcess } }
+type A: B service S { main { nullProcess } }
+service S { main { go@P(1) } }
+service S { main { go(x) } }
+service S { main { println@Console(1) } }
+service S { main { csets.id = 1 } }
+type A: void { i: int j: int } interface I { OneWay: go(A) } service S { execution: concurrent inputPort P { location: "local://s" interfaces: I } cset { x: A.i } cset { y: A.j } main { go(a) } }
+service S { main { comp(q) } }
+service S { main { cH } }
+service S { execution: concurrent main { nullProcess } }
+service S { init { nullProcess } main { nullProcess } }
+END
+awk 'BEGIN { printf "service S { main { x = "; for (n = 0; n < 64; n++) printf "("; print "1 } }" }' >> "$work/refused"
+: > "$work/nothing"
 
 runs=0
 odd=0
@@ -58,7 +91,7 @@ call() {
     REFUSED=$1
     shift
     status=0
-    REFUSED=$REFUSED LD_PRELOAD="$work/malloc.so" "$program" "$@" < "$work/calls.jsonl" > "$work/output" 2> "$work/notes" || status=$?
+    REFUSED=$REFUSED LD_PRELOAD="$work/malloc.so" "$program" "$@" < "$input" > "$work/output" 2> "$work/notes" || status=$?
 }
 
 # Whether a file is the beginning of another.
@@ -83,14 +116,22 @@ each() {
     done
 }
 
-each check "$top/examples/order.ol"
-each print "$top/examples/order.ol"
+input=$work/calls.jsonl
 each run "$top/examples/twice.ol"
 each run "$top/examples/order.ol"
-each check "$top/examples/twice.ol"
-each check "$work/lex.ol"
-each check "$work/parse.ol"
-each check "$work/check.ol"
+input=$top/examples/calculator.jsonl
+each run "$top/examples/calculator.ol"
+input=$work/faulty.jsonl
+each run "$work/faulty.ol"
+input=$work/nothing
+for example in "$top"/examples/*.ol; do
+    each check "$example"
+    each print "$example"
+done
+while IFS= read -r text; do
+    printf '%s' "$text" > "$work/refused.ol"
+    each check "$work/refused.ol"
+done < "$work/refused"
 each check "$work/none.ol"
 each check
 each --help
