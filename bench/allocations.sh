@@ -66,7 +66,7 @@ cat > "$work/refused" <<'END'
 service S { main { x = "a } }
 service S { main { x = 1 } /*
 service S { main { x = 2147483648 } }
-service S { main { x = 1 ? } }
+service S { main { x = 1 $ } }
 service S { main { x = } }
 type A: int type A: int service S { main { nullProcess } }
 type A: B service S { main { nullProcess } }
