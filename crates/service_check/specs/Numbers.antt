@@ -3,7 +3,7 @@ use Rattle.std.specs.Prelude.{◌≡◌, ℕ, List, [], ◌∷◌, Option, optio
 use Rattle.std.specs.List.{slice_get}
 use Rattle.service_check.specs.declared.numbers.NumberedPort as kept
 use Rattle.service_check.specs.declared.numbers.Numbers.{Numbers}
-use Rattle.service_check.specs.declared.numbers.Outlet.{Outlet}
+use Rattle.service_check.specs.declared.numbers.NumberedOperation.{NumberedOperation}
 use Rattle.service_check.specs.declared.numbers.Ports.{Ports}
 use Rattle.service_check.specs.Behaviours.{NumberedPort, Numbering}
 use Rattle.service_check.specs.Files.{place_in}
@@ -24,5 +24,5 @@ abbrev pub numbering_of : Numbers → List (List ℕ) → Numbering
 numbering_of n names = record { inputs = n.inputs; ports = named_ports n.ports.names n.ports.numbered.items; console = n.console; variables = n.variables; names = names }
 
 -- an operation of an output port by the numbers of both
-abbrev pub IsOutlet : Outlet → NumberedPort → List ℕ → Type 0
-IsOutlet o port operation = (o.port ≡ port.number) × (o.op ≡ place_in port.operations operation)
+abbrev pub IsNumberedOperation : NumberedOperation → NumberedPort → List ℕ → Type 0
+IsNumberedOperation o port operation = (o.port ≡ port.number) × (o.op ≡ place_in port.operations operation)

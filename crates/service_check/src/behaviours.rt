@@ -9,7 +9,7 @@ ghost use Rattle.service_check.specs.Numbers.{numbering_of};
 
 use crate::expressions::{meant_expr, meant_if_written, meant_path};
 use crate::names::Names;
-use crate::numbers::{Numbers, Outlet, number};
+use crate::numbers::{NumberedOperation, Numbers, number};
 use behaviour_tree::{
     Behaviour, Branch, Expr, Handler, HandlerKey, Handlers, PathExpr, ReplyPart, SumOp, SumPart,
 };
@@ -200,9 +200,9 @@ pub fn meant_process(
             value,
             answer,
         } => {
-            let outlet = numbers.outlet(port.text.as_str(), operation.text.as_str())?;
+            let numbered = numbers.numbered_operation(port.text.as_str(), operation.text.as_str())?;
             let value = meant_if_written(alloc, value)?;
-            meant_output(alloc, answer, outlet, value, numbers, names)
+            meant_output(alloc, answer, numbered, value, numbers, names)
         }
         Process::Scope { name, body, .. } => {
             let name = number(names, name.text.as_str())?;
@@ -472,24 +472,24 @@ fn meant_reply(
 fn meant_output(
     alloc: Global,
     answer: &Option<Answer>,
-    outlet: Outlet,
+    operation: NumberedOperation,
     value: Expr,
     numbers: &Numbers<'_>,
     names: &Names<'_>,
 ) -> Result<Behaviour, AllocError>
-    ensures { IfOk result (λ p. behaviour_view p ≡ sent outlet.port outlet.op (expr_view value) (option_map (meant_answer (numbering_of numbers.now names.now)) answer.now)) }
+    ensures { IfOk result (λ p. behaviour_view p ≡ sent operation.port operation.op (expr_view value) (option_map (meant_answer (numbering_of numbers.now names.now)) answer.now)) }
 {
     match answer {
         None => Ok(Behaviour::Notify {
-            port: outlet.port,
-            op: outlet.op,
+            port: operation.port,
+            op: operation.op,
             value,
         }),
         Some(answer) => {
             let target = meant_target(alloc, &answer.path)?;
             Ok(Behaviour::Solicit {
-                port: outlet.port,
-                op: outlet.op,
+                port: operation.port,
+                op: operation.op,
                 value,
                 target,
                 handlers: answer_handlers(alloc, answer, numbers, names)?,

@@ -2,7 +2,7 @@ ghost use Rattle.std.specs.Prelude.{◌≡◌, [], IfOk};
 ghost use Rattle.std.specs.Option.{option_copied};
 ghost use Rattle.service_check.specs.Behaviours.{console_port, meant_port};
 ghost use Rattle.service_check.specs.Files.{place_in};
-ghost use Rattle.service_check.specs.Numbers.{IsOutlet, numbering_of, port_kept};
+ghost use Rattle.service_check.specs.Numbers.{IsNumberedOperation, numbering_of, port_kept};
 
 use crate::names::Names;
 use crate::port_rules::CONSOLE;
@@ -34,7 +34,7 @@ pub struct Numbers<'a> {
 
 /// An operation of an output port, by the numbers of both.
 #[derive(Clone, Copy)]
-pub struct Outlet {
+pub struct NumberedOperation {
     pub port: u32,
     pub op: u32,
 }
@@ -54,27 +54,31 @@ impl<'a> Ports<'a> {
 impl<'a> Numbers<'a> {
     /// The operation of an output port, where a service has no other of that name its console.
     #[tactic(auto, using(crate::proofs::Outlets::port_found))]
-    pub fn outlet(&self, port: &str, operation: &str) -> Result<Outlet, AllocError>
-        ensures { IfOk result (λ o. IsOutlet o (meant_port (numbering_of self.now []) port.now) operation.now) }
+    pub fn numbered_operation(
+        &self,
+        port: &str,
+        operation: &str,
+    ) -> Result<NumberedOperation, AllocError>
+        ensures { IfOk result (λ o. IsNumberedOperation o (meant_port (numbering_of self.now []) port.now) operation.now) }
     {
         if port == CONSOLE {
-            return Ok(self.console_outlet(operation));
+            return Ok(self.console_operation(operation));
         }
         match self.ports.get(port) {
-            Some(port) => Ok(Outlet {
+            Some(port) => Ok(NumberedOperation {
                 port: port.number,
                 op: number(&port.operations, operation)?,
             }),
-            None => Ok(self.console_outlet(operation)),
+            None => Ok(self.console_operation(operation)),
         }
     }
 
     /// An operation of the port that every service has.
-    fn console_outlet(&self, operation: &str) -> Outlet
-        ensures { IsOutlet result (console_port (numbering_of self.now [])) operation.now }
+    fn console_operation(&self, operation: &str) -> NumberedOperation
+        ensures { IsNumberedOperation result (console_port (numbering_of self.now [])) operation.now }
     {
         let op = if operation == "println" { 0 } else { 1 };
-        Outlet {
+        NumberedOperation {
             port: self.console,
             op,
         }
