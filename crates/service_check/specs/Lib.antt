@@ -6,7 +6,6 @@ pub mod DeclaredOperations
 pub mod Expressions
 pub mod Files
 pub mod FirstInputs
-pub mod Forms
 pub mod InitRules
 pub mod InterfaceRules
 pub mod Least
@@ -23,3 +22,4 @@ pub mod ServiceRules
 pub mod SetRules
 pub mod Spared
 pub mod TypeRules
+pub mod WrittenBodies

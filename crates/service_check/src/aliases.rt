@@ -10,7 +10,7 @@ use std::marker::Model;
 
 /// How the body of a type is written.
 #[derive(Drop)]
-enum Form<'a> {
+enum WrittenBody<'a> {
     Body(&'a TypeBody),
     /// Fields alone, whose root is void.
     Fields(&'a [Field]),
@@ -19,20 +19,20 @@ enum Form<'a> {
 /// The body of a type.
 #[derive(Drop)]
 struct Body<'a> {
-    form: Form<'a>,
+    written: WrittenBody<'a>,
 }
 
 impl<'a> Model for Body<'a> {
     ghost use Rattle.std.specs.Coded.{codes};
     ghost use Rattle.jolie_ast.specs.contracts.types.TypeBody as body;
     ghost use Rattle.jolie_ast.specs.declared.types.TypeBody.{TypeBody};
-    ghost use Rattle.service_check.specs.Forms.{form_body};
+    ghost use Rattle.service_check.specs.WrittenBodies.{written_body};
 
     ghost Value = { TypeBody };
 
     ghost coded = { Prim.hlevel (codes, body.the_row.coded) };
 
-    ghost view = { λ b. form_body b.form };
+    ghost view = { λ b. written_body b.written };
 }
 
 impl<'a> Body<'a> {
@@ -43,7 +43,7 @@ impl<'a> Body<'a> {
         match &ty.body {
             DefinedType::Body(body) => Body::written(body),
             DefinedType::Fields(fields) => Body {
-                form: Form::Fields(fields.as_slice()),
+                written: WrittenBody::Fields(fields.as_slice()),
             },
         }
     }
@@ -52,7 +52,7 @@ impl<'a> Body<'a> {
         ensures { result ≡ body.now }
     {
         Body {
-            form: Form::Body(body),
+            written: WrittenBody::Body(body),
         }
     }
 
@@ -60,18 +60,18 @@ impl<'a> Body<'a> {
     fn name(&self) -> Option<&'a str>
         ensures { option_copied result ≡ name_in (out-TypeBody self.now) }
     {
-        match self.form {
-            Form::Body(body) => name_of(body),
-            Form::Fields(_) => None,
+        match self.written {
+            WrittenBody::Body(body) => name_of(body),
+            WrittenBody::Fields(_) => None,
         }
     }
 
     fn fields(&self) -> &'a [Field]
         ensures { result.now ≡ fields_in (out-TypeBody self.now) }
     {
-        match self.form {
-            Form::Body(body) => fields_of(body),
-            Form::Fields(fields) => fields,
+        match self.written {
+            WrittenBody::Body(body) => fields_of(body),
+            WrittenBody::Fields(fields) => fields,
         }
     }
 
@@ -79,9 +79,9 @@ impl<'a> Body<'a> {
     fn is_value(&self) -> bool
         ensures { result ≡ is_value (out-TypeBody self.now) }
     {
-        match self.form {
-            Form::Body(body) => is_value(body),
-            Form::Fields(_) => false,
+        match self.written {
+            WrittenBody::Body(body) => is_value(body),
+            WrittenBody::Fields(_) => false,
         }
     }
 }

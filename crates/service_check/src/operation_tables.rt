@@ -10,7 +10,7 @@ use std::marker::Model;
 
 /// How an interface declares an operation.
 #[derive(Clone, Copy)]
-enum Form<'a> {
+enum Declaration<'a> {
     Answering(&'a RequestResponse),
     Silent(&'a OneWay),
 }
@@ -18,7 +18,7 @@ enum Form<'a> {
 /// An operation of an interface.
 #[derive(Drop)]
 pub struct Declared<'a> {
-    form: Form<'a>,
+    declaration: Declaration<'a>,
 }
 
 impl<'a> Model for Declared<'a> {
@@ -34,7 +34,7 @@ impl<'a> Model for Declared<'a> {
 
     ghost use Rattle.service_check.specs.DeclaredOperations.{operation_of};
 
-    ghost view = { λ d. operation_of d.form };
+    ghost view = { λ d. operation_of d.declaration };
 }
 
 impl<'a> Declared<'a> {
@@ -42,7 +42,7 @@ impl<'a> Declared<'a> {
         ensures { result ≡ answering operation.now }
     {
         Declared {
-            form: Form::Answering(operation),
+            declaration: Declaration::Answering(operation),
         }
     }
 
@@ -50,34 +50,34 @@ impl<'a> Declared<'a> {
         ensures { result ≡ silent operation.now }
     {
         Declared {
-            form: Form::Silent(operation),
+            declaration: Declaration::Silent(operation),
         }
     }
 
     pub fn name(&self) -> &'a str
         ensures { result.now ≡ self.now.name.text }
     {
-        match self.form {
-            Form::Answering(operation) => operation.name.text.as_str(),
-            Form::Silent(operation) => operation.name.text.as_str(),
+        match self.declaration {
+            Declaration::Answering(operation) => operation.name.text.as_str(),
+            Declaration::Silent(operation) => operation.name.text.as_str(),
         }
     }
 
     pub fn request(&self) -> &'a TypeName
         ensures { result.now ≡ self.now.request }
     {
-        match self.form {
-            Form::Answering(operation) => &operation.request,
-            Form::Silent(operation) => &operation.request,
+        match self.declaration {
+            Declaration::Answering(operation) => &operation.request,
+            Declaration::Silent(operation) => &operation.request,
         }
     }
 
     fn answers(&self) -> bool
         ensures { result ≡ does_answer self.now }
     {
-        match self.form {
-            Form::Answering(_) => true,
-            Form::Silent(_) => false,
+        match self.declaration {
+            Declaration::Answering(_) => true,
+            Declaration::Silent(_) => false,
         }
     }
 }
