@@ -67,10 +67,10 @@ fn meant_form(alloc: Global, form: &ExprForm) -> Result<Expr, AllocError>
     ensures { IfOk result (λ e. expr_view e ≡ meant_form form.now) }
 {
     match form {
-        ExprForm::Int(n) => Ok(Expr::Value(Root::Int(*n))),
-        ExprForm::Long(n) => Ok(Expr::Value(Root::Long(*n))),
+        ExprForm::Int(value) => Ok(Expr::Value(Root::Int(*value))),
+        ExprForm::Long(value) => Ok(Expr::Value(Root::Long(*value))),
         ExprForm::Str(text) => Ok(Expr::Value(Root::Text(text.copied()?))),
-        ExprForm::Bool(b) => Ok(Expr::Value(Root::Bool(*b))),
+        ExprForm::Bool(value) => Ok(Expr::Value(Root::Bool(*value))),
         ExprForm::Path(path) => Ok(Expr::Path(meant_path(alloc, path)?)),
         ExprForm::Size(path) => Ok(Expr::Count(meant_path(alloc, path)?)),
         ExprForm::IsDefined(path) => Ok(Expr::IsDefined(meant_path(alloc, path)?)),

@@ -136,9 +136,9 @@ fn host_len(text: &[u8]) -> usize
     ensures value { result ≡ prefix_len spec.is_host_byte text.now }
     ensures within { result ≤ length text.now }
 {
-    for (i, byte) in text.iter().enumerate() {
+    for (place, byte) in text.iter().enumerate() {
         if !is_host_byte(*byte) {
-            return i;
+            return place;
         }
     }
     text.len()
@@ -150,9 +150,9 @@ fn digits_len(text: &[u8]) -> usize
     ensures value { result ≡ prefix_len spec.is_digit text.now }
     ensures within { result ≤ length text.now }
 {
-    for (i, byte) in text.iter().enumerate() {
+    for (place, byte) in text.iter().enumerate() {
         if !is_digit(*byte) {
-            return i;
+            return place;
         }
     }
     text.len()
