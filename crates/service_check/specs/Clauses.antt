@@ -6,11 +6,10 @@ use Rattle.jolie_ast.specs.declared.types.TypeDefinition.{TypeDefinition}
 use Rattle.jolie_ast.specs.declared.interface.Interface.{Interface}
 use Rattle.jolie_ast.specs.declared.service.Clause.{Clause}
 use Rattle.jolie_ast.specs.declared.service.Service.{Service}
-use Rattle.jolie_ast.specs.declared.process.Block.{Block}
 use Rattle.service_check.specs.declared.refusal.CheckName.TheVariants.{DuplicateName, Uncorrelated}
 use Rattle.service_check.specs.declared.refusal.Refusal.{Refusal}
 use Rattle.service_check.specs.Least.{refused, refused_if}
-use Rattle.service_check.specs.Files.{Operation, execution_of, first_there, is_concurrent, main_in, service_in, sets_of}
+use Rattle.service_check.specs.Files.{Operation, execution_of, is_concurrent, service_in, sets_of}
 use Rattle.service_check.specs.OperationTables.{if_there}
 use Rattle.service_check.specs.SetRules.{types_in_sets}
 use Rattle.service_check.specs.ServiceRules.{execution_place, init_place, is_lost, later, main_place, names_if_there, service_refused, starting}
@@ -22,10 +21,6 @@ second_among place clauses = refused DuplicateName (later (filter_map place clau
 -- a second clause that says how sessions are run, a second init, and a second main
 abbrev pub seconds_among : List Clause → List Refusal
 seconds_among clauses = second_among execution_place clauses ++ second_among init_place clauses ++ second_among main_place clauses
-
--- the first main among clauses
-abbrev pub main_among : List Clause → Option Block
-main_among clauses = first_there (filter_map main_in clauses)
 
 -- some of these input operations of a service reaches no session
 abbrev pub some_lost : List Operation → Service → List Refusal

@@ -2,10 +2,10 @@ ghost use Rattle.std.specs.Prelude.{◌≡◌, ◌++◌, OnOk, map, option_map};
 ghost use Rattle.std.specs.List.{filter_map};
 ghost use Rattle.std.specs.Option.{option_copied};
 ghost use Rattle.jolie_ast.specs.declared.name.Name.{Name};
-ghost use Rattle.service_check.specs.Files.{Sided, execution_in, execution_of, first_there, input_port_in, is_concurrent, output_port_in, port_in, set_in};
+ghost use Rattle.service_check.specs.Files.{Sided, execution_in, execution_of, first_there, init_in, input_port_in, is_concurrent, main_in, output_port_in, port_in, set_in};
 
 use crate::names::Names;
-use jolie_ast::{Clause, CorrelationVariable, Execution, Name, Port, Service};
+use jolie_ast::{Block, Clause, CorrelationVariable, Execution, Name, Port, Service};
 use std::alloc::AllocError;
 
 /// A clause, if it is a port.
@@ -99,6 +99,32 @@ fn execution_in(clause: &Clause) -> Option<Execution>
         Clause::Init { .. } => None,
         Clause::Main { .. } => None,
     }
+}
+
+/// What a service does at its start.
+#[tactic(auto, using(crate::proofs::FirstFound::found_here, crate::proofs::FirstFound::found_nowhere))]
+pub fn init_of(clauses: &[Clause]) -> Option<&Block>
+    ensures { option_copied result ≡ first_there (filter_map init_in clauses.now) }
+{
+    for clause in clauses {
+        if let Clause::Init { body, .. } = clause {
+            return Some(body);
+        }
+    }
+    None
+}
+
+/// What a service does after its start.
+#[tactic(auto, using(crate::proofs::FirstFound::found_here, crate::proofs::FirstFound::found_nowhere))]
+pub fn main_of(clauses: &[Clause]) -> Option<&Block>
+    ensures { option_copied result ≡ first_there (filter_map main_in clauses.now) }
+{
+    for clause in clauses {
+        if let Clause::Main { body, .. } = clause {
+            return Some(body);
+        }
+    }
+    None
 }
 
 /// Adds the texts of names behind the others.

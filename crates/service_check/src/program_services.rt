@@ -1,20 +1,20 @@
 ghost use Rattle.std.specs.Prelude.{◌≡◌, ◌++◌, ◌∷◌, map, IfOk, OnOk};
 ghost use Rattle.std.specs.List.{filter_map};
-ghost use Rattle.std.specs.Option.{option_copied, option_to_list};
+ghost use Rattle.std.specs.Option.{option_to_list};
 ghost use Rattle.behaviour_tree.specs.PartsView.{alias_view, port_view, service_view, set_view, variable_view};
-ghost use Rattle.service_check.specs.Files.{first_there, init_in, main_in, place_in, service_in, services_of, set_in};
+ghost use Rattle.service_check.specs.Files.{place_in, service_in, services_of, set_in};
 ghost use Rattle.service_check.specs.Outlets.{said_execution, sided, texts_in};
 ghost use Rattle.service_check.specs.Programs.{meant_alias, meant_execution, meant_port_part, meant_service, meant_set, meant_variable};
 
 use crate::behaviours::meant_if_there;
-use crate::clauses::said_execution;
+use crate::clauses::{init_of, main_of, said_execution};
 use crate::names::Names;
 use crate::numbers::number;
 use crate::service_numbers::numbers_of;
 use crate::sides::{SidedPort, ports_of};
 use crate::tables::Interfaces;
 use behaviour_tree::{Alias, CorrelationSet, Execution, Port, Service, SetVariable};
-use jolie_ast::{Block, Clause, CorrelationVariable, Definition, Name};
+use jolie_ast::{Clause, CorrelationVariable, Definition, Name};
 use jolie_trees::Text;
 use std::alloc::{AllocError, Global};
 
@@ -82,32 +82,6 @@ fn meant_service<'a>(
 }
 
 // ---- clauses
-
-/// What a service does at its start.
-#[tactic(auto, using(crate::proofs::FirstFound::found_here, crate::proofs::FirstFound::found_nowhere))]
-fn init_of(clauses: &[Clause]) -> Option<&Block>
-    ensures { option_copied result ≡ first_there (filter_map init_in clauses.now) }
-{
-    for clause in clauses {
-        if let Clause::Init { body, .. } = clause {
-            return Some(body);
-        }
-    }
-    None
-}
-
-/// What a service does after its start.
-#[tactic(auto, using(crate::proofs::FirstFound::found_here, crate::proofs::FirstFound::found_nowhere))]
-fn main_of(clauses: &[Clause]) -> Option<&Block>
-    ensures { option_copied result ≡ first_there (filter_map main_in clauses.now) }
-{
-    for clause in clauses {
-        if let Clause::Main { body, .. } = clause {
-            return Some(body);
-        }
-    }
-    None
-}
 
 /// How the sessions are run: one alone where nothing is said.
 fn execution_of(clauses: &[Clause]) -> Execution

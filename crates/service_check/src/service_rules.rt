@@ -1,12 +1,11 @@
 ghost use Rattle.std.specs.Prelude.{◌≡◌, IfOk, OnOk, flat_map, option_map};
 ghost use Rattle.std.specs.List.{list_any};
-ghost use Rattle.std.specs.Option.{option_copied};
-ghost use Rattle.service_check.specs.Clauses.{main_among, second_among, seconds_among, some_lost};
+ghost use Rattle.service_check.specs.Clauses.{second_among, seconds_among, some_lost};
 ghost use Rattle.service_check.specs.FirstInputs.{operations_of};
 ghost use Rattle.service_check.specs.Least.{joined};
 ghost use Rattle.service_check.specs.ServiceRules.{clause_refused, execution_place, init_place, is_among, is_lost, main_place, names_if_there, no_start, service_refused, starting};
 
-use crate::clauses::is_concurrent;
+use crate::clauses::{is_concurrent, main_of};
 use crate::first_inputs::{FirstInput, first_input};
 use crate::init_rules::init_refused;
 use crate::least::Least;
@@ -18,7 +17,7 @@ use crate::refusal::CheckName;
 use crate::set_rules::{sets_refused, types_in_sets};
 use crate::surroundings::Surroundings;
 use crate::tables::{Interfaces, Types};
-use jolie_ast::{Block, Clause, Service, TypeName};
+use jolie_ast::{Clause, Service, TypeName};
 use std::alloc::{AllocError, Global};
 
 /// What is refused of a service of a file with these types, interfaces and locations of input ports.
@@ -141,19 +140,6 @@ fn clause_refused(
         Clause::OutputPort(_) => Ok(()),
         Clause::CorrelationSet { .. } => Ok(()),
     }
-}
-
-/// The main of a service, which is its first.
-#[tactic(auto, using(crate::proofs::FirstFound::found_here, crate::proofs::FirstFound::found_nowhere))]
-fn main_of(clauses: &[Clause]) -> Option<&Block>
-    ensures { option_copied result ≡ main_among clauses.now }
-{
-    for clause in clauses {
-        if let Clause::Main { body, .. } = clause {
-            return Some(body);
-        }
-    }
-    None
 }
 
 /// The first input of main, whose operations start a session.

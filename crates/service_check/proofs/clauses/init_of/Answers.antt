@@ -1,7 +1,7 @@
 use Rattle.std.proofs.Common.{rules}
 use Rattle.service_check.specs.Files.{init_in}
 use Rattle.service_check.proofs.FirstFound.{found_later}
-use Rattle.service_check.proofs.program_services.init_of.Goals as goal
+use Rattle.service_check.proofs.clauses.init_of.Goals as goal
 
 pub loop-clause-preserved : goal.loop-clause-preserved
 loop-clause-preserved c =
