@@ -21,6 +21,7 @@ mod names;
 mod numbers;
 mod operation_tables;
 mod port_rules;
+mod process_part_rules;
 mod process_rules;
 mod program;
 mod program_interfaces;

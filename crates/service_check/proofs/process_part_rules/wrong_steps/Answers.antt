@@ -1,6 +1,6 @@
 use Rattle.service_check.specs.ProcessRules.{wrong_step}
 use Rattle.service_check.proofs.Joined.{turn_of}
-use Rattle.service_check.proofs.process_rules.wrong_steps.Goals as goal
+use Rattle.service_check.proofs.process_part_rules.wrong_steps.Goals as goal
 
 pub loop-step-preserved : goal.loop-step-preserved
 loop-step-preserved c =
