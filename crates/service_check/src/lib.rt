@@ -2,6 +2,7 @@
 #![tactic(auto)]
 
 mod aliases;
+mod behaviour_parts;
 mod behaviours;
 mod brought;
 mod checking;
