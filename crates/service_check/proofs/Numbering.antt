@@ -11,11 +11,11 @@ use Rattle.jolie_ast.specs.declared.service.Service.{Service}
 use Rattle.service_check.specs.declared.numbers.NumberedPort as kept
 use Rattle.service_check.specs.declared.sides.SidedPort.{SidedPort}
 use Rattle.service_check.specs.Behaviours.{NumberedPort, Numbering}
-use Rattle.service_check.specs.Files.{Operation, Sided, each_once, input_operations, input_port_in, port_in, port_operations, set_in}
+use Rattle.service_check.specs.Files.{Operation, Sided, each_once, input_operations, input_port_in, port_in, port_operations, set_in, texts_of, operations_among}
 use Rattle.service_check.specs.Mentioned.{with_texts}
 use Rattle.service_check.specs.Numbers.{named_ports}
-use Rattle.service_check.specs.Outlets.{sided, outlet_names, outlets, outlets_from, input_operations_among, operations_among, port_texts, set_texts, names_in_set, texts_in}
-use Rattle.service_check.specs.Programs.{numbered_from, numbering, texts_of}
+use Rattle.service_check.specs.Outlets.{sided, outlet_names, outlets, outlets_from, input_operations_among, port_texts, set_texts, names_in_set, texts_in}
+use Rattle.service_check.specs.Programs.{numbered_from, numbering}
 use Rattle.service_check.specs.SetRules.{variables_of}
 use Rattle.service_check.proofs.Firsts.{once_taken}
 use Rattle.service_check.proofs.Gathered.{all_of_found}

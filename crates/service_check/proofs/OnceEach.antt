@@ -7,8 +7,7 @@ use Rattle.std.proofs.lemmas.List.Folds.{list_any-append}
 use Rattle.behaviour_tree.specs.Operations.{is_among, first_mentions}
 use Rattle.behaviour_tree.specs.Distinct.{texts_differ}
 use Rattle.service_check.specs.Repeated.{is_in, firsts_after}
-use Rattle.service_check.specs.Files.{Operation, each_once_after, place_in}
-use Rattle.service_check.specs.Programs.{texts_of}
+use Rattle.service_check.specs.Files.{Operation, each_once_after, place_in, texts_of}
 use Rattle.service_check.proofs.Emptied.{another_text, in_first, in_last}
 use Rattle.service_check.proofs.Repetitions.{in_any_order, nothing_behind}
 use Rattle.service_check.proofs.WellInterfaces.{all_in, places_alike}

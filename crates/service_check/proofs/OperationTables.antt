@@ -7,8 +7,8 @@ use Rattle.std.proofs.lemmas.List.{flat_map_more, length-map, map-append, take_m
 use Rattle.jolie_ast.specs.declared.interface.Interface.{Interface}
 use Rattle.jolie_ast.specs.declared.service.Clause.{Clause}
 use Rattle.service_check.specs.Repeated.{is_in, place_of}
-use Rattle.service_check.specs.Files.{Operation, each_once_after, input_port_in, operation_named, output_port_in}
-use Rattle.service_check.specs.OperationTables.{answers_named, does_answer, if_there, operation_names, operations_at, operations_of_input, with_new}
+use Rattle.service_check.specs.Files.{Operation, each_once_after, input_port_in, operation_named, output_port_in, texts_of}
+use Rattle.service_check.specs.OperationTables.{answers_named, does_answer, if_there, operations_at, operations_of_input, with_new}
 use Rattle.service_check.specs.ProcessRules.{Outlet, outlet_named}
 use Rattle.service_check.specs.ServiceRules.{outlet}
 use Rattle.service_check.proofs.Filtered.{all_found}
@@ -25,30 +25,30 @@ item_is zero (y ∷ xs) x below there = ap Some (sym there)
 item_is (suc n) (y ∷ xs) x below there = item_is n xs x (omega (arith, below)) there
 
 -- an operation is found at the place of its name
-pub operation_at : (os : List Operation) (q : List ℕ) → operation_named os q ≡ item_at (place_of (operation_names os) q) os
+pub operation_at : (os : List Operation) (q : List ℕ) → operation_named os q ≡ item_at (place_of (texts_of os) q) os
 operation_at [] q = refl
 operation_at (o ∷ os) q =
     ap (λ other. if bytes_eq o.name.text q then Some o else other) (operation_at os q)
-    ∙ first_or_at (bytes_eq o.name.text q) o os (place_of (operation_names os) q)
+    ∙ first_or_at (bytes_eq o.name.text q) o os (place_of (texts_of os) q)
 
 -- a place among names is one among what has the names
 pub place_below : {X : Type 0} (f : X → List ℕ) (xs : List X) (names : List (List ℕ)) (n : ℕ) → names ≡ map f xs → n < length names → n < length xs
 place_below f xs names n e below = omega (arith, below, ap length e, length-map xs f)
 
 -- an operation of a place is found
-pub operation_found : (os : List Operation) (names : List (List ℕ)) (q : List ℕ) (n : ℕ) (o : Operation) → names ≡ operation_names os → Some n ≡ place_of names q → n < length names → o ≡ get_or os n o → Some (does_answer o) ≡ answers_named os q
+pub operation_found : (os : List Operation) (names : List (List ℕ)) (q : List ℕ) (n : ℕ) (o : Operation) → names ≡ texts_of os → Some n ≡ place_of names q → n < length names → o ≡ get_or os n o → Some (does_answer o) ≡ answers_named os q
 operation_found os names q n o e place below there =
     ap (option_map does_answer) (sym (operation_at os q ∙ ap (λ p. item_at p os) (ap (λ ns. place_of ns q) (sym e) ∙ sym place) ∙ item_is n os o (place_below (λ (x : Operation). x.name.text) os names n e below) there))
 
 -- an operation of no place is not there
-pub operation_missing : (os : List Operation) (q : List ℕ) → place_of (operation_names os) q ≡ None → None ≡ answers_named os q
+pub operation_missing : (os : List Operation) (q : List ℕ) → place_of (texts_of os) q ≡ None → None ≡ answers_named os q
 operation_missing os q place = ap (option_map does_answer) (sym (operation_at os q ∙ ap (λ p. item_at p os) place))
 
 -- ---- operations that are added
 
 -- one operation more, if its name is new
 abbrev pub one_more : List Operation → Operation → List Operation
-one_more os o = if is_in o.name.text (operation_names os) then os else os ++ o ∷ []
+one_more os o = if is_in o.name.text (texts_of os) then os else os ++ o ∷ []
 
 -- operations one after the other, those whose names are new
 abbrev pub grown : List Operation → List Operation → List Operation
@@ -56,20 +56,20 @@ grown os [] = os
 grown os (o ∷ more) = grown (one_more os o) more
 
 -- the names with one more behind them
-pub names_more : (os new : List Operation) (o : Operation) → new ≡ os ++ o ∷ [] → operation_names new ≡ operation_names os ++ o.name.text ∷ []
-names_more os new o e = ap operation_names e ∙ map-append (λ (x : Operation). x.name.text) os (o ∷ [])
+pub names_more : (os new : List Operation) (o : Operation) → new ≡ os ++ o ∷ [] → texts_of new ≡ texts_of os ++ o.name.text ∷ []
+names_more os new o e = ap texts_of e ∙ map-append (λ (x : Operation). x.name.text) os (o ∷ [])
 
 -- an operation and then those behind it
-pub grown_turn : (b : Bool) (before : List (List ℕ)) (acc : List Operation) (o : Operation) (os : List Operation) → is_in o.name.text before ≡ b → ((x : List ℕ) → is_in x before ≡ is_in x (operation_names acc))
-    → ((next : List Operation) → ((x : List ℕ) → is_in x (o.name.text ∷ before) ≡ is_in x (operation_names next)) → next ++ each_once_after (o.name.text ∷ before) os ≡ grown next os)
+pub grown_turn : (b : Bool) (before : List (List ℕ)) (acc : List Operation) (o : Operation) (os : List Operation) → is_in o.name.text before ≡ b → ((x : List ℕ) → is_in x before ≡ is_in x (texts_of acc))
+    → ((next : List Operation) → ((x : List ℕ) → is_in x (o.name.text ∷ before) ≡ is_in x (texts_of next)) → next ++ each_once_after (o.name.text ∷ before) os ≡ grown next os)
     → acc ++ ((if b then [] else o ∷ []) ++ each_once_after (o.name.text ∷ before) os) ≡ grown (if b then acc else acc ++ o ∷ []) os
 grown_turn true before acc o os there same rest = rest acc (λ x. again (bytes_eq o.name.text x) x o.name.text before refl there ∙ same x)
 grown_turn false before acc o os there same rest =
     sym (append_assoc acc (o ∷ []) (each_once_after (o.name.text ∷ before) os))
-    ∙ rest (acc ++ o ∷ []) (λ x. ap (λ b. bytes_eq o.name.text x || b) (same x) ∙ sym (in_behind x o.name.text (operation_names acc)) ∙ ap (is_in x) (sym (names_more acc (acc ++ o ∷ []) o refl)))
+    ∙ rest (acc ++ o ∷ []) (λ x. ap (λ b. bytes_eq o.name.text x || b) (same x) ∙ sym (in_behind x o.name.text (texts_of acc)) ∙ ap (is_in x) (sym (names_more acc (acc ++ o ∷ []) o refl)))
 
 -- operations behind others, each once
-pub grown_behind : (before : List (List ℕ)) (acc os : List Operation) → ((x : List ℕ) → is_in x before ≡ is_in x (operation_names acc)) → acc ++ each_once_after before os ≡ grown acc os
+pub grown_behind : (before : List (List ℕ)) (acc os : List Operation) → ((x : List ℕ) → is_in x before ≡ is_in x (texts_of acc)) → acc ++ each_once_after before os ≡ grown acc os
 grown_behind before acc [] same = append-nil acc
 grown_behind before acc (o ∷ os) same =
     grown_turn (is_in o.name.text before) before acc o os refl same (λ next known. grown_behind (o.name.text ∷ before) next os known)
@@ -77,7 +77,7 @@ grown_behind before acc (o ∷ os) same =
 
 -- operations and others whose names are new
 pub grown_is : (os more : List Operation) → with_new os more ≡ grown os more
-grown_is os more = grown_behind (operation_names os) os more (λ x. refl)
+grown_is os more = grown_behind (texts_of os) os more (λ x. refl)
 
 -- operations are added one list after the other
 pub grown_append : (os xs ys : List Operation) → grown os (xs ++ ys) ≡ grown (grown os xs) ys
@@ -93,11 +93,11 @@ pub with_none : (os : List Operation) → with_new os [] ≡ os
 with_none os = append-nil os
 
 -- an operation whose name is there adds nothing
-pub known_name : (os : List Operation) (o : Operation) → is_in o.name.text (operation_names os) ≡ true → os ≡ with_new os (o ∷ [])
+pub known_name : (os : List Operation) (o : Operation) → is_in o.name.text (texts_of os) ≡ true → os ≡ with_new os (o ∷ [])
 known_name os o there = sym (grown_is os (o ∷ []) ∙ ap (λ b. if b then os else os ++ o ∷ []) there)
 
 -- an operation whose name is new stands behind the others
-pub new_name : (os new : List Operation) (o : Operation) → is_in o.name.text (operation_names os) ≡ false → new ≡ os ++ o ∷ [] → new ≡ with_new os (o ∷ [])
+pub new_name : (os new : List Operation) (o : Operation) → is_in o.name.text (texts_of os) ≡ false → new ≡ os ++ o ∷ [] → new ≡ with_new os (o ∷ [])
 new_name os new o there e = e ∙ sym (grown_is os (o ∷ []) ∙ ap (λ b. if b then os else os ++ o ∷ []) there)
 
 -- a turn of a loop adds the operations of one thing more

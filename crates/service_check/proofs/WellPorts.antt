@@ -22,9 +22,9 @@ use Rattle.service_check.specs.declared.refusal.CheckName.TheVariants.{Duplicate
 use Rattle.service_check.specs.declared.refusal.Refusal.{Refusal}
 use Rattle.service_check.specs.Least.{refused, refused_if}
 use Rattle.service_check.specs.Repeated.{is_in, firsts_after, repeated}
-use Rattle.service_check.specs.Files.{Operation, each_once, interface_named, operations_in, operations_named, place_in, port_in, input_port_in, output_port_in}
+use Rattle.service_check.specs.Files.{Operation, each_once, interface_named, operations_in, operations_named, place_in, port_in, input_port_in, output_port_in, texts_of}
 use Rattle.service_check.specs.PortRules.{unknown_interface, operation_at, brought_by, brought_unless, brought, brought_in, interfaces_repeated, output_port_refused, wrong_location, wrong_protocol, console, port_refused, sided_refused, unmet}
-use Rattle.service_check.specs.Programs.{meant_operation, meant_interface, meant_port_part, texts_of}
+use Rattle.service_check.specs.Programs.{meant_operation, meant_interface, meant_port_part}
 use Rattle.service_check.proofs.Emptied.{left_empty, right_empty, fails, holds, mapped_empty, has_place, another_text, in_first, names_differ}
 use Rattle.service_check.proofs.OnceEach.{passed, among_passed, firsts_of_two, first_places, texts_under, taken_by_interface}
 use Rattle.service_check.proofs.Operations.{each_mapped, mapped_each, mapped_twice}

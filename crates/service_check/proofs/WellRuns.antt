@@ -21,12 +21,12 @@ use Rattle.service_check.specs.declared.refusal.CheckName.TheVariants.{UnknownOp
 use Rattle.service_check.specs.declared.refusal.Refusal.{Refusal}
 use Rattle.service_check.specs.Least.{refused, refused_if}
 use Rattle.service_check.specs.Repeated.{is_in}
-use Rattle.service_check.specs.Files.{Operation, first_there, init_in, input_operations, main_in, operation_named, output_ports, place_in, port_in, sets_of}
+use Rattle.service_check.specs.Files.{Operation, first_there, init_in, input_operations, main_in, operation_named, output_ports, place_in, port_in, sets_of, texts_of}
 use Rattle.service_check.specs.Behaviours.{NumberedPort, Numbering, console_port, meant_if_there, port_among}
 use Rattle.service_check.specs.Mentioned.{Texts, block_texts, clause_texts}
 use Rattle.service_check.specs.PortRules.{console, output_port_refused}
 use Rattle.service_check.specs.ProcessRules.{Surroundings, agree, block_refused, outlet_named, println, used}
-use Rattle.service_check.specs.Programs.{meant_interface, meant_operation, meant_port_part, meant_set, numbered_from, numbering, texts_of}
+use Rattle.service_check.specs.Programs.{meant_interface, meant_operation, meant_port_part, meant_set, numbered_from, numbering}
 use Rattle.service_check.specs.ServiceRules.{clause_refused, init_refused, outlet, surroundings}
 use Rattle.service_check.specs.SetRules.{variables_of}
 use Rattle.service_check.proofs.Emptied.{has_place, holds, left_empty}

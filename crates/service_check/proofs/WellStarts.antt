@@ -40,12 +40,12 @@ use Rattle.behaviour_tree.specs.FormedServices.{all_reach, first_of_members, has
 use Rattle.service_check.specs.declared.refusal.CheckName.TheVariants.{NoStart, Uncorrelated}
 use Rattle.service_check.specs.Least.{refused_if}
 use Rattle.service_check.specs.Repeated.{firsts_after, is_in}
-use Rattle.service_check.specs.Files.{Operation, execution_of, input_operations, input_ports, is_concurrent, place_in, sets_of}
+use Rattle.service_check.specs.Files.{Operation, execution_of, input_operations, input_ports, is_concurrent, place_in, sets_of, texts_of}
 use Rattle.service_check.specs.Behaviours.{InputView, Numbering, alone, meant_answer, meant_assignment, meant_block, meant_branch, meant_conditional, meant_for, meant_handler, meant_if_there, meant_input, meant_port, meant_process, meant_step, sent}
 use Rattle.service_check.specs.Expressions.{meant_expr, meant_if_written, meant_path}
 use Rattle.service_check.specs.FirstInputs.{beginning}
 use Rattle.service_check.specs.ProcessRules.{branch_operation}
-use Rattle.service_check.specs.Programs.{meant_execution, meant_operation, meant_service, meant_set, meant_type, numbering, texts_of}
+use Rattle.service_check.specs.Programs.{meant_execution, meant_operation, meant_service, meant_set, meant_type, numbering}
 use Rattle.service_check.specs.ServiceRules as rules
 use Rattle.service_check.specs.ServiceRules.{Beginning, block_level, branch_level, first_input, input_level, is_lost, main_of, names_if_there, no_start, of_sequence, process_level, starting, uncorrelated}
 use Rattle.service_check.specs.SetRules.{alias_names, set_texts, types_in_sets}

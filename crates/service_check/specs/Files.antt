@@ -99,6 +99,14 @@ operations_in i = flat_map group_operations i.groups
 abbrev pub operations_named : List Interface → List ℕ → List Operation
 operations_named interfaces name = unwrap_or (option_map operations_in (interface_named interfaces name)) []
 
+-- the operations of the interfaces of some names, as they stand
+abbrev pub operations_among : List Interface → List Name → List Operation
+operations_among interfaces names = flat_map (λ (n : Name). operations_named interfaces n.text) names
+
+-- the names of operations
+abbrev pub texts_of : List Operation → List (List ℕ)
+texts_of operations = map (λ (o : Operation). o.name.text) operations
+
 -- each operation once by its name, where it first stands
 abbrev pub each_once_after : List (List ℕ) → List Operation → List Operation
 each_once_after before [] = []

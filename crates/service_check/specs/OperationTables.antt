@@ -1,14 +1,9 @@
 -- Operations that a table keeps, each once.
-use Rattle.std.specs.Prelude.{ℕ, Bool, List, [], ◌++◌, map, flat_map, Option, None, Some, is_some, option_map}
-use Rattle.jolie_ast.specs.declared.name.Name.{Name}
+use Rattle.std.specs.Prelude.{ℕ, Bool, List, [], ◌++◌, Option, None, Some, is_some, option_map}
 use Rattle.jolie_ast.specs.declared.interface.Interface.{Interface}
 use Rattle.jolie_ast.specs.declared.service.Port.{Port}
 use Rattle.jolie_ast.specs.declared.service.Clause.{Clause}
-use Rattle.service_check.specs.Files.{Operation, each_once_after, input_port_in, operation_named, operations_named}
-
--- the names of operations
-abbrev pub operation_names : List Operation → List (List ℕ)
-operation_names operations = map (λ (o : Operation). o.name.text) operations
+use Rattle.service_check.specs.Files.{Operation, each_once_after, input_port_in, operation_named, operations_among, texts_of}
 
 -- whether an operation answers
 abbrev pub does_answer : Operation → Bool
@@ -20,20 +15,16 @@ answers_named operations name = option_map does_answer (operation_named operatio
 
 -- operations, and behind them those of others whose names are new, each once
 abbrev pub with_new : List Operation → List Operation → List Operation
-with_new known more = known ++ each_once_after (operation_names known) more
+with_new known more = known ++ each_once_after (texts_of known) more
 
 -- what is found in something that may be there
 abbrev pub if_there : {X A : Type 0} → (X → List A) → Option X → List A
 if_there f None = []
 if_there f (Some x) = f x
 
--- the operations of the interfaces that are named, be they there once or more often
-abbrev pub operations_under : List Interface → List Name → List Operation
-operations_under interfaces names = flat_map (λ (n : Name). operations_named interfaces n.text) names
-
 -- those of a port
 abbrev pub operations_at : List Interface → Port → List Operation
-operations_at interfaces port = operations_under interfaces port.interfaces
+operations_at interfaces port = operations_among interfaces port.interfaces
 
 -- those of a clause, if it is an input port
 abbrev pub operations_of_input : List Interface → Clause → List Operation

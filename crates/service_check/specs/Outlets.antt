@@ -10,8 +10,7 @@ use Rattle.jolie_ast.specs.declared.service.Execution.TheVariants.{Single}
 use Rattle.jolie_ast.specs.declared.service.Port.{Port}
 use Rattle.service_check.specs.declared.numbers.NumberedPort as kept
 use Rattle.service_check.specs.declared.sides.SidedPort.{SidedPort}
-use Rattle.service_check.specs.Files.{Operation, Sided, operations_named, port_operations, execution_in, first_there, input_port_in}
-use Rattle.service_check.specs.Programs.{texts_of}
+use Rattle.service_check.specs.Files.{Operation, Sided, operations_among, port_operations, execution_in, first_there, input_port_in, texts_of}
 
 -- a port with its direction
 abbrev pub sided : SidedPort → Sided
@@ -29,10 +28,6 @@ outlets interfaces n p = elim p.input [ true ↦ [] | false ↦ record { number 
 abbrev pub outlets_from : List Interface → ℕ → List Sided → List kept.NumberedPort
 outlets_from interfaces n [] = []
 outlets_from interfaces n (p ∷ ports) = outlets interfaces n p ++ outlets_from interfaces (suc n) ports
-
--- the operations of the interfaces of some names, as they stand
-abbrev pub operations_among : List Interface → List Name → List Operation
-operations_among interfaces names = flat_map (λ (n : Name). operations_named interfaces n.text) names
 
 -- the texts of names
 abbrev pub texts_in : List Name → List (List ℕ)

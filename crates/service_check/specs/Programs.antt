@@ -28,7 +28,7 @@ use Rattle.behaviour_tree.specs.declared.program.Execution.TheVariants as execut
 use Rattle.behaviour_tree.specs.Data as plain
 use Rattle.behaviour_tree.specs.Data.{TypeTree, ThrowsPart, OperationPart, InterfacePart, PortPart, AliasPart, VariablePart, SetPart, ServicePart, ProgramParts}
 use Rattle.behaviour_tree.specs.View.{FieldView, type_fields_of}
-use Rattle.service_check.specs.Files.{Operation, Sided, types_of, interfaces_of, services_of, operations_in, place_in, port_in, port_operations, input_operations, sets_of, execution_of, first_there, init_in, main_in}
+use Rattle.service_check.specs.Files.{Operation, Sided, texts_of, types_of, interfaces_of, services_of, operations_in, place_in, port_in, port_operations, input_operations, sets_of, execution_of, first_there, init_in, main_in}
 use Rattle.service_check.specs.TypeRules.{body_of}
 use Rattle.service_check.specs.SetRules.{variables_of}
 use Rattle.service_check.specs.Behaviours.{NumberedPort, Numbering, meant_if_there}
@@ -148,10 +148,6 @@ meant_set types variables = record { variables = map (meant_variable types) vari
 abbrev pub meant_execution : ast_execution.Execution → Execution
 meant_execution said.Concurrent = execution.Concurrent
 meant_execution said.Single = execution.Single
-
--- the names of operations
-abbrev pub texts_of : List Operation → List (List ℕ)
-texts_of operations = map (λ (o : Operation). o.name.text) operations
 
 -- a port with its number, where it is an output port
 abbrev pub numbered : List Interface → ℕ → Sided → List NumberedPort

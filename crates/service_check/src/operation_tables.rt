@@ -1,6 +1,6 @@
 ghost use Rattle.std.specs.Prelude.{◌≡◌, [], ◌∷◌, IfOk, flat_map, map};
-ghost use Rattle.service_check.specs.Files.{answering, group_operations, input_operations, operations_named, port_operations, silent};
-ghost use Rattle.service_check.specs.OperationTables.{answers_named, does_answer, operations_of_input, operations_under, with_new};
+ghost use Rattle.service_check.specs.Files.{answering, group_operations, input_operations, operations_among, operations_named, port_operations, silent};
+ghost use Rattle.service_check.specs.OperationTables.{answers_named, does_answer, operations_of_input, with_new};
 
 use crate::names::Names;
 use crate::tables::Interfaces;
@@ -95,8 +95,7 @@ impl<'a> Model for Operations<'a> {
     ghost use Rattle.jolie_ast.specs.contracts.interface.Fault as fault;
     ghost use Rattle.jolie_ast.specs.contracts.interface.TypeName as type_name;
     ghost use Rattle.jolie_ast.specs.contracts.name.Name as name;
-    ghost use Rattle.service_check.specs.Files.{Operation};
-    ghost use Rattle.service_check.specs.OperationTables.{operation_names};
+    ghost use Rattle.service_check.specs.Files.{Operation, texts_of};
 
     ghost Value = { List Operation };
 
@@ -104,7 +103,7 @@ impl<'a> Model for Operations<'a> {
 
     ghost view = { λ o. o.declared.items };
 
-    ghost invariant = { λ o. o.names ≡ operation_names o.declared.items };
+    ghost invariant = { λ o. o.names ≡ texts_of o.declared.items };
 }
 
 impl<'a> Operations<'a> {
@@ -212,7 +211,7 @@ fn with_interfaces<'a>(
     interfaces: &Interfaces<'a>,
     names: &[Name],
 ) -> Result<Operations<'a>, AllocError>
-    ensures { IfOk result (λ more. more ≡ with_new operations.entry (operations_under interfaces.now names.now)) }
+    ensures { IfOk result (λ more. more ≡ with_new operations.entry (operations_among interfaces.now names.now)) }
 {
     for name in names {
         operations = with_interface(operations, interfaces, name.text.as_str())?;

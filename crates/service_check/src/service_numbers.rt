@@ -1,11 +1,11 @@
 ghost use Rattle.std.specs.Prelude.{◌≡◌, ◌++◌, ℕ, List, flat_map, map, IfOk, OnOk};
 ghost use Rattle.std.specs.List.{filter_map};
 ghost use Rattle.std.specs.Option.{option_to_list};
-ghost use Rattle.service_check.specs.Files.{answering, each_once, group_operations, input_port_in, operations_in, operations_named, port_in, set_in, silent};
+ghost use Rattle.service_check.specs.Files.{answering, each_once, group_operations, input_port_in, operations_among, operations_in, operations_named, port_in, set_in, silent, texts_of};
 ghost use Rattle.service_check.specs.Mentioned.{with_texts};
 ghost use Rattle.service_check.specs.Numbers.{named_ports, numbering_of};
-ghost use Rattle.service_check.specs.Outlets.{input_operations_among, names_in_set, operations_among, outlet_names, outlets, port_texts, set_texts, sided, texts_in};
-ghost use Rattle.service_check.specs.Programs.{numbered_from, numbering, texts_of};
+ghost use Rattle.service_check.specs.Outlets.{input_operations_among, names_in_set, outlet_names, outlets, port_texts, set_texts, sided, texts_in};
+ghost use Rattle.service_check.specs.Programs.{numbered_from, numbering};
 
 use crate::mentioned::include;
 use crate::names::Names;

@@ -1,8 +1,7 @@
 use Rattle.std.proofs.Common.{rules, flat_map, ap, sym, ◌∙◌}
 use Rattle.std.proofs.lemmas.List.{take_all}
 use Rattle.jolie_ast.specs.declared.name.Name.{Name}
-use Rattle.service_check.specs.Files.{Operation, operations_named}
-use Rattle.service_check.specs.Programs.{texts_of}
+use Rattle.service_check.specs.Files.{Operation, operations_named, texts_of}
 use Rattle.service_check.specs.Mentioned.{with_texts}
 use Rattle.service_check.proofs.Mentions.{turn_of}
 use Rattle.service_check.proofs.Operations.{mapped_each}

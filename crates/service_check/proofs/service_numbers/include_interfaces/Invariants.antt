@@ -1,6 +1,5 @@
 use Rattle.std.proofs.Common.{◌≡◌, flat_map, take}
-use Rattle.service_check.specs.Files.{operations_named}
-use Rattle.service_check.specs.Programs.{texts_of}
+use Rattle.service_check.specs.Files.{operations_named, texts_of}
 use Rattle.service_check.specs.Mentioned.{with_texts}
 use Rattle.service_check.proofs.service_numbers.include_interfaces.Given as goal
 

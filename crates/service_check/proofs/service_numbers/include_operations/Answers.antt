@@ -1,7 +1,6 @@
 use Rattle.std.proofs.Common.{rules, flat_map, ap, sym, ◌∙◌}
 use Rattle.std.proofs.lemmas.List.{take_all}
-use Rattle.service_check.specs.Files.{Operation, group_operations}
-use Rattle.service_check.specs.Programs.{texts_of}
+use Rattle.service_check.specs.Files.{Operation, group_operations, texts_of}
 use Rattle.service_check.specs.Mentioned.{with_texts}
 use Rattle.service_check.proofs.Mentions.{turn_of}
 use Rattle.service_check.proofs.Operations.{mapped_each}

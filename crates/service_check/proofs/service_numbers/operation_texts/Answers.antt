@@ -1,7 +1,6 @@
 use Rattle.std.proofs.Common.{ap, ◌∙◌}
 use Rattle.service_check.specs.Mentioned.{with_texts}
-use Rattle.service_check.specs.Outlets.{operations_among}
-use Rattle.service_check.specs.Programs.{texts_of}
+use Rattle.service_check.specs.Files.{texts_of, operations_among}
 use Rattle.service_check.proofs.Firsts.{once_taken}
 use Rattle.service_check.proofs.service_numbers.operation_texts.Goals as goal
 
