@@ -7,7 +7,8 @@ use Rattle.std.proofs.lemmas.Slice.Eq.{bytes_eq-Decides}
 use Rattle.jolie_ast.specs.declared.types.TypeDefinition.{TypeDefinition}
 use Rattle.service_check.specs.Repeated.{place_of}
 use Rattle.service_check.specs.TypeRules.{leads_back, next_name}
-use Rattle.service_check.specs.Circles.{name_of, next_place, place_leads_back, type_names}
+use Rattle.service_check.specs.Circles.{name_of, next_place, place_leads_back}
+use Rattle.service_check.specs.Files.{type_names}
 use Rattle.service_check.proofs.Found.{item_at, item_is, type_at}
 use Rattle.service_check.proofs.Steps.{back_to}
 

@@ -8,10 +8,10 @@ use Rattle.jolie_ast.specs.declared.tree.Definition.{Definition}
 use Rattle.behaviour_tree.specs.declared.program.Execution.{Execution}
 use Rattle.behaviour_tree.specs.Data.{Proc, TypeTree, InterfacePart, PortPart, ProgramParts, ServicePart, SetPart}
 use Rattle.service_check.specs.Behaviours.{meant_if_there}
-use Rattle.service_check.specs.Files.{Sided, execution_of, first_there, init_in, interfaces_of, main_in, place_in, port_in, services_of, sets_of, types_of}
+use Rattle.service_check.specs.Files.{Sided, execution_of, first_there, init_in, interfaces_of, main_in, place_in, port_in, services_of, sets_of, types_of, type_names}
 use Rattle.service_check.specs.Mentioned.{names_of}
 use Rattle.service_check.specs.Outlets.{texts_in}
-use Rattle.service_check.specs.Programs.{meant_definition, meant_execution, meant_interface, meant_port_part, meant_service, meant_set, numbering, program_of, type_names}
+use Rattle.service_check.specs.Programs.{meant_definition, meant_execution, meant_interface, meant_port_part, meant_service, meant_set, numbering, program_of}
 use Rattle.service_check.proofs.Operations.{mapped_twice}
 
 -- a port of its pieces
@@ -58,14 +58,14 @@ parts_of types interfaces services names = record { types = types; interfaces = 
 
 -- a program whose pieces are those of the text
 pub program_made : (file : List Definition) (types : List TypeTree) (interfaces : List InterfacePart) (services : List ServicePart) (names : List (List ℕ))
-    → types ≡ map (meant_definition (type_names file)) (types_of file)
-    → interfaces ≡ map (meant_interface (type_names file) (names_of file)) (interfaces_of file)
-    → services ≡ map (meant_service (interfaces_of file) (type_names file) (names_of file)) (services_of file)
+    → types ≡ map (meant_definition (type_names (types_of file))) (types_of file)
+    → interfaces ≡ map (meant_interface (type_names (types_of file)) (names_of file)) (interfaces_of file)
+    → services ≡ map (meant_service (interfaces_of file) (type_names (types_of file)) (names_of file)) (services_of file)
     → names ≡ names_of file
     → parts_of types interfaces services names ≡ program_of file
 unfolding program_of
 program_made file types interfaces services names same_types same_interfaces same_services same_names =
     ap (λ x. parts_of x interfaces services names) same_types
-    ∙ ap (λ x. parts_of (map (meant_definition (type_names file)) (types_of file)) x services names) same_interfaces
-    ∙ ap (λ x. parts_of (map (meant_definition (type_names file)) (types_of file)) (map (meant_interface (type_names file) (names_of file)) (interfaces_of file)) x names) same_services
-    ∙ ap (parts_of (map (meant_definition (type_names file)) (types_of file)) (map (meant_interface (type_names file) (names_of file)) (interfaces_of file)) (map (meant_service (interfaces_of file) (type_names file) (names_of file)) (services_of file))) same_names
+    ∙ ap (λ x. parts_of (map (meant_definition (type_names (types_of file))) (types_of file)) x services names) same_interfaces
+    ∙ ap (λ x. parts_of (map (meant_definition (type_names (types_of file))) (types_of file)) (map (meant_interface (type_names (types_of file)) (names_of file)) (interfaces_of file)) x names) same_services
+    ∙ ap (parts_of (map (meant_definition (type_names (types_of file))) (types_of file)) (map (meant_interface (type_names (types_of file)) (names_of file)) (interfaces_of file)) (map (meant_service (interfaces_of file) (type_names (types_of file)) (names_of file)) (services_of file))) same_names

@@ -26,8 +26,7 @@ use Rattle.behaviour_tree.specs.FormedServices.{are_ports, has_few_members, has_
 use Rattle.behaviour_tree.specs.WellFormed.{are_interfaces, are_names, are_services, is_well_formed}
 use Rattle.service_check.specs.declared.refusal.Refusal.{Refusal}
 use Rattle.service_check.specs.Behaviours.{Numbering, meant_if_there}
-use Rattle.service_check.specs.Circles.{type_names}
-use Rattle.service_check.specs.Files.{first_there, init_in, input_operations, interfaces_of, main_in, services_of, types_of}
+use Rattle.service_check.specs.Files.{first_there, init_in, input_operations, interfaces_of, main_in, services_of, types_of, type_names}
 use Rattle.service_check.specs.Mentioned.{clause_texts, definition_texts, names_of}
 use Rattle.service_check.specs.PortRules.{input_locations}
 use Rattle.service_check.specs.Programs.{meant_interface, meant_operation, meant_service, numbering, program_of}

@@ -21,9 +21,8 @@ use Rattle.service_check.specs.declared.refusal.CheckName.TheVariants.{Duplicate
 use Rattle.service_check.specs.declared.refusal.Refusal.{Refusal}
 use Rattle.service_check.specs.Least.{refused}
 use Rattle.service_check.specs.Repeated.{is_in, repeated}
-use Rattle.service_check.specs.Files.{Operation, operations_in, interfaces_of, place_in}
+use Rattle.service_check.specs.Files.{Operation, operations_in, interfaces_of, place_in, type_names}
 use Rattle.service_check.specs.TypeRules.{unknown_type_name}
-use Rattle.service_check.specs.Circles.{type_names}
 use Rattle.service_check.specs.InterfaceRules.{unknown_if_written, fault_refused, operation_refused, interface_refused}
 use Rattle.service_check.specs.Mentioned.{fault_text, thrown_by, definition_texts}
 use Rattle.service_check.specs.Programs.{meant_type, meant_data, meant_fault, meant_operation, meant_interface}

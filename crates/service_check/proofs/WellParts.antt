@@ -14,8 +14,7 @@ use Rattle.service_check.specs.declared.refusal.CheckName.TheVariants.{Duplicate
 use Rattle.service_check.specs.declared.refusal.Refusal.{Refusal}
 use Rattle.service_check.specs.Least.{refused}
 use Rattle.service_check.specs.Repeated.{as_name, repeated}
-use Rattle.service_check.specs.Files.{types_of, interfaces_of, services_of, input_ports}
-use Rattle.service_check.specs.Circles.{type_names}
+use Rattle.service_check.specs.Files.{types_of, interfaces_of, services_of, input_ports, type_names}
 use Rattle.service_check.specs.InterfaceRules.{interface_refused}
 use Rattle.service_check.specs.Mentioned.{names_of}
 use Rattle.service_check.specs.PortRules.{input_locations}

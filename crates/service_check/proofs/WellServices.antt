@@ -21,8 +21,7 @@ use Rattle.service_check.specs.declared.refusal.CheckName.TheVariants.{Duplicate
 use Rattle.service_check.specs.declared.refusal.Refusal.{Refusal}
 use Rattle.service_check.specs.Least.{refused}
 use Rattle.service_check.specs.Repeated.{as_name, repeated}
-use Rattle.service_check.specs.Files.{execution_of, input_port_in, input_ports, is_concurrent, output_ports, port_in, sets_of}
-use Rattle.service_check.specs.Circles.{type_names}
+use Rattle.service_check.specs.Files.{execution_of, input_port_in, input_ports, is_concurrent, output_ports, port_in, sets_of, type_names}
 use Rattle.service_check.specs.PortRules.{brought_in, input_locations, input_ports_refused, interfaces_repeated, output_port_refused, port_name, ports_refused, service_locations, sided_refused, unmet}
 use Rattle.service_check.specs.Programs.{meant_interface, meant_port_part, meant_service}
 use Rattle.service_check.specs.ServiceRules.{clause_refused, execution_place, init_place, main_place, no_start, second, service_refused, surroundings, uncorrelated}

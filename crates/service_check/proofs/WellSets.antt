@@ -23,8 +23,7 @@ use Rattle.service_check.specs.declared.refusal.CheckName.TheVariants.{Duplicate
 use Rattle.service_check.specs.declared.refusal.Refusal.{Refusal}
 use Rattle.service_check.specs.Least.{refused}
 use Rattle.service_check.specs.Repeated.{is_in, firsts_after, first_names_after, repeated}
-use Rattle.service_check.specs.Files.{is_concurrent, place_in, set_in}
-use Rattle.service_check.specs.Circles.{type_names}
+use Rattle.service_check.specs.Files.{is_concurrent, place_in, set_in, type_names}
 use Rattle.service_check.specs.SetRules.{alias_names, alias_texts, set_types, set_texts, all_have, partly, wrong_alias, variable_refused, set_refused, in_earlier, two_sets, set_names, set_of_single}
 use Rattle.service_check.specs.Programs.{meant_alias, meant_variable, meant_set, meant_execution}
 use Rattle.service_check.proofs.Emptied.{left_empty, right_empty, fails, holds, mapped_empty, in_first, names_differ}

@@ -22,10 +22,10 @@ use Rattle.behaviour_tree.specs.FormedTypes.{field_names, is_type, are_fields, n
 use Rattle.service_check.specs.declared.refusal.CheckName.TheVariants.{DuplicateName, UnknownType}
 use Rattle.service_check.specs.declared.refusal.Refusal.{Refusal}
 use Rattle.service_check.specs.Repeated.{is_in, place_of}
-use Rattle.service_check.specs.Files.{place_in, type_named}
+use Rattle.service_check.specs.Files.{place_in, type_named, type_names}
 use Rattle.service_check.specs.TypeRules as rule
 use Rattle.service_check.specs.TypeRules.{FieldFound, body_of, unknown_type, body_refused, field_refused, field_names_refused, name_in, leads_back, circle, type_refused}
-use Rattle.service_check.specs.Circles.{name_of, next_place, place_leads_back, type_names}
+use Rattle.service_check.specs.Circles.{name_of, next_place, place_leads_back}
 use Rattle.service_check.specs.Programs.{body_level, field_level, meant_body, meant_field, meant_definition}
 use Rattle.service_check.proofs.BodyRules as rules
 use Rattle.service_check.proofs.Emptied.{left_empty, right_empty, fails, holds, mapped_empty, place_empty, another_text, has_place, names_differ}

@@ -1,10 +1,11 @@
 -- Types that lead to types, place by place, and what is known of them while they are walked over.
-use Rattle.std.specs.Prelude.{◌≡◌, ℕ, zero, suc, Bool, true, false, ◌||◌, ◌==◌, ◌-◌, ◌<◌, ◌⊎◌, List, map, sum_by, slice_get, slice_index_or, Option, None, Some, option_and_then}
+use Rattle.std.specs.Prelude.{◌≡◌, ℕ, zero, suc, Bool, true, false, ◌||◌, ◌==◌, ◌-◌, ◌<◌, ◌⊎◌, List, sum_by, slice_get, slice_index_or, Option, None, Some, option_and_then}
 use Rattle.jolie_ast.specs.declared.types.TypeDefinition.{TypeDefinition}
 use Rattle.jolie_ast.specs.declared.types.TypeBody.{out-TypeBody}
 use Rattle.service_check.specs.declared.circles.Mark.{Mark}
 use Rattle.service_check.specs.declared.circles.Mark.TheVariants.{Unseen, Walked, Circle}
 use Rattle.service_check.specs.Repeated.{place_of}
+use Rattle.service_check.specs.Files.{type_names}
 use Rattle.service_check.specs.TypeRules.{body_of, name_in}
 
 -- ---- places that lead to places
@@ -12,10 +13,6 @@ use Rattle.service_check.specs.TypeRules.{body_of, name_in}
 -- the name that a type is defined as, if it is one
 abbrev pub name_of : TypeDefinition → Option (List ℕ)
 name_of ty = name_in (out-TypeBody (body_of ty.body))
-
--- the names of types
-abbrev pub type_names : List TypeDefinition → List (List ℕ)
-type_names types = map (λ (t : TypeDefinition). t.name.text) types
 
 -- the place that a place leads to: that of the name that the type at it is defined as, if there is a type of it
 abbrev pub next_place : List TypeDefinition → ℕ → Option ℕ

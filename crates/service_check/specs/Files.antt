@@ -54,6 +54,10 @@ interfaces_of file = filter_map interface_in file
 abbrev pub services_of : List Definition → List Service
 services_of file = filter_map service_in file
 
+-- the names of types
+abbrev pub type_names : List TypeDefinition → List (List ℕ)
+type_names types = map (λ (t : TypeDefinition). t.name.text) types
+
 -- the first type of a name
 abbrev pub type_named : List TypeDefinition → List ℕ → Option TypeDefinition
 type_named [] name = None

@@ -28,7 +28,7 @@ use Rattle.behaviour_tree.specs.declared.program.Execution.TheVariants as execut
 use Rattle.behaviour_tree.specs.Data as plain
 use Rattle.behaviour_tree.specs.Data.{TypeTree, ThrowsPart, OperationPart, InterfacePart, PortPart, AliasPart, VariablePart, SetPart, ServicePart, ProgramParts}
 use Rattle.behaviour_tree.specs.View.{FieldView, type_fields_of}
-use Rattle.service_check.specs.Files.{Operation, Sided, texts_of, types_of, interfaces_of, services_of, operations_in, place_in, port_in, port_operations, input_operations, sets_of, execution_of, first_there, init_in, main_in}
+use Rattle.service_check.specs.Files.{Operation, Sided, texts_of, type_names, types_of, interfaces_of, services_of, operations_in, place_in, port_in, port_operations, input_operations, sets_of, execution_of, first_there, init_in, main_in}
 use Rattle.service_check.specs.TypeRules.{body_of}
 use Rattle.service_check.specs.SetRules.{variables_of}
 use Rattle.service_check.specs.Behaviours.{NumberedPort, Numbering, meant_if_there}
@@ -181,15 +181,11 @@ meant_service interfaces types names s = record {
 
 -- ---- the file
 
--- the names of the types of a file
-abbrev pub type_names : List Definition → List (List ℕ)
-type_names file = map (λ (t : TypeDefinition). t.name.text) (types_of file)
-
 -- the program of a file
 unfoldable pub program_of : List Definition → ProgramParts
 program_of file = record {
-  types = map (meant_definition (type_names file)) (types_of file);
-  interfaces = map (meant_interface (type_names file) (names_of file)) (interfaces_of file);
-  services = map (meant_service (interfaces_of file) (type_names file) (names_of file)) (services_of file);
+  types = map (meant_definition (type_names (types_of file))) (types_of file);
+  interfaces = map (meant_interface (type_names (types_of file)) (names_of file)) (interfaces_of file);
+  services = map (meant_service (interfaces_of file) (type_names (types_of file)) (names_of file)) (services_of file);
   names = names_of file;
 }

@@ -4,7 +4,8 @@ use Rattle.jolie_ast.specs.declared.types.TypeDefinition.{TypeDefinition}
 use Rattle.service_check.specs.declared.circles.Mark.TheVariants.{Unseen}
 use Rattle.service_check.specs.Repeated.{place_of}
 use Rattle.service_check.specs.TypeRules.{leads_back}
-use Rattle.service_check.specs.Circles.{is_circle, next_place, type_names}
+use Rattle.service_check.specs.Circles.{is_circle, next_place}
+use Rattle.service_check.specs.Files.{type_names}
 use Rattle.service_check.proofs.Leading.{leads_by_place, leads_from_none}
 use Rattle.service_check.proofs.Marks.{mark_tells}
 use Rattle.service_check.proofs.circles.Circles.leads_back.Goals as goal
