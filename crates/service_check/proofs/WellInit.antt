@@ -29,7 +29,7 @@ use Rattle.service_check.specs.Files.{first_there, init_in, main_in}
 use Rattle.service_check.specs.Behaviours.{Numbering, meant_assignment, meant_block, meant_if_there, meant_process}
 use Rattle.service_check.specs.Expressions.{meant_path}
 use Rattle.service_check.specs.ProcessRules.{Surroundings, block_refused}
-use Rattle.service_check.specs.ServiceRules.{assigns, clause_refused, init_refused, place_of, statement_refused, statements_of}
+use Rattle.service_check.specs.ServiceRules.{assigns, clause_refused, init_refused, process_place, statement_refused, statements_of}
 use Rattle.service_check.proofs.Emptied.{holds, left_empty, right_empty}
 use Rattle.service_check.proofs.MeantProcesses as means
 
@@ -65,13 +65,13 @@ init_of_one q h = h
 
 -- what is refused of a statement of init
 abbrev of_statement : Process → List Refusal
-of_statement p = statement_refused (place_of p) (assigns p)
+of_statement p = statement_refused (process_place p) (assigns p)
 
 each_assigns : (m : Numbering) (ps : List Process) → flat_map of_statement ps ≡ [] → all_assign_alone (procs_of (map (meant_process m) ps)) ≡ true
 each_assigns m [] e = refl
 each_assigns m (p ∷ ps) e =
     and_from (assigns_alone (meant_process m p)) (all_assign_alone (procs_of (map (meant_process m) ps)))
-    (assigning_means m p (holds (assigns p) InitNotAssignment (place_of p) (left_empty (of_statement p) (flat_map of_statement ps) e)))
+    (assigning_means m p (holds (assigns p) InitNotAssignment (process_place p) (left_empty (of_statement p) (flat_map of_statement ps) e)))
     (each_assigns m ps (right_empty (of_statement p) (flat_map of_statement ps) e))
 
 -- the statements of a process, by its form
@@ -81,7 +81,7 @@ statements_by p f = elim f as (λ _. List Process) [ Process-F.Sequence statemen
 init_by_form : (m : Numbering) (p : Process) (f : Process-F Otherwise Process Answer Block Branch Handler If Input Reply) → out-Process p ≡ f → flat_map of_statement (statements_by p f) ≡ [] → is_init (meant_process m p) ≡ true
 init_by_form m p (Process-F.Sequence statements) form e =
     ap is_init (meant_by_form m p (process.Sequence statements) (Process-F.Sequence statements) form (process.rolls-Sequence statements) ∙ means.sequence_meant m statements) ∙ each_assigns m statements e
-init_by_form m p f form e = init_of_one (meant_process m p) (assigning_means m p (holds (assigns p) InitNotAssignment (place_of p) (left_empty (of_statement p) [] e)))
+init_by_form m p f form e = init_of_one (meant_process m p) (assigning_means m p (holds (assigns p) InitNotAssignment (process_place p) (left_empty (of_statement p) [] e)))
 
 init_there : (m : Numbering) (o : Option Process) → flat_map of_statement (elim o as (λ _. List Process) [ None ↦ [] | Some p ↦ statements_of p ]) ≡ [] → is_init (unwrap_or (option_map (meant_process m) o) plain.nothing) ≡ true
 init_there m None e = refl

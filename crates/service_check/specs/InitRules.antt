@@ -2,11 +2,11 @@
 use Rattle.std.specs.Prelude.{List, flat_map}
 use Rattle.jolie_ast.specs.declared.process.Process.{Process}
 use Rattle.service_check.specs.declared.refusal.Refusal.{Refusal}
-use Rattle.service_check.specs.ServiceRules.{assigns, place_of, statement_refused}
+use Rattle.service_check.specs.ServiceRules.{assigns, process_place, statement_refused}
 
 -- a statement of init that is no assignment
 abbrev pub no_assignment : Process → List Refusal
-no_assignment p = statement_refused (place_of p) (assigns p)
+no_assignment p = statement_refused (process_place p) (assigns p)
 
 -- what is refused of statements of init
 abbrev pub no_assignments : List Process → List Refusal

@@ -116,8 +116,8 @@ place_level (Process-F.Sequence places) = first_place places
 place_level (Process-F.Parallel places) = first_place places
 
 -- the place of a process: that of its first token
-unfoldable pub place_of : Process → ℕ
-place_of = fold-Process ℕ ℕ ℕ ℕ ℕ ℕ ℕ ℕ ℕ (λ o. 0) place_level (λ a. 0) (λ b. b.at) (λ b. b.at) (λ h. 0) (λ i. i.at) (λ i. i.operation.at) (λ r. 0)
+unfoldable pub process_place : Process → ℕ
+process_place = fold-Process ℕ ℕ ℕ ℕ ℕ ℕ ℕ ℕ ℕ (λ o. 0) place_level (λ a. 0) (λ b. b.at) (λ b. b.at) (λ h. 0) (λ i. i.at) (λ i. i.operation.at) (λ r. 0)
 
 -- a statement of init: anything but an assignment is refused at its place
 abbrev pub statement_refused : ℕ → Bool → List Refusal
@@ -137,7 +137,7 @@ statements_in b = elim (out-Block b).body [ None ↦ [] | Some p ↦ statements_
 
 -- what is refused of an init because it is one
 abbrev pub init_refused : Block → List Refusal
-init_refused b = flat_map (λ p. statement_refused (place_of p) (assigns p)) (statements_in b)
+init_refused b = flat_map (λ p. statement_refused (process_place p) (assigns p)) (statements_in b)
 
 -- ---- clauses
 

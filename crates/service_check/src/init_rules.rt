@@ -1,7 +1,7 @@
 ghost use Rattle.std.specs.Prelude.{◌≡◌, map};
 ghost use Rattle.service_check.specs.InitRules.{no_assignment, no_assignments};
 ghost use Rattle.service_check.specs.Least.{joined};
-ghost use Rattle.service_check.specs.ServiceRules.{assigns, first_place, init_refused, place_of, statements_of};
+ghost use Rattle.service_check.specs.ServiceRules.{assigns, first_place, init_refused, process_place, statements_of};
 
 use crate::least::Least;
 use crate::refusal::CheckName;
@@ -39,7 +39,11 @@ fn no_assignment(statement: &Process, least: &mut Least)
     ensures { least.new ≡ joined least.old (no_assignment statement.now) }
 {
     let is_wrong = !assigns(statement);
-    least.offer_if(is_wrong, CheckName::InitNotAssignment, place_of(statement));
+    least.offer_if(
+        is_wrong,
+        CheckName::InitNotAssignment,
+        process_place(statement),
+    );
 }
 
 fn assigns(process: &Process) -> bool
@@ -51,8 +55,8 @@ fn assigns(process: &Process) -> bool
 /// The place of the first token of a process.
 #[cycle(place)]
 #[tactic(auto, using(crate::proofs::Places::nothing_place, crate::proofs::Places::assign_place, crate::proofs::Places::undef_place, crate::proofs::Places::correlate_place, crate::proofs::Places::if_place, crate::proofs::Places::while_place, crate::proofs::Places::for_place, crate::proofs::Places::input_place, crate::proofs::Places::choice_place, crate::proofs::Places::output_place, crate::proofs::Places::scope_place, crate::proofs::Places::install_place, crate::proofs::Places::throw_place, crate::proofs::Places::compensate_place, crate::proofs::Places::inner_handler_place, crate::proofs::Places::block_place, crate::proofs::Places::sequence_place, crate::proofs::Places::parallel_place))]
-fn place_of(process: &Process) -> u32
-    ensures { result ≡ place_of process.now }
+fn process_place(process: &Process) -> u32
+    ensures { result ≡ process_place process.now }
 {
     match process {
         Process::Nothing(at) => *at,
@@ -79,10 +83,10 @@ fn place_of(process: &Process) -> u32
 /// The place of the first of several processes.
 #[cycle(place)]
 fn first_place(processes: &[Process]) -> u32
-    ensures { result ≡ first_place (map place_of processes.now) }
+    ensures { result ≡ first_place (map process_place processes.now) }
 {
     match processes {
-        [first, ..] => place_of(first),
+        [first, ..] => process_place(first),
         [] => 0,
     }
 }
