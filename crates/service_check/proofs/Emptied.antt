@@ -8,12 +8,12 @@ use Rattle.std.proofs.lemmas.List.Folds.{list_all-map, list_any-append}
 use Rattle.std.proofs.lemmas.Option.{same_Some}
 use Rattle.std.proofs.lemmas.Slice.Eq.{bytes_eq-Decides}
 use Rattle.jolie_ast.specs.declared.name.Name.{Name}
+use Rattle.behaviour_tree.specs.Distinct.{texts_differ, is_in}
 use Rattle.service_check.specs.declared.refusal.CheckName.{CheckName}
 use Rattle.service_check.specs.declared.refusal.Refusal.{Refusal}
 use Rattle.service_check.specs.Least.{least, refused, refused_if}
-use Rattle.service_check.specs.Repeated.{is_in, repeated, repeated_after}
+use Rattle.service_check.specs.Repeated.{repeated, repeated_after}
 use Rattle.service_check.specs.Files.{place_in}
-use Rattle.behaviour_tree.specs.Distinct.{texts_differ}
 
 -- ---- nothing is refused
 

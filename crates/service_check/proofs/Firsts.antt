@@ -2,7 +2,8 @@
 use Rattle.std.proofs.Common.{◌≡◌, ℕ, Bool, true, false, List, [], ◌∷◌, ◌++◌, map, refl, ap, sym, ◌∙◌, bytes_eq, append_assoc, append-nil}
 use Rattle.std.specs.Prelude.{◌||◌, if◌then◌else◌}
 use Rattle.std.proofs.lemmas.Slice.Eq.{bytes_eq-Decides}
-use Rattle.service_check.specs.Repeated.{is_in, firsts, firsts_after}
+use Rattle.behaviour_tree.specs.Distinct.{is_in}
+use Rattle.service_check.specs.Repeated.{firsts, firsts_after}
 use Rattle.service_check.specs.Files.{Operation, each_once, each_once_after}
 use Rattle.service_check.specs.Mentioned.{Texts, with_text, with_texts}
 

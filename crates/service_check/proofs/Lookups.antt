@@ -5,7 +5,8 @@ use Rattle.std.specs.Map.{update}
 use Rattle.std.proofs.lemmas.Bool.{false≢true}
 use Rattle.std.proofs.lemmas.List.{map-append, length-map}
 use Rattle.std.proofs.lemmas.Slice.Eq.{bytes_eq-Decides}
-use Rattle.service_check.specs.Repeated.{is_in, place_of}
+use Rattle.behaviour_tree.specs.Distinct.{is_in}
+use Rattle.service_check.specs.Repeated.{place_of}
 
 -- the first text is it, or one behind is
 pub first_or_behind : (b : Bool) (o : Option ℕ) (i : Bool) → is_some o ≡ i → is_some (if b then Some 0 else option_map suc o) ≡ (b || i)

@@ -3,9 +3,10 @@ use Rattle.std.proofs.Common.{◌≡◌, ℕ, Bool, ◌+◌, ◌<◌, List, [], 
 use Rattle.std.specs.Prelude.{◌||◌, if◌then◌else◌}
 use Rattle.std.proofs.lemmas.List.{map-append, take_more}
 use Rattle.jolie_ast.specs.declared.name.Name.{Name}
+use Rattle.behaviour_tree.specs.Distinct.{is_in}
 use Rattle.service_check.specs.declared.refusal.Refusal.{Refusal}
 use Rattle.service_check.specs.Least.{joined}
-use Rattle.service_check.specs.Repeated.{is_in, first_names, first_names_after}
+use Rattle.service_check.specs.Repeated.{first_names, first_names_after}
 use Rattle.service_check.proofs.Joined.{turn_of}
 use Rattle.service_check.proofs.Operations.{each_mapped}
 use Rattle.service_check.proofs.Repetitions.{in_any_order, nothing_behind}

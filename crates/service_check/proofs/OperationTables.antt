@@ -6,7 +6,8 @@ use Rattle.std.specs.Option.{option_to_list}
 use Rattle.std.proofs.lemmas.List.{flat_map_more, length-map, map-append, take_more}
 use Rattle.jolie_ast.specs.declared.interface.Interface.{Interface}
 use Rattle.jolie_ast.specs.declared.service.Clause.{Clause}
-use Rattle.service_check.specs.Repeated.{is_in, place_of}
+use Rattle.behaviour_tree.specs.Distinct.{is_in}
+use Rattle.service_check.specs.Repeated.{place_of}
 use Rattle.service_check.specs.Files.{Operation, each_once_after, input_port_in, operation_named, output_port_in, texts_of}
 use Rattle.service_check.specs.OperationTables.{answers_named, does_answer, if_there, operations_at, operations_of_input, with_new}
 use Rattle.service_check.specs.ProcessRules.{Outlet, outlet_named}

@@ -3,10 +3,11 @@ use Rattle.std.proofs.Common.{◌≡◌, ℕ, Bool, true, false, ◌+◌, ◌<�
 use Rattle.std.specs.Prelude.{◌||◌, if◌then◌else◌}
 use Rattle.std.proofs.lemmas.List.{map-append, take_more}
 use Rattle.jolie_ast.specs.declared.name.Name.{Name}
+use Rattle.behaviour_tree.specs.Distinct.{is_in}
 use Rattle.service_check.specs.declared.refusal.CheckName.TheVariants.{DuplicateName}
 use Rattle.service_check.specs.declared.refusal.Refusal.{Refusal}
 use Rattle.service_check.specs.Least.{joined, refused, refused_if}
-use Rattle.service_check.specs.Repeated.{is_in, repeated, repeated_after}
+use Rattle.service_check.specs.Repeated.{repeated, repeated_after}
 use Rattle.service_check.proofs.Joined.{joined_append, refused_append}
 
 -- a text among others, in another order of three tests

@@ -7,11 +7,11 @@ use Rattle.std.proofs.lemmas.List.{take_all}
 use Rattle.jolie_ast.specs.declared.name.Name.{Name}
 use Rattle.jolie_ast.specs.declared.service.CorrelationVariable.{CorrelationVariable}
 use Rattle.jolie_ast.specs.declared.service.Clause.{Clause}
+use Rattle.behaviour_tree.specs.Distinct.{is_in}
 use Rattle.service_check.specs.declared.refusal.Refusal.{Refusal}
 use Rattle.service_check.specs.declared.refusal.CheckName.TheVariants.{TwoSets, Uncorrelated}
 use Rattle.service_check.specs.Files.{set_in}
 use Rattle.service_check.specs.Least.{joined, refused_if}
-use Rattle.service_check.specs.Repeated.{is_in}
 use Rattle.service_check.specs.SetRules.{alias_texts, all_have, in_earlier, partly, partly_among, set_names, set_texts, set_types, two_sets, types_in_sets}
 use Rattle.service_check.proofs.Joined.{joined_append}
 use Rattle.service_check.proofs.Operations.{mapped_each}

@@ -6,12 +6,13 @@ use Rattle.std.proofs.lemmas.Slice.Eq.{bytes_eq-Decides}
 use Rattle.jolie_ast.specs.declared.name.Name.{Name}
 use Rattle.jolie_ast.specs.declared.interface.Interface.{Interface}
 use Rattle.jolie_ast.specs.declared.service.Port.{Port}
+use Rattle.behaviour_tree.specs.Distinct.{is_in}
 use Rattle.service_check.specs.declared.refusal.CheckName.TheVariants.{DuplicateName}
 use Rattle.service_check.specs.declared.refusal.Refusal.{Refusal}
 use Rattle.service_check.specs.Files.{Operation, operations_named}
 use Rattle.service_check.specs.Least.{comes_first, joined, offered, refusal, refused}
 use Rattle.service_check.specs.PortRules.{brought, brought_by, brought_in, brought_unless, operation_at}
-use Rattle.service_check.specs.Repeated.{is_in, repeated, repeated_after}
+use Rattle.service_check.specs.Repeated.{repeated, repeated_after}
 use Rattle.service_check.specs.Spared.{first_alone, spared, spared_after, spared_in, spared_unless}
 use Rattle.service_check.proofs.Joined.{joined_append, refused_append}
 use Rattle.service_check.proofs.Operations.{mapped_twice}

@@ -22,8 +22,8 @@ use Rattle.behaviour_tree.specs.Conforms.{shape}
 use Rattle.behaviour_tree.specs.View.{FieldView, type_fields_of}
 use Rattle.behaviour_tree.specs.FormedSets as formed_sets
 use Rattle.behaviour_tree.specs.FormedSets.{fields_of, once_at, is_alias}
+use Rattle.behaviour_tree.specs.Distinct.{is_in}
 use Rattle.service_check.specs.declared.refusal.CheckName.TheVariants.{UnknownType}
-use Rattle.service_check.specs.Repeated.{is_in}
 use Rattle.service_check.specs.Files.{place_in, type_named, type_names}
 use Rattle.service_check.specs.TypeRules.{body_of, name_in}
 use Rattle.service_check.specs.SetRules.{is_once, field_named, behind_names, is_value_kind, fields_in, is_value, once_in, leads_to_value, alias_type, wrong_alias}

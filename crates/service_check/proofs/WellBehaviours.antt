@@ -29,13 +29,13 @@ use Rattle.jolie_ast.specs.Formed.{each, has_one, has_two, option_all, expr_form
 use Rattle.behaviour_tree.specs.Data as plain
 use Rattle.behaviour_tree.specs.Data.{PathTree, Proc, Branches}
 use Rattle.behaviour_tree.specs.View.{BranchView, HandlerView, ReplyView, branch_of, branches_of, handlers_of, procs_of}
-use Rattle.behaviour_tree.specs.Distinct.{is_some_list, numbers_differ}
+use Rattle.behaviour_tree.specs.Distinct.{is_some_list, numbers_differ, is_in}
 use Rattle.behaviour_tree.specs.FormedExpressions.{is_exp, is_path, is_target}
 use Rattle.behaviour_tree.specs.FormedBehaviours.{Reach, outputs_at, has_operation, is_key, is_behaviour, are_two, are_behaviours, are_branches, are_handlers, keys_differ, branch_operations}
 use Rattle.service_check.specs.declared.refusal.CheckName.TheVariants.{DuplicateName, CompOutsideHandler, ChOutsideHandler}
 use Rattle.service_check.specs.declared.refusal.Refusal.{Refusal}
 use Rattle.service_check.specs.Least.{refused, refused_if}
-use Rattle.service_check.specs.Repeated.{is_in, repeated}
+use Rattle.service_check.specs.Repeated.{repeated}
 use Rattle.service_check.specs.Files.{place_in}
 use Rattle.service_check.specs.Behaviours.{AnswerView, InputView, Numbering, alone, in_turn, key_of, meant_answer, meant_assignment, meant_block, meant_branch, meant_conditional, meant_for, meant_handler, meant_input, meant_otherwise, meant_port, meant_process, meant_reply, meant_step, sent}
 use Rattle.service_check.specs.Expressions.{meant_expr, meant_if_written, meant_path}

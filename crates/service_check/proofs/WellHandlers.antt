@@ -9,11 +9,11 @@ use Rattle.jolie_ast.specs.declared.process.HandlerKey.TheVariants as key
 use Rattle.behaviour_tree.specs.Data as plain
 use Rattle.behaviour_tree.specs.Data.{HandlerList, Proc}
 use Rattle.behaviour_tree.specs.View.{HandlerView, handlers_of}
-use Rattle.behaviour_tree.specs.Distinct.{numbers_differ, texts_differ}
+use Rattle.behaviour_tree.specs.Distinct.{numbers_differ, texts_differ, is_in}
 use Rattle.behaviour_tree.specs.FormedBehaviours.{handler_faults, handlers_of_this, keys_differ}
 use Rattle.service_check.specs.declared.refusal.CheckName.TheVariants.{DuplicateName}
 use Rattle.service_check.specs.Least.{refused}
-use Rattle.service_check.specs.Repeated.{is_in, repeated}
+use Rattle.service_check.specs.Repeated.{repeated}
 use Rattle.service_check.specs.Files.{place_in}
 use Rattle.service_check.specs.Behaviours.{Numbering, key_of, meant_handler, meant_process}
 use Rattle.service_check.specs.Mentioned.{key_texts}

@@ -14,13 +14,13 @@ use Rattle.jolie_ast.specs.declared.interface.TypeName.{TypeName}
 use Rattle.jolie_ast.specs.declared.interface.TypeName.TheVariants as type_name
 use Rattle.behaviour_tree.specs.Data.{ThrowsPart, InterfacePart}
 use Rattle.behaviour_tree.specs.Operations.{is_among}
-use Rattle.behaviour_tree.specs.Distinct.{texts_differ, numbers_differ}
+use Rattle.behaviour_tree.specs.Distinct.{texts_differ, numbers_differ, is_in}
 use Rattle.behaviour_tree.specs.FormedTypes.{is_type, is_type_if_there}
 use Rattle.behaviour_tree.specs.FormedInterfaces.{is_fault, is_operation, is_interface}
 use Rattle.service_check.specs.declared.refusal.CheckName.TheVariants.{DuplicateName}
 use Rattle.service_check.specs.declared.refusal.Refusal.{Refusal}
 use Rattle.service_check.specs.Least.{refused}
-use Rattle.service_check.specs.Repeated.{is_in, repeated}
+use Rattle.service_check.specs.Repeated.{repeated}
 use Rattle.service_check.specs.Files.{Operation, operations_in, interfaces_of, place_in, type_names}
 use Rattle.service_check.specs.TypeRules.{unknown_type_name}
 use Rattle.service_check.specs.InterfaceRules.{unknown_if_written, fault_refused, operation_refused, interface_refused}

@@ -16,12 +16,12 @@ use Rattle.behaviour_tree.specs.Locations.{is_local, is_socket}
 use Rattle.behaviour_tree.specs.Operations as plain
 use Rattle.behaviour_tree.specs.Operations.{mentions, input_interfaces, operations_of}
 use Rattle.behaviour_tree.specs.FormedPorts as formed_ports
-use Rattle.behaviour_tree.specs.Distinct.{texts_differ, numbers_differ}
+use Rattle.behaviour_tree.specs.Distinct.{texts_differ, numbers_differ, is_in}
 use Rattle.behaviour_tree.specs.FormedPorts.{operation_names, is_port, names_once, has_once, is_met}
 use Rattle.service_check.specs.declared.refusal.CheckName.TheVariants.{DuplicateName, UnknownType, UnknownPort, WrongKind}
 use Rattle.service_check.specs.declared.refusal.Refusal.{Refusal}
 use Rattle.service_check.specs.Least.{refused, refused_if}
-use Rattle.service_check.specs.Repeated.{is_in, firsts_after, repeated}
+use Rattle.service_check.specs.Repeated.{firsts_after, repeated}
 use Rattle.service_check.specs.Files.{Operation, each_once, interface_named, operations_in, operations_named, place_in, port_in, input_port_in, output_port_in, texts_of}
 use Rattle.service_check.specs.PortRules.{unknown_interface, operation_at, brought_by, brought_unless, brought, brought_in, interfaces_repeated, output_port_refused, wrong_location, wrong_protocol, console, port_refused, sided_refused, unmet}
 use Rattle.service_check.specs.Programs.{meant_operation, meant_interface, meant_port_part}

@@ -17,10 +17,10 @@ use Rattle.behaviour_tree.specs.FormedSets as formed_sets
 use Rattle.behaviour_tree.specs.FormedServices as formed_services
 use Rattle.behaviour_tree.specs.FormedBehaviours.{Reach, has_operation, is_behaviour}
 use Rattle.behaviour_tree.specs.FormedServices.{sent_to}
+use Rattle.behaviour_tree.specs.Distinct.{is_in}
 use Rattle.service_check.specs.declared.refusal.CheckName.TheVariants.{UnknownOperation, WrongKind, Uncorrelated}
 use Rattle.service_check.specs.declared.refusal.Refusal.{Refusal}
 use Rattle.service_check.specs.Least.{refused, refused_if}
-use Rattle.service_check.specs.Repeated.{is_in}
 use Rattle.service_check.specs.Files.{Operation, first_there, init_in, input_operations, main_in, operation_named, output_ports, place_in, port_in, sets_of, texts_of}
 use Rattle.service_check.specs.Behaviours.{NumberedPort, Numbering, console_port, meant_if_there, port_among}
 use Rattle.service_check.specs.Mentioned.{Texts, block_texts, clause_texts}

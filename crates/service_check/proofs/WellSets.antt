@@ -17,12 +17,12 @@ use Rattle.jolie_ast.specs.declared.service.Execution.TheVariants as said
 use Rattle.behaviour_tree.specs.Data.{AliasPart, VariablePart, SetPart}
 use Rattle.behaviour_tree.specs.Operations.{is_among}
 use Rattle.behaviour_tree.specs.FormedSets as formed_sets
-use Rattle.behaviour_tree.specs.Distinct.{texts_differ, numbers_differ}
+use Rattle.behaviour_tree.specs.Distinct.{texts_differ, numbers_differ, is_in}
 use Rattle.behaviour_tree.specs.FormedSets.{is_alias, alias_types, is_variable, types_are_apart}
 use Rattle.service_check.specs.declared.refusal.CheckName.TheVariants.{DuplicateName, Uncorrelated, TwoSets}
 use Rattle.service_check.specs.declared.refusal.Refusal.{Refusal}
 use Rattle.service_check.specs.Least.{refused}
-use Rattle.service_check.specs.Repeated.{is_in, firsts_after, first_names_after, repeated}
+use Rattle.service_check.specs.Repeated.{firsts_after, first_names_after, repeated}
 use Rattle.service_check.specs.Files.{is_concurrent, place_in, set_in, type_names}
 use Rattle.service_check.specs.SetRules.{alias_names, alias_texts, set_types, set_texts, all_have, partly, wrong_alias, variable_refused, set_refused, in_earlier, two_sets, set_names, set_of_single}
 use Rattle.service_check.specs.Programs.{meant_alias, meant_variable, meant_set, meant_execution}

@@ -34,12 +34,12 @@ use Rattle.behaviour_tree.specs.View.{BranchView, ReplyView, branch_of, branches
 use Rattle.behaviour_tree.specs.FormedSets as formed_sets
 use Rattle.behaviour_tree.specs.FormedServices as formed_services
 use Rattle.behaviour_tree.specs.Operations.{is_among}
-use Rattle.behaviour_tree.specs.Distinct.{texts_differ}
+use Rattle.behaviour_tree.specs.Distinct.{texts_differ, is_in}
 use Rattle.behaviour_tree.specs.FormedBehaviours.{branch_operations}
 use Rattle.behaviour_tree.specs.FormedServices.{all_reach, first_of_members, has_start, is_correlated, is_install}
 use Rattle.service_check.specs.declared.refusal.CheckName.TheVariants.{NoStart, Uncorrelated}
 use Rattle.service_check.specs.Least.{refused_if}
-use Rattle.service_check.specs.Repeated.{firsts_after, is_in}
+use Rattle.service_check.specs.Repeated.{firsts_after}
 use Rattle.service_check.specs.Files.{Operation, execution_of, input_operations, input_ports, is_concurrent, place_in, sets_of, texts_of}
 use Rattle.service_check.specs.Behaviours.{InputView, Numbering, alone, meant_answer, meant_assignment, meant_block, meant_branch, meant_conditional, meant_for, meant_handler, meant_if_there, meant_input, meant_port, meant_process, meant_step, sent}
 use Rattle.service_check.specs.Expressions.{meant_expr, meant_if_written, meant_path}

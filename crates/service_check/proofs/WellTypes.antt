@@ -17,11 +17,11 @@ use Rattle.jolie_ast.specs.declared.types.TypeBody.TheFolds.{map-TypeBody, ind-T
 use Rattle.jolie_ast.specs.declared.types.Field.{Field, out-Field, roll-Field}
 use Rattle.behaviour_tree.specs.Data.{TypeTree}
 use Rattle.behaviour_tree.specs.View.{FieldView, type_fields_of}
-use Rattle.behaviour_tree.specs.Distinct.{texts_differ}
+use Rattle.behaviour_tree.specs.Distinct.{texts_differ, is_in}
 use Rattle.behaviour_tree.specs.FormedTypes.{field_names, is_type, are_fields, number_in, next_number, leads_to, none_leads_back, are_types}
 use Rattle.service_check.specs.declared.refusal.CheckName.TheVariants.{DuplicateName, UnknownType}
 use Rattle.service_check.specs.declared.refusal.Refusal.{Refusal}
-use Rattle.service_check.specs.Repeated.{is_in, place_of}
+use Rattle.service_check.specs.Repeated.{place_of}
 use Rattle.service_check.specs.Files.{place_in, type_named, type_names}
 use Rattle.service_check.specs.TypeRules as rule
 use Rattle.service_check.specs.TypeRules.{FieldFound, body_of, unknown_type, body_refused, field_refused, field_names_refused, name_in, leads_back, circle, type_refused}

@@ -20,7 +20,7 @@ use Rattle.jolie_ast.specs.declared.service.Clause.TheVariants as clause
 use Rattle.jolie_ast.specs.declared.service.CorrelationVariable.{CorrelationVariable}
 use Rattle.jolie_ast.specs.declared.service.Service.{Service}
 use Rattle.jolie_ast.specs.declared.process.Block.{Block}
-use Rattle.service_check.specs.Repeated.{is_in}
+use Rattle.behaviour_tree.specs.Distinct.{is_in}
 
 -- ---- definitions
 

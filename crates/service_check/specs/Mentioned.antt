@@ -18,7 +18,8 @@ use Rattle.jolie_ast.specs.declared.process.Input.{Input}
 use Rattle.jolie_ast.specs.declared.process.Otherwise.{Otherwise}
 use Rattle.jolie_ast.specs.declared.process.Process.{Process}
 use Rattle.jolie_ast.specs.declared.process.Reply.{Reply}
-use Rattle.service_check.specs.Repeated.{firsts, is_in}
+use Rattle.behaviour_tree.specs.Distinct.{is_in}
+use Rattle.service_check.specs.Repeated.{firsts}
 use Rattle.service_check.specs.Files.{Operation, operations_in}
 
 -- texts

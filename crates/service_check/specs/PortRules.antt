@@ -8,9 +8,10 @@ use Rattle.jolie_ast.specs.declared.interface.OperationGroup.{OperationGroup}
 use Rattle.jolie_ast.specs.declared.interface.Interface.{Interface}
 use Rattle.jolie_ast.specs.declared.service.Port.{Port}
 use Rattle.jolie_ast.specs.declared.service.Service.{Service}
+use Rattle.behaviour_tree.specs.Distinct.{is_in}
 use Rattle.service_check.specs.declared.refusal.CheckName.TheVariants.{DuplicateName, UnknownType, UnknownPort, WrongKind}
 use Rattle.service_check.specs.declared.refusal.Refusal.{Refusal}
-use Rattle.service_check.specs.Repeated.{is_in, named, repeated}
+use Rattle.service_check.specs.Repeated.{named, repeated}
 use Rattle.service_check.specs.Least.{refused, refused_if}
 use Rattle.service_check.specs.Files.{Operation, group_operations, operations_named, interface_named, Sided, port_in, input_ports, output_ports}
 use Rattle.behaviour_tree.specs.Locations.{begins_local, is_local, is_socket}

@@ -21,9 +21,10 @@ use Rattle.jolie_ast.specs.declared.process.Handler.{Handler, out-Handler}
 use Rattle.jolie_ast.specs.declared.process.If.{If}
 use Rattle.jolie_ast.specs.declared.process.Input.{Input, out-Input}
 use Rattle.jolie_ast.specs.declared.process.Reply.{Reply, out-Reply}
+use Rattle.behaviour_tree.specs.Distinct.{is_in}
 use Rattle.service_check.specs.declared.refusal.CheckName.TheVariants.{DuplicateName, UnknownPort, UnknownOperation, WrongKind, Uncorrelated, CompOutsideHandler, ChOutsideHandler}
 use Rattle.service_check.specs.declared.refusal.Refusal.{Refusal}
-use Rattle.service_check.specs.Repeated.{is_in, named, repeated}
+use Rattle.service_check.specs.Repeated.{named, repeated}
 use Rattle.service_check.specs.Least.{refused, refused_if}
 use Rattle.service_check.specs.Files.{Operation, operation_named}
 use Rattle.service_check.specs.PortRules.{console}

@@ -1,12 +1,8 @@
 -- Names that stand a second time, and names that are there.
-use Rattle.std.specs.Prelude.{ℕ, suc, Bool, List, [], ◌∷◌, ◌++◌, bytes_eq, if◌then◌else◌, Option, None, Some, option_map}
-use Rattle.std.specs.List.{list_any}
+use Rattle.std.specs.Prelude.{ℕ, suc, List, [], ◌∷◌, ◌++◌, bytes_eq, if◌then◌else◌, Option, None, Some, option_map}
 use Rattle.jolie_ast.specs.declared.name.Name.{Name}
 use Rattle.jolie_ast.specs.declared.name.Quoted.{Quoted}
-
--- one of the texts
-abbrev pub is_in : List ℕ → List (List ℕ) → Bool
-is_in text texts = list_any (λ t. bytes_eq t text) texts
+use Rattle.behaviour_tree.specs.Distinct.{is_in}
 
 -- a text with its place
 abbrev pub named : List ℕ → ℕ → Name

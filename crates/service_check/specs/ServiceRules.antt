@@ -16,9 +16,9 @@ use Rattle.jolie_ast.specs.declared.process.Otherwise.TheOpen.{Block-F, Branch-F
 use Rattle.jolie_ast.specs.declared.process.Otherwise.TheFolds.{fold-Block, fold-Process}
 use Rattle.jolie_ast.specs.declared.process.Process.{Process, out-Process}
 use Rattle.jolie_ast.specs.declared.process.Block.{Block, out-Block}
+use Rattle.behaviour_tree.specs.Distinct.{is_in}
 use Rattle.service_check.specs.declared.refusal.CheckName.TheVariants.{DuplicateName, Uncorrelated, NoStart, InitNotAssignment}
 use Rattle.service_check.specs.declared.refusal.Refusal.{Refusal}
-use Rattle.service_check.specs.Repeated.{is_in}
 use Rattle.service_check.specs.Least.{refused, refused_if}
 use Rattle.service_check.specs.Files.{Operation, input_operations, output_ports, port_operations, sets_of, execution_of, is_concurrent, first_there, main_in}
 use Rattle.service_check.specs.PortRules.{ports_refused}

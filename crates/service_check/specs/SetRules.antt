@@ -17,9 +17,10 @@ use Rattle.jolie_ast.specs.declared.service.CorrelationVariable.{CorrelationVari
 use Rattle.jolie_ast.specs.declared.service.Clause.{Clause}
 use Rattle.jolie_ast.specs.declared.service.Clause.TheVariants as clause
 use Rattle.jolie_ast.specs.declared.service.Service.{Service}
+use Rattle.behaviour_tree.specs.Distinct.{is_in}
 use Rattle.service_check.specs.declared.refusal.CheckName.TheVariants.{DuplicateName, UnknownType, WrongKind, Uncorrelated, TwoSets}
 use Rattle.service_check.specs.declared.refusal.Refusal.{Refusal}
-use Rattle.service_check.specs.Repeated.{is_in, repeated, first_names}
+use Rattle.service_check.specs.Repeated.{repeated, first_names}
 use Rattle.service_check.specs.Least.{refused, refused_if}
 use Rattle.service_check.specs.Files.{type_named, sets_of, execution_of, is_concurrent}
 use Rattle.service_check.specs.TypeRules.{body_of, name_in}

@@ -4,8 +4,8 @@ use Rattle.jolie_ast.specs.declared.name.Name.{Name}
 use Rattle.jolie_ast.specs.declared.interface.Interface.{Interface}
 use Rattle.jolie_ast.specs.declared.interface.OperationGroup.{OperationGroup}
 use Rattle.jolie_ast.specs.declared.service.Port.{Port}
+use Rattle.behaviour_tree.specs.Distinct.{is_in}
 use Rattle.service_check.specs.Files.{Operation, group_operations}
-use Rattle.service_check.specs.Repeated.{is_in}
 use Rattle.service_check.specs.PortRules.{brought_by}
 
 -- the first of a list alone

@@ -1,5 +1,6 @@
 ghost use Rattle.std.specs.Prelude.{◌≡◌, [], ◌∷◌, ◌++◌, ◌<◌, IfOk, IfSome, OnOk, length, map};
-ghost use Rattle.service_check.specs.Repeated.{is_in, place_of};
+ghost use Rattle.behaviour_tree.specs.Distinct.{is_in};
+ghost use Rattle.service_check.specs.Repeated.{place_of};
 
 use std::alloc::{AllocError, Global};
 use std::collections::BTreeMap;

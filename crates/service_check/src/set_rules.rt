@@ -3,9 +3,10 @@ ghost use Rattle.std.specs.List.{filter_map, list_all};
 ghost use Rattle.jolie_ast.specs.declared.name.Name.{Name};
 ghost use Rattle.jolie_ast.specs.declared.service.Alias.{Alias};
 ghost use Rattle.jolie_ast.specs.declared.service.CorrelationVariable.{CorrelationVariable};
+ghost use Rattle.behaviour_tree.specs.Distinct.{is_in};
 ghost use Rattle.service_check.specs.Files.{set_in, sets_of};
 ghost use Rattle.service_check.specs.Least.{joined};
-ghost use Rattle.service_check.specs.Repeated.{first_names, is_in};
+ghost use Rattle.service_check.specs.Repeated.{first_names};
 ghost use Rattle.service_check.specs.SetRules.{alias_names, alias_texts, all_have, in_earlier, partly, partly_among, set_names, set_of_single, set_refused, set_texts, set_types, sets_refused, two_sets, types_in_sets, variable_refused, variables_of, wrong_alias};
 
 use crate::aliases::leads_to_value;

@@ -1,7 +1,7 @@
 ghost use Rattle.std.specs.Prelude.{◌≡◌, [], ◌∷◌, ◌++◌, IfOk, map};
 ghost use Rattle.std.specs.Option.{option_copied, option_to_list};
+ghost use Rattle.behaviour_tree.specs.Distinct.{is_in};
 ghost use Rattle.service_check.specs.Files.{output_port_in, output_ports};
-ghost use Rattle.service_check.specs.Repeated.{is_in};
 ghost use Rattle.service_check.specs.ProcessRules.{outlet_named};
 ghost use Rattle.service_check.specs.ServiceRules.{outlet, surroundings};
 
