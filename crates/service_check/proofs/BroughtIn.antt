@@ -10,9 +10,10 @@ use Rattle.service_check.specs.Files.{Operation, first_there, group_operations}
 use Rattle.service_check.specs.PortRules.{group_at, operation_at}
 use Rattle.service_check.specs.Repeated.{named}
 use Rattle.service_check.specs.Spared.{first_alone, group_texts, spared, spared_after, spared_in, spared_unless}
-use Rattle.service_check.proofs.Operations.{brought_groups, mapped_each}
-use Rattle.service_check.proofs.Picked.{if_there}
+use Rattle.service_check.specs.OperationTables.{if_there}
+use Rattle.service_check.proofs.Operations.{brought_groups}
 use Rattle.service_check.proofs.Spared.{texts}
+use Rattle.service_check.proofs.Loops.{mapped_each}
 
 -- ---- the first operation of an interface
 

@@ -13,10 +13,10 @@ use Rattle.service_check.specs.ServiceRules.{service_refused}
 use Rattle.service_check.specs.Clauses.{definition_refused}
 use Rattle.service_check.specs.Refusals.{no_service, names_refused, refusals, refusal_of}
 use Rattle.service_check.proofs.Joined.{joined_append, joined_least}
-use Rattle.service_check.proofs.OperationTables.{each_there}
+use Rattle.service_check.proofs.Loops.{each_there}
 
 -- what is refused of the services of a file, definition by definition
-pub services_found : (types : List TypeDefinition) (interfaces : List Interface) (locations : List (List ℕ)) (file : List Definition) → flat_map (service_refused types interfaces locations) (services_of file) ≡ flat_map (definition_refused types interfaces locations) file
+pub services_found : (types : List TypeDefinition) (interfaces : List Interface) (locations : List (List ℕ)) (file : List Definition) → flat_map (definition_refused types interfaces locations) file ≡ flat_map (service_refused types interfaces locations) (services_of file)
 services_found types interfaces locations file = each_there (service_refused types interfaces locations) service_in file
 
 -- what is refused of the types and interfaces of a file

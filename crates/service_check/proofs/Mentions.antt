@@ -2,6 +2,7 @@
 use Rattle.std.proofs.Common.{◌≡◌, ℕ, ◌+◌, ◌<◌, List, [], ◌∷◌, ◌++◌, map, flat_map, length, get_or, take, Option, None, Some, refl, ap, sym, ◌∙◌}
 use Rattle.std.specs.Prelude.{option_map}
 use Rattle.std.proofs.lemmas.List.{flat_map_more, map-append, take_more}
+use Rattle.std.proofs.lemmas.List.Folds.{flat_map-map}
 use Rattle.jolie_ast.specs.declared.name.Name.{Name}
 use Rattle.jolie_ast.specs.declared.expression.Expr.{Expr}
 use Rattle.jolie_ast.specs.declared.expression.Path.{Path}
@@ -26,8 +27,8 @@ use Rattle.jolie_ast.specs.declared.interface.RequestResponse.{RequestResponse}
 use Rattle.jolie_ast.specs.declared.tree.Definition.{Definition}
 use Rattle.service_check.specs.Files.{answering, silent, group_operations}
 use Rattle.service_check.proofs.Firsts.{with_none}
-use Rattle.service_check.proofs.Operations.{each_of_each, each_mapped}
 use Rattle.service_check.specs.Mentioned.{Texts, all, maybe, key_texts, with_text, with_texts, otherwise_level, process_level, answer_level, block_level, branch_level, handler_level, if_level, input_level, reply_level, process_texts, conditional_texts, otherwise_texts, input_texts, reply_texts, branch_texts, answer_texts, handler_texts, block_texts, fault_text, thrown_by, definition_texts, standard, names_of}
+use Rattle.service_check.proofs.Loops.{each_of_each}
 
 -- ---- lists
 
@@ -226,7 +227,7 @@ groups_throw groups = each_of_each thrown_by group_operations groups
 
 -- the faults of operations that answer
 pub answering_throw : (os : List RequestResponse) → flat_map thrown_by (map answering os) ≡ flat_map (λ (o : RequestResponse). map fault_text o.throws) os
-answering_throw os = each_mapped thrown_by answering os
+answering_throw os = flat_map-map thrown_by answering os
 
 -- operations that do not answer have no faults
 pub silent_throw : (os : List OneWay) → flat_map thrown_by (map silent os) ≡ []

@@ -2,13 +2,13 @@
 use Rattle.std.proofs.Common.{◌≡◌, ℕ, Bool, ◌+◌, ◌<◌, List, [], ◌∷◌, ◌++◌, map, length, get_or, take, Option, Bor, ap, sym, ◌∙◌, flat_map, append-nil, append_assoc, bytes_eq}
 use Rattle.std.specs.Prelude.{◌||◌, if◌then◌else◌}
 use Rattle.std.proofs.lemmas.List.{map-append, take_more}
+use Rattle.std.proofs.lemmas.List.Folds.{flat_map-map}
 use Rattle.jolie_ast.specs.declared.name.Name.{Name}
 use Rattle.behaviour_tree.specs.Distinct.{is_in}
 use Rattle.service_check.specs.declared.refusal.Refusal.{Refusal}
 use Rattle.service_check.specs.Least.{joined}
 use Rattle.service_check.specs.Repeated.{first_names, first_names_after}
 use Rattle.service_check.proofs.Joined.{turn_of}
-use Rattle.service_check.proofs.Operations.{each_mapped}
 use Rattle.service_check.proofs.Repetitions.{in_any_order, nothing_behind}
 
 -- what references refer to
@@ -27,8 +27,8 @@ nows_more xs i x below item = nows_push (take i xs) (take (i + 1) xs) x (take_mo
 pub nows_turn : {X : Type 0} (f : X → List Refusal) (p0 p1 p2 : Option Refusal) (xs : List (Bor X)) (i : ℕ) (x : Bor X) → i < length xs → x ≡ get_or xs i x
     → p1 ≡ joined p0 (flat_map f (nows (take i xs))) → p2 ≡ joined p1 (f x.now) → p2 ≡ joined p0 (flat_map f (nows (take (i + 1) xs)))
 nows_turn {X} f p0 p1 p2 xs i x below item before turn =
-    turn_of (λ (d : Bor X). f d.now) p0 p1 p2 xs i x below item (before ∙ ap (joined p0) (each_mapped f (λ (d : Bor X). d.now) (take i xs))) turn
-    ∙ ap (joined p0) (sym (each_mapped f (λ (d : Bor X). d.now) (take (i + 1) xs)))
+    turn_of (λ (d : Bor X). f d.now) p0 p1 p2 xs i x below item (before ∙ ap (joined p0) (flat_map-map f (λ (d : Bor X). d.now) (take i xs))) turn
+    ∙ ap (joined p0) (sym (flat_map-map f (λ (d : Bor X). d.now) (take (i + 1) xs)))
 
 -- the texts of names with one more
 pub texts_more : (p0 ts us : List (List ℕ)) (ns ms : List Name) (n : Name) → ms ≡ ns ++ n ∷ [] → ts ≡ p0 ++ map (λ (n : Name). n.text) ns → us ≡ ts ++ n.text ∷ [] → us ≡ p0 ++ map (λ (n : Name). n.text) ms

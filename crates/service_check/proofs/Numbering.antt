@@ -3,6 +3,7 @@ use Rattle.std.proofs.Common.{◌≡◌, ℕ, zero, suc, Bool, true, false, ◌+
 use Rattle.std.specs.List.{filter_map}
 use Rattle.std.specs.Option.{option_to_list}
 use Rattle.std.proofs.lemmas.List.{map-append, length-map, length-take-le, take_more}
+use Rattle.std.proofs.lemmas.List.Folds.{flat_map-map}
 use Rattle.jolie_ast.specs.declared.name.Name.{Name}
 use Rattle.jolie_ast.specs.declared.interface.Interface.{Interface}
 use Rattle.jolie_ast.specs.declared.service.Clause.{Clause}
@@ -18,8 +19,7 @@ use Rattle.service_check.specs.Outlets.{sided, outlet_names, outlets, outlets_fr
 use Rattle.service_check.specs.Programs.{numbered_from, numbering}
 use Rattle.service_check.specs.SetRules.{variables_of}
 use Rattle.service_check.proofs.Firsts.{once_taken}
-use Rattle.service_check.proofs.Gathered.{all_of_found}
-use Rattle.service_check.proofs.Operations.{each_mapped, mapped_each}
+use Rattle.service_check.proofs.Loops.{all_of_found, mapped_each}
 
 -- ---- ports
 
@@ -39,7 +39,7 @@ all_numbered interfaces n (p ∷ ps) =
 
 pub ports_numbered : (interfaces : List Interface) (sides : List SidedPort) → named_ports (flat_map (λ s. outlet_names (sided s)) sides) (outlets_from interfaces 0 (map sided sides)) ≡ numbered_from interfaces 0 (map sided sides)
 ports_numbered interfaces sides =
-    ap (λ ns. named_ports ns (outlets_from interfaces 0 (map sided sides))) (sym (each_mapped outlet_names sided sides))
+    ap (λ ns. named_ports ns (outlets_from interfaces 0 (map sided sides))) (sym (flat_map-map outlet_names sided sides))
     ∙ all_numbered interfaces 0 (map sided sides)
 
 -- one port more

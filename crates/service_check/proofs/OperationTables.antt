@@ -1,7 +1,7 @@
 -- Laws of tables of operations and of output ports.
 use Rattle.std.proofs.Common.{◌≡◌, ℕ, zero, suc, Bool, true, false, ◌+◌, ◌<◌, arith, List, [], ◌∷◌, ◌++◌, map, length, get_or, take, Option, Some, None, refl, ap, sym, ◌∙◌, bytes_eq, append_assoc, append-nil, flat_map}
 use Rattle.std.specs.Prelude.{◌||◌, if◌then◌else◌, option_map}
-use Rattle.std.specs.List.{cons_option, filter_map}
+use Rattle.std.specs.List.{filter_map}
 use Rattle.std.specs.Option.{option_to_list}
 use Rattle.std.proofs.lemmas.List.{flat_map_more, length-map, map-append, take_more}
 use Rattle.jolie_ast.specs.declared.interface.Interface.{Interface}
@@ -9,13 +9,12 @@ use Rattle.jolie_ast.specs.declared.service.Clause.{Clause}
 use Rattle.behaviour_tree.specs.Distinct.{is_in}
 use Rattle.service_check.specs.Repeated.{place_of}
 use Rattle.service_check.specs.Files.{Operation, each_once_after, input_port_in, operation_named, output_port_in, texts_of}
-use Rattle.service_check.specs.OperationTables.{answers_named, does_answer, if_there, operations_at, operations_of_input, with_new}
+use Rattle.service_check.specs.OperationTables.{answers_named, does_answer, operations_at, operations_of_input, with_new}
 use Rattle.service_check.specs.ProcessRules.{Outlet, outlet_named}
 use Rattle.service_check.specs.ServiceRules.{outlet}
-use Rattle.service_check.proofs.Filtered.{all_found}
-use Rattle.service_check.proofs.Operations.{mapped_each}
 use Rattle.service_check.proofs.Found.{item_at, first_or_at}
 use Rattle.service_check.proofs.Firsts.{again, in_behind}
+use Rattle.service_check.proofs.Loops.{all_found, each_there, mapped_each}
 
 -- ---- look-ups
 
@@ -123,20 +122,10 @@ with_one_turn f p0 p1 p2 xs i x below item before turn =
     ∙ ap (λ y. with_new p0 (map f (take i xs ++ y ∷ []))) item
     ∙ ap (λ ys. with_new p0 (map f ys)) (sym (take_more xs i x below))
 
--- ---- what is found in a list
-
--- nothing is found, or what is found is the first
-pub first_there : {Y A : Type 0} (f : Y → List A) (o : Option Y) (xs : List Y) → flat_map f (cons_option o xs) ≡ if_there f o ++ flat_map f xs
-first_there f None xs = refl
-first_there f (Some y) xs = refl
-
--- what is found in what was found in a list
-pub each_there : {X Y A : Type 0} (f : Y → List A) (g : X → Option Y) (xs : List X) → flat_map f (filter_map g xs) ≡ flat_map (λ x. if_there f (g x)) xs
-each_there f g [] = refl
-each_there f g (x ∷ xs) = first_there f (g x) (filter_map g xs) ∙ ap (λ rest. if_there f (g x) ++ rest) (each_there f g xs)
+-- ---- the operations of input ports
 
 -- the operations of the input ports among clauses
-pub inputs_found : (interfaces : List Interface) (clauses : List Clause) → flat_map (operations_at interfaces) (filter_map input_port_in clauses) ≡ flat_map (operations_of_input interfaces) clauses
+pub inputs_found : (interfaces : List Interface) (clauses : List Clause) → flat_map (operations_of_input interfaces) clauses ≡ flat_map (operations_at interfaces) (filter_map input_port_in clauses)
 inputs_found interfaces clauses = each_there (operations_at interfaces) input_port_in clauses
 
 -- ---- output ports

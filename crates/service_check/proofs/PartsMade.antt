@@ -12,7 +12,7 @@ use Rattle.service_check.specs.Files.{Sided, execution_of, first_there, init_in,
 use Rattle.service_check.specs.Mentioned.{names_of}
 use Rattle.service_check.specs.Outlets.{texts_in}
 use Rattle.service_check.specs.Programs.{meant_definition, meant_execution, meant_interface, meant_port_part, meant_service, meant_set, numbering, program_of}
-use Rattle.service_check.proofs.Operations.{mapped_twice}
+use Rattle.service_check.proofs.Loops.{mapped_twice}
 
 -- a port of its pieces
 abbrev pub port_of : List ℕ → Bool → List ℕ → List ℕ → PortPart

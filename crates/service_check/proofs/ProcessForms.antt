@@ -1,6 +1,7 @@
 -- What is refused of a process at each form.
 use Rattle.std.proofs.Common.{◌≡◌, ℕ, Bool, true, List, [], ◌∷◌, ◌++◌, map, Option, Some, None, refl, ap, sym, ◌∙◌, flat_map}
 use Rattle.std.specs.Prelude.{is_some, not, option_map}
+use Rattle.std.proofs.lemmas.List.Folds.{flat_map-map}
 use Rattle.jolie_ast.specs.declared.name.Name.{Name}
 use Rattle.jolie_ast.specs.declared.expression.Expr.{Expr}
 use Rattle.jolie_ast.specs.declared.expression.Path.{Path}
@@ -25,7 +26,6 @@ use Rattle.service_check.specs.Repeated.{repeated}
 use Rattle.service_check.specs.Files.{Operation, operation_named}
 use Rattle.service_check.specs.OperationTables.{answers_named, does_answer}
 use Rattle.service_check.specs.ProcessRules.{Surroundings, Found, InputFound, HandlerFound, agree, used, used_as, sends, wrong_if_written, lacks_variable, handlers, otherwise_level, process_level, answer_level, block_level, branch_level, handler_level, if_level, input_level, reply_level, process_refused, block_refused, conditional_refused, otherwise_refused, processes_refused, reply_refused, reply_if_written, input_refused, branch_operation, branch_refused, branches_refused, choice_refused, handler_name, handler_refused, bodies_refused, handlers_refused, answer_handlers_refused, answer_refused, output_refused}
-use Rattle.service_check.proofs.Operations.{each_mapped}
 
 -- ---- operations
 
@@ -293,11 +293,11 @@ unfolding process_refused block_refused conditional_refused otherwise_refused
 sequence_refused e statements h =
     ap (λ p. process_refused e p h) (sym (process.rolls-Sequence statements))
     ∙ ap (λ (f : Found). f h) (fold-roll-Process Found Found Found Found InputFound HandlerFound Found InputFound Found otherwise_level (process_level e) answer_level block_level branch_level handler_level if_level (input_level e) reply_level (Process-F.Sequence statements))
-    ∙ each_mapped (λ (f : Found). f h) (process_refused e) statements
+    ∙ flat_map-map (λ (f : Found). f h) (process_refused e) statements
 
 pub parallel_refused : (e : Surroundings) (members : List Process) (h : Bool) → process_refused e (process.Parallel members) h ≡ processes_refused e members h
 unfolding process_refused block_refused conditional_refused otherwise_refused
 parallel_refused e members h =
     ap (λ p. process_refused e p h) (sym (process.rolls-Parallel members))
     ∙ ap (λ (f : Found). f h) (fold-roll-Process Found Found Found Found InputFound HandlerFound Found InputFound Found otherwise_level (process_level e) answer_level block_level branch_level handler_level if_level (input_level e) reply_level (Process-F.Parallel members))
-    ∙ each_mapped (λ (f : Found). f h) (process_refused e) members
+    ∙ flat_map-map (λ (f : Found). f h) (process_refused e) members

@@ -13,9 +13,9 @@ use Rattle.service_check.specs.declared.refusal.CheckName.TheVariants.{TwoSets, 
 use Rattle.service_check.specs.Files.{set_in}
 use Rattle.service_check.specs.Least.{joined, refused_if}
 use Rattle.service_check.specs.SetRules.{alias_texts, all_have, in_earlier, partly, partly_among, set_names, set_texts, set_types, two_sets, types_in_sets}
+use Rattle.service_check.specs.OperationTables.{if_there}
 use Rattle.service_check.proofs.Joined.{joined_append}
-use Rattle.service_check.proofs.Operations.{mapped_each}
-use Rattle.service_check.proofs.Picked.{if_there}
+use Rattle.service_check.proofs.Loops.{mapped_each}
 
 -- each variable has an alias of a type where each table has it
 pub all_have_is : (ty : List ℕ) (set : List CorrelationVariable) → list_all (is_in ty) (map alias_texts set) ≡ all_have ty set

@@ -15,9 +15,9 @@ use Rattle.service_check.specs.PortRules.{brought, brought_by, brought_in, broug
 use Rattle.service_check.specs.Repeated.{repeated, repeated_after}
 use Rattle.service_check.specs.Spared.{first_alone, spared, spared_after, spared_in, spared_unless}
 use Rattle.service_check.proofs.Joined.{joined_append, refused_append}
-use Rattle.service_check.proofs.Operations.{mapped_twice}
 use Rattle.service_check.proofs.Repetitions.{second}
 use Rattle.service_check.proofs.Sets.{in_either}
+use Rattle.service_check.proofs.Loops.{mapped_twice}
 
 -- ---- a refusal that is offered again
 

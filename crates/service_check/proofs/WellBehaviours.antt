@@ -44,7 +44,6 @@ use Rattle.service_check.specs.ProcessRules.{Surroundings, lacks_variable, sends
 use Rattle.service_check.proofs.Emptied.{has_place, holds, left_empty, names_differ, right_empty}
 use Rattle.service_check.proofs.MeantProcesses as means
 use Rattle.service_check.proofs.Mentions as mentions
-use Rattle.service_check.proofs.Operations.{mapped_twice}
 use Rattle.service_check.proofs.ProcessForms as forms
 use Rattle.service_check.proofs.RolledProcesses as rolled
 use Rattle.service_check.proofs.RolledProcesses.{shape_of}
@@ -53,6 +52,7 @@ use Rattle.service_check.proofs.WellHandlers.{fault_texts, handler_key, handler_
 use Rattle.service_check.proofs.WellInterfaces.{all_in, front_in, back_in, places_differ}
 use Rattle.service_check.proofs.WellStarts.{branch_numbers}
 use Rattle.service_check.proofs.WellTargets.{written_target}
+use Rattle.service_check.proofs.Loops.{mapped_twice}
 
 -- ---- what the numbers of a service say of its surroundings
 

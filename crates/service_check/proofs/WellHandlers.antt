@@ -20,9 +20,9 @@ use Rattle.service_check.specs.Mentioned.{key_texts}
 use Rattle.service_check.specs.ProcessRules.{handler_name, key_name}
 use Rattle.service_check.proofs.Emptied.{names_differ}
 use Rattle.service_check.proofs.MeantProcesses as means
-use Rattle.service_check.proofs.Operations.{mapped_twice}
 use Rattle.service_check.proofs.WellInterfaces.{all_in, places_differ}
 use Rattle.service_check.proofs.WellTypes.{fails_not}
+use Rattle.service_check.proofs.Loops.{mapped_twice}
 
 -- ---- keys
 

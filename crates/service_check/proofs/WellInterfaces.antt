@@ -28,8 +28,8 @@ use Rattle.service_check.specs.Mentioned.{fault_text, thrown_by, definition_text
 use Rattle.service_check.specs.Programs.{meant_type, meant_data, meant_fault, meant_operation, meant_interface}
 use Rattle.service_check.proofs.Emptied.{left_empty, right_empty, has_place, names_differ}
 use Rattle.service_check.proofs.Leading.{same_place}
-use Rattle.service_check.proofs.Operations.{mapped_twice}
 use Rattle.service_check.proofs.WellTypes.{known_type, place_is_found}
+use Rattle.service_check.proofs.Loops.{mapped_twice}
 
 -- ---- numbers of texts
 

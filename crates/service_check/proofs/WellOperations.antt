@@ -3,6 +3,7 @@ use Rattle.std.proofs.Common.{◌≡◌, ℕ, zero, suc, ◌+◌, Bool, true, fa
 use Rattle.std.specs.Prelude.{not, is_some, if◌then◌else◌, option_map, unwrap_or}
 use Rattle.std.specs.List.{filter_map}
 use Rattle.std.proofs.lemmas.Bool.{false≢true}
+use Rattle.std.proofs.lemmas.List.Folds.{flat_map-map}
 use Rattle.jolie_ast.specs.declared.name.Name.{Name}
 use Rattle.jolie_ast.specs.declared.interface.Interface.{Interface}
 use Rattle.jolie_ast.specs.declared.interface.TypeName.{TypeName}
@@ -26,8 +27,8 @@ use Rattle.service_check.specs.Programs.{meant_interface, meant_operation, meant
 use Rattle.service_check.specs.ServiceRules.{outlet}
 use Rattle.service_check.proofs.Emptied.{holds, left_empty, names_differ, right_empty}
 use Rattle.service_check.proofs.OnceEach.{new_taken}
-use Rattle.service_check.proofs.Operations.{each_mapped, mapped_each, mapped_twice}
 use Rattle.service_check.proofs.WellPorts.{brought_texts, interface_names, operations_behind, port_names, ports_of}
+use Rattle.service_check.proofs.Loops.{mapped_each, mapped_twice}
 
 -- ---- operations by their names
 
@@ -84,7 +85,7 @@ sent_operations types names is p e =
     ap texts_differ (mapped_each (λ (o : Operation). o.name.text) (operations_named is) (port_names p) ∙ sym (brought_texts is [] p.interfaces)) ∙ names_differ DuplicateName (brought is [] p.interfaces) e in
     ap (operations_of (map (meant_interface types names) is)) (sym (mapped_twice (place_in (interface_names is)) (λ (n : Name). n.text) p.interfaces))
     ∙ operations_behind types names is (port_names p)
-    ∙ ap (map (meant_operation types names)) (sym (once_is os differ) ∙ ap each_once (each_mapped (operations_named is) (λ (n : Name). n.text) p.interfaces))
+    ∙ ap (map (meant_operation types names)) (sym (once_is os differ) ∙ ap each_once (flat_map-map (operations_named is) (λ (n : Name). n.text) p.interfaces))
 
 -- the operations of the ports of clauses are among others from a number on
 abbrev pub StandFrom : List (List ℕ) → List (List ℕ) → List Interface → List Clause → ℕ → List (List OperationPart) → Type 0

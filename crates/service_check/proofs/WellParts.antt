@@ -23,10 +23,10 @@ use Rattle.service_check.specs.Refusals.{no_service, names_refused, refusals, re
 use Rattle.service_check.specs.ServiceRules.{service_refused}
 use Rattle.service_check.specs.TypeRules.{type_refused}
 use Rattle.service_check.proofs.Emptied.{least_empty, left_empty, right_empty, names_differ}
-use Rattle.service_check.proofs.Operations.{mapped_twice}
 use Rattle.service_check.proofs.WellInterfaces.{all_thrown, interfaces_formed}
 use Rattle.service_check.proofs.WellNames.{names_formed, all_named}
 use Rattle.service_check.proofs.WellTypes.{meant_types, types_formed}
+use Rattle.service_check.proofs.Loops.{mapped_twice}
 
 -- ---- what is refused of a file
 

@@ -5,7 +5,7 @@ use Rattle.std.specs.List.{filter_map, list_all}
 use Rattle.std.proofs.lemmas.Bool.{and_from, and_parts, or_right, not_from_false, false≢true}
 use Rattle.std.proofs.lemmas.Grind.{flat_map-append}
 use Rattle.std.proofs.lemmas.List.{length-map, map-append}
-use Rattle.std.proofs.lemmas.List.Folds.{list_all-append, list_any-append}
+use Rattle.std.proofs.lemmas.List.Folds.{list_all-append, list_any-append, flat_map-map}
 use Rattle.jolie_ast.specs.declared.name.Name.{Name}
 use Rattle.jolie_ast.specs.declared.interface.Interface.{Interface}
 use Rattle.jolie_ast.specs.declared.service.Port.{Port}
@@ -27,9 +27,9 @@ use Rattle.service_check.specs.PortRules.{unknown_interface, operation_at, broug
 use Rattle.service_check.specs.Programs.{meant_operation, meant_interface, meant_port_part}
 use Rattle.service_check.proofs.Emptied.{left_empty, right_empty, fails, holds, mapped_empty, has_place, another_text, in_first, names_differ}
 use Rattle.service_check.proofs.OnceEach.{passed, among_passed, firsts_of_two, first_places, texts_under, taken_by_interface}
-use Rattle.service_check.proofs.Operations.{each_mapped, mapped_each, mapped_twice}
 use Rattle.service_check.proofs.WellInterfaces.{all_in, places_differ}
 use Rattle.service_check.proofs.WellTypes.{fails_not}
+use Rattle.service_check.proofs.Loops.{mapped_each, mapped_twice}
 
 -- ---- interfaces by their names
 
@@ -157,7 +157,7 @@ operations_listed is ports = flat_map (λ (p : Port). flat_map (λ (n : Name). o
 listed_by_name : (is : List Interface) (ports : List Port) → operations_listed is ports ≡ flat_map (operations_named is) (flat_map port_names ports)
 listed_by_name is [] = refl
 listed_by_name is (p ∷ ports) =
-    ap (λ os. os ++ operations_listed is ports) (sym (each_mapped (operations_named is) (λ (n : Name). n.text) p.interfaces))
+    ap (λ os. os ++ operations_listed is ports) (sym (flat_map-map (operations_named is) (λ (n : Name). n.text) p.interfaces))
     ∙ ap (λ os. flat_map (operations_named is) (port_names p) ++ os) (listed_by_name is ports)
     ∙ sym (flat_map-append (operations_named is) (port_names p) (flat_map port_names ports))
 

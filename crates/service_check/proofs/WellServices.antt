@@ -27,10 +27,10 @@ use Rattle.service_check.specs.Programs.{meant_interface, meant_port_part, meant
 use Rattle.service_check.specs.ServiceRules.{clause_refused, execution_place, init_place, main_place, no_start, second, service_refused, surroundings, uncorrelated}
 use Rattle.service_check.specs.SetRules.{set_of_single, set_refused, sets_refused, two_sets, variables_of}
 use Rattle.service_check.proofs.Emptied.{left_empty, right_empty, names_differ}
-use Rattle.service_check.proofs.Operations.{mapped_twice}
 use Rattle.service_check.proofs.WellPorts.{interface_names, ports_of, all_known, each_port_formed, service_operations_differ}
 use Rattle.service_check.proofs.WellSets.{sets_formed}
 use Rattle.service_check.proofs.WellTypes.{meant_types}
+use Rattle.service_check.proofs.Loops.{mapped_twice}
 
 -- ---- what is refused of a service
 

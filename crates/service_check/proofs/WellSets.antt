@@ -27,11 +27,11 @@ use Rattle.service_check.specs.Files.{is_concurrent, place_in, set_in, type_name
 use Rattle.service_check.specs.SetRules.{alias_names, alias_texts, set_types, set_texts, all_have, partly, wrong_alias, variable_refused, set_refused, in_earlier, two_sets, set_names, set_of_single}
 use Rattle.service_check.specs.Programs.{meant_alias, meant_variable, meant_set, meant_execution}
 use Rattle.service_check.proofs.Emptied.{left_empty, right_empty, fails, holds, mapped_empty, in_first, names_differ}
-use Rattle.service_check.proofs.Operations.{mapped_each, mapped_twice}
 use Rattle.service_check.proofs.WellAliases.{alias_formed, alias_known}
 use Rattle.service_check.proofs.WellInterfaces.{all_in, front_in, back_in, place_among, places_differ}
 use Rattle.service_check.proofs.WellNames.{is_taken}
 use Rattle.service_check.proofs.WellTypes.{meant_types, fails_not}
+use Rattle.service_check.proofs.Loops.{mapped_each, mapped_twice}
 
 -- ---- lists
 

@@ -53,11 +53,11 @@ use Rattle.service_check.proofs.Beginnings as begins
 use Rattle.service_check.proofs.Emptied.{fails, right_empty}
 use Rattle.service_check.proofs.Firsts.{once_texts}
 use Rattle.service_check.proofs.MeantProcesses as means
-use Rattle.service_check.proofs.Operations.{mapped_each, mapped_twice}
 use Rattle.service_check.proofs.WellNames.{taken_differ}
 use Rattle.service_check.proofs.WellPorts.{operations_listed}
 use Rattle.service_check.proofs.WellSets.{all_texts, first_texts, sets_numbers, texts_in_all}
 use Rattle.service_check.proofs.WellTypes.{own_place, place_is_found, text_is_in}
+use Rattle.service_check.proofs.Loops.{mapped_each, mapped_twice}
 
 -- ---- branches
 

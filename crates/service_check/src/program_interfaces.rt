@@ -12,7 +12,7 @@ use jolie_ast::{Definition, Fault, OneWay, OperationGroup, RequestResponse};
 use std::alloc::{AllocError, Global};
 
 /// The interfaces of a file, in order.
-#[tactic(auto, using(crate::proofs::Gathered::each_found))]
+#[tactic(auto, using(crate::proofs::Loops::each_found))]
 pub fn meant_interfaces(
     alloc: Global,
     file: &[Definition],
@@ -64,7 +64,7 @@ fn meant_interface(
 }
 
 /// The operations of groups, in order.
-#[tactic(auto, using(crate::proofs::Operations::mapped_each))]
+#[tactic(auto, using(crate::proofs::Loops::mapped_each))]
 fn meant_operations(
     alloc: Global,
     groups: &[OperationGroup],
@@ -101,7 +101,7 @@ fn add_group(
 }
 
 /// Adds operations that answer.
-#[tactic(auto, using(crate::proofs::Operations::mapped_twice))]
+#[tactic(auto, using(crate::proofs::Loops::mapped_twice))]
 fn add_answering(
     alloc: Global,
     operations: &[RequestResponse],
@@ -118,7 +118,7 @@ fn add_answering(
 }
 
 /// Adds operations that do not answer.
-#[tactic(auto, using(crate::proofs::Operations::mapped_twice))]
+#[tactic(auto, using(crate::proofs::Loops::mapped_twice))]
 fn add_silent(
     alloc: Global,
     operations: &[OneWay],

@@ -19,7 +19,7 @@ use jolie_trees::Text;
 use std::alloc::{AllocError, Global};
 
 /// The services of a file, in order.
-#[tactic(auto, using(crate::proofs::Gathered::each_found))]
+#[tactic(auto, using(crate::proofs::Loops::each_found))]
 pub fn meant_services<'a>(
     alloc: Global,
     file: &'a [Definition],
@@ -105,7 +105,7 @@ fn meant_execution(execution: jolie_ast::Execution) -> Execution
 // ---- ports
 
 /// The ports of a service, with their interfaces by number.
-#[tactic(auto, using(crate::proofs::Operations::mapped_twice))]
+#[tactic(auto, using(crate::proofs::Loops::mapped_twice))]
 fn meant_ports(
     alloc: Global,
     sides: &[SidedPort<'_>],
@@ -152,7 +152,7 @@ fn places_in(alloc: Global, names: &[Name], among: &Names<'_>) -> Result<Vec<u32
 // ---- sets
 
 /// The correlation sets of a service.
-#[tactic(auto, using(crate::proofs::Gathered::each_found))]
+#[tactic(auto, using(crate::proofs::Loops::each_found))]
 fn meant_sets(
     alloc: Global,
     clauses: &[Clause],

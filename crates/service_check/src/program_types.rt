@@ -12,7 +12,7 @@ use jolie_ast::{Cardinality, DefinedType, Definition, TypeBody, TypeDefinition, 
 use std::alloc::{AllocError, Global};
 
 /// The types of a file, in order.
-#[tactic(auto, using(crate::proofs::Gathered::each_found))]
+#[tactic(auto, using(crate::proofs::Loops::each_found))]
 pub fn meant_types(
     alloc: Global,
     file: &[Definition],

@@ -133,7 +133,7 @@ fn include_clause<'a>(
     }
 }
 
-#[tactic(auto, using(crate::proofs::Operations::mapped_each))]
+#[tactic(auto, using(crate::proofs::Loops::mapped_each))]
 fn include_interfaces<'a>(
     names: &'a [Name],
     interfaces: &Interfaces<'a>,
@@ -160,7 +160,7 @@ fn include_named<'a>(
     }
 }
 
-#[tactic(auto, using(crate::proofs::Operations::mapped_each))]
+#[tactic(auto, using(crate::proofs::Loops::mapped_each))]
 fn include_operations<'a>(interface: &'a Interface, texts: &mut Names<'a>) -> Result<(), AllocError>
     ensures { OnOk result (texts.new ≡ with_texts texts.old (texts_of (operations_in interface.now))) }
 {
@@ -181,7 +181,7 @@ fn include_group<'a>(group: &'a OperationGroup, texts: &mut Names<'a>) -> Result
     }
 }
 
-#[tactic(auto, using(crate::proofs::Operations::mapped_twice))]
+#[tactic(auto, using(crate::proofs::Loops::mapped_twice))]
 fn include_answering<'a>(
     operations: &'a [RequestResponse],
     texts: &mut Names<'a>,
@@ -194,7 +194,7 @@ fn include_answering<'a>(
     Ok(())
 }
 
-#[tactic(auto, using(crate::proofs::Operations::mapped_twice))]
+#[tactic(auto, using(crate::proofs::Loops::mapped_twice))]
 fn include_silent<'a>(operations: &'a [OneWay], texts: &mut Names<'a>) -> Result<(), AllocError>
     ensures { OnOk result (texts.new ≡ with_texts texts.old (texts_of (map silent operations.now))) }
 {
@@ -232,7 +232,7 @@ fn add_set<'a>(clause: &'a Clause, texts: &mut Names<'a>) -> Result<(), AllocErr
     }
 }
 
-#[tactic(auto, using(crate::proofs::Operations::mapped_twice))]
+#[tactic(auto, using(crate::proofs::Loops::mapped_twice))]
 fn add_variables<'a>(
     variables: &'a [CorrelationVariable],
     texts: &mut Names<'a>,

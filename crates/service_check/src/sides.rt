@@ -15,7 +15,7 @@ pub struct SidedPort<'a> {
 }
 
 /// The ports of a service, in order.
-#[tactic(auto, using(crate::proofs::Filtered::all_found))]
+#[tactic(auto, using(crate::proofs::Loops::all_found))]
 pub fn ports_of(alloc: Global, clauses: &[Clause]) -> Result<Vec<SidedPort<'_>>, AllocError>
     ensures { IfOk result (λ ports. map sided ports.items ≡ filter_map port_in clauses.now) }
 {

@@ -1,7 +1,7 @@
 use Rattle.std.proofs.Common.{refl}
 use Rattle.service_check.specs.Files.{input_port_in}
 use Rattle.service_check.specs.PortRules.{interfaces_repeated}
-use Rattle.service_check.proofs.Picked.{picked_turn}
+use Rattle.service_check.proofs.Loops.{picked_turn}
 use Rattle.service_check.proofs.brought.all_interfaces_repeated.Goals as goal
 use Rattle.service_check.proofs.brought.all_interfaces_repeated.Goals.{in-Some+in_ok-interfaces_repeated, in_default}
 

@@ -1,5 +1,5 @@
 use Rattle.service_check.specs.PortRules.{group_at}
-use Rattle.service_check.proofs.Appended.{adding_turn}
+use Rattle.service_check.proofs.Loops.{adding_turn}
 use Rattle.service_check.proofs.brought.bring_groups.Goals as goal
 
 pub loop-group-preserved : goal.loop-group-preserved

@@ -3,8 +3,8 @@ use Rattle.std.specs.List.{filter_map}
 use Rattle.std.specs.Prelude.{take}
 use Rattle.service_check.specs.Files.{input_port_in}
 use Rattle.service_check.specs.Spared.{spared_in}
-use Rattle.service_check.proofs.Picked.{picked_adds, picked_more}
 use Rattle.service_check.proofs.BroughtIn.{interface_texts, brought_more}
+use Rattle.service_check.proofs.Loops.{picked_adds, picked_more}
 use Rattle.service_check.proofs.brought.brought_in.Goals as goal
 use Rattle.service_check.proofs.brought.brought_in.Goals.{in-Some+in_ok-bring_in, in_default}
 

@@ -7,8 +7,7 @@ use Rattle.jolie_ast.specs.declared.service.Clause.{Clause}
 use Rattle.jolie_ast.specs.declared.service.Port.{Port}
 use Rattle.service_check.specs.Repeated.{as_name}
 use Rattle.service_check.specs.Files.{input_port_in}
-use Rattle.service_check.proofs.Appended.{adding_turn}
-use Rattle.service_check.proofs.Filtered.{all_found, made_of_found}
+use Rattle.service_check.proofs.Loops.{adding_turn, all_found, made_of_found}
 use Rattle.service_check.proofs.file_names.add_locations.Goals as goal
 
 pub loop-clause-preserved : goal.loop-clause-preserved

@@ -3,8 +3,7 @@ use Rattle.std.proofs.lemmas.List.{take_all}
 use Rattle.std.specs.Option.{option_to_list}
 use Rattle.service_check.specs.Files.{service_in}
 use Rattle.service_check.specs.Refusals.{locations_in}
-use Rattle.service_check.proofs.Appended.{adding_turn}
-use Rattle.service_check.proofs.Filtered.{found_of_found}
+use Rattle.service_check.proofs.Loops.{adding_turn, all_of_found}
 use Rattle.service_check.proofs.file_names.locations.Goals as goal
 
 pub loop-definition-preserved : goal.loop-definition-preserved
@@ -15,4 +14,4 @@ pub returns : goal.returns
 returns c =
     c.loop-definition.invariant
     ∙ ap (flat_map (λ d. flat_map locations_in (option_to_list (service_in d)))) (take_all c.loop-definition.definition-index c.args.file.now (omega arith))
-    ∙ found_of_found locations_in service_in c.args.file.now
+    ∙ all_of_found locations_in service_in c.args.file.now

@@ -5,8 +5,7 @@ use Rattle.std.proofs.lemmas.List.{take_all}
 use Rattle.jolie_ast.specs.declared.service.Service.{Service}
 use Rattle.jolie_ast.specs.declared.tree.Definition.{Definition}
 use Rattle.service_check.specs.Files.{service_in}
-use Rattle.service_check.proofs.Appended.{adding_turn}
-use Rattle.service_check.proofs.Filtered.{all_found, made_of_found}
+use Rattle.service_check.proofs.Loops.{adding_turn, all_found, made_of_found}
 use Rattle.service_check.proofs.file_names.service_names.Goals as goal
 
 pub loop-definition-preserved : goal.loop-definition-preserved

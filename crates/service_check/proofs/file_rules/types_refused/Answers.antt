@@ -4,8 +4,8 @@ use Rattle.std.specs.Option.{option_to_list}
 use Rattle.service_check.specs.Files.{type_in}
 use Rattle.service_check.specs.Least.{joined}
 use Rattle.service_check.specs.TypeRules.{type_refused}
-use Rattle.service_check.proofs.Filtered.{found_of_found}
 use Rattle.service_check.proofs.Joined.{turn_of}
+use Rattle.service_check.proofs.Loops.{all_of_found}
 use Rattle.service_check.proofs.file_rules.types_refused.Goals as goal
 
 pub loop-definition-preserved : goal.loop-definition-preserved
@@ -17,4 +17,4 @@ pub returns : goal.returns
 returns c =
     c.loop-definition.invariant
     ∙ ap (λ ds. joined c.args.least.now (flat_map (λ d. flat_map (type_refused c.args.types.now) (option_to_list (type_in d))) ds)) (take_all c.loop-definition.definition-index c.args.file.now (omega arith))
-    ∙ ap (joined c.args.least.now) (found_of_found (type_refused c.args.types.now) type_in c.args.file.now)
+    ∙ ap (joined c.args.least.now) (all_of_found (type_refused c.args.types.now) type_in c.args.file.now)

@@ -3,8 +3,7 @@ use Rattle.std.proofs.lemmas.List.{take_all}
 use Rattle.jolie_ast.specs.declared.name.Name.{Name}
 use Rattle.jolie_ast.specs.declared.process.Branch.{Branch}
 use Rattle.service_check.specs.ProcessRules.{branch_operation}
-use Rattle.service_check.proofs.Appended.{mapping_turn}
-use Rattle.service_check.proofs.Operations.{mapped_twice}
+use Rattle.service_check.proofs.Loops.{mapping_turn, mapped_twice}
 use Rattle.service_check.proofs.first_inputs.names_of_branches.Goals as goal
 
 pub loop-branch-preserved : goal.loop-branch-preserved

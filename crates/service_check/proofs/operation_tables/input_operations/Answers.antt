@@ -1,4 +1,4 @@
-use Rattle.std.proofs.Common.{[], ap, sym, ◌∙◌, arith, flat_map}
+use Rattle.std.proofs.Common.{[], ap, ◌∙◌, arith, flat_map}
 use Rattle.std.proofs.lemmas.List.{take_all}
 use Rattle.service_check.specs.OperationTables.{operations_of_input, with_new}
 use Rattle.service_check.proofs.OperationTables.{inputs_found, with_turn}
@@ -12,4 +12,4 @@ pub returns : goal.returns
 returns c =
     c.loop-clause.invariant
     ∙ ap (λ xs. with_new [] (flat_map (operations_of_input c.args.interfaces.now) xs)) (take_all c.loop-clause.clause-index c.as_slice-clause-items.result.now (omega arith) ∙ c.as_slice-clause-items.ensures)
-    ∙ ap (with_new []) (sym (inputs_found c.args.interfaces.now c.args.service.now.clauses))
+    ∙ ap (with_new []) (inputs_found c.args.interfaces.now c.args.service.now.clauses)

@@ -1,7 +1,7 @@
 use Rattle.std.proofs.Common.{append-nil, refl, sym}
 use Rattle.jolie_ast.specs.declared.service.Port.{Port}
 use Rattle.service_check.specs.Files.{input_port_in}
-use Rattle.service_check.proofs.Picked.{picked_maps}
+use Rattle.service_check.proofs.Loops.{picked_maps}
 use Rattle.service_check.proofs.port_rules.add_locations.Goals as goal
 use Rattle.service_check.proofs.port_rules.add_locations.Goals.{in-Some+in_ok-add, in_default}
 

@@ -1,7 +1,7 @@
 use Rattle.std.proofs.Common.{refl}
 use Rattle.service_check.specs.Files.{output_port_in}
 use Rattle.service_check.specs.PortRules.{unmet}
-use Rattle.service_check.proofs.Picked.{picked_turn}
+use Rattle.service_check.proofs.Loops.{picked_turn}
 use Rattle.service_check.proofs.port_rules.all_unmet.Goals as goal
 use Rattle.service_check.proofs.port_rules.all_unmet.Goals.{in-Some, in_default}
 

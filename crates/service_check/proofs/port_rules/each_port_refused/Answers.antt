@@ -1,7 +1,7 @@
 use Rattle.std.proofs.Common.{refl}
 use Rattle.service_check.specs.Files.{Sided, port_in}
 use Rattle.service_check.specs.PortRules.{port_refused}
-use Rattle.service_check.proofs.Picked.{picked_part_turn}
+use Rattle.service_check.proofs.Loops.{picked_part_turn}
 use Rattle.service_check.proofs.port_rules.each_port_refused.Goals as goal
 use Rattle.service_check.proofs.port_rules.each_port_refused.Goals.{in-Some, in_default}
 

@@ -1,7 +1,7 @@
 use Rattle.std.proofs.Common.{[], append-nil, refl, sym}
 use Rattle.service_check.specs.Files.{service_in}
 use Rattle.service_check.specs.PortRules.{service_locations}
-use Rattle.service_check.proofs.Picked.{picked_adds}
+use Rattle.service_check.proofs.Loops.{picked_adds}
 use Rattle.service_check.proofs.port_rules.input_locations.Goals as goal
 use Rattle.service_check.proofs.port_rules.input_locations.Goals.{in-Some+in_ok-add_locations, in_default}
 

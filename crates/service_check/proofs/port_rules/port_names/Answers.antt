@@ -1,7 +1,7 @@
 use Rattle.std.proofs.Common.{[], append-nil, refl, sym}
 use Rattle.jolie_ast.specs.declared.service.Port.{Port}
 use Rattle.service_check.specs.Files.{Sided, port_in}
-use Rattle.service_check.proofs.Picked.{picked_part_maps}
+use Rattle.service_check.proofs.Loops.{picked_part_maps}
 use Rattle.service_check.proofs.port_rules.port_names.Goals as goal
 use Rattle.service_check.proofs.port_rules.port_names.Goals.{in-Some+in_ok-push, in_default}
 

@@ -2,7 +2,7 @@ use Rattle.std.proofs.Common.{rules, map}
 use Rattle.behaviour_tree.specs.PartsView.{interface_view}
 use Rattle.service_check.specs.Files.{interface_in}
 use Rattle.service_check.specs.Programs.{meant_interface}
-use Rattle.service_check.proofs.Gathered.{gathered, gathering_turn}
+use Rattle.service_check.proofs.Loops.{gathering_turn, gathered}
 use Rattle.service_check.proofs.program_interfaces.meant_interfaces.Goals as goal
 
 pub loop-definition-preserved : goal.loop-definition-preserved

@@ -3,8 +3,7 @@ use Rattle.std.proofs.lemmas.List.{take_all}
 use Rattle.behaviour_tree.specs.PartsView.{operation_view}
 use Rattle.service_check.specs.Files.{group_operations}
 use Rattle.service_check.specs.Programs.{meant_operation}
-use Rattle.service_check.proofs.Appended.{adding_turn}
-use Rattle.service_check.proofs.Operations.{mapped_each}
+use Rattle.service_check.proofs.Loops.{adding_turn, mapped_each}
 use Rattle.service_check.proofs.program_interfaces.meant_operations.Goals as goal
 
 pub loop-group-preserved : goal.loop-group-preserved

@@ -2,7 +2,7 @@ use Rattle.std.proofs.Common.{rules, map}
 use Rattle.behaviour_tree.specs.PartsView.{service_view}
 use Rattle.service_check.specs.Files.{service_in}
 use Rattle.service_check.specs.Programs.{meant_service}
-use Rattle.service_check.proofs.Gathered.{gathered, gathering_turn}
+use Rattle.service_check.proofs.Loops.{gathering_turn, gathered}
 use Rattle.service_check.proofs.program_services.meant_services.Goals as goal
 
 pub loop-definition-preserved : goal.loop-definition-preserved

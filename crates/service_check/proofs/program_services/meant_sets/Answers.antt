@@ -2,7 +2,7 @@ use Rattle.std.proofs.Common.{rules, map}
 use Rattle.behaviour_tree.specs.PartsView.{set_view}
 use Rattle.service_check.specs.Files.{set_in}
 use Rattle.service_check.specs.Programs.{meant_set}
-use Rattle.service_check.proofs.Gathered.{gathered, gathering_turn}
+use Rattle.service_check.proofs.Loops.{gathering_turn, gathered}
 use Rattle.service_check.proofs.program_services.meant_sets.Goals as goal
 
 pub loop-clause-preserved : goal.loop-clause-preserved

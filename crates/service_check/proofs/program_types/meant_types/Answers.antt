@@ -2,7 +2,7 @@ use Rattle.std.proofs.Common.{rules, map}
 use Rattle.behaviour_tree.specs.View.{type_view}
 use Rattle.service_check.specs.Files.{type_in}
 use Rattle.service_check.specs.Programs.{meant_definition}
-use Rattle.service_check.proofs.Gathered.{gathered, gathering_turn}
+use Rattle.service_check.proofs.Loops.{gathering_turn, gathered}
 use Rattle.service_check.proofs.program_types.meant_types.Goals as goal
 
 pub loop-definition-preserved : goal.loop-definition-preserved

@@ -1,4 +1,4 @@
-use Rattle.std.proofs.Common.{ap, sym, ◌∙◌, arith, flat_map}
+use Rattle.std.proofs.Common.{ap, ◌∙◌, arith, flat_map}
 use Rattle.std.proofs.lemmas.List.{take_all}
 use Rattle.service_check.specs.Clauses.{definition_refused}
 use Rattle.service_check.specs.Least.{joined}
@@ -14,4 +14,4 @@ pub returns : goal.returns
 returns c =
     c.loop-definition.invariant
     ∙ ap (λ ds. joined c.args.least.now (flat_map (definition_refused c.args.types.now c.args.interfaces.now c.args.locations.now) ds)) (take_all c.loop-definition.definition-index c.args.file.now (omega arith))
-    ∙ ap (joined c.args.least.now) (sym (services_found c.args.types.now c.args.interfaces.now c.args.locations.now c.args.file.now))
+    ∙ ap (joined c.args.least.now) (services_found c.args.types.now c.args.interfaces.now c.args.locations.now c.args.file.now)

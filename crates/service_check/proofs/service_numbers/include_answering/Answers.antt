@@ -4,7 +4,7 @@ use Rattle.jolie_ast.specs.declared.interface.RequestResponse.{RequestResponse}
 use Rattle.service_check.specs.Files.{Operation, answering}
 use Rattle.service_check.specs.Mentioned.{with_text, with_texts}
 use Rattle.service_check.proofs.Mentions.{text_turn}
-use Rattle.service_check.proofs.Operations.{mapped_twice}
+use Rattle.service_check.proofs.Loops.{mapped_twice}
 use Rattle.service_check.proofs.service_numbers.include_answering.Goals as goal
 
 pub loop-operation-preserved : goal.loop-operation-preserved

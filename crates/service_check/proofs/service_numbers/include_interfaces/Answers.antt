@@ -4,7 +4,7 @@ use Rattle.jolie_ast.specs.declared.name.Name.{Name}
 use Rattle.service_check.specs.Files.{Operation, operations_named, texts_of}
 use Rattle.service_check.specs.Mentioned.{with_texts}
 use Rattle.service_check.proofs.Mentions.{turn_of}
-use Rattle.service_check.proofs.Operations.{mapped_each}
+use Rattle.service_check.proofs.Loops.{mapped_each}
 use Rattle.service_check.proofs.service_numbers.include_interfaces.Goals as goal
 
 pub loop-name-preserved : goal.loop-name-preserved

@@ -3,7 +3,7 @@ use Rattle.std.proofs.lemmas.List.{take_all}
 use Rattle.service_check.specs.Files.{Operation, group_operations, texts_of}
 use Rattle.service_check.specs.Mentioned.{with_texts}
 use Rattle.service_check.proofs.Mentions.{turn_of}
-use Rattle.service_check.proofs.Operations.{mapped_each}
+use Rattle.service_check.proofs.Loops.{mapped_each}
 use Rattle.service_check.proofs.service_numbers.include_operations.Goals as goal
 
 pub loop-group-preserved : goal.loop-group-preserved

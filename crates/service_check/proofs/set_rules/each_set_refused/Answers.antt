@@ -1,7 +1,7 @@
 use Rattle.std.proofs.Common.{refl}
 use Rattle.service_check.specs.Files.{set_in}
 use Rattle.service_check.specs.SetRules.{set_refused}
-use Rattle.service_check.proofs.Picked.{picked_turn}
+use Rattle.service_check.proofs.Loops.{picked_turn}
 use Rattle.service_check.proofs.set_rules.each_set_refused.Goals as goal
 use Rattle.service_check.proofs.set_rules.each_set_refused.Goals.{in-Some+in_ok-set_refused, in_default}
 

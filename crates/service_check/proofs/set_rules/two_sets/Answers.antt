@@ -3,8 +3,8 @@ use Rattle.std.specs.List.{filter_map}
 use Rattle.service_check.specs.Files.{set_in}
 use Rattle.service_check.specs.Least.{joined}
 use Rattle.service_check.specs.SetRules.{set_texts, two_sets}
-use Rattle.service_check.proofs.Picked.{picked_adds, picked_more}
 use Rattle.service_check.proofs.Sets.{two_sets_more}
+use Rattle.service_check.proofs.Loops.{picked_adds, picked_more}
 use Rattle.service_check.proofs.set_rules.two_sets.Goals as goal
 use Rattle.service_check.proofs.set_rules.two_sets.Goals.{in-Some+in_ok-in_two_sets, in_default}
 

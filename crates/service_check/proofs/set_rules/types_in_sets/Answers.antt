@@ -1,7 +1,7 @@
 use Rattle.std.proofs.Common.{[], append-nil, sym}
 use Rattle.service_check.specs.Files.{set_in}
 use Rattle.service_check.specs.SetRules.{set_texts}
-use Rattle.service_check.proofs.Picked.{picked_adds}
+use Rattle.service_check.proofs.Loops.{picked_adds}
 use Rattle.service_check.proofs.set_rules.types_in_sets.Goals as goal
 use Rattle.service_check.proofs.set_rules.types_in_sets.Goals.{in-Some+in_ok-add_set_types, in_default}
 

@@ -1,7 +1,7 @@
 use Rattle.std.proofs.Common.{[], append-nil, sym}
 use Rattle.service_check.specs.Files.{set_in}
 use Rattle.service_check.specs.SetRules.{set_names}
-use Rattle.service_check.proofs.Picked.{picked_adds}
+use Rattle.service_check.proofs.Loops.{picked_adds}
 use Rattle.service_check.proofs.set_rules.variable_mentions.Goals as goal
 use Rattle.service_check.proofs.set_rules.variable_mentions.Goals.{in-Some+in_ok-mention_variables, in_default}
 

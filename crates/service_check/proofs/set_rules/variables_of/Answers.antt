@@ -1,7 +1,7 @@
 use Rattle.std.proofs.Common.{[], append-nil, sym}
 use Rattle.service_check.specs.Files.{set_in}
-use Rattle.service_check.proofs.Picked.{picked_adds}
 use Rattle.service_check.proofs.Sets.{all_variable_texts, variable_texts}
+use Rattle.service_check.proofs.Loops.{picked_adds}
 use Rattle.service_check.proofs.set_rules.variables_of.Goals as goal
 use Rattle.service_check.proofs.set_rules.variables_of.Goals.{in-Some+in_ok-add_variables, in_default}
 

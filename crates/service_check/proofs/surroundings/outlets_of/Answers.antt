@@ -3,8 +3,8 @@ use Rattle.std.proofs.lemmas.List.{take_all}
 use Rattle.std.specs.Option.{option_to_list}
 use Rattle.service_check.specs.Files.{output_port_in}
 use Rattle.service_check.specs.ServiceRules.{outlet}
-use Rattle.service_check.proofs.Appended.{adding_turn}
 use Rattle.service_check.proofs.OperationTables.{outlets_found}
+use Rattle.service_check.proofs.Loops.{adding_turn}
 use Rattle.service_check.proofs.surroundings.outlets_of.Goals as goal
 
 pub loop-clause-preserved : goal.loop-clause-preserved
