@@ -1,5 +1,7 @@
 -- What a process begins with at each form.
-use Rattle.std.proofs.Common.{◌≡◌, ℕ, true, false, List, [], ◌∷◌, map, Option, Some, None, refl, ap, sym, ◌∙◌}
+use Rattle.std.proofs.Common.{◌≡◌, ℕ, true, false, ◌+◌, ◌<◌, ◌≤◌, List, [], ◌∷◌, map, length, get_or, drop, Option, Some, None, refl, ap, sym, ◌∙◌}
+use Rattle.std.specs.Prelude.{if◌then◌else◌}
+use Rattle.std.proofs.lemmas.List.{at_drop_all}
 use Rattle.jolie_ast.specs.declared.name.Name.{Name}
 use Rattle.jolie_ast.specs.declared.expression.Expr.{Expr}
 use Rattle.jolie_ast.specs.declared.expression.Path.{Path}
@@ -20,6 +22,7 @@ use Rattle.jolie_ast.specs.declared.process.Input.{Input, out-Input, roll-out-In
 use Rattle.service_check.specs.FirstInputs.{beginning}
 use Rattle.service_check.specs.ProcessRules.{branch_operation}
 use Rattle.service_check.specs.ServiceRules.{Beginning, block_level, branch_level, first_input, input_level, of_sequence, process_level}
+use Rattle.service_check.proofs.FirstFound.{left_at}
 
 -- the operation of an input
 abbrev pub input_name : Input → Name
@@ -187,3 +190,23 @@ pub other_installs : (p : Process) → ((at : ℕ) (fs : List Handler) → p ≡
 other_installs p other =
     ap (λ q. (beginning q).installs) (sym (roll-out-Process p))
     ∙ no_install_form (out-Process p) (λ at fs e. other at fs (sym (roll-out-Process p) ∙ e))
+
+-- ---- the statements of a sequence, one after the other
+
+-- the first statement is an install
+pub sequence_later : (ps : List Process) (i : ℕ) (p : Process) → i < length ps → p ≡ get_or ps i p → (beginning p).installs ≡ true → of_sequence (map beginning ps) ≡ of_sequence (map beginning (drop i ps)) → of_sequence (map beginning ps) ≡ of_sequence (map beginning (drop (i + 1) ps))
+sequence_later ps i p below item installs before =
+    before
+    ∙ left_at (λ xs. of_sequence (map beginning xs)) ps i p below item
+    ∙ ap (λ b. if b then of_sequence (map beginning (drop (i + 1) ps)) else (beginning p).operations) installs
+
+-- the first statement is no install
+pub sequence_here : (ps : List Process) (i : ℕ) (p : Process) → i < length ps → p ≡ get_or ps i p → (beginning p).installs ≡ false → of_sequence (map beginning ps) ≡ of_sequence (map beginning (drop i ps)) → of_sequence (map beginning ps) ≡ (beginning p).operations
+sequence_here ps i p below item installs before =
+    before
+    ∙ left_at (λ xs. of_sequence (map beginning xs)) ps i p below item
+    ∙ ap (λ b. if b then of_sequence (map beginning (drop (i + 1) ps)) else (beginning p).operations) installs
+
+-- every statement is an install
+pub sequence_nowhere : (ps : List Process) (i : ℕ) → length ps ≤ i → of_sequence (map beginning ps) ≡ of_sequence (map beginning (drop i ps)) → of_sequence (map beginning ps) ≡ None
+sequence_nowhere ps i end before = before ∙ at_drop_all (λ xs. of_sequence (map beginning xs)) ps i end

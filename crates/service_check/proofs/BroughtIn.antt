@@ -14,16 +14,9 @@ use Rattle.service_check.specs.OperationTables.{if_there}
 use Rattle.service_check.proofs.Operations.{brought_groups}
 use Rattle.service_check.proofs.Spared.{texts}
 use Rattle.service_check.proofs.Loops.{mapped_each}
+use Rattle.service_check.proofs.FirstFound.{first_passes, first_stops}
 
 -- ---- the first operation of an interface
-
-first_passes : {A : Type 0} (us vs : List A) → first_there us ≡ None → first_there (us ++ vs) ≡ first_there vs
-first_passes [] vs none = refl
-first_passes (a ∷ us) vs none = cc
-
-first_stops : {A : Type 0} (us vs : List A) (a : A) → first_there us ≡ Some a → first_there (us ++ vs) ≡ Some a
-first_stops [] vs a some = cc
-first_stops (b ∷ us) vs a some = some
 
 -- a group without operations is passed
 pub group_passes : (groups : List OperationGroup) (i : ℕ) (g : OperationGroup) → i < length groups → g ≡ get_or groups i g → first_there (group_texts g) ≡ None

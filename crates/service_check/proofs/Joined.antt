@@ -78,3 +78,11 @@ pub turn_of : {X : Type 0} (f : X → List Refusal) (p0 p1 p2 : Option Refusal) 
     → p1 ≡ joined p0 (flat_map f (take i xs)) → p2 ≡ joined p1 (f x) → p2 ≡ joined p0 (flat_map f (take (i + 1) xs))
 turn_of f p0 p1 p2 xs i x below item before turn =
     turn ∙ ap (λ p. joined p (f x)) before ∙ ap (λ y. joined (joined p0 (flat_map f (take i xs))) (f y)) item ∙ sym (joined_turn p0 f xs i x below)
+
+-- one more place is refused
+pub refused_turn : (name : CheckName) (p0 p1 p2 : Option Refusal) (places : List ℕ) (at : ℕ) → p1 ≡ joined p0 (refused name places) → p2 ≡ joined p1 (refusal name at ∷ []) → p2 ≡ joined p0 (refused name (places ++ at ∷ []))
+refused_turn name p0 p1 p2 places at before turn =
+    turn
+    ∙ ap (λ p. joined p (refusal name at ∷ [])) before
+    ∙ sym (joined_append p0 (refused name places) (refusal name at ∷ []))
+    ∙ ap (joined p0) (sym (refused_append name places (at ∷ [])))

@@ -83,7 +83,7 @@ fn first_input_of(process: &Process) -> Option<FirstInput<'_>>
 
 /// The first input of the first statement that is no install.
 #[cycle(first_input)]
-#[tactic(auto, using(crate::proofs::FirstFound::sequence_later, crate::proofs::FirstFound::sequence_here, crate::proofs::FirstFound::sequence_nowhere))]
+#[tactic(auto, using(crate::proofs::Beginnings::sequence_later, crate::proofs::Beginnings::sequence_here, crate::proofs::Beginnings::sequence_nowhere))]
 fn first_input_of_sequence(statements: &[Process]) -> Option<FirstInput<'_>>
     ensures { option_map operations_of result ≡ of_sequence (map beginning statements.now) }
 {

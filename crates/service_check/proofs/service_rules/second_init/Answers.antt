@@ -6,7 +6,8 @@ use Rattle.std.proofs.lemmas.Iterator.Consumers.{YieldsList-at, YieldsList-end, 
 use Rattle.service_check.specs.declared.refusal.CheckName.TheVariants.{DuplicateName}
 use Rattle.service_check.specs.Least.{joined, refused}
 use Rattle.service_check.specs.ServiceRules.{init_place}
-use Rattle.service_check.proofs.FirstFound.{gave_later, refused_turn}
+use Rattle.service_check.proofs.FirstFound.{gave_later}
+use Rattle.service_check.proofs.Joined.{refused_turn}
 use Rattle.service_check.proofs.service_rules.second_init.Goals as goal
 
 pub loop-at-preserved : goal.loop-at-preserved
