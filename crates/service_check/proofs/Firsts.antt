@@ -1,11 +1,13 @@
--- Texts that are taken once each, where they first stand.
+-- Texts and names that are taken once each, where they first stand.
 use Rattle.std.proofs.Common.{◌≡◌, ℕ, Bool, true, false, List, [], ◌∷◌, ◌++◌, map, refl, ap, sym, ◌∙◌, bytes_eq, append_assoc, append-nil}
 use Rattle.std.specs.Prelude.{◌||◌, if◌then◌else◌}
 use Rattle.std.proofs.lemmas.Slice.Eq.{bytes_eq-Decides}
 use Rattle.behaviour_tree.specs.Distinct.{is_in}
-use Rattle.service_check.specs.Repeated.{firsts, firsts_after}
+use Rattle.jolie_ast.specs.declared.name.Name.{Name}
+use Rattle.service_check.specs.Repeated.{first_names, first_names_after, firsts, firsts_after}
 use Rattle.service_check.specs.Files.{Operation, each_once, each_once_after}
 use Rattle.service_check.specs.Mentioned.{Texts, with_text, with_texts}
+use Rattle.service_check.proofs.Repetitions.{in_any_order, nothing_behind}
 
 -- a text that is there adds nothing
 pub known_text : (ts : Texts) (t : List ℕ) → is_in t ts ≡ true → ts ≡ with_text ts t
@@ -70,3 +72,26 @@ once_texts before (o ∷ os) =
 -- the names of operations that are taken one after the other are those of the operations once each
 pub once_taken : (os : List Operation) → with_texts [] (map (λ (o : Operation). o.name.text) os) ≡ map (λ (o : Operation). o.name.text) (each_once os)
 once_taken os = with_none (map (λ (o : Operation). o.name.text) os) ∙ sym (once_texts [] os)
+
+-- ---- names that are taken once each
+
+-- a name, but not one that is known
+abbrev pub unless_known : Bool → Name → List Name
+unless_known known n = if known then [] else n ∷ []
+
+-- one name more behind others
+pub first_names_behind : (before : List (List ℕ)) (ns : List Name) (n : Name) → first_names_after before (ns ++ n ∷ []) ≡ first_names_after before ns ++ unless_known (is_in n.text before || is_in n.text (map (λ (m : Name). m.text) ns)) n
+first_names_behind before [] n = append-nil (unless_known (is_in n.text before) n) ∙ ap (λ b. unless_known b n) (sym (nothing_behind (is_in n.text before)))
+first_names_behind before (m ∷ ns) n =
+    ap (λ rest. unless_known (is_in m.text before) m ++ rest) (first_names_behind (m.text ∷ before) ns n)
+    ∙ ap (λ b. unless_known (is_in m.text before) m ++ (first_names_after (m.text ∷ before) ns ++ unless_known b n)) (in_any_order (bytes_eq m.text n.text) (is_in n.text before) (is_in n.text (map (λ (m : Name). m.text) ns)))
+    ∙ sym (append_assoc (unless_known (is_in m.text before) m) (first_names_after (m.text ∷ before) ns) (unless_known (is_in n.text before || is_in n.text (map (λ (m : Name). m.text) (m ∷ ns))) n))
+
+-- a turn of a loop that takes names once each
+pub firsts_more : (fs gs ns ms : List Name) (n : Name) (known : Bool) → ms ≡ ns ++ n ∷ [] → known ≡ is_in n.text (map (λ (m : Name). m.text) ns) → fs ≡ first_names ns → gs ≡ fs ++ unless_known known n → gs ≡ first_names ms
+firsts_more fs gs ns ms n known more there before turn =
+    turn
+    ∙ ap (λ xs. xs ++ unless_known known n) before
+    ∙ ap (λ b. first_names ns ++ unless_known b n) there
+    ∙ sym (first_names_behind [] ns n)
+    ∙ ap first_names (sym more)

@@ -1,7 +1,8 @@
 use Rattle.std.proofs.Common.{◌≡◌, ◌+◌, [], append-nil, map, sym, take}
 use Rattle.jolie_ast.specs.declared.name.Name.{Name}
 use Rattle.behaviour_tree.specs.Distinct.{is_in}
-use Rattle.service_check.proofs.Nows.{firsts_more, nows, nows_more, nows_push, texts_more}
+use Rattle.service_check.proofs.Nows.{nows, nows_more, nows_push, texts_more}
+use Rattle.service_check.proofs.Firsts.{firsts_more}
 use Rattle.service_check.proofs.set_rules.first_names.Goals as goal
 use Rattle.service_check.proofs.set_rules.first_names.Goals.{then-not-is_known+in_ok-push, else-not-is_known}
 
