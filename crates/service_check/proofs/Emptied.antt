@@ -1,6 +1,6 @@
 -- What follows where nothing is refused: lists of refusals that are empty, names of which none stands twice, and names that are there.
 use Rattle.std.proofs.Common.{◌≡◌, ℕ, zero, suc, Bool, true, false, ◌<◌, arith, List, [], ◌∷◌, ◌++◌, map, flat_map, length, None, Some, slice_get, refl, ap, sym, subst, ◌∙◌, bytes_eq}
-use Rattle.std.specs.Prelude.{not, ◌||◌, if◌then◌else◌, nat_lt}
+use Rattle.std.specs.Prelude.{not, ◌&&◌, ◌||◌, if◌then◌else◌, nat_lt}
 use Rattle.std.specs.List.{list_all}
 use Rattle.std.proofs.lemmas.Bool.{and_from, or_left, or_right, or_from, not_from_false, false≢true}
 use Rattle.std.proofs.lemmas.Bool.Decides.{nat_tests}
@@ -46,6 +46,10 @@ fails false name at e = refl
 pub holds : (b : Bool) (name : CheckName) (at : ℕ) → refused_if (not b) name at ≡ [] → b ≡ true
 holds true name at e = refl
 holds false name at e = cc
+
+-- four tests that pass, pass together
+pub all_four : (a b c d : Bool) → a ≡ true → b ≡ true → c ≡ true → d ≡ true → (a && b && c && d) ≡ true
+all_four a b c d ha hb hc hd = and_from (a && b && c) d (and_from (a && b) c (and_from a b ha hb) hc) hd
 
 -- where nothing is found of the items of a list, each passes a test that such an item passes
 pub each_empty : {X A : Type 0} (f : X → List A) (p : X → Bool) (xs : List X) → ((x : X) → f x ≡ [] → p x ≡ true) → flat_map f xs ≡ [] → list_all p xs ≡ true

@@ -7,7 +7,7 @@ use Rattle.jolie_ast.specs.declared.name.Name.{Name}
 use Rattle.service_check.specs.Repeated.{first_names, first_names_after, firsts, firsts_after}
 use Rattle.service_check.specs.Files.{Operation, each_once, each_once_after}
 use Rattle.service_check.specs.Mentioned.{Texts, with_text, with_texts}
-use Rattle.service_check.proofs.Repetitions.{in_any_order, nothing_behind}
+use Rattle.service_check.proofs.Repetitions.{in_any_order, or_false}
 
 -- a text that is there adds nothing
 pub known_text : (ts : Texts) (t : List ℕ) → is_in t ts ≡ true → ts ≡ with_text ts t
@@ -81,7 +81,7 @@ unless_known known n = if known then [] else n ∷ []
 
 -- one name more behind others
 pub first_names_behind : (before : List (List ℕ)) (ns : List Name) (n : Name) → first_names_after before (ns ++ n ∷ []) ≡ first_names_after before ns ++ unless_known (is_in n.text before || is_in n.text (map (λ (m : Name). m.text) ns)) n
-first_names_behind before [] n = append-nil (unless_known (is_in n.text before) n) ∙ ap (λ b. unless_known b n) (sym (nothing_behind (is_in n.text before)))
+first_names_behind before [] n = append-nil (unless_known (is_in n.text before) n) ∙ ap (λ b. unless_known b n) (sym (or_false (is_in n.text before)))
 first_names_behind before (m ∷ ns) n =
     ap (λ rest. unless_known (is_in m.text before) m ++ rest) (first_names_behind (m.text ∷ before) ns n)
     ∙ ap (λ b. unless_known (is_in m.text before) m ++ (first_names_after (m.text ∷ before) ns ++ unless_known b n)) (in_any_order (bytes_eq m.text n.text) (is_in n.text before) (is_in n.text (map (λ (m : Name). m.text) ns)))

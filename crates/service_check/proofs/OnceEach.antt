@@ -1,7 +1,7 @@
 -- Operations that are taken once each, interface by interface.
 use Rattle.std.proofs.Common.{◌≡◌, ℕ, Bool, true, false, List, [], ◌∷◌, ◌++◌, map, flat_map, refl, ap, sym, ◌∙◌, bytes_eq, append_assoc}
 use Rattle.std.specs.Prelude.{not, ◌||◌, ◌==◌, if◌then◌else◌}
-use Rattle.std.proofs.lemmas.Bool.{and_from, and_parts, or_left, or_right, or_from, or_parts, not_from_false, false≢true}
+use Rattle.std.proofs.lemmas.Bool.{and_from, and_parts, or_left, or_right, or_from, or_parts, not_from_false, false≢true, not-true}
 use Rattle.std.proofs.lemmas.Slice.Eq.{bytes_eq-Decides}
 use Rattle.std.proofs.lemmas.List.Folds.{list_any-append}
 use Rattle.behaviour_tree.specs.Operations.{is_among, first_mentions}
@@ -9,9 +9,8 @@ use Rattle.behaviour_tree.specs.Distinct.{texts_differ, is_in}
 use Rattle.service_check.specs.Repeated.{firsts_after}
 use Rattle.service_check.specs.Files.{Operation, each_once_after, place_in, texts_of}
 use Rattle.service_check.proofs.Emptied.{another_text, in_first, in_last}
-use Rattle.service_check.proofs.Repetitions.{in_any_order, nothing_behind}
+use Rattle.service_check.proofs.Repetitions.{in_any_order, or_false}
 use Rattle.service_check.proofs.WellInterfaces.{all_in, places_alike}
-use Rattle.service_check.proofs.WellTypes.{fails_not}
 
 -- ---- texts that were passed
 
@@ -22,7 +21,7 @@ passed before (t ∷ ts) = passed (t ∷ before) ts
 
 -- what is among them
 pub among_passed : (x : List ℕ) (before ts : List (List ℕ)) → is_in x (passed before ts) ≡ (is_in x before || is_in x ts)
-among_passed x before [] = sym (nothing_behind (is_in x before))
+among_passed x before [] = sym (or_false (is_in x before))
 among_passed x before (t ∷ ts) = among_passed x (t ∷ before) ts ∙ in_any_order (bytes_eq t x) (is_in x before) (is_in x ts)
 
 -- texts that are taken once each of two lists
@@ -37,7 +36,7 @@ pub first_differ : (ts us : List (List ℕ)) → texts_differ (ts ++ us) ≡ tru
 first_differ [] us e = refl
 first_differ (t ∷ ts) us e =
     let parts : (not (is_in t (ts ++ us)) ≡ true) × (texts_differ (ts ++ us) ≡ true) = and_parts (not (is_in t (ts ++ us))) (texts_differ (ts ++ us)) e in
-    let apart : (is_in t ts ≡ false) × (is_in t us ≡ false) = or_parts (is_in t ts) (is_in t us) (sym (list_any-append (λ s. bytes_eq s t) ts us) ∙ fails_not (is_in t (ts ++ us)) parts.0) in
+    let apart : (is_in t ts ≡ false) × (is_in t us ≡ false) = or_parts (is_in t ts) (is_in t us) (sym (list_any-append (λ s. bytes_eq s t) ts us) ∙ not-true (is_in t (ts ++ us)) parts.0) in
     and_from (not (is_in t ts)) (texts_differ ts) (not_from_false (is_in t ts) apart.0) (first_differ ts us parts.1)
 
 -- so do the second
@@ -50,7 +49,7 @@ pub two_apart : (x : List ℕ) (ts us : List (List ℕ)) → texts_differ (ts ++
 two_apart x [] us e there = refl
 two_apart x (t ∷ ts) us e there =
     let parts : (not (is_in t (ts ++ us)) ≡ true) × (texts_differ (ts ++ us) ≡ true) = and_parts (not (is_in t (ts ++ us))) (texts_differ (ts ++ us)) e in
-    let apart : (is_in t ts ≡ false) × (is_in t us ≡ false) = or_parts (is_in t ts) (is_in t us) (sym (list_any-append (λ s. bytes_eq s t) ts us) ∙ fails_not (is_in t (ts ++ us)) parts.0) in
+    let apart : (is_in t ts ≡ false) × (is_in t us ≡ false) = or_parts (is_in t ts) (is_in t us) (sym (list_any-append (λ s. bytes_eq s t) ts us) ∙ not-true (is_in t (ts ++ us)) parts.0) in
     or_from (bytes_eq t x) (is_in x ts) (another_text (bytes_eq t x) t x us refl apart.1 there) (two_apart x ts us parts.1 there)
 
 -- ---- numbers of interfaces
@@ -100,7 +99,7 @@ new_taken seen (o ∷ os) rest differ new =
     ∙ ap (λ ps. o ∷ ps)
     (new_taken (o.name.text ∷ seen) os rest parts.1
     (λ x there. or_from (bytes_eq o.name.text x) (is_in x seen)
-    (another_text (bytes_eq o.name.text x) o.name.text x (texts_of os) refl (fails_not (is_in o.name.text (texts_of os)) parts.0) there)
+    (another_text (bytes_eq o.name.text x) o.name.text x (texts_of os) refl (not-true (is_in o.name.text (texts_of os)) parts.0) there)
     (new x (or_right (bytes_eq o.name.text x) (is_in x (texts_of os)) there))))
 
 -- the names of the operations of interfaces

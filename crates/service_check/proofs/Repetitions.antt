@@ -18,9 +18,9 @@ in_any_order false true c = refl
 in_any_order false false c = refl
 
 -- nothing stands behind a test
-pub nothing_behind : (a : Bool) → (a || false) ≡ a
-nothing_behind true = refl
-nothing_behind false = refl
+pub or_false : (a : Bool) → (a || false) ≡ a
+or_false true = refl
+or_false false = refl
 
 -- the places of a name that may stand a second time
 abbrev pub second : Bool → Name → List ℕ
@@ -28,7 +28,7 @@ second known n = if known then n.at ∷ [] else []
 
 -- one name more behind others
 pub repeated_behind : (before : List (List ℕ)) (ns : List Name) (n : Name) → repeated_after before (ns ++ n ∷ []) ≡ repeated_after before ns ++ second (is_in n.text before || is_in n.text (map (λ (m : Name). m.text) ns)) n
-repeated_behind before [] n = append-nil (second (is_in n.text before) n) ∙ ap (λ b. second b n) (sym (nothing_behind (is_in n.text before)))
+repeated_behind before [] n = append-nil (second (is_in n.text before) n) ∙ ap (λ b. second b n) (sym (or_false (is_in n.text before)))
 repeated_behind before (m ∷ ns) n =
     ap (λ rest. second (is_in m.text before) m ++ rest) (repeated_behind (m.text ∷ before) ns n)
     ∙ ap (λ b. second (is_in m.text before) m ++ (repeated_after (m.text ∷ before) ns ++ second b n)) (in_any_order (bytes_eq m.text n.text) (is_in n.text before) (is_in n.text (map (λ (m : Name). m.text) ns)))

@@ -16,6 +16,7 @@ use Rattle.service_check.specs.SetRules.{alias_texts, all_have, in_earlier, part
 use Rattle.service_check.specs.OperationTables.{if_there}
 use Rattle.service_check.proofs.Joined.{joined_append}
 use Rattle.service_check.proofs.Loops.{mapped_each}
+use Rattle.service_check.proofs.Repetitions.{or_false}
 
 -- each variable has an alias of a type where each table has it
 pub all_have_is : (ty : List ℕ) (set : List CorrelationVariable) → list_all (is_in ty) (map alias_texts set) ≡ all_have ty set
@@ -45,10 +46,6 @@ all_variable_texts ts clauses i end all =
 or_true : (a : Bool) → (a || true) ≡ true
 or_true true = refl
 or_true false = refl
-
-or_false : (a : Bool) → (a || false) ≡ a
-or_false true = refl
-or_false false = refl
 
 or_turned : (a b : Bool) → (a || b) ≡ (b || a)
 or_turned true b = sym (or_true b)

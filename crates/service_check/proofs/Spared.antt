@@ -1,7 +1,7 @@
 -- Operations that are kept short are refused as all of them are.
 use Rattle.std.proofs.Common.{◌≡◌, ℕ, Bool, true, false, List, [], ◌∷◌, ◌++◌, map, Option, Some, None, refl, ap, sym, ◌∙◌, subst, bytes_eq, append_assoc, append-nil}
 use Rattle.std.specs.Prelude.{◌||◌, if◌then◌else◌}
-use Rattle.std.proofs.lemmas.Bool.{false≢true}
+use Rattle.std.proofs.lemmas.Bool.{or_left, or_right, false≢true}
 use Rattle.std.proofs.lemmas.Slice.Eq.{bytes_eq-Decides}
 use Rattle.jolie_ast.specs.declared.name.Name.{Name}
 use Rattle.jolie_ast.specs.declared.interface.Interface.{Interface}
@@ -18,6 +18,7 @@ use Rattle.service_check.proofs.Joined.{joined_append, refused_append}
 use Rattle.service_check.proofs.Repetitions.{second}
 use Rattle.service_check.proofs.Sets.{in_either}
 use Rattle.service_check.proofs.Loops.{mapped_twice}
+use Rattle.service_check.proofs.Firsts.{again as known_again, either_way}
 
 -- ---- a refusal that is offered again
 
@@ -52,31 +53,13 @@ one_more false t u h e = h e
 among_more : (t : List ℕ) (ts us : List (List ℕ)) → Among ts us → Among (t ∷ ts) (t ∷ us)
 among_more t ts us among = λ x. one_more (bytes_eq t x) (is_in x ts) (is_in x us) (among x)
 
-behind_true : (a b : Bool) → b ≡ true → (a || b) ≡ true
-behind_true true b e = refl
-behind_true false b e = e
-
-before_true : (a b : Bool) → a ≡ true → (a || b) ≡ true
-before_true true b e = refl
-before_true false b e = absurd (false≢true e)
-
 -- texts are among themselves with one more
 among_one_more : (t : List ℕ) (ts us : List (List ℕ)) → Among ts us → Among ts (t ∷ us)
-among_one_more t ts us among = λ x e. behind_true (bytes_eq t x) (is_in x us) (among x e)
-
-known_again : (b : Bool) (x t : List ℕ) (ts : List (List ℕ)) → bytes_eq t x ≡ b → is_in t ts ≡ true → (b || is_in x ts) ≡ is_in x ts
-known_again true x t ts same there = sym (ap (λ y. is_in y ts) (sym ((bytes_eq-Decides t x).0 same)) ∙ there)
-known_again false x t ts other there = refl
+among_one_more t ts us among = λ x e. or_right (bytes_eq t x) (is_in x us) (among x e)
 
 -- a text that is there already adds nothing
 same_again : (t : List ℕ) (ts us : List (List ℕ)) → Same ts us → is_in t ts ≡ true → Same (t ∷ ts) us
 same_again t ts us same there = λ x. known_again (bytes_eq t x) x t ts refl there ∙ same x
-
-either_way : (a b c : Bool) → (a || (b || c)) ≡ (b || (a || c))
-either_way true true c = refl
-either_way true false c = refl
-either_way false true c = refl
-either_way false false c = refl
 
 -- a text may stand before or between
 moved : (t : List ℕ) (ts us : List (List ℕ)) → Among (t ∷ ts ++ us) (ts ++ t ∷ us)
@@ -130,21 +113,21 @@ alike_again : (os : List Operation) (at : ℕ) (known : List (List ℕ)) (xs ys 
     → joined p (refused DuplicateName (repeated_after b (map (operation_at at) os ++ xs))) ≡ joined p (refused DuplicateName (repeated_after c ys))
 alike_again [] at known xs ys within alike p b c again same among = alike p b c same among
 alike_again (o ∷ os) at known xs ys within alike p b c again same among =
-    let there : is_in o.name.text b ≡ true = among o.name.text (within o.name.text (before_true (bytes_eq o.name.text o.name.text) (is_in o.name.text (operation_texts os)) ((bytes_eq-Decides o.name.text o.name.text).1 refl))) in
+    let there : is_in o.name.text b ≡ true = among o.name.text (within o.name.text (or_left (bytes_eq o.name.text o.name.text) (is_in o.name.text (operation_texts os)) ((bytes_eq-Decides o.name.text o.name.text).1 refl))) in
     first_name p b (operation_at at o) (map (operation_at at) os ++ xs)
     ∙ ap (λ k. joined (joined p (refused DuplicateName (second k (operation_at at o)))) (refused DuplicateName (repeated_after (o.name.text ∷ b) (map (operation_at at) os ++ xs)))) there
     ∙ ap (λ q. joined q (refused DuplicateName (repeated_after (o.name.text ∷ b) (map (operation_at at) os ++ xs)))) again
-    ∙ alike_again os at known xs ys (λ x e. within x (behind_true (bytes_eq o.name.text x) (is_in x (operation_texts os)) e)) alike p (o.name.text ∷ b) c again (same_again o.name.text b c same there) (among_one_more o.name.text known b among)
+    ∙ alike_again os at known xs ys (λ x e. within x (or_right (bytes_eq o.name.text x) (is_in x (operation_texts os)) e)) alike p (o.name.text ∷ b) c again (same_again o.name.text b c same there) (among_one_more o.name.text known b among)
 
 -- operations that are known are refused as the first of them is
 alike_first : (os : List Operation) (at : ℕ) (known : List (List ℕ)) (xs ys : List Name) → Among (operation_texts os) known → Alike known xs ys → Alike known (map (operation_at at) os ++ xs) (first_alone (map (operation_at at) os) ++ ys)
 alike_first [] at known xs ys within alike = alike
 alike_first (o ∷ os) at known xs ys within alike = λ p b c same among.
-    let here : is_in o.name.text known ≡ true = within o.name.text (before_true (bytes_eq o.name.text o.name.text) (is_in o.name.text (operation_texts os)) ((bytes_eq-Decides o.name.text o.name.text).1 refl)) in
+    let here : is_in o.name.text known ≡ true = within o.name.text (or_left (bytes_eq o.name.text o.name.text) (is_in o.name.text (operation_texts os)) ((bytes_eq-Decides o.name.text o.name.text).1 refl)) in
     let there : is_in o.name.text b ≡ true = among o.name.text here in
     first_name p b (operation_at at o) (map (operation_at at) os ++ xs)
     ∙ ap (λ k. joined (joined p (refused DuplicateName (second k (operation_at at o)))) (refused DuplicateName (repeated_after (o.name.text ∷ b) (map (operation_at at) os ++ xs)))) there
-    ∙ alike_again os at known xs ys (λ x e. within x (behind_true (bytes_eq o.name.text x) (is_in x (operation_texts os)) e)) alike
+    ∙ alike_again os at known xs ys (λ x e. within x (or_right (bytes_eq o.name.text x) (is_in x (operation_texts os)) e)) alike
     (offered p (refusal DuplicateName at)) (o.name.text ∷ b) (o.name.text ∷ c) (offered_again p (refusal DuplicateName at))
     (λ x. ap (λ k. bytes_eq o.name.text x || k) (same x)) (among_one_more o.name.text known b among)
     ∙ ap (λ k. joined (joined p (refused DuplicateName (second k (operation_at at o)))) (refused DuplicateName (repeated_after (o.name.text ∷ c) ys))) (sym (sym (same o.name.text) ∙ there))
@@ -188,8 +171,8 @@ spared_step is others n seen known xs ys false false out fresh before rest =
     alike_behind (brought_by is n) known xs ys
     (rest (ts ++ known)
     (known_more is others seen (ts ++ known) n.text
-    (λ t there other x e. in_either x ts known ∙ behind_true (is_in x ts) (is_in x known) (before t there other x e))
-    (λ _ x e. in_either x ts known ∙ before_true (is_in x ts) (is_in x known) (ap (is_in x) (texts_at n.at (operations_named is n.text)) ∙ e))))
+    (λ t there other x e. in_either x ts known ∙ or_right (is_in x ts) (is_in x known) (before t there other x e))
+    (λ _ x e. in_either x ts known ∙ or_left (is_in x ts) (is_in x known) (ap (is_in x) (texts_at n.at (operations_named is n.text)) ∙ e))))
 
 alike_grouped : (known : List (List ℕ)) (us vs xs ws zs ys : List Name) → Alike known (us ++ (vs ++ xs)) (ws ++ (zs ++ ys)) → Alike known ((us ++ vs) ++ xs) ((ws ++ zs) ++ ys)
 alike_grouped known us vs xs ws zs ys alike = λ p b c same among.

@@ -1,7 +1,7 @@
 -- Laws of steps from place to place.
 use Rattle.std.proofs.Common.{◌≡◌, ℕ, zero, suc, Bool, true, false, ◌+◌, ◌-◌, ◌<◌, ◌≤◌, arith, Option, Some, None, refl, ap, sym, ◌∙◌}
 use Rattle.std.specs.Prelude.{◌||◌, ◌==◌, option_and_then}
-use Rattle.std.proofs.lemmas.Bool.{eq-eqb}
+use Rattle.std.proofs.lemmas.Bool.{eq-eqb, or_right}
 use Rattle.service_check.specs.Circles.{place_leads_back, steps_on}
 
 -- whether a place that may follow is the start or leads to it
@@ -31,17 +31,12 @@ steps_after next (suc j) k p =
 pub step_first : (next : ℕ → Option ℕ) (k p : ℕ) → steps_on next (suc k) p ≡ option_and_then (steps_on next k) (next p)
 step_first next k p = ap (λ m. steps_on next m p) (let e : suc k ≡ k + 1 = omega arith in e) ∙ steps_after next k 1 p
 
--- one of two tests
-pub or_second : (a b : Bool) → b ≡ true → (a || b) ≡ true
-or_second true b e = refl
-or_second false b e = e
-
 -- what follows leads to the start if steps do
 pub leads_from : (next : ℕ → Option ℕ) (n k start : ℕ) (o : Option ℕ) → option_and_then (steps_on next k) o ≡ Some start → k < suc n
     → ((j q : ℕ) → steps_on next (suc j) q ≡ Some start → j < n → place_leads_back next n start q ≡ true) → back_to next n start o ≡ true
 leads_from next n k start None e below rest = cc
 leads_from next n zero start (Some q) e below rest = let same : q ≡ start = cc in ap (λ b. b || place_leads_back next n start q) (eq-eqb q start same)
-leads_from next n (suc k) start (Some q) e below rest = or_second (q == start) (place_leads_back next n start q) (rest k q e (omega (arith, below)))
+leads_from next n (suc k) start (Some q) e below rest = or_right (q == start) (place_leads_back next n start q) (rest k q e (omega (arith, below)))
 
 -- steps to the start lead to it
 pub leads_by_steps : (next : ℕ → Option ℕ) (n k start p : ℕ) → steps_on next (suc k) p ≡ Some start → k < n → place_leads_back next n start p ≡ true

@@ -41,7 +41,7 @@ use Rattle.service_check.specs.Behaviours.{AnswerView, InputView, Numbering, alo
 use Rattle.service_check.specs.Expressions.{meant_expr, meant_if_written, meant_path}
 use Rattle.service_check.specs.Mentioned.{Texts, key_texts, process_texts, conditional_texts, otherwise_texts, input_texts, reply_texts, branch_texts, answer_texts, handler_texts, block_texts}
 use Rattle.service_check.specs.ProcessRules.{Surroundings, lacks_variable, sends, used, wrong_if_written, answer_refused, block_refused, bodies_refused, branch_operation, branch_refused, branches_refused, choice_refused, conditional_refused, handler_name, handler_refused, handlers_refused, input_refused, otherwise_refused, process_refused, processes_refused, reply_if_written, reply_refused}
-use Rattle.service_check.proofs.Emptied.{has_place, holds, left_empty, names_differ, right_empty}
+use Rattle.service_check.proofs.Emptied.{all_four, has_place, holds, left_empty, names_differ, right_empty}
 use Rattle.service_check.proofs.MeantProcesses as means
 use Rattle.service_check.proofs.Mentions as mentions
 use Rattle.service_check.proofs.ProcessForms as forms
@@ -402,9 +402,6 @@ answer_known e m r path (Some fs) none all shape =
 abbrev input_by : (e : Surroundings) (m : Numbering) (r : Reach) → Name → Option Path → Option (Known Reply (ReplyWell e m r)) → Input
 input_by e m r operation request reply = roll-Input (map-Input (Known Otherwise (OtherwiseWell e m r)) (Known Process (ProcessWell e m r)) (Known Answer (AnswerWell e m r)) (Known Block (BlockWell e m r)) (Known Branch (BranchWell e m r)) (Known Handler (HandlerWell e m r)) (Known If (IfWell e m r)) (Known Input (InputWell e m r)) (Known Reply (ReplyWell e m r)) Otherwise Process Answer Block Branch Handler If Input Reply (λ x. x.0) (λ x. x.0) (λ x. x.0) (λ x. x.0) (λ x. x.0) (λ x. x.0) (λ x. x.0) (λ x. x.0) (λ x. x.0) (record { operation = operation; request = request; reply = reply }))
 
-four_from : (a b c d : Bool) → a ≡ true → b ≡ true → c ≡ true → d ≡ true → (a && b && c && d) ≡ true
-four_from a b c d ha hb hc hd = and_from (a && b && c) d (and_from (a && b) c (and_from a b ha hb) hc) hd
-
 six_from : (a b y p c d : Bool) → a ≡ true → b ≡ true → (y && p) ≡ true → c ≡ true → d ≡ true → (a && b && y && p && c && d) ≡ true
 six_from true true y p c d ha hb rest hc hd = and_from (y && p && c) d (and_from (y && p) c rest hc) hd
 six_from true false y p c d ha hb rest hc hd = absurd (false≢true hb)
@@ -416,7 +413,7 @@ input_known e m r w operation request None h none all shape after rest well othe
     let found : first ++ wrong_if_written request ++ [] ≡ [] = sym (rolled.input_rolled e operation request None h) ∙ none in
     let front : first ++ wrong_if_written request ≡ [] = left_empty (first ++ wrong_if_written request) [] found in
     ap (λ (v : InputView). are_branches r h (branch_of v.op v.target v.reply after rest)) (means.input_made m operation request None)
-    ∙ four_from (has_operation r.inputs (place_in m.inputs operation.text) false) (is_target (option_map meant_path request)) (is_behaviour r h after) (are_branches r h rest)
+    ∙ all_four (has_operation r.inputs (place_in m.inputs operation.text) false) (is_target (option_map meant_path request)) (is_behaviour r h after) (are_branches r h rest)
     (w.inputs operation false (left_empty first (wrong_if_written request) front)) (written_target request (right_empty first (wrong_if_written request) front)) well others
 input_known e m r w operation request (Some (y, k)) h none all shape after rest well others =
     let first : List Refusal = used e.inputs operation true in

@@ -1,7 +1,7 @@
 -- The keys of handlers of which none is refused differ.
 use Rattle.std.proofs.Common.{◌≡◌, ℕ, suc, true, false, List, [], ◌∷◌, ◌++◌, map, flat_map, refl, ap, sym, ◌∙◌, bytes_eq, codes}
 use Rattle.std.specs.Prelude.{not, nat_le}
-use Rattle.std.proofs.lemmas.Bool.{and_from, and_parts, or_from, or_parts, not_from_false, false≢true}
+use Rattle.std.proofs.lemmas.Bool.{and_from, and_parts, or_from, or_parts, not_from_false, false≢true, not-true}
 use Rattle.jolie_ast.specs.declared.name.Name.{Name}
 use Rattle.jolie_ast.specs.declared.process.Handler.{Handler, out-Handler}
 use Rattle.jolie_ast.specs.declared.process.HandlerKey.{HandlerKey}
@@ -21,7 +21,6 @@ use Rattle.service_check.specs.ProcessRules.{handler_name, key_name}
 use Rattle.service_check.proofs.Emptied.{names_differ}
 use Rattle.service_check.proofs.MeantProcesses as means
 use Rattle.service_check.proofs.WellInterfaces.{all_in, places_differ}
-use Rattle.service_check.proofs.WellTypes.{fails_not}
 use Rattle.service_check.proofs.Loops.{mapped_twice}
 
 -- ---- keys
@@ -86,7 +85,7 @@ faults_differ (key.This at ∷ ks) e = faults_differ ks (and_parts (not (is_in (
 faults_differ (key.Named n ∷ ks) e =
     let parts : (not (is_in n.text (key_names ks)) ≡ true) × (texts_differ (key_names ks) ≡ true) = and_parts (not (is_in n.text (key_names ks))) (texts_differ (key_names ks)) e in
     and_from (not (is_in n.text (fault_texts ks))) (texts_differ (fault_texts ks))
-    (not_from_false (is_in n.text (fault_texts ks)) (fault_is_name n.text ks (fails_not (is_in n.text (key_names ks)) parts.0)))
+    (not_from_false (is_in n.text (fault_texts ks)) (fault_is_name n.text ks (not-true (is_in n.text (key_names ks)) parts.0)))
     (faults_differ ks parts.1)
 
 none_of_these : (ks : List HandlerKey) → is_in (codes "this") (key_names ks) ≡ false → these ks ≡ 0
@@ -97,7 +96,7 @@ none_of_these (key.Named n ∷ ks) e = none_of_these ks (or_parts (bytes_eq n.te
 one_of_these : (ks : List HandlerKey) → texts_differ (key_names ks) ≡ true → nat_le (these ks) 1 ≡ true
 one_of_these [] e = refl
 one_of_these (key.This at ∷ ks) e =
-    ap (λ n. nat_le (suc n) 1) (none_of_these ks (fails_not (is_in (codes "this") (key_names ks)) (and_parts (not (is_in (codes "this") (key_names ks))) (texts_differ (key_names ks)) e).0))
+    ap (λ n. nat_le (suc n) 1) (none_of_these ks (not-true (is_in (codes "this") (key_names ks)) (and_parts (not (is_in (codes "this") (key_names ks))) (texts_differ (key_names ks)) e).0))
 one_of_these (key.Named n ∷ ks) e = one_of_these ks (and_parts (not (is_in n.text (key_names ks))) (texts_differ (key_names ks)) e).1
 
 -- the keys of handlers of which none is refused, and whose faults are among the names

@@ -2,7 +2,7 @@
 use Rattle.std.proofs.Common.{◌≡◌, ℕ, zero, suc, Bool, true, false, List, [], ◌∷◌, ◌++◌, map, flat_map, length, Option, None, Some, slice_get, refl, ap, sym, ◌∙◌, bytes_eq}
 use Rattle.std.specs.Prelude.{not, ◌&&◌, ◌||◌, is_some, nat_lt, if◌then◌else◌, option_map, unwrap_or}
 use Rattle.std.specs.List.{filter_map, list_all}
-use Rattle.std.proofs.lemmas.Bool.{and_from, and_parts, or_right, not_from_false, false≢true}
+use Rattle.std.proofs.lemmas.Bool.{and_from, and_parts, or_right, not_from_false, false≢true, not-true}
 use Rattle.std.proofs.lemmas.Grind.{flat_map-append}
 use Rattle.std.proofs.lemmas.List.{length-map, map-append}
 use Rattle.std.proofs.lemmas.List.Folds.{list_all-append, list_any-append, flat_map-map}
@@ -25,10 +25,9 @@ use Rattle.service_check.specs.Repeated.{firsts_after, repeated}
 use Rattle.service_check.specs.Files.{Operation, each_once, interface_named, operations_in, operations_named, place_in, port_in, input_port_in, output_port_in, texts_of}
 use Rattle.service_check.specs.PortRules.{unknown_interface, operation_at, brought_by, brought_unless, brought, brought_in, interfaces_repeated, output_port_refused, wrong_location, wrong_protocol, console, port_refused, sided_refused, unmet}
 use Rattle.service_check.specs.Programs.{meant_operation, meant_interface, meant_port_part}
-use Rattle.service_check.proofs.Emptied.{left_empty, right_empty, fails, holds, mapped_empty, has_place, another_text, in_first, names_differ}
+use Rattle.service_check.proofs.Emptied.{all_four, left_empty, right_empty, fails, holds, mapped_empty, has_place, another_text, in_first, names_differ}
 use Rattle.service_check.proofs.OnceEach.{passed, among_passed, firsts_of_two, first_places, texts_under, taken_by_interface}
 use Rattle.service_check.proofs.WellInterfaces.{all_in, places_differ}
-use Rattle.service_check.proofs.WellTypes.{fails_not}
 use Rattle.service_check.proofs.Loops.{mapped_each, mapped_twice}
 
 -- ---- interfaces by their names
@@ -108,7 +107,7 @@ brought_once is earlier before (t ∷ ts) differ same =
     let parts : (not (is_in t ts) ≡ true) × (texts_differ ts ≡ true) = and_parts (not (is_in t ts)) (texts_differ ts) differ in
     once_turn is (is_in t earlier) (is_in t before) t (flat_map (unless is earlier) ts) (firsts_after (t ∷ before) ts) (same t (in_first t ts))
     (brought_once is earlier (t ∷ before) ts parts.1
-    (λ x there. same x (or_right (bytes_eq t x) (is_in x ts) there) ∙ ap (λ b. b || is_in x before) (sym (another_text (bytes_eq t x) t x ts refl (fails_not (is_in t ts) parts.0) there))))
+    (λ x there. same x (or_right (bytes_eq t x) (is_in x ts) there) ∙ ap (λ b. b || is_in x before) (sym (another_text (bytes_eq t x) t x ts refl (not-true (is_in t ts) parts.0) there))))
 
 -- what input ports bring by name, where each names its interfaces once
 pub all_brought : (is : List Interface) (earlier before : List (List ℕ)) (ports : List Port) → flat_map interfaces_repeated ports ≡ [] → ((x : List ℕ) → is_in x earlier ≡ is_in x before)
@@ -233,11 +232,6 @@ port_by_itself is p m size e =
     (not_from_false (bytes_eq p.name.text formed_ports.console) (fails (bytes_eq p.name.text console) WrongKind p.name.at (left_empty named (wrong_location p) front)))
     (holds (is_local p.location.text || is_socket p.location.text) WrongKind p.location.at (right_empty named (wrong_location p) front)))
     (port_numbers is p m size e)
-
--- four facts
-all_four : (a b c d : Bool) → a ≡ true → b ≡ true → c ≡ true → d ≡ true → (a && b && c && d) ≡ true
-all_four true b c d ha hb hc hd = and_from (b && c) d (and_from b c hb hc) hd
-all_four false b c d ha hb hc hd = absurd (false≢true ha)
 
 -- an input port
 input_port_formed : (types names : List (List ℕ)) (is : List Interface) (locations : List (List ℕ)) (p : Port) → port_refused is p ≡ [] → interfaces_repeated p ≡ []

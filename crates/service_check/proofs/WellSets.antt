@@ -2,7 +2,7 @@
 use Rattle.std.proofs.Common.{◌≡◌, ℕ, Bool, true, false, List, [], ◌∷◌, ◌++◌, map, flat_map, length, refl, ap, sym, ◌∙◌, bytes_eq}
 use Rattle.std.specs.Prelude.{not, ◌&&◌, ◌||◌, ◌==◌, if◌then◌else◌}
 use Rattle.std.specs.List.{filter_map, list_all, list_any}
-use Rattle.std.proofs.lemmas.Bool.{and_from, and_parts, or_left, or_right, or_from, not_from_false, false≢true}
+use Rattle.std.proofs.lemmas.Bool.{and_from, and_parts, or_left, or_right, or_from, not_from_false, false≢true, not-true}
 use Rattle.std.proofs.lemmas.List.{map-append}
 use Rattle.std.proofs.lemmas.List.Folds.{list_all-append, list_all-map, list_any-append}
 use Rattle.std.proofs.lemmas.Slice.Eq.{bytes_eq-Decides}
@@ -30,7 +30,7 @@ use Rattle.service_check.proofs.Emptied.{left_empty, right_empty, fails, holds, 
 use Rattle.service_check.proofs.WellAliases.{alias_formed, alias_known}
 use Rattle.service_check.proofs.WellInterfaces.{all_in, front_in, back_in, place_among, places_differ}
 use Rattle.service_check.proofs.WellNames.{is_taken}
-use Rattle.service_check.proofs.WellTypes.{meant_types, fails_not}
+use Rattle.service_check.proofs.WellTypes.{meant_types}
 use Rattle.service_check.proofs.Loops.{mapped_each, mapped_twice}
 
 -- ---- lists
@@ -179,7 +179,7 @@ not_earlier true x earlier set e none before =
     one_passes (λ t. not (is_in t earlier)) (set_texts set) x
     (mapped_empty (in_earlier earlier) (λ (n : Name). n.text) (λ t. not (is_in t earlier)) (set_types set) (λ n h. not_from_false (is_in n.text earlier) (fails (is_in n.text earlier) TwoSets n.at h)) none)
     (in_set_texts set x e) in
-    absurd (false≢true (sym (fails_not (is_in x earlier) new) ∙ before))
+    absurd (false≢true (sym (not-true (is_in x earlier) new) ∙ before))
 
 -- a type of an earlier set is in no later one
 pub not_later : (x : List ℕ) (earlier : List (List ℕ)) (sets : List (List CorrelationVariable)) → two_sets earlier sets ≡ [] → is_in x earlier ≡ true → is_in x (texts_in_all sets) ≡ false

@@ -2,7 +2,7 @@
 use Rattle.std.proofs.Common.{◌≡◌, ℕ, zero, suc, ◌+◌, Bool, true, false, arith, List, [], ◌∷◌, ◌++◌, map, flat_map, length, Option, None, Some, slice_get, refl, ap, sym, subst, ◌∙◌, bytes_eq}
 use Rattle.std.specs.Prelude.{not, ◌||◌, ◌==◌, is_some, if◌then◌else◌, option_map, option_and_then}
 use Rattle.std.specs.List.{list_all}
-use Rattle.std.proofs.lemmas.Bool.{and_from, and_parts, not_from_false, or_left, or_right, false≢true}
+use Rattle.std.proofs.lemmas.Bool.{and_from, and_parts, not-true, not_from_false, or_left, or_right, false≢true}
 use Rattle.std.proofs.lemmas.List.{length-map}
 use Rattle.std.proofs.lemmas.Option.{same_Some, slice_get-map}
 use Rattle.std.proofs.lemmas.Slice.Eq.{bytes_eq-Decides}
@@ -142,11 +142,6 @@ pub place_is_found : (ts : List (List ℕ)) (t : List ℕ) → is_in t ts ≡ tr
 place_is_found [] t there = absurd (false≢true there)
 place_is_found (s ∷ ts) t there = place_turn (bytes_eq s t) (place_of ts t) (place_in ts t) (λ other. place_is_found ts t (ap (λ b. b || is_in t ts) (sym other) ∙ there))
 
--- what fails when it is turned round holds not
-pub fails_not : (b : Bool) → not b ≡ true → b ≡ false
-fails_not true e = absurd (false≢true e)
-fails_not false e = refl
-
 -- a text at a place is there
 pub text_is_in : (ts : List (List ℕ)) (j : ℕ) (t : List ℕ) → slice_get ts j ≡ Some t → is_in t ts ≡ true
 text_is_in [] j t e = cc
@@ -159,7 +154,7 @@ own_place [] j t differ e = cc
 own_place (s ∷ ts) zero t differ e = ap (λ b. if b then Some 0 else option_map suc (place_of ts t)) ((bytes_eq-Decides s t).1 (same_Some s t e))
 own_place (s ∷ ts) (suc j) t differ e =
     let parts : (not (is_in s ts) ≡ true) × (texts_differ ts ≡ true) = and_parts (not (is_in s ts)) (texts_differ ts) differ in
-    ap (λ b. if b then Some 0 else option_map suc (place_of ts t)) (another_text (bytes_eq s t) s t ts refl (fails_not (is_in s ts) parts.0) (text_is_in ts j t e))
+    ap (λ b. if b then Some 0 else option_map suc (place_of ts t)) (another_text (bytes_eq s t) s t ts refl (not-true (is_in s ts) parts.0) (text_is_in ts j t e))
     ∙ ap (option_map suc) (own_place ts j t parts.1 e)
 
 -- the number that a body is has the place of its name
