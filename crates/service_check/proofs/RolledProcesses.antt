@@ -6,20 +6,18 @@ use Rattle.jolie_ast.specs.declared.expression.Expr.{Expr}
 use Rattle.jolie_ast.specs.declared.expression.Path.{Path}
 use Rattle.jolie_ast.specs.declared.process.HandlerKey.{HandlerKey}
 use Rattle.jolie_ast.specs.declared.process.Otherwise.TheOpen.{Process-F}
-use Rattle.jolie_ast.specs.declared.process.Otherwise.TheFolds.{map-Process, fold-roll-Answer, fold-roll-Block, fold-roll-Branch, fold-roll-Handler, fold-roll-If, fold-roll-Input, fold-roll-Otherwise, fold-roll-Process, fold-roll-Reply}
+use Rattle.jolie_ast.specs.declared.process.Otherwise.TheFolds.{map-Process, fold-roll-Answer, fold-roll-Branch, fold-roll-Handler, fold-roll-If, fold-roll-Process, fold-roll-Reply}
 use Rattle.jolie_ast.specs.declared.process.Otherwise.{Otherwise}
-use Rattle.jolie_ast.specs.declared.process.Otherwise.TheVariants as otherwise
-use Rattle.jolie_ast.specs.declared.process.Otherwise.TheOpen.{Otherwise-F}
 use Rattle.jolie_ast.specs.declared.process.Process.{Process, roll-Process}
 use Rattle.jolie_ast.specs.declared.process.Answer.{Answer, roll-Answer}
-use Rattle.jolie_ast.specs.declared.process.Block.{Block, roll-Block}
+use Rattle.jolie_ast.specs.declared.process.Block.{Block}
 use Rattle.jolie_ast.specs.declared.process.Branch.{Branch, roll-Branch}
 use Rattle.jolie_ast.specs.declared.process.Handler.{Handler, roll-Handler}
 use Rattle.jolie_ast.specs.declared.process.If.{If, roll-If}
 use Rattle.jolie_ast.specs.declared.process.Input.{Input, roll-Input}
 use Rattle.jolie_ast.specs.declared.process.Reply.{Reply, roll-Reply}
 use Rattle.jolie_ast.specs.Formed as tree
-use Rattle.jolie_ast.specs.Formed.{each, option_all, expr_formed, path_formed, process_formed, block_formed, if_formed, otherwise_formed, input_formed, reply_formed, branch_formed, answer_formed, handler_formed}
+use Rattle.jolie_ast.specs.Formed.{each, option_all, path_formed, process_formed, block_formed, if_formed, otherwise_formed, input_formed, reply_formed, branch_formed, answer_formed, handler_formed}
 use Rattle.behaviour_tree.specs.Data as plain
 use Rattle.behaviour_tree.specs.Data.{Proc}
 use Rattle.behaviour_tree.specs.View.{HandlerView, BranchView, ReplyView}
@@ -108,41 +106,7 @@ pub process_forms : (f : Process-F Otherwise Process Answer Block Branch Handler
 unfolding process_formed block_formed if_formed otherwise_formed input_formed reply_formed branch_formed answer_formed handler_formed
 process_forms f = fold-roll-Process Bool Bool Bool Bool Bool Bool Bool Bool Bool tree.otherwise_level tree.process_level tree.answer_level tree.block_level tree.branch_level tree.handler_level tree.if_level tree.input_level tree.reply_level f
 
-pub block_forms : (at : ℕ) (body : Option Process) → block_formed (roll-Block (record { at = at; body = body })) ≡ option_all process_formed body
-unfolding process_formed block_formed if_formed otherwise_formed input_formed reply_formed branch_formed answer_formed handler_formed
-block_forms at None = fold-roll-Block Bool Bool Bool Bool Bool Bool Bool Bool Bool tree.otherwise_level tree.process_level tree.answer_level tree.block_level tree.branch_level tree.handler_level tree.if_level tree.input_level tree.reply_level (record { at = at; body = None })
-block_forms at (Some p) = fold-roll-Block Bool Bool Bool Bool Bool Bool Bool Bool Bool tree.otherwise_level tree.process_level tree.answer_level tree.block_level tree.branch_level tree.handler_level tree.if_level tree.input_level tree.reply_level (record { at = at; body = Some p })
-
-pub if_forms : (at : ℕ) (test : Expr) (body : Block) (rest : Otherwise) → if_formed (roll-If (record { at = at; test = test; body = body; otherwise = rest })) ≡ (expr_formed test && (block_formed body && otherwise_formed rest))
-unfolding process_formed block_formed if_formed otherwise_formed input_formed reply_formed branch_formed answer_formed handler_formed
-if_forms at test body rest = fold-roll-If Bool Bool Bool Bool Bool Bool Bool Bool Bool tree.otherwise_level tree.process_level tree.answer_level tree.block_level tree.branch_level tree.handler_level tree.if_level tree.input_level tree.reply_level (record { at = at; test = test; body = body; otherwise = rest })
-
-pub input_forms : (operation : Name) (request : Option Path) (reply : Option Reply) → input_formed (roll-Input (record { operation = operation; request = request; reply = reply })) ≡ (option_all path_formed request && option_all reply_formed reply)
-unfolding process_formed block_formed if_formed otherwise_formed input_formed reply_formed branch_formed answer_formed handler_formed
-input_forms operation request None = fold-roll-Input Bool Bool Bool Bool Bool Bool Bool Bool Bool tree.otherwise_level tree.process_level tree.answer_level tree.block_level tree.branch_level tree.handler_level tree.if_level tree.input_level tree.reply_level (record { operation = operation; request = request; reply = None })
-input_forms operation request (Some r) = fold-roll-Input Bool Bool Bool Bool Bool Bool Bool Bool Bool tree.otherwise_level tree.process_level tree.answer_level tree.block_level tree.branch_level tree.handler_level tree.if_level tree.input_level tree.reply_level (record { operation = operation; request = request; reply = Some r })
-
-pub reply_forms : (path : Option Path) (body : Block) → reply_formed (roll-Reply (record { path = path; body = body })) ≡ (option_all path_formed path && block_formed body)
-unfolding process_formed block_formed if_formed otherwise_formed input_formed reply_formed branch_formed answer_formed handler_formed
-reply_forms path body = fold-roll-Reply Bool Bool Bool Bool Bool Bool Bool Bool Bool tree.otherwise_level tree.process_level tree.answer_level tree.block_level tree.branch_level tree.handler_level tree.if_level tree.input_level tree.reply_level (record { path = path; body = body })
-
-pub branch_forms : (at : ℕ) (input : Input) (after : Block) → branch_formed (roll-Branch (record { at = at; input = input; after = after })) ≡ (input_formed input && block_formed after)
-unfolding process_formed block_formed if_formed otherwise_formed input_formed reply_formed branch_formed answer_formed handler_formed
-branch_forms at input after = fold-roll-Branch Bool Bool Bool Bool Bool Bool Bool Bool Bool tree.otherwise_level tree.process_level tree.answer_level tree.block_level tree.branch_level tree.handler_level tree.if_level tree.input_level tree.reply_level (record { at = at; input = input; after = after })
-
 pub answer_forms : (path : Option Path) (fs : Option (List Handler)) → answer_formed (roll-Answer (record { path = path; handlers = fs })) ≡ (option_all path_formed path && option_all (λ hs. each (map handler_formed hs)) fs)
 unfolding process_formed block_formed if_formed otherwise_formed input_formed reply_formed branch_formed answer_formed handler_formed
 answer_forms path None = fold-roll-Answer Bool Bool Bool Bool Bool Bool Bool Bool Bool tree.otherwise_level tree.process_level tree.answer_level tree.block_level tree.branch_level tree.handler_level tree.if_level tree.input_level tree.reply_level (record { path = path; handlers = None })
 answer_forms path (Some fs) = fold-roll-Answer Bool Bool Bool Bool Bool Bool Bool Bool Bool tree.otherwise_level tree.process_level tree.answer_level tree.block_level tree.branch_level tree.handler_level tree.if_level tree.input_level tree.reply_level (record { path = path; handlers = Some fs })
-
-pub handler_forms : (key : HandlerKey) (body : Process) → handler_formed (roll-Handler (record { key = key; body = body })) ≡ process_formed body
-unfolding process_formed block_formed if_formed otherwise_formed input_formed reply_formed branch_formed answer_formed handler_formed
-handler_forms key body = fold-roll-Handler Bool Bool Bool Bool Bool Bool Bool Bool Bool tree.otherwise_level tree.process_level tree.answer_level tree.block_level tree.branch_level tree.handler_level tree.if_level tree.input_level tree.reply_level (record { key = key; body = body })
-
-pub else_if_forms : (i : If) → otherwise_formed (otherwise.ElseIf i) ≡ if_formed i
-unfolding process_formed block_formed if_formed otherwise_formed input_formed reply_formed branch_formed answer_formed handler_formed
-else_if_forms i = ap otherwise_formed (sym (otherwise.rolls-ElseIf i)) ∙ fold-roll-Otherwise Bool Bool Bool Bool Bool Bool Bool Bool Bool tree.otherwise_level tree.process_level tree.answer_level tree.block_level tree.branch_level tree.handler_level tree.if_level tree.input_level tree.reply_level (Otherwise-F.ElseIf i)
-
-pub else_forms : (b : Block) → otherwise_formed (otherwise.Else b) ≡ block_formed b
-unfolding process_formed block_formed if_formed otherwise_formed input_formed reply_formed branch_formed answer_formed handler_formed
-else_forms b = ap otherwise_formed (sym (otherwise.rolls-Else b)) ∙ fold-roll-Otherwise Bool Bool Bool Bool Bool Bool Bool Bool Bool tree.otherwise_level tree.process_level tree.answer_level tree.block_level tree.branch_level tree.handler_level tree.if_level tree.input_level tree.reply_level (Otherwise-F.Else b)

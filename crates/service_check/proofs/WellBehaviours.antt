@@ -26,6 +26,7 @@ use Rattle.jolie_ast.specs.declared.process.If.{If, roll-If}
 use Rattle.jolie_ast.specs.declared.process.Input.{Input, out-Input, roll-Input}
 use Rattle.jolie_ast.specs.declared.process.Reply.{Reply, roll-Reply}
 use Rattle.jolie_ast.specs.Formed.{each, has_one, has_two, option_all, expr_formed, path_formed, assignment_formed, for_step_formed, process_formed, block_formed, if_formed, otherwise_formed, input_formed, reply_formed, branch_formed, answer_formed, handler_formed}
+use Rattle.jolie_ast.proofs.Formed as shapes
 use Rattle.behaviour_tree.specs.Data as plain
 use Rattle.behaviour_tree.specs.Data.{PathTree, Proc, Branches}
 use Rattle.behaviour_tree.specs.View.{BranchView, HandlerView, ReplyView, branch_of, branches_of, handlers_of, procs_of}
@@ -350,10 +351,10 @@ otherwise_known : (e : Surroundings) (m : Numbering) (r : Reach) (y : Otherwise-
 otherwise_known e m r Otherwise-F.«Otherwise::Nothing» = subst (OtherwiseWell e m r) (sym otherwise.rolls-Nothing) (λ h none all shape. ap (is_behaviour r h) (means.no_else_meant m))
 otherwise_known e m r (Otherwise-F.ElseIf (i, k)) =
     subst (OtherwiseWell e m r) (sym (otherwise.rolls-ElseIf i))
-    (λ h none all shape. ap (is_behaviour r h) (means.else_if_meant m i) ∙ k h (sym (forms.else_if_refused e i h) ∙ none) (sym (ap (all_in m.names) (mentions.else_if_texts i)) ∙ all) (sym (rolled.else_if_forms i) ∙ shape))
+    (λ h none all shape. ap (is_behaviour r h) (means.else_if_meant m i) ∙ k h (sym (forms.else_if_refused e i h) ∙ none) (sym (ap (all_in m.names) (mentions.else_if_texts i)) ∙ all) (sym (shapes.else_if_forms i) ∙ shape))
 otherwise_known e m r (Otherwise-F.Else (b, k)) =
     subst (OtherwiseWell e m r) (sym (otherwise.rolls-Else b))
-    (λ h none all shape. ap (is_behaviour r h) (means.else_meant m b) ∙ k h (sym (forms.else_refused e b h) ∙ none) (sym (ap (all_in m.names) (mentions.else_texts b)) ∙ all) (sym (rolled.else_forms b) ∙ shape))
+    (λ h none all shape. ap (is_behaviour r h) (means.else_meant m b) ∙ k h (sym (forms.else_refused e b h) ∙ none) (sym (ap (all_in m.names) (mentions.else_texts b)) ∙ all) (sym (shapes.else_forms b) ∙ shape))
 
 abbrev block_by : (e : Surroundings) (m : Numbering) (r : Reach) → ℕ → Option (Known Process (ProcessWell e m r)) → Block
 block_by e m r at body = roll-Block (map-Block (Known Otherwise (OtherwiseWell e m r)) (Known Process (ProcessWell e m r)) (Known Answer (AnswerWell e m r)) (Known Block (BlockWell e m r)) (Known Branch (BranchWell e m r)) (Known Handler (HandlerWell e m r)) (Known If (IfWell e m r)) (Known Input (InputWell e m r)) (Known Reply (ReplyWell e m r)) Otherwise Process Answer Block Branch Handler If Input Reply (λ x. x.0) (λ x. x.0) (λ x. x.0) (λ x. x.0) (λ x. x.0) (λ x. x.0) (λ x. x.0) (λ x. x.0) (λ x. x.0) (record { at = at; body = body }))
@@ -362,13 +363,13 @@ block_known : (e : Surroundings) (m : Numbering) (r : Reach) (at : ℕ) (body : 
 block_known e m r at None h none all shape = ap (is_behaviour r h) (means.block_made m at None)
 block_known e m r at (Some (p, k)) h none all shape =
     ap (is_behaviour r h) (means.block_made m at (Some p))
-    ∙ k h (sym (forms.block_made e at (Some p) h) ∙ none) (sym (ap (all_in m.names) (mentions.block_made at (Some p))) ∙ all) (sym (rolled.block_forms at (Some p)) ∙ shape)
+    ∙ k h (sym (forms.block_made e at (Some p) h) ∙ none) (sym (ap (all_in m.names) (mentions.block_made at (Some p))) ∙ all) (sym (shapes.block_forms at (Some p)) ∙ shape)
 
 if_known : (e : Surroundings) (m : Numbering) (r : Reach) (at : ℕ) (test : Expr) (body : Known Block (BlockWell e m r)) (rest : Known Otherwise (OtherwiseWell e m r)) → IfWell e m r (roll-If (record { at = at; test = test; body = body.0; otherwise = rest.0 }))
 if_known e m r at test (body, j) (rest, k) h none all shape =
     let found : block_refused e body h ++ otherwise_refused e rest h ≡ [] = sym (rolled.if_rolled e at test body rest h) ∙ none in
     let named : all_in m.names (block_texts body ++ otherwise_texts rest) ≡ true = sym (ap (all_in m.names) (rolled.if_names at test body rest)) ∙ all in
-    let one : (expr_formed test ≡ true) × ((block_formed body && otherwise_formed rest) ≡ true) = and_parts (expr_formed test) (block_formed body && otherwise_formed rest) (sym (rolled.if_forms at test body rest) ∙ shape) in
+    let one : (expr_formed test ≡ true) × ((block_formed body && otherwise_formed rest) ≡ true) = and_parts (expr_formed test) (block_formed body && otherwise_formed rest) (sym (shapes.if_forms at test body rest) ∙ shape) in
     let two : (block_formed body ≡ true) × (otherwise_formed rest ≡ true) = and_parts (block_formed body) (otherwise_formed rest) one.1 in
     ap (is_behaviour r h) (rolled.if_meant m at test body rest)
     ∙ and_from (is_exp (meant_expr test) && is_behaviour r h (meant_block m body)) (is_behaviour r h (meant_otherwise m rest))
@@ -419,7 +420,7 @@ input_known e m r w operation request (Some (y, k)) h none all shape after rest 
     let first : List Refusal = used e.inputs operation true in
     let found : first ++ wrong_if_written request ++ reply_refused e y h ≡ [] = sym (rolled.input_rolled e operation request (Some y) h) ∙ none in
     let front : first ++ wrong_if_written request ≡ [] = left_empty (first ++ wrong_if_written request) (reply_refused e y h) found in
-    let parts : (option_all path_formed request ≡ true) × (reply_formed y ≡ true) = and_parts (option_all path_formed request) (reply_formed y) (sym (rolled.input_forms operation request (Some y)) ∙ shape) in
+    let parts : (option_all path_formed request ≡ true) × (reply_formed y ≡ true) = and_parts (option_all path_formed request) (reply_formed y) (sym (shapes.input_part_forms operation request (Some y)) ∙ shape) in
     ap (λ (v : InputView). are_branches r h (branch_of v.op v.target v.reply after rest)) (means.input_made m operation request (Some y))
     ∙ six_from (has_operation r.inputs (place_in m.inputs operation.text) true) (is_target (option_map meant_path request)) (is_target (meant_reply m y).path) (is_behaviour r h (meant_reply m y).body) (is_behaviour r h after) (are_branches r h rest)
     (w.inputs operation true (left_empty first (wrong_if_written request) front)) (written_target request (right_empty first (wrong_if_written request) front))
@@ -428,7 +429,7 @@ input_known e m r w operation request (Some (y, k)) h none all shape after rest 
 reply_known : (e : Surroundings) (m : Numbering) (r : Reach) (path : Option Path) (body : Known Block (BlockWell e m r)) → ReplyWell e m r (roll-Reply (record { path = path; body = body.0 }))
 reply_known e m r path (body, k) h none all shape =
     let found : wrong_if_written path ++ block_refused e body h ≡ [] = sym (rolled.reply_rolled e path body h) ∙ none in
-    let parts : (option_all path_formed path ≡ true) × (block_formed body ≡ true) = and_parts (option_all path_formed path) (block_formed body) (sym (rolled.reply_forms path body) ∙ shape) in
+    let parts : (option_all path_formed path ≡ true) × (block_formed body ≡ true) = and_parts (option_all path_formed path) (block_formed body) (sym (shapes.reply_forms path body) ∙ shape) in
     ap (λ (v : ReplyView). is_target v.path && is_behaviour r h v.body) (rolled.reply_meant m path body)
     ∙ and_from (is_target (option_map meant_path path)) (is_behaviour r h (meant_block m body))
     (written_target path (left_empty (wrong_if_written path) (block_refused e body h) found))
@@ -438,7 +439,7 @@ branch_known : (e : Surroundings) (m : Numbering) (r : Reach) (at : ℕ) (input 
 branch_known e m r at (input, j) (after, k) h none all shape rest others =
     let found : input_refused e input h ++ block_refused e after h ≡ [] = sym (rolled.branch_rolled e at input after h) ∙ none in
     let named : all_in m.names (input_texts input ++ block_texts after) ≡ true = sym (ap (all_in m.names) (rolled.branch_names at input after)) ∙ all in
-    let parts : (input_formed input ≡ true) × (block_formed after ≡ true) = and_parts (input_formed input) (block_formed after) (sym (rolled.branch_forms at input after) ∙ shape) in
+    let parts : (input_formed input ≡ true) × (block_formed after ≡ true) = and_parts (input_formed input) (block_formed after) (sym (shapes.branch_forms at input after) ∙ shape) in
     ap (λ (v : BranchView). are_branches r h (branch_of v.op v.target v.reply v.after rest)) (rolled.branch_meant m at input after)
     ∙ j h (left_empty (input_refused e input h) (block_refused e after h) found) (front_in m.names (input_texts input) (block_texts after) named) parts.0 (meant_block m after) rest
     (k h (right_empty (input_refused e input h) (block_refused e after h) found) (back_in m.names (input_texts input) (block_texts after) named) parts.1) others
@@ -453,7 +454,7 @@ handler_known e m r w under (p, k) none all shape =
     ap (λ (v : HandlerView). is_key r.names v.key && is_behaviour r true v.body) (rolled.handler_meant m under p)
     ∙ and_from (is_key r.names (key_of m.names under)) (is_behaviour r true (meant_process m p))
     (key_well e m r w under (front_in m.names (key_texts under) (process_texts p) named))
-    (k true (sym (rolled.handler_rolled e under p) ∙ none) (back_in m.names (key_texts under) (process_texts p) named) (sym (rolled.handler_forms under p) ∙ shape))
+    (k true (sym (rolled.handler_rolled e under p) ∙ none) (back_in m.names (key_texts under) (process_texts p) named) (sym (shapes.handler_forms under p) ∙ shape))
 
 -- ---- by induction
 

@@ -16,6 +16,7 @@ use Rattle.jolie_ast.specs.declared.expression.Step.{Step, roll-Step}
 use Rattle.jolie_ast.specs.declared.expression.Term.{Term, roll-Term}
 use Rattle.jolie_ast.specs.Formed as tree
 use Rattle.jolie_ast.specs.Formed.{has_one, has_two, each, option_all, form_formed, expr_formed, factor_formed, member_formed, path_formed, step_formed, term_formed}
+use Rattle.jolie_ast.proofs.Formed.{factor_forms, member_forms, placed_forms, term_forms}
 use Rattle.behaviour_tree.specs.Data.{Exp, PathTree}
 use Rattle.behaviour_tree.specs.View.{StepView, SumPartView, MulPartView, MemberView, path_of, step_of, exps_of, sum_parts_of, mul_parts_of, member_list_of}
 use Rattle.behaviour_tree.specs.FormedExpressions.{is_exp, is_path, are_exps, are_two_exps, are_sum_parts, are_mul_parts, are_members}
@@ -40,36 +41,20 @@ expr_means : (at : ℕ) (form : ExprForm) → meant_expr (roll-Expr (record { at
 unfolding meant_form meant_expr meant_factor meant_member meant_path meant_place meant_term
 expr_means at form = fold-roll-Expr Exp Exp MulPartView MemberView PathTree StepView SumPartView means.form_level means.expr_level means.factor_level means.member_level means.path_level means.step_level means.term_level (record { at = at; form = form })
 
-expr_is : (at : ℕ) (form : ExprForm) → expr_formed (roll-Expr (record { at = at; form = form })) ≡ form_formed form
-unfolding form_formed expr_formed factor_formed member_formed path_formed step_formed term_formed
-expr_is at form = fold-roll-Expr Bool Bool Bool Bool Bool Bool Bool tree.form_level tree.expr_level tree.factor_level tree.member_level tree.path_level tree.step_level tree.term_level (record { at = at; form = form })
-
 factor_means : (operator : Multiplicative) (operand : Expr) → (meant_factor (roll-Factor (record { operator = operator; operand = operand }))).value ≡ meant_expr operand
 unfolding meant_form meant_expr meant_factor meant_member meant_path meant_place meant_term
 factor_means operator operand =
     ap (λ (v : MulPartView). v.value) (fold-roll-Factor Exp Exp MulPartView MemberView PathTree StepView SumPartView means.form_level means.expr_level means.factor_level means.member_level means.path_level means.step_level means.term_level (record { operator = operator; operand = operand }))
-
-factor_is : (operator : Multiplicative) (operand : Expr) → factor_formed (roll-Factor (record { operator = operator; operand = operand })) ≡ expr_formed operand
-unfolding form_formed expr_formed factor_formed member_formed path_formed step_formed term_formed
-factor_is operator operand = fold-roll-Factor Bool Bool Bool Bool Bool Bool Bool tree.form_level tree.expr_level tree.factor_level tree.member_level tree.path_level tree.step_level tree.term_level (record { operator = operator; operand = operand })
 
 term_means : (operator : Additive) (operand : Expr) → (meant_term (roll-Term (record { operator = operator; operand = operand }))).value ≡ meant_expr operand
 unfolding meant_form meant_expr meant_factor meant_member meant_path meant_place meant_term
 term_means operator operand =
     ap (λ (v : SumPartView). v.value) (fold-roll-Term Exp Exp MulPartView MemberView PathTree StepView SumPartView means.form_level means.expr_level means.factor_level means.member_level means.path_level means.step_level means.term_level (record { operator = operator; operand = operand }))
 
-term_is : (operator : Additive) (operand : Expr) → term_formed (roll-Term (record { operator = operator; operand = operand })) ≡ expr_formed operand
-unfolding form_formed expr_formed factor_formed member_formed path_formed step_formed term_formed
-term_is operator operand = fold-roll-Term Bool Bool Bool Bool Bool Bool Bool tree.form_level tree.expr_level tree.factor_level tree.member_level tree.path_level tree.step_level tree.term_level (record { operator = operator; operand = operand })
-
 member_means : (name : Name) (value : Expr) → (meant_member (roll-Member (record { name = name; value = value }))).value ≡ meant_expr value
 unfolding meant_form meant_expr meant_factor meant_member meant_path meant_place meant_term
 member_means name value =
     ap (λ (v : MemberView). v.value) (fold-roll-Member Exp Exp MulPartView MemberView PathTree StepView SumPartView means.form_level means.expr_level means.factor_level means.member_level means.path_level means.step_level means.term_level (record { name = name; value = value }))
-
-member_is : (name : Name) (value : Expr) → member_formed (roll-Member (record { name = name; value = value })) ≡ expr_formed value
-unfolding form_formed expr_formed factor_formed member_formed path_formed step_formed term_formed
-member_is name value = fold-roll-Member Bool Bool Bool Bool Bool Bool Bool tree.form_level tree.expr_level tree.factor_level tree.member_level tree.path_level tree.step_level tree.term_level (record { name = name; value = value })
 
 path_means : (first : Step) (rest : List Step) → meant_path (roll-Path (record { first = first; rest = rest })) ≡ path_of (meant_place first ∷ map meant_place rest)
 unfolding meant_form meant_expr meant_factor meant_member meant_path meant_place meant_term
@@ -208,16 +193,16 @@ form_known (ExprForm-F.Or operands) h =
     ap is_exp (form_means (ExprForm-F.Or es)) ∙ two_known operands (sym (form_is (ExprForm-F.Or es)) ∙ h)
 
 expr_known : (at : ℕ) (form : KnownForm) → ExprWell (roll-Expr (record { at = at; form = form.0 }))
-expr_known at (form, k) h = ap is_exp (expr_means at form) ∙ k (sym (expr_is at form) ∙ h)
+expr_known at (form, k) h = ap is_exp (expr_means at form) ∙ k (sym (placed_forms at form) ∙ h)
 
 factor_known : (operator : Multiplicative) (operand : KnownExpr) → FactorWell (roll-Factor (record { operator = operator; operand = operand.0 }))
-factor_known operator (e, k) h = ap is_exp (factor_means operator e) ∙ k (sym (factor_is operator e) ∙ h)
+factor_known operator (e, k) h = ap is_exp (factor_means operator e) ∙ k (sym (factor_forms operator e) ∙ h)
 
 term_known : (operator : Additive) (operand : KnownExpr) → TermWell (roll-Term (record { operator = operator; operand = operand.0 }))
-term_known operator (e, k) h = ap is_exp (term_means operator e) ∙ k (sym (term_is operator e) ∙ h)
+term_known operator (e, k) h = ap is_exp (term_means operator e) ∙ k (sym (term_forms operator e) ∙ h)
 
 member_known : (name : Name) (value : KnownExpr) → MemberWell (roll-Member (record { name = name; value = value.0 }))
-member_known name (e, k) h = ap is_exp (member_means name e) ∙ k (sym (member_is name e) ∙ h)
+member_known name (e, k) h = ap is_exp (member_means name e) ∙ k (sym (member_forms name e) ∙ h)
 
 path_known : (first : KnownStep) (rest : List KnownStep) → PathWell (roll-Path (record { first = first.0; rest = map (λ e. e.0) rest }))
 path_known first rest h = ap is_path (path_means first.0 (map (λ e. e.0) rest)) ∙ steps_known (first ∷ rest) (sym (path_is first.0 (map (λ e. e.0) rest)) ∙ h)
