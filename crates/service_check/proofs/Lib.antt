@@ -48,6 +48,7 @@ pub mod WellParts
 pub mod WellPorts
 pub mod WellRuns
 pub mod WellServices
+pub mod WellSessions
 pub mod WellSets
 pub mod WellStarts
 pub mod WellTargets

@@ -42,7 +42,7 @@ use Rattle.service_check.proofs.WellNames.{all_named}
 use Rattle.service_check.proofs.WellPorts.{all_known, interface_names, ports_of, service_operations_are}
 use Rattle.service_check.proofs.WellRuns.{init_well, main_well, reach_by, service_meets}
 use Rattle.service_check.proofs.WellServices.{NothingOf, NothingOfPorts, locations_are, locations_differ, ports_by_part, ports_formed, service_by_part, service_sets, services_differ}
-use Rattle.service_check.proofs.WellStarts.{start_formed}
+use Rattle.service_check.proofs.WellSessions.{start_formed}
 use Rattle.service_check.proofs.WellTypes.{meant_types}
 
 -- ---- members
