@@ -127,7 +127,7 @@ operation_named (o ∷ os) name = if bytes_eq o.name.text name then Some o else 
 
 -- the operations of a port, each once, in the order of its interfaces
 abbrev pub port_operations : List Interface → Port → List Operation
-port_operations interfaces port = each_once (flat_map (λ n. operations_named interfaces n.text) port.interfaces)
+port_operations interfaces port = each_once (operations_among interfaces port.interfaces)
 
 -- ---- a service
 
@@ -227,4 +227,4 @@ is_concurrent Single = false
 
 -- the input operations of a service, each once, in the order of its ports and their interfaces
 abbrev pub input_operations : List Interface → Service → List Operation
-input_operations interfaces s = each_once (flat_map (λ p. flat_map (λ n. operations_named interfaces n.text) p.interfaces) (input_ports s))
+input_operations interfaces s = each_once (flat_map (λ p. operations_among interfaces p.interfaces) (input_ports s))
