@@ -2,7 +2,6 @@ pub mod Answers
 pub mod Behaviours
 pub mod Circles
 pub mod Clauses
-pub mod DeclaredOperations
 pub mod Expressions
 pub mod Files
 pub mod FirstInputs

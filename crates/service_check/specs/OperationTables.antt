@@ -1,9 +1,16 @@
--- Operations that a table keeps, each once.
+-- Operations as interfaces declare them, and those that a table keeps, each once.
 use Rattle.std.specs.Prelude.{ℕ, Bool, List, [], ◌++◌, Option, None, Some, is_some, option_map}
 use Rattle.jolie_ast.specs.declared.interface.Interface.{Interface}
 use Rattle.jolie_ast.specs.declared.service.Port.{Port}
 use Rattle.jolie_ast.specs.declared.service.Clause.{Clause}
-use Rattle.service_check.specs.Files.{Operation, each_once_after, input_port_in, operation_named, operations_among, texts_of}
+use Rattle.service_check.specs.declared.operation_tables.Declaration.{Declaration}
+use Rattle.service_check.specs.declared.operation_tables.Declaration.TheVariants as declaration
+use Rattle.service_check.specs.Files.{Operation, answering, each_once_after, input_port_in, operation_named, operations_among, silent, texts_of}
+
+-- the operation that a declaration declares
+abbrev pub operation_of : Declaration → Operation
+operation_of (declaration.Answering o) = answering o.now
+operation_of (declaration.Silent o) = silent o.now
 
 -- whether an operation answers
 abbrev pub does_answer : Operation → Bool
@@ -22,10 +29,10 @@ abbrev pub if_there : {X A : Type 0} → (X → List A) → Option X → List A
 if_there f None = []
 if_there f (Some x) = f x
 
--- those of a port
+-- the operations of the interfaces of a port, as they stand
 abbrev pub operations_at : List Interface → Port → List Operation
 operations_at interfaces port = operations_among interfaces port.interfaces
 
--- those of a clause, if it is an input port
+-- those of a clause, if it is an input port, else none
 abbrev pub operations_of_input : List Interface → Clause → List Operation
 operations_of_input interfaces c = if_there (operations_at interfaces) (input_port_in c)

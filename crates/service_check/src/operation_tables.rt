@@ -32,7 +32,7 @@ impl<'a> Model for Declared<'a> {
 
     ghost coded = { Prim.hlevel (codes, fault.the_row.coded, type_name.the_row.coded, name.the_row.coded) };
 
-    ghost use Rattle.service_check.specs.DeclaredOperations.{operation_of};
+    ghost use Rattle.service_check.specs.OperationTables.{operation_of};
 
     ghost view = { λ d. operation_of d.declaration };
 }
