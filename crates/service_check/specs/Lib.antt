@@ -5,7 +5,6 @@ pub mod Clauses
 pub mod Expressions
 pub mod Files
 pub mod FirstInputs
-pub mod InitRules
 pub mod InterfaceRules
 pub mod Least
 pub mod Mentioned

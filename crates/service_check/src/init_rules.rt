@@ -1,7 +1,7 @@
 ghost use Rattle.std.specs.Prelude.{◌≡◌, map};
-ghost use Rattle.service_check.specs.InitRules.{no_assignment, no_assignments};
 ghost use Rattle.service_check.specs.Least.{joined};
 ghost use Rattle.service_check.specs.ServiceRules.{assigns, first_place, init_refused, process_place, statements_of};
+ghost use Rattle.service_check.specs.Clauses.{no_assignment, no_assignments};
 
 use crate::least::Least;
 use crate::refusal::CheckName;

@@ -1,4 +1,4 @@
-use Rattle.service_check.specs.InitRules.{no_assignment}
+use Rattle.service_check.specs.Clauses.{no_assignment}
 use Rattle.service_check.proofs.Joined.{turn_of}
 use Rattle.service_check.proofs.init_rules.no_assignments.Goals as goal
 
