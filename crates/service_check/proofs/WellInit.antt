@@ -24,12 +24,12 @@ use Rattle.behaviour_tree.specs.Data.{PathTree, Proc}
 use Rattle.behaviour_tree.specs.View.{procs_of}
 use Rattle.behaviour_tree.specs.FormedServices.{all_assign_alone, assigns_alone, is_init}
 use Rattle.service_check.specs.declared.refusal.CheckName.TheVariants.{InitNotAssignment}
-use Rattle.service_check.specs.declared.refusal.Refusal.{Refusal}
 use Rattle.service_check.specs.Files.{first_there, init_in, main_in}
 use Rattle.service_check.specs.Behaviours.{Numbering, meant_assignment, meant_block, meant_if_there, meant_process}
 use Rattle.service_check.specs.Expressions.{meant_path}
 use Rattle.service_check.specs.ProcessRules.{Surroundings, block_refused}
-use Rattle.service_check.specs.ServiceRules.{assigns, clause_refused, init_refused, process_place, statement_refused, statements_of}
+use Rattle.service_check.specs.Clauses.{no_assignment}
+use Rattle.service_check.specs.ServiceRules.{assigns, clause_refused, init_refused, process_place, statements_of}
 use Rattle.service_check.proofs.Emptied.{holds, left_empty, right_empty}
 use Rattle.service_check.proofs.MeantProcesses as means
 
@@ -63,27 +63,23 @@ init_of_one q h = h
 
 -- ---- statements
 
--- what is refused of a statement of init
-abbrev of_statement : Process → List Refusal
-of_statement p = statement_refused (process_place p) (assigns p)
-
-each_assigns : (m : Numbering) (ps : List Process) → flat_map of_statement ps ≡ [] → all_assign_alone (procs_of (map (meant_process m) ps)) ≡ true
+each_assigns : (m : Numbering) (ps : List Process) → flat_map no_assignment ps ≡ [] → all_assign_alone (procs_of (map (meant_process m) ps)) ≡ true
 each_assigns m [] e = refl
 each_assigns m (p ∷ ps) e =
     and_from (assigns_alone (meant_process m p)) (all_assign_alone (procs_of (map (meant_process m) ps)))
-    (assigning_means m p (holds (assigns p) InitNotAssignment (process_place p) (left_empty (of_statement p) (flat_map of_statement ps) e)))
-    (each_assigns m ps (right_empty (of_statement p) (flat_map of_statement ps) e))
+    (assigning_means m p (holds (assigns p) InitNotAssignment (process_place p) (left_empty (no_assignment p) (flat_map no_assignment ps) e)))
+    (each_assigns m ps (right_empty (no_assignment p) (flat_map no_assignment ps) e))
 
 -- the statements of a process, by its form
 abbrev statements_by : Process → Process-F Otherwise Process Answer Block Branch Handler If Input Reply → List Process
 statements_by p f = elim f as (λ _. List Process) [ Process-F.Sequence statements ↦ statements | _ ↦ p ∷ [] ]
 
-init_by_form : (m : Numbering) (p : Process) (f : Process-F Otherwise Process Answer Block Branch Handler If Input Reply) → out-Process p ≡ f → flat_map of_statement (statements_by p f) ≡ [] → is_init (meant_process m p) ≡ true
+init_by_form : (m : Numbering) (p : Process) (f : Process-F Otherwise Process Answer Block Branch Handler If Input Reply) → out-Process p ≡ f → flat_map no_assignment (statements_by p f) ≡ [] → is_init (meant_process m p) ≡ true
 init_by_form m p (Process-F.Sequence statements) form e =
     ap is_init (meant_by_form m p (process.Sequence statements) (Process-F.Sequence statements) form (process.rolls-Sequence statements) ∙ means.sequence_meant m statements) ∙ each_assigns m statements e
-init_by_form m p f form e = init_of_one (meant_process m p) (assigning_means m p (holds (assigns p) InitNotAssignment (process_place p) (left_empty (of_statement p) [] e)))
+init_by_form m p f form e = init_of_one (meant_process m p) (assigning_means m p (holds (assigns p) InitNotAssignment (process_place p) (left_empty (no_assignment p) [] e)))
 
-init_there : (m : Numbering) (o : Option Process) → flat_map of_statement (elim o as (λ _. List Process) [ None ↦ [] | Some p ↦ statements_of p ]) ≡ [] → is_init (unwrap_or (option_map (meant_process m) o) plain.nothing) ≡ true
+init_there : (m : Numbering) (o : Option Process) → flat_map no_assignment (elim o as (λ _. List Process) [ None ↦ [] | Some p ↦ statements_of p ]) ≡ [] → is_init (unwrap_or (option_map (meant_process m) o) plain.nothing) ≡ true
 init_there m None e = refl
 init_there m (Some p) e = init_by_form m p (out-Process p) refl e
 

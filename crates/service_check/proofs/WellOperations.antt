@@ -101,7 +101,7 @@ abbrev pub output_of : Option (List Operation) → Name → Name → Bool → Li
 output_of o operation port answers = elim o as (λ _. List Refusal) [ None ↦ refused UnknownPort (port.at ∷ []) | Some os ↦ used os operation answers ]
 
 -- whether the operation of a name is among those of the port of a number
-abbrev reaches : List (List OperationPart) → Name → Bool → NumberedPort → Bool
+abbrev pub reaches : List (List OperationPart) → Name → Bool → NumberedPort → Bool
 reaches all operation answers p = has_operation (unwrap_or (slice_get all p.number) []) (place_in p.operations operation.text) answers
 
 output_turn : (types names : List (List ℕ)) (is : List Interface) (b : Bool) (p : Port) (all : List (List OperationPart)) (n : ℕ) (operation port : Name) (answers : Bool) (found : Option (List Operation)) (rest : NumberedPort)

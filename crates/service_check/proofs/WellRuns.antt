@@ -22,7 +22,7 @@ use Rattle.service_check.specs.declared.refusal.CheckName.TheVariants.{UnknownOp
 use Rattle.service_check.specs.declared.refusal.Refusal.{Refusal}
 use Rattle.service_check.specs.Least.{refused, refused_if}
 use Rattle.service_check.specs.Files.{Operation, first_there, init_in, input_operations, main_in, operation_named, output_ports, place_in, port_in, sets_of, texts_of}
-use Rattle.service_check.specs.Behaviours.{NumberedPort, Numbering, console_port, meant_if_there, port_among}
+use Rattle.service_check.specs.Behaviours.{Numbering, console_port, meant_if_there, port_among}
 use Rattle.service_check.specs.Mentioned.{Texts, block_texts, clause_texts}
 use Rattle.service_check.specs.PortRules.{console, output_port_refused}
 use Rattle.service_check.specs.ProcessRules.{Surroundings, agree, block_refused, outlet_named, println, used}
@@ -33,7 +33,7 @@ use Rattle.service_check.proofs.Emptied.{has_place, holds, left_empty}
 use Rattle.service_check.proofs.WellBehaviours.{Meets, block_well}
 use Rattle.service_check.proofs.WellInit.{init_clear, main_clear}
 use Rattle.service_check.proofs.WellInterfaces.{all_in, front_in, back_in}
-use Rattle.service_check.proofs.WellOperations.{operation_used, output_of, output_reaches}
+use Rattle.service_check.proofs.WellOperations.{operation_used, output_of, output_reaches, reaches}
 use Rattle.service_check.proofs.WellPorts.{interface_names, ports_of}
 use Rattle.service_check.proofs.WellSets.{variable_names}
 
@@ -71,14 +71,10 @@ slice_end (z ∷ xs) x = slice_end xs x
 abbrev all_outputs : List InterfacePart → List (List ℕ) → List Clause → List (List OperationPart)
 all_outputs interfaces names clauses = map (sent_to interfaces) (ports_of names clauses) ++ (formed_services.println ∷ []) ∷ []
 
--- whether the operation of a port is there
-abbrev reached : List (List OperationPart) → Name → Bool → NumberedPort → Bool
-reached all operation answers p = has_operation (unwrap_or (slice_get all p.number) []) (place_in p.operations operation.text) answers
-
 sent_there : (types names : List (List ℕ)) (is : List Interface) (s : Service) (b : Bool) (operation port : Name) (answers : Bool)
     → flat_map (output_port_refused is) (output_ports s) ≡ []
     → output_of (if b then Some (println ∷ []) else outlet_named (map (outlet is) (output_ports s)) port.text) operation port answers ≡ []
-    → reached (all_outputs (map (meant_interface types names) is) (interface_names is) s.clauses) operation answers (if b then console_port (numbering is names s) else port_among (numbered_from is zero (filter_map port_in s.clauses)) (console_port (numbering is names s)) port.text) ≡ true
+    → reaches (all_outputs (map (meant_interface types names) is) (interface_names is) s.clauses) operation answers (if b then console_port (numbering is names s) else port_among (numbered_from is zero (filter_map port_in s.clauses)) (console_port (numbering is names s)) port.text) ≡ true
 sent_there types names is s true operation port answers once e =
     let pis : List InterfacePart = map (meant_interface types names) is in
     let outs : List (List OperationPart) = map (sent_to pis) (ports_of (interface_names is) s.clauses) in
