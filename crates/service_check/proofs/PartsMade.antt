@@ -8,7 +8,7 @@ use Rattle.jolie_ast.specs.declared.tree.Definition.{Definition}
 use Rattle.behaviour_tree.specs.declared.program.Execution.{Execution}
 use Rattle.behaviour_tree.specs.Data.{Proc, TypeTree, InterfacePart, PortPart, ProgramParts, ServicePart, SetPart}
 use Rattle.service_check.specs.Behaviours.{meant_if_there}
-use Rattle.service_check.specs.Files.{Sided, execution_of, first_there, init_in, interfaces_of, main_in, place_in, port_in, services_of, sets_of, types_of, type_names}
+use Rattle.service_check.specs.Files.{Sided, execution_of, first_there, init_in, interfaces_of, main_in, place_in, port_in, services_of, sets_of, types_of, type_names, interface_names}
 use Rattle.service_check.specs.Mentioned.{names_of}
 use Rattle.service_check.specs.Outlets.{texts_in}
 use Rattle.service_check.specs.Programs.{meant_definition, meant_execution, meant_interface, meant_port_part, meant_service, meant_set, numbering, program_of}
@@ -31,15 +31,11 @@ port_made interfaces p name location places same_name same_location same_places 
 abbrev pub service_of : List ℕ → Execution → List PortPart → List SetPart → Proc → Proc → ServicePart
 service_of name execution ports sets init main = record { name = name; execution = execution; ports = ports; sets = sets; init = init; main = main }
 
--- the names of interfaces
-abbrev pub interface_texts : List Interface → List (List ℕ)
-interface_texts interfaces = map (λ (i : Interface). i.name.text) interfaces
-
 -- a service whose pieces are those of the text
 pub service_made : (interfaces : List Interface) (types names : List (List ℕ)) (s : Service) (name : List ℕ) (execution : Execution) (ports : List PortPart) (sets : List SetPart) (init main : Proc)
     → name ≡ s.name.text
     → execution ≡ meant_execution (execution_of s)
-    → ports ≡ map (meant_port_part (interface_texts interfaces)) (filter_map port_in s.clauses)
+    → ports ≡ map (meant_port_part (interface_names interfaces)) (filter_map port_in s.clauses)
     → sets ≡ map (meant_set types) (sets_of s)
     → init ≡ meant_if_there (numbering interfaces names s) (first_there (filter_map init_in s.clauses))
     → main ≡ meant_if_there (numbering interfaces names s) (first_there (filter_map main_in s.clauses))
@@ -48,9 +44,9 @@ service_made interfaces types names s name execution ports sets init main same_n
     ap (λ x. service_of x execution ports sets init main) same_name
     ∙ ap (λ x. service_of s.name.text x ports sets init main) same_execution
     ∙ ap (λ x. service_of s.name.text (meant_execution (execution_of s)) x sets init main) same_ports
-    ∙ ap (λ x. service_of s.name.text (meant_execution (execution_of s)) (map (meant_port_part (interface_texts interfaces)) (filter_map port_in s.clauses)) x init main) same_sets
-    ∙ ap (λ x. service_of s.name.text (meant_execution (execution_of s)) (map (meant_port_part (interface_texts interfaces)) (filter_map port_in s.clauses)) (map (meant_set types) (sets_of s)) x main) same_init
-    ∙ ap (service_of s.name.text (meant_execution (execution_of s)) (map (meant_port_part (interface_texts interfaces)) (filter_map port_in s.clauses)) (map (meant_set types) (sets_of s)) (meant_if_there (numbering interfaces names s) (first_there (filter_map init_in s.clauses)))) same_main
+    ∙ ap (λ x. service_of s.name.text (meant_execution (execution_of s)) (map (meant_port_part (interface_names interfaces)) (filter_map port_in s.clauses)) x init main) same_sets
+    ∙ ap (λ x. service_of s.name.text (meant_execution (execution_of s)) (map (meant_port_part (interface_names interfaces)) (filter_map port_in s.clauses)) (map (meant_set types) (sets_of s)) x main) same_init
+    ∙ ap (service_of s.name.text (meant_execution (execution_of s)) (map (meant_port_part (interface_names interfaces)) (filter_map port_in s.clauses)) (map (meant_set types) (sets_of s)) (meant_if_there (numbering interfaces names s) (first_there (filter_map init_in s.clauses)))) same_main
 
 -- a program of its pieces
 abbrev pub parts_of : List TypeTree → List InterfacePart → List ServicePart → List (List ℕ) → ProgramParts

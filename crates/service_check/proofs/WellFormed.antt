@@ -26,7 +26,7 @@ use Rattle.behaviour_tree.specs.FormedServices.{are_ports, has_few_members, has_
 use Rattle.behaviour_tree.specs.WellFormed.{are_interfaces, are_names, are_services, is_well_formed}
 use Rattle.service_check.specs.declared.refusal.Refusal.{Refusal}
 use Rattle.service_check.specs.Behaviours.{Numbering, meant_if_there}
-use Rattle.service_check.specs.Files.{first_there, init_in, input_operations, interfaces_of, main_in, services_of, types_of, type_names}
+use Rattle.service_check.specs.Files.{first_there, init_in, input_operations, interfaces_of, main_in, services_of, types_of, type_names, interface_names}
 use Rattle.service_check.specs.Mentioned.{clause_texts, definition_texts, names_of}
 use Rattle.service_check.specs.PortRules.{input_locations}
 use Rattle.service_check.specs.Programs.{meant_interface, meant_operation, meant_service, numbering, program_of}
@@ -39,7 +39,7 @@ use Rattle.service_check.proofs.WellInit.{service_init}
 use Rattle.service_check.proofs.WellInterfaces.{all_in, front_in, back_in}
 use Rattle.service_check.proofs.WellMembers.{block_counts}
 use Rattle.service_check.proofs.WellNames.{all_named}
-use Rattle.service_check.proofs.WellPorts.{all_known, interface_names, ports_of, service_operations_are}
+use Rattle.service_check.proofs.WellPorts.{all_known, ports_of, service_operations_are}
 use Rattle.service_check.proofs.WellRuns.{init_well, main_well, reach_by, service_meets}
 use Rattle.service_check.proofs.WellServices.{NothingOf, NothingOfPorts, locations_are, locations_differ, ports_by_part, ports_formed, service_by_part, service_sets, services_differ}
 use Rattle.service_check.proofs.WellSessions.{start_formed}

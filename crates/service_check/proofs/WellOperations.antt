@@ -20,14 +20,14 @@ use Rattle.service_check.specs.declared.refusal.CheckName.TheVariants.{Duplicate
 use Rattle.service_check.specs.declared.refusal.Refusal.{Refusal}
 use Rattle.service_check.specs.Least.{refused, refused_if}
 use Rattle.service_check.specs.Behaviours.{NumberedPort, port_among}
-use Rattle.service_check.specs.Files.{Operation, each_once, operation_named, operations_named, output_port_in, place_in, port_in, port_operations, texts_of}
+use Rattle.service_check.specs.Files.{Operation, each_once, operation_named, operations_named, output_port_in, place_in, port_in, port_operations, texts_of, interface_names}
 use Rattle.service_check.specs.PortRules.{brought, output_port_refused}
 use Rattle.service_check.specs.ProcessRules.{agree, outlet_named, used}
 use Rattle.service_check.specs.Programs.{meant_interface, meant_operation, meant_type, numbered_from}
 use Rattle.service_check.specs.ServiceRules.{outlet}
 use Rattle.service_check.proofs.Emptied.{holds, left_empty, names_differ, right_empty}
 use Rattle.service_check.proofs.OnceEach.{new_taken}
-use Rattle.service_check.proofs.WellPorts.{brought_texts, interface_names, operations_behind, port_names, ports_of}
+use Rattle.service_check.proofs.WellPorts.{brought_texts, operations_behind, port_names, ports_of}
 use Rattle.service_check.proofs.Loops.{mapped_each, mapped_twice}
 
 -- ---- operations by their names

@@ -22,7 +22,7 @@ use Rattle.service_check.specs.declared.refusal.CheckName.TheVariants.{Duplicate
 use Rattle.service_check.specs.declared.refusal.Refusal.{Refusal}
 use Rattle.service_check.specs.Least.{refused, refused_if}
 use Rattle.service_check.specs.Repeated.{firsts_after, repeated}
-use Rattle.service_check.specs.Files.{Operation, each_once, interface_named, operations_in, operations_named, place_in, port_in, input_port_in, output_port_in, texts_of}
+use Rattle.service_check.specs.Files.{Operation, each_once, interface_named, operations_in, operations_named, place_in, port_in, input_port_in, output_port_in, texts_of, interface_names}
 use Rattle.service_check.specs.PortRules.{unknown_interface, operation_at, brought_by, brought_unless, brought, brought_in, interfaces_repeated, output_port_refused, wrong_location, wrong_protocol, console, port_refused, sided_refused, unmet}
 use Rattle.service_check.specs.Programs.{meant_operation, meant_interface, meant_port_part}
 use Rattle.service_check.proofs.Emptied.{all_four, left_empty, right_empty, fails, holds, mapped_empty, has_place, another_text, in_first, names_differ}
@@ -31,10 +31,6 @@ use Rattle.service_check.proofs.WellInterfaces.{all_in, places_differ}
 use Rattle.service_check.proofs.Loops.{mapped_each, mapped_twice}
 
 -- ---- interfaces by their names
-
--- the names of interfaces
-abbrev pub interface_names : List Interface → List (List ℕ)
-interface_names is = map (λ (i : Interface). i.name.text) is
 
 place_turn : (m : Interface → InterfacePart) (b : Bool) (i : Interface) (is : List Interface) (p : ℕ) (o : Option Interface) → slice_get (map m is) p ≡ option_map m o
     → slice_get (map m (i ∷ is)) (if b then zero else suc p) ≡ option_map m (if b then Some i else o)

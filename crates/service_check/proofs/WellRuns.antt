@@ -21,7 +21,7 @@ use Rattle.behaviour_tree.specs.Distinct.{is_in}
 use Rattle.service_check.specs.declared.refusal.CheckName.TheVariants.{UnknownOperation, WrongKind, Uncorrelated}
 use Rattle.service_check.specs.declared.refusal.Refusal.{Refusal}
 use Rattle.service_check.specs.Least.{refused, refused_if}
-use Rattle.service_check.specs.Files.{Operation, first_there, init_in, input_operations, main_in, operation_named, output_ports, place_in, port_in, sets_of, texts_of}
+use Rattle.service_check.specs.Files.{Operation, first_there, init_in, input_operations, main_in, operation_named, output_ports, place_in, port_in, sets_of, texts_of, interface_names}
 use Rattle.service_check.specs.Behaviours.{Numbering, console_port, meant_if_there, port_among}
 use Rattle.service_check.specs.Mentioned.{Texts, block_texts, clause_texts}
 use Rattle.service_check.specs.PortRules.{console, output_port_refused}
@@ -34,7 +34,7 @@ use Rattle.service_check.proofs.WellBehaviours.{Meets, block_well}
 use Rattle.service_check.proofs.WellInit.{init_clear, main_clear}
 use Rattle.service_check.proofs.WellInterfaces.{all_in, front_in, back_in}
 use Rattle.service_check.proofs.WellOperations.{operation_used, output_of, output_reaches, reaches}
-use Rattle.service_check.proofs.WellPorts.{interface_names, ports_of}
+use Rattle.service_check.proofs.WellPorts.{ports_of}
 use Rattle.service_check.proofs.WellSets.{variable_names}
 
 -- ---- operations

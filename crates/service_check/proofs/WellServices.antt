@@ -21,13 +21,13 @@ use Rattle.service_check.specs.declared.refusal.CheckName.TheVariants.{Duplicate
 use Rattle.service_check.specs.declared.refusal.Refusal.{Refusal}
 use Rattle.service_check.specs.Least.{refused}
 use Rattle.service_check.specs.Repeated.{as_name, repeated}
-use Rattle.service_check.specs.Files.{execution_of, input_port_in, input_ports, is_concurrent, output_ports, port_in, sets_of, type_names}
+use Rattle.service_check.specs.Files.{execution_of, input_port_in, input_ports, is_concurrent, output_ports, port_in, sets_of, type_names, interface_names}
 use Rattle.service_check.specs.PortRules.{brought_in, input_locations, input_ports_refused, interfaces_repeated, output_port_refused, port_name, ports_refused, service_locations, sided_refused, unmet}
 use Rattle.service_check.specs.Programs.{meant_interface, meant_port_part, meant_service}
 use Rattle.service_check.specs.ServiceRules.{clause_refused, execution_place, init_place, main_place, no_start, second, service_refused, surroundings, uncorrelated}
 use Rattle.service_check.specs.SetRules.{set_of_single, set_refused, sets_refused, two_sets, variables_of}
 use Rattle.service_check.proofs.Emptied.{left_empty, right_empty, names_differ}
-use Rattle.service_check.proofs.WellPorts.{interface_names, ports_of, all_known, each_port_formed, service_operations_differ}
+use Rattle.service_check.proofs.WellPorts.{ports_of, all_known, each_port_formed, service_operations_differ}
 use Rattle.service_check.proofs.WellSets.{sets_formed}
 use Rattle.service_check.proofs.WellTypes.{meant_types}
 use Rattle.service_check.proofs.Loops.{mapped_twice}

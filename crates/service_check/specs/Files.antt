@@ -58,6 +58,10 @@ services_of file = filter_map service_in file
 abbrev pub type_names : List TypeDefinition → List (List ℕ)
 type_names types = map (λ (t : TypeDefinition). t.name.text) types
 
+-- the names of interfaces
+abbrev pub interface_names : List Interface → List (List ℕ)
+interface_names interfaces = map (λ (i : Interface). i.name.text) interfaces
+
 -- the first type of a name
 abbrev pub type_named : List TypeDefinition → List ℕ → Option TypeDefinition
 type_named [] name = None

@@ -28,7 +28,7 @@ use Rattle.behaviour_tree.specs.declared.program.Execution.TheVariants as execut
 use Rattle.behaviour_tree.specs.Data as plain
 use Rattle.behaviour_tree.specs.Data.{TypeTree, ThrowsPart, OperationPart, InterfacePart, PortPart, AliasPart, VariablePart, SetPart, ServicePart, ProgramParts}
 use Rattle.behaviour_tree.specs.View.{FieldView, type_fields_of}
-use Rattle.service_check.specs.Files.{Operation, Sided, texts_of, type_names, types_of, interfaces_of, services_of, operations_in, place_in, port_in, port_operations, input_operations, sets_of, execution_of, first_there, init_in, main_in}
+use Rattle.service_check.specs.Files.{Operation, Sided, interface_names, texts_of, type_names, types_of, interfaces_of, services_of, operations_in, place_in, port_in, port_operations, input_operations, sets_of, execution_of, first_there, init_in, main_in}
 use Rattle.service_check.specs.TypeRules.{body_of}
 use Rattle.service_check.specs.SetRules.{variables_of}
 use Rattle.service_check.specs.Behaviours.{NumberedPort, Numbering, meant_if_there}
@@ -173,7 +173,7 @@ abbrev pub meant_service : List Interface → List (List ℕ) → List (List ℕ
 meant_service interfaces types names s = record {
   name = s.name.text;
   execution = meant_execution (execution_of s);
-  ports = map (meant_port_part (map (λ (i : Interface). i.name.text) interfaces)) (filter_map port_in s.clauses);
+  ports = map (meant_port_part (interface_names interfaces)) (filter_map port_in s.clauses);
   sets = map (meant_set types) (sets_of s);
   init = meant_if_there (numbering interfaces names s) (first_there (filter_map init_in s.clauses));
   main = meant_if_there (numbering interfaces names s) (first_there (filter_map main_in s.clauses));

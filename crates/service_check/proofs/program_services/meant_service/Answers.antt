@@ -2,10 +2,10 @@ use Rattle.std.proofs.Common.{map, ap, ◌∙◌}
 use Rattle.std.specs.List.{filter_map}
 use Rattle.std.specs.Option.{option_copied}
 use Rattle.service_check.specs.Behaviours.{meant_if_there}
-use Rattle.service_check.specs.Files.{first_there, init_in, main_in, port_in, set_in}
+use Rattle.service_check.specs.Files.{first_there, init_in, main_in, port_in, set_in, interface_names}
 use Rattle.service_check.specs.Outlets.{said_execution, sided}
 use Rattle.service_check.specs.Programs.{meant_execution, meant_port_part, meant_set, numbering}
-use Rattle.service_check.proofs.PartsMade.{interface_texts, service_made}
+use Rattle.service_check.proofs.PartsMade.{service_made}
 use Rattle.service_check.proofs.program_services.meant_service.Goals as goal
 
 pub returns : goal.returns
@@ -17,8 +17,8 @@ returns c =
     (c.execution_of.ensures ∙ ap (λ cs. meant_execution (said_execution cs)) clauses)
     (c.in_ok-meant_ports.ensures
     ∙ ap (λ ns. map (meant_port_part ns) (map sided c.as_slice-2.result.now)) c.names.ensures
-    ∙ ap (λ ss. map (meant_port_part (interface_texts c.args.interfaces.now)) (map sided ss)) c.as_slice-2.ensures.value
-    ∙ ap (map (meant_port_part (interface_texts c.args.interfaces.now))) (c.in_ok-sides.ensures ∙ ap (filter_map port_in) clauses))
+    ∙ ap (λ ss. map (meant_port_part (interface_names c.args.interfaces.now)) (map sided ss)) c.as_slice-2.ensures.value
+    ∙ ap (map (meant_port_part (interface_names c.args.interfaces.now))) (c.in_ok-sides.ensures ∙ ap (filter_map port_in) clauses))
     (c.in_ok-meant_sets.ensures ∙ ap (λ cs. map (meant_set c.args.types.now) (filter_map set_in cs)) clauses)
     (c.in_ok-init.ensures
     ∙ ap (λ e. meant_if_there e (option_copied c.init_of.result)) numbered
