@@ -51,6 +51,7 @@ use Rattle.service_check.proofs.RolledProcesses.{shape_of}
 use Rattle.service_check.proofs.WellExpressions.{expr_well, path_well, written_well}
 use Rattle.service_check.proofs.WellHandlers.{fault_texts, handler_key, handler_keys}
 use Rattle.service_check.proofs.WellInterfaces.{all_in, front_in, back_in, places_differ}
+use Rattle.service_check.proofs.WellMembers.{Known, bare}
 use Rattle.service_check.proofs.WellStarts.{branch_numbers}
 use Rattle.service_check.proofs.WellTargets.{written_target}
 use Rattle.service_check.proofs.Loops.{mapped_twice}
@@ -107,14 +108,6 @@ HandlerWell e m r x =
     handler_refused e x ≡ [] → all_in m.names (handler_texts x) ≡ true → handler_formed x ≡ true → (is_key r.names (meant_handler m x).key && is_behaviour r true (meant_handler m x).body) ≡ true
 
 -- ---- lists of parts
-
--- a thing of which this is known
-abbrev Known : (X : Type 0) → (X → Type 0) → Type 0
-Known X P = (x : X) × P x
-
--- the things themselves
-abbrev bare : {X : Type 0} {P : X → Type 0} → List (Known X P) → List X
-bare xs = map (λ x. x.0) xs
 
 processes_known : (e : Surroundings) (m : Numbering) (r : Reach) (ps : List (Known Process (ProcessWell e m r))) (h : Bool) → processes_refused e (bare ps) h ≡ [] → all_in m.names (flat_map process_texts (bare ps)) ≡ true → each (map process_formed (bare ps)) ≡ true
     → are_behaviours r h (procs_of (map (meant_process m) (bare ps))) ≡ true

@@ -64,11 +64,11 @@ abbrev HandlerCounts : Numbering → Handler → Type 0
 HandlerCounts m x = parallel_members (meant_handler m x).body ≡ handler_members x
 
 -- a thing of which this is known
-abbrev Known : (X : Type 0) → (X → Type 0) → Type 0
+abbrev pub Known : (X : Type 0) → (X → Type 0) → Type 0
 Known X P = (x : X) × P x
 
 -- the things themselves
-abbrev bare : {X : Type 0} {P : X → Type 0} → List (Known X P) → List X
+abbrev pub bare : {X : Type 0} {P : X → Type 0} → List (Known X P) → List X
 bare xs = map (λ x. x.0) xs
 
 -- ---- lists
