@@ -9,6 +9,7 @@ pub mod FirstFound
 pub mod Firsts
 pub mod Found
 pub mod Joined
+pub mod KeptPorts
 pub mod Leading
 pub mod Lookups
 pub mod Loops
@@ -22,7 +23,6 @@ pub mod Numbering
 pub mod OnceEach
 pub mod OperationTables
 pub mod Operations
-pub mod Outlets
 pub mod PartsMade
 pub mod Places
 pub mod ProcessForms

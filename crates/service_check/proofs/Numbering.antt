@@ -15,7 +15,7 @@ use Rattle.service_check.specs.Behaviours.{NumberedPort, Numbering}
 use Rattle.service_check.specs.Files.{Operation, Sided, each_once, input_operations, input_port_in, port_in, port_operations, set_in, texts_of, operations_among}
 use Rattle.service_check.specs.Mentioned.{with_texts}
 use Rattle.service_check.specs.Numbers.{named_ports}
-use Rattle.service_check.specs.Outlets.{sided, outlet_names, outlets, outlets_from, input_operations_among, port_texts, set_texts, names_in_set, texts_in}
+use Rattle.service_check.specs.KeptPorts.{sided, kept_names, kept_ports, kept_from, input_operations_among, port_texts, set_texts, names_in_set, texts_in}
 use Rattle.service_check.specs.Programs.{numbered_from, numbering}
 use Rattle.service_check.specs.SetRules.{variables_of}
 use Rattle.service_check.proofs.Firsts.{once_taken}
@@ -31,43 +31,43 @@ kept_named true name k ns ks rest e = e
 kept_named false name k ns ks rest e = ap (λ ps. record { name = name; number = k.number; operations = k.operations } ∷ ps) e
 
 -- the ports that are kept are those that are numbered
-pub all_numbered : (interfaces : List Interface) (n : ℕ) (ps : List Sided) → named_ports (flat_map outlet_names ps) (outlets_from interfaces n ps) ≡ numbered_from interfaces n ps
+pub all_numbered : (interfaces : List Interface) (n : ℕ) (ps : List Sided) → named_ports (flat_map kept_names ps) (kept_from interfaces n ps) ≡ numbered_from interfaces n ps
 all_numbered interfaces n [] = refl
 all_numbered interfaces n (p ∷ ps) =
-    kept_named p.input p.port.name.text (record { number = n; operations = texts_of (port_operations interfaces p.port) }) (flat_map outlet_names ps) (outlets_from interfaces (suc n) ps) (numbered_from interfaces (suc n) ps)
+    kept_named p.input p.port.name.text (record { number = n; operations = texts_of (port_operations interfaces p.port) }) (flat_map kept_names ps) (kept_from interfaces (suc n) ps) (numbered_from interfaces (suc n) ps)
     (all_numbered interfaces (suc n) ps)
 
-pub ports_numbered : (interfaces : List Interface) (sides : List SidedPort) → named_ports (flat_map (λ s. outlet_names (sided s)) sides) (outlets_from interfaces 0 (map sided sides)) ≡ numbered_from interfaces 0 (map sided sides)
+pub ports_numbered : (interfaces : List Interface) (sides : List SidedPort) → named_ports (flat_map (λ s. kept_names (sided s)) sides) (kept_from interfaces 0 (map sided sides)) ≡ numbered_from interfaces 0 (map sided sides)
 ports_numbered interfaces sides =
-    ap (λ ns. named_ports ns (outlets_from interfaces 0 (map sided sides))) (sym (flat_map-map outlet_names sided sides))
+    ap (λ ns. named_ports ns (kept_from interfaces 0 (map sided sides))) (sym (flat_map-map kept_names sided sides))
     ∙ all_numbered interfaces 0 (map sided sides)
 
 -- one port more
-pub outlets_more : (interfaces : List Interface) (n : ℕ) (ps : List Sided) (p : Sided) → outlets_from interfaces n (ps ++ p ∷ []) ≡ outlets_from interfaces n ps ++ outlets interfaces (n + length ps) p
-outlets_more interfaces n [] p =
+pub kept_more : (interfaces : List Interface) (n : ℕ) (ps : List Sided) (p : Sided) → kept_from interfaces n (ps ++ p ∷ []) ≡ kept_from interfaces n ps ++ kept_ports interfaces (n + length ps) p
+kept_more interfaces n [] p =
     let same : n ≡ n + 0 = omega arith in
-    append-nil (outlets interfaces n p) ∙ ap (λ m. outlets interfaces m p) same
-outlets_more interfaces n (x ∷ xs) p =
+    append-nil (kept_ports interfaces n p) ∙ ap (λ m. kept_ports interfaces m p) same
+kept_more interfaces n (x ∷ xs) p =
     let same : suc n + length xs ≡ n + suc (length xs) = omega arith in
-    ap (λ rest. outlets interfaces n x ++ rest) (outlets_more interfaces (suc n) xs p)
-    ∙ sym (append_assoc (outlets interfaces n x) (outlets_from interfaces (suc n) xs) (outlets interfaces (suc n + length xs) p))
-    ∙ ap (λ m. (outlets interfaces n x ++ outlets_from interfaces (suc n) xs) ++ outlets interfaces m p) same
+    ap (λ rest. kept_ports interfaces n x ++ rest) (kept_more interfaces (suc n) xs p)
+    ∙ sym (append_assoc (kept_ports interfaces n x) (kept_from interfaces (suc n) xs) (kept_ports interfaces (suc n + length xs) p))
+    ∙ ap (λ m. (kept_ports interfaces n x ++ kept_from interfaces (suc n) xs) ++ kept_ports interfaces m p) same
 
 -- the place of a port among those before
 pub port_place : (sides : List SidedPort) (i : ℕ) → i < length sides → 0 + length (map sided (take i sides)) ≡ i
 port_place sides i below = omega (arith, length-map (take i sides) sided, length-take-le i sides (omega (arith, below)))
 
 -- a turn of a loop over ports
-pub outlets_turn : (interfaces : List Interface) (k1 k2 : List kept.NumberedPort) (sides : List SidedPort) (i : ℕ) (s : SidedPort) → i < length sides → s ≡ get_or sides i s
-    → k1 ≡ outlets_from interfaces 0 (map sided (take i sides)) → k2 ≡ k1 ++ outlets interfaces i (sided s) → k2 ≡ outlets_from interfaces 0 (map sided (take (i + 1) sides))
-outlets_turn interfaces k1 k2 sides i s below item before turn =
+pub kept_turn : (interfaces : List Interface) (k1 k2 : List kept.NumberedPort) (sides : List SidedPort) (i : ℕ) (s : SidedPort) → i < length sides → s ≡ get_or sides i s
+    → k1 ≡ kept_from interfaces 0 (map sided (take i sides)) → k2 ≡ k1 ++ kept_ports interfaces i (sided s) → k2 ≡ kept_from interfaces 0 (map sided (take (i + 1) sides))
+kept_turn interfaces k1 k2 sides i s below item before turn =
     turn
-    ∙ ap (λ k. k ++ outlets interfaces i (sided s)) before
-    ∙ ap (λ m. outlets_from interfaces 0 (map sided (take i sides)) ++ outlets interfaces m (sided s)) (sym (port_place sides i below))
-    ∙ sym (outlets_more interfaces 0 (map sided (take i sides)) (sided s))
-    ∙ ap (outlets_from interfaces 0) (sym (map-append sided (take i sides) (s ∷ [])))
-    ∙ ap (λ y. outlets_from interfaces 0 (map sided (take i sides ++ y ∷ []))) item
-    ∙ ap (λ ss. outlets_from interfaces 0 (map sided ss)) (sym (take_more sides i s below))
+    ∙ ap (λ k. k ++ kept_ports interfaces i (sided s)) before
+    ∙ ap (λ m. kept_from interfaces 0 (map sided (take i sides)) ++ kept_ports interfaces m (sided s)) (sym (port_place sides i below))
+    ∙ sym (kept_more interfaces 0 (map sided (take i sides)) (sided s))
+    ∙ ap (kept_from interfaces 0) (sym (map-append sided (take i sides) (s ∷ [])))
+    ∙ ap (λ y. kept_from interfaces 0 (map sided (take i sides ++ y ∷ []))) item
+    ∙ ap (λ ss. kept_from interfaces 0 (map sided ss)) (sym (take_more sides i s below))
 
 -- ---- operations and variables
 

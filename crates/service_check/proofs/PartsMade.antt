@@ -10,7 +10,7 @@ use Rattle.behaviour_tree.specs.Data.{Proc, TypeTree, InterfacePart, PortPart, P
 use Rattle.service_check.specs.Behaviours.{meant_if_there}
 use Rattle.service_check.specs.Files.{Sided, execution_of, first_there, init_in, interfaces_of, main_in, place_in, port_in, services_of, sets_of, types_of, type_names, interface_names}
 use Rattle.service_check.specs.Mentioned.{names_of}
-use Rattle.service_check.specs.Outlets.{texts_in}
+use Rattle.service_check.specs.KeptPorts.{texts_in}
 use Rattle.service_check.specs.Programs.{meant_definition, meant_execution, meant_interface, meant_port_part, meant_service, meant_set, numbering, program_of}
 use Rattle.service_check.proofs.Loops.{mapped_twice}
 

@@ -6,11 +6,11 @@ pub mod Expressions
 pub mod Files
 pub mod FirstInputs
 pub mod InterfaceRules
+pub mod KeptPorts
 pub mod Least
 pub mod Mentioned
 pub mod Numbers
 pub mod OperationTables
-pub mod Outlets
 pub mod PortRules
 pub mod ProcessRules
 pub mod Programs

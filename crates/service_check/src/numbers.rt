@@ -53,7 +53,7 @@ impl<'a> Ports<'a> {
 
 impl<'a> Numbers<'a> {
     /// The operation of an output port, where a service has no other of that name its console.
-    #[tactic(auto, using(crate::proofs::Outlets::port_found))]
+    #[tactic(auto, using(crate::proofs::KeptPorts::port_found))]
     pub fn numbered_operation(
         &self,
         port: &str,
@@ -86,7 +86,7 @@ impl<'a> Numbers<'a> {
 }
 
 /// The place of a text among others as a number of the program.
-#[tactic(auto, using(crate::proofs::Outlets::counted_there, crate::proofs::Outlets::counted_missing))]
+#[tactic(auto, using(crate::proofs::KeptPorts::counted_there, crate::proofs::KeptPorts::counted_missing))]
 pub fn number(names: &Names<'_>, text: &str) -> Result<u32, AllocError>
     ensures { IfOk result (λ n. n ≡ place_in names.now text.now) }
 {

@@ -3,7 +3,7 @@ ghost use Rattle.std.specs.List.{filter_map};
 ghost use Rattle.std.specs.Option.{option_to_list};
 ghost use Rattle.behaviour_tree.specs.PartsView.{alias_view, port_view, service_view, set_view, variable_view};
 ghost use Rattle.service_check.specs.Files.{place_in, service_in, services_of, set_in};
-ghost use Rattle.service_check.specs.Outlets.{said_execution, sided, texts_in};
+ghost use Rattle.service_check.specs.KeptPorts.{said_execution, sided, texts_in};
 ghost use Rattle.service_check.specs.Programs.{meant_alias, meant_execution, meant_port_part, meant_service, meant_set, meant_variable};
 
 use crate::behaviours::meant_if_there;

@@ -4,7 +4,7 @@ ghost use Rattle.std.specs.Option.{option_to_list};
 ghost use Rattle.service_check.specs.Files.{answering, each_once, group_operations, input_port_in, operations_among, operations_in, operations_named, port_in, set_in, silent, texts_of};
 ghost use Rattle.service_check.specs.Mentioned.{with_texts};
 ghost use Rattle.service_check.specs.Numbers.{named_ports, numbering_of};
-ghost use Rattle.service_check.specs.Outlets.{input_operations_among, names_in_set, outlet_names, outlets, port_texts, set_texts, sided, texts_in};
+ghost use Rattle.service_check.specs.KeptPorts.{input_operations_among, names_in_set, kept_names, kept_ports, port_texts, set_texts, sided, texts_in};
 ghost use Rattle.service_check.specs.Programs.{numbered_from, numbering};
 
 use crate::mentioned::include;
@@ -54,21 +54,21 @@ fn numbered_ports<'a>(
         numbered: Vec::new(alloc),
     };
     for (place, side) in sides.iter().enumerate() {
-        add_outlet(alloc, side, place, interfaces, &mut ports)?;
+        add_port(alloc, side, place, interfaces, &mut ports)?;
     }
     Ok(ports)
 }
 
 /// Adds a port, if it is an output port.
-fn add_outlet<'a>(
+fn add_port<'a>(
     alloc: Global,
     side: &SidedPort<'a>,
     place: usize,
     interfaces: &Interfaces<'a>,
     ports: &mut Ports<'a>,
 ) -> Result<(), AllocError>
-    ensures names { OnOk result (ports.new.names ≡ ports.old.names ++ outlet_names (sided side.now)) }
-    ensures numbered { OnOk result (ports.new.numbered.items ≡ ports.old.numbered.items ++ outlets interfaces.now place (sided side.now)) }
+    ensures names { OnOk result (ports.new.names ≡ ports.old.names ++ kept_names (sided side.now)) }
+    ensures numbered { OnOk result (ports.new.numbered.items ≡ ports.old.numbered.items ++ kept_ports interfaces.now place (sided side.now)) }
 {
     match side.input {
         true => Ok(()),

@@ -2,7 +2,7 @@ ghost use Rattle.std.specs.Prelude.{◌≡◌, ◌++◌, map, IfOk, OnOk};
 ghost use Rattle.std.specs.List.{filter_map};
 ghost use Rattle.std.specs.Option.{option_to_list};
 ghost use Rattle.service_check.specs.Files.{port_in};
-ghost use Rattle.service_check.specs.Outlets.{sided};
+ghost use Rattle.service_check.specs.KeptPorts.{sided};
 
 use jolie_ast::{Clause, Port};
 use std::alloc::{AllocError, Global};

@@ -1,6 +1,6 @@
 use Rattle.std.proofs.Common.{map, ap, ◌∙◌}
 use Rattle.service_check.specs.Files.{place_in}
-use Rattle.service_check.specs.Outlets.{sided, texts_in}
+use Rattle.service_check.specs.KeptPorts.{sided, texts_in}
 use Rattle.service_check.proofs.PartsMade.{port_made}
 use Rattle.service_check.proofs.program_services.meant_port.Goals as goal
 

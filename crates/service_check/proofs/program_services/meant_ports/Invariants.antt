@@ -1,6 +1,6 @@
 use Rattle.std.proofs.Common.{◌≡◌, map, take}
 use Rattle.behaviour_tree.specs.PartsView.{port_view}
-use Rattle.service_check.specs.Outlets.{sided}
+use Rattle.service_check.specs.KeptPorts.{sided}
 use Rattle.service_check.specs.Programs.{meant_port_part}
 use Rattle.service_check.proofs.program_services.meant_ports.Given as goal
 

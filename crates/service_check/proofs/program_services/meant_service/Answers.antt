@@ -3,7 +3,7 @@ use Rattle.std.specs.List.{filter_map}
 use Rattle.std.specs.Option.{option_copied}
 use Rattle.service_check.specs.Behaviours.{meant_if_there}
 use Rattle.service_check.specs.Files.{first_there, init_in, main_in, port_in, set_in, interface_names}
-use Rattle.service_check.specs.Outlets.{said_execution, sided}
+use Rattle.service_check.specs.KeptPorts.{said_execution, sided}
 use Rattle.service_check.specs.Programs.{meant_execution, meant_port_part, meant_set, numbering}
 use Rattle.service_check.proofs.PartsMade.{service_made}
 use Rattle.service_check.proofs.program_services.meant_service.Goals as goal

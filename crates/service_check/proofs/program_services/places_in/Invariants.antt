@@ -1,6 +1,6 @@
 use Rattle.std.proofs.Common.{◌≡◌, map, take}
 use Rattle.service_check.specs.Files.{place_in}
-use Rattle.service_check.specs.Outlets.{texts_in}
+use Rattle.service_check.specs.KeptPorts.{texts_in}
 use Rattle.service_check.proofs.program_services.places_in.Given as goal
 
 abbrev pub invariant-loop-name : goal.invariant-loop-name

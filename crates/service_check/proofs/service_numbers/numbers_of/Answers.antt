@@ -2,7 +2,7 @@ use Rattle.std.proofs.Common.{ap, sym, length, flat_map, ◌∙◌}
 use Rattle.std.specs.List.{filter_map}
 use Rattle.std.proofs.lemmas.List.{length-map}
 use Rattle.service_check.specs.Files.{each_once, set_in, texts_of}
-use Rattle.service_check.specs.Outlets.{input_operations_among, names_in_set, sided, texts_in}
+use Rattle.service_check.specs.KeptPorts.{input_operations_among, names_in_set, sided, texts_in}
 use Rattle.service_check.specs.Programs.{numbered_from}
 use Rattle.service_check.proofs.Numbering.{numbering_made}
 use Rattle.service_check.proofs.service_numbers.numbers_of.Goals as goal

@@ -2,7 +2,7 @@ use Rattle.std.proofs.Common.{rules, ◌++◌, flat_map, ap, ◌∙◌}
 use Rattle.std.proofs.lemmas.List.{take_all}
 use Rattle.std.specs.Option.{option_to_list}
 use Rattle.service_check.specs.Files.{set_in}
-use Rattle.service_check.specs.Outlets.{set_texts}
+use Rattle.service_check.specs.KeptPorts.{set_texts}
 use Rattle.service_check.proofs.Loops.{adding_turn}
 use Rattle.service_check.proofs.Numbering.{variables_named}
 use Rattle.service_check.proofs.service_numbers.variable_texts.Goals as goal

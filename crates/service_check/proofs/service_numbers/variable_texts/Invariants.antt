@@ -1,7 +1,7 @@
 use Rattle.std.proofs.Common.{◌≡◌, ◌++◌, flat_map, take}
 use Rattle.std.specs.Option.{option_to_list}
 use Rattle.service_check.specs.Files.{set_in}
-use Rattle.service_check.specs.Outlets.{set_texts}
+use Rattle.service_check.specs.KeptPorts.{set_texts}
 use Rattle.service_check.proofs.service_numbers.variable_texts.Given as goal
 
 abbrev pub invariant-loop-clause : goal.invariant-loop-clause

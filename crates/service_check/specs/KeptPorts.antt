@@ -17,17 +17,17 @@ abbrev pub sided : SidedPort → Sided
 sided p = record { input = p.input; port = p.port.now }
 
 -- the name of a port, where it is an output port
-abbrev pub outlet_names : Sided → List (List ℕ)
-outlet_names p = elim p.input [ true ↦ [] | false ↦ p.port.name.text ∷ [] ]
+abbrev pub kept_names : Sided → List (List ℕ)
+kept_names p = elim p.input [ true ↦ [] | false ↦ p.port.name.text ∷ [] ]
 
 -- a port with its number and its operations, where it is an output port
-abbrev pub outlets : List Interface → ℕ → Sided → List kept.NumberedPort
-outlets interfaces n p = elim p.input [ true ↦ [] | false ↦ record { number = n; operations = texts_of (port_operations interfaces p.port) } ∷ [] ]
+abbrev pub kept_ports : List Interface → ℕ → Sided → List kept.NumberedPort
+kept_ports interfaces n p = elim p.input [ true ↦ [] | false ↦ record { number = n; operations = texts_of (port_operations interfaces p.port) } ∷ [] ]
 
 -- the output ports among ports that are numbered from n on
-abbrev pub outlets_from : List Interface → ℕ → List Sided → List kept.NumberedPort
-outlets_from interfaces n [] = []
-outlets_from interfaces n (p ∷ ports) = outlets interfaces n p ++ outlets_from interfaces (suc n) ports
+abbrev pub kept_from : List Interface → ℕ → List Sided → List kept.NumberedPort
+kept_from interfaces n [] = []
+kept_from interfaces n (p ∷ ports) = kept_ports interfaces n p ++ kept_from interfaces (suc n) ports
 
 -- the texts of names
 abbrev pub texts_in : List Name → List (List ℕ)
