@@ -78,22 +78,22 @@ spared_more is others seen m0 m1 m2 ns ms n more known before turn =
 -- ---- ports
 
 -- the interfaces of a port
-abbrev pub interface_texts : Port → List (List ℕ)
-interface_texts p = texts p.interfaces
+abbrev pub port_interfaces : Port → List (List ℕ)
+port_interfaces p = texts p.interfaces
 
 -- one port more behind others
 brought_behind : (is : List Interface) (earlier : List (List ℕ)) (ports : List Port) (p : Port)
-    → spared_in is earlier (ports ++ p ∷ []) ≡ spared_in is earlier ports ++ spared is (earlier ++ flat_map interface_texts ports) p.interfaces
+    → spared_in is earlier (ports ++ p ∷ []) ≡ spared_in is earlier ports ++ spared is (earlier ++ flat_map port_interfaces ports) p.interfaces
 brought_behind is earlier [] p =
     append-nil (spared is earlier p.interfaces) ∙ ap (λ ts. spared is ts p.interfaces) (sym (append-nil earlier))
 brought_behind is earlier (q ∷ ports) p =
-    ap (λ ns. spared is earlier q.interfaces ++ ns) (brought_behind is (earlier ++ interface_texts q) ports p)
-    ∙ sym (append_assoc (spared is earlier q.interfaces) (spared_in is (earlier ++ interface_texts q) ports) (spared is ((earlier ++ interface_texts q) ++ flat_map interface_texts ports) p.interfaces))
-    ∙ ap (λ ts. (spared is earlier q.interfaces ++ spared_in is (earlier ++ interface_texts q) ports) ++ spared is ts p.interfaces) (append_assoc earlier (interface_texts q) (flat_map interface_texts ports))
+    ap (λ ns. spared is earlier q.interfaces ++ ns) (brought_behind is (earlier ++ port_interfaces q) ports p)
+    ∙ sym (append_assoc (spared is earlier q.interfaces) (spared_in is (earlier ++ port_interfaces q) ports) (spared is ((earlier ++ port_interfaces q) ++ flat_map port_interfaces ports) p.interfaces))
+    ∙ ap (λ ts. (spared is earlier q.interfaces ++ spared_in is (earlier ++ port_interfaces q) ports) ++ spared is ts p.interfaces) (append_assoc earlier (port_interfaces q) (flat_map port_interfaces ports))
 
 -- a port more, where there is one
 pub brought_more : (is : List Interface) (o : Option Port) (ports : List Port) (e : List (List ℕ)) (m1 m2 : List Name)
-    → e ≡ flat_map interface_texts ports → m1 ≡ spared_in is [] ports → m2 ≡ m1 ++ if_there (λ (p : Port). spared is e p.interfaces) o
+    → e ≡ flat_map port_interfaces ports → m1 ≡ spared_in is [] ports → m2 ≡ m1 ++ if_there (λ (p : Port). spared is e p.interfaces) o
     → m2 ≡ spared_in is [] (ports ++ option_to_list o)
 brought_more is None ports e m1 m2 earlier before turn =
     turn ∙ append-nil m1 ∙ before ∙ ap (spared_in is []) (sym (append-nil ports))

@@ -71,8 +71,8 @@ pub place_below : {X Y : Type 0} (f : X → Y) (items : List (Bor X)) (names : L
 place_below {X} f items names n e below = omega (arith, below, ap length e, length-map (map (λ (b : Bor X). b.now) items) f, length-map items (λ (b : Bor X). b.now))
 
 -- a list of references with one more
-pub nows_more : {X Y : Type 0} (f : X → Y) (items new : List (Bor X)) (d : Bor X) → new ≡ items ++ d ∷ [] → map f (map (λ d. d.now) new) ≡ map f (map (λ d. d.now) items) ++ f d.now ∷ []
-nows_more {X} f items new d e =
+pub references_more : {X Y : Type 0} (f : X → Y) (items new : List (Bor X)) (d : Bor X) → new ≡ items ++ d ∷ [] → map f (map (λ d. d.now) new) ≡ map f (map (λ d. d.now) items) ++ f d.now ∷ []
+references_more {X} f items new d e =
     ap (λ xs. map f (map (λ (b : Bor X). b.now) xs)) e
     ∙ ap (map f) (map-append (λ (b : Bor X). b.now) items (d ∷ []))
     ∙ map-append f (map (λ (b : Bor X). b.now) items) (d.now ∷ [])

@@ -42,9 +42,9 @@ pub with_more : {X : Type 0} (b : Texts) (f : X → Texts) (xs : List X) (x : X)
 with_more b f xs x = ap (with_texts b) (sym (flat_map_more f [] xs x)) ∙ with_append b (flat_map f xs) (f x)
 
 -- a turn of a loop over parts
-pub turn_of : {X : Type 0} (f : X → Texts) (p0 p1 p2 : Texts) (xs : List X) (i : ℕ) (x : X) → i < length xs → x ≡ get_or xs i x
+pub naming_turn : {X : Type 0} (f : X → Texts) (p0 p1 p2 : Texts) (xs : List X) (i : ℕ) (x : X) → i < length xs → x ≡ get_or xs i x
     → p1 ≡ with_texts p0 (flat_map f (take i xs)) → p2 ≡ with_texts p1 (f x) → p2 ≡ with_texts p0 (flat_map f (take (i + 1) xs))
-turn_of f p0 p1 p2 xs i x below item before turn =
+naming_turn f p0 p1 p2 xs i x below item before turn =
     turn ∙ ap (λ p. with_texts p (f x)) before ∙ ap (λ y. with_texts (with_texts p0 (flat_map f (take i xs))) (f y)) item
     ∙ sym (ap (λ ys. with_texts p0 (flat_map f ys)) (take_more xs i x below) ∙ with_more p0 f (take i xs) (get_or xs i x))
 

@@ -19,10 +19,10 @@ use Rattle.service_check.proofs.Loops.{all_found, each_there, mapped_each}
 -- ---- look-ups
 
 -- the item at a place
-pub item_is : {X : Type 0} (n : ℕ) (xs : List X) (x : X) → n < length xs → x ≡ get_or xs n x → item_at (Some n) xs ≡ Some x
-item_is n [] x below there = absurd (omega (arith, below))
-item_is zero (y ∷ xs) x below there = ap Some (sym there)
-item_is (suc n) (y ∷ xs) x below there = item_is n xs x (omega (arith, below)) there
+pub item_there : {X : Type 0} (n : ℕ) (xs : List X) (x : X) → n < length xs → x ≡ get_or xs n x → item_at (Some n) xs ≡ Some x
+item_there n [] x below there = absurd (omega (arith, below))
+item_there zero (y ∷ xs) x below there = ap Some (sym there)
+item_there (suc n) (y ∷ xs) x below there = item_there n xs x (omega (arith, below)) there
 
 -- an operation is found at the place of its name
 pub operation_at : (os : List Operation) (q : List ℕ) → operation_named os q ≡ item_at (place_of (texts_of os) q) os
@@ -32,13 +32,13 @@ operation_at (o ∷ os) q =
     ∙ first_or_at (bytes_eq o.name.text q) o os (place_of (texts_of os) q)
 
 -- a place among names is one among what has the names
-pub place_below : {X : Type 0} (f : X → List ℕ) (xs : List X) (names : List (List ℕ)) (n : ℕ) → names ≡ map f xs → n < length names → n < length xs
-place_below f xs names n e below = omega (arith, below, ap length e, length-map xs f)
+pub named_place : {X : Type 0} (f : X → List ℕ) (xs : List X) (names : List (List ℕ)) (n : ℕ) → names ≡ map f xs → n < length names → n < length xs
+named_place f xs names n e below = omega (arith, below, ap length e, length-map xs f)
 
 -- an operation of a place is found
 pub operation_found : (os : List Operation) (names : List (List ℕ)) (q : List ℕ) (n : ℕ) (o : Operation) → names ≡ texts_of os → Some n ≡ place_of names q → n < length names → o ≡ get_or os n o → Some (does_answer o) ≡ answers_named os q
 operation_found os names q n o e place below there =
-    ap (option_map does_answer) (sym (operation_at os q ∙ ap (λ p. item_at p os) (ap (λ ns. place_of ns q) (sym e) ∙ sym place) ∙ item_is n os o (place_below (λ (x : Operation). x.name.text) os names n e below) there))
+    ap (option_map does_answer) (sym (operation_at os q ∙ ap (λ p. item_at p os) (ap (λ ns. place_of ns q) (sym e) ∙ sym place) ∙ item_there n os o (named_place (λ (x : Operation). x.name.text) os names n e below) there))
 
 -- an operation of no place is not there
 pub operation_missing : (os : List Operation) (q : List ℕ) → place_of (texts_of os) q ≡ None → None ≡ answers_named os q
@@ -84,13 +84,13 @@ pub grown_append : (os xs ys : List Operation) → grown os (xs ++ ys) ≡ grown
 grown_append os [] ys = refl
 grown_append os (x ∷ xs) ys = grown_append (one_more os x) xs ys
 
-pub with_append : (os xs ys : List Operation) → with_new os (xs ++ ys) ≡ with_new (with_new os xs) ys
-with_append os xs ys =
+pub with_new_append : (os xs ys : List Operation) → with_new os (xs ++ ys) ≡ with_new (with_new os xs) ys
+with_new_append os xs ys =
     grown_is os (xs ++ ys) ∙ grown_append os xs ys ∙ ap (λ known. grown known ys) (sym (grown_is os xs)) ∙ sym (grown_is (with_new os xs) ys)
 
 -- no operation is added
-pub with_none : (os : List Operation) → with_new os [] ≡ os
-with_none os = append-nil os
+pub with_new_none : (os : List Operation) → with_new os [] ≡ os
+with_new_none os = append-nil os
 
 -- an operation whose name is there adds nothing
 pub known_name : (os : List Operation) (o : Operation) → is_in o.name.text (texts_of os) ≡ true → os ≡ with_new os (o ∷ [])
@@ -101,23 +101,23 @@ pub new_name : (os new : List Operation) (o : Operation) → is_in o.name.text (
 new_name os new o there e = e ∙ sym (grown_is os (o ∷ []) ∙ ap (λ b. if b then os else os ++ o ∷ []) there)
 
 -- a turn of a loop adds the operations of one thing more
-pub with_turn : {X : Type 0} (f : X → List Operation) (p0 p1 p2 : List Operation) (xs : List X) (i : ℕ) (x : X) → i < length xs → x ≡ get_or xs i x
+pub with_new_turn : {X : Type 0} (f : X → List Operation) (p0 p1 p2 : List Operation) (xs : List X) (i : ℕ) (x : X) → i < length xs → x ≡ get_or xs i x
     → p1 ≡ with_new p0 (flat_map f (take i xs)) → p2 ≡ with_new p1 (f x) → p2 ≡ with_new p0 (flat_map f (take (i + 1) xs))
-with_turn f p0 p1 p2 xs i x below item before turn =
+with_new_turn f p0 p1 p2 xs i x below item before turn =
     turn
     ∙ ap (λ p. with_new p (f x)) before
-    ∙ sym (with_append p0 (flat_map f (take i xs)) (f x))
+    ∙ sym (with_new_append p0 (flat_map f (take i xs)) (f x))
     ∙ ap (with_new p0) (flat_map_more f [] (take i xs) x)
     ∙ ap (λ y. with_new p0 (flat_map f (take i xs ++ y ∷ []))) item
     ∙ ap (λ ys. with_new p0 (flat_map f ys)) (sym (take_more xs i x below))
 
 -- a turn of a loop adds one operation more
-pub with_one_turn : {X : Type 0} (f : X → Operation) (p0 p1 p2 : List Operation) (xs : List X) (i : ℕ) (x : X) → i < length xs → x ≡ get_or xs i x
+pub with_new_one : {X : Type 0} (f : X → Operation) (p0 p1 p2 : List Operation) (xs : List X) (i : ℕ) (x : X) → i < length xs → x ≡ get_or xs i x
     → p1 ≡ with_new p0 (map f (take i xs)) → p2 ≡ with_new p1 (f x ∷ []) → p2 ≡ with_new p0 (map f (take (i + 1) xs))
-with_one_turn f p0 p1 p2 xs i x below item before turn =
+with_new_one f p0 p1 p2 xs i x below item before turn =
     turn
     ∙ ap (λ p. with_new p (f x ∷ [])) before
-    ∙ sym (with_append p0 (map f (take i xs)) (f x ∷ []))
+    ∙ sym (with_new_append p0 (map f (take i xs)) (f x ∷ []))
     ∙ ap (with_new p0) (sym (map-append f (take i xs) (x ∷ [])))
     ∙ ap (λ y. with_new p0 (map f (take i xs ++ y ∷ []))) item
     ∙ ap (λ ys. with_new p0 (map f ys)) (sym (take_more xs i x below))
@@ -154,7 +154,7 @@ outlet_at (o ∷ os) q =
 -- an output port of a place is found
 pub outlet_found : (os : List Outlet) (names : List (List ℕ)) (q : List ℕ) (n : ℕ) (o : Outlet) → names ≡ outlet_names os → Some n ≡ place_of names q → n < length names → o ≡ get_or os n o → Some o.operations ≡ outlet_named os q
 outlet_found os names q n o e place below there =
-    sym (outlet_at os q ∙ ap (λ p. operations_if (item_at p os)) (ap (λ ns. place_of ns q) (sym e) ∙ sym place) ∙ ap operations_if (item_is n os o (place_below (λ (x : Outlet). x.name) os names n e below) there))
+    sym (outlet_at os q ∙ ap (λ p. operations_if (item_at p os)) (ap (λ ns. place_of ns q) (sym e) ∙ sym place) ∙ ap operations_if (item_there n os o (named_place (λ (x : Outlet). x.name) os names n e below) there))
 
 -- an output port of no place is not there
 pub outlet_missing : (os : List Outlet) (q : List ℕ) → place_of (outlet_names os) q ≡ None → None ≡ outlet_named os q

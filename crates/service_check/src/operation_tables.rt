@@ -182,7 +182,7 @@ pub fn input_operations<'a>(
 }
 
 /// Operations and those of a clause, if it is an input port.
-#[tactic(auto, using(crate::proofs::OperationTables::with_none))]
+#[tactic(auto, using(crate::proofs::OperationTables::with_new_none))]
 fn with_input<'a>(
     operations: Operations<'a>,
     interfaces: &Interfaces<'a>,
@@ -205,7 +205,7 @@ fn with_input<'a>(
 }
 
 /// Operations and those of interfaces.
-#[tactic(auto, using(crate::proofs::OperationTables::with_none))]
+#[tactic(auto, using(crate::proofs::OperationTables::with_new_none))]
 fn with_interfaces<'a>(
     mut operations: Operations<'a>,
     interfaces: &Interfaces<'a>,
@@ -220,7 +220,7 @@ fn with_interfaces<'a>(
 }
 
 /// Operations and those of the interface of a name, if it is there.
-#[tactic(auto, using(crate::proofs::OperationTables::with_none))]
+#[tactic(auto, using(crate::proofs::OperationTables::with_new_none))]
 fn with_interface<'a>(
     operations: Operations<'a>,
     interfaces: &Interfaces<'a>,
@@ -235,7 +235,7 @@ fn with_interface<'a>(
 }
 
 /// Operations and those of groups.
-#[tactic(auto, using(crate::proofs::OperationTables::with_none))]
+#[tactic(auto, using(crate::proofs::OperationTables::with_new_none))]
 fn with_groups<'a>(
     mut operations: Operations<'a>,
     groups: &'a [OperationGroup],
@@ -268,7 +268,7 @@ fn with_group<'a>(
 }
 
 /// Operations and others that answer.
-#[tactic(auto, using(crate::proofs::OperationTables::with_none))]
+#[tactic(auto, using(crate::proofs::OperationTables::with_new_none))]
 fn with_answering<'a>(
     mut operations: Operations<'a>,
     declared: &'a [RequestResponse],
@@ -282,7 +282,7 @@ fn with_answering<'a>(
 }
 
 /// Operations and others that do not answer.
-#[tactic(auto, using(crate::proofs::OperationTables::with_none))]
+#[tactic(auto, using(crate::proofs::OperationTables::with_new_none))]
 fn with_silent<'a>(
     mut operations: Operations<'a>,
     declared: &'a [OneWay],

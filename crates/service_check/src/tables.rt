@@ -80,7 +80,7 @@ impl<'a> Types<'a> {
     }
 
     /// The types with one more behind them.
-    #[tactic(auto, using(crate::proofs::Found::nows_more))]
+    #[tactic(auto, using(crate::proofs::Found::references_more))]
     pub fn with(self, definition: &'a TypeDefinition) -> Result<Types<'a>, AllocError>
         ensures { IfOk result (λ types. types ≡ self.entry ++ definition.now ∷ []) }
     {
@@ -151,7 +151,7 @@ impl<'a> Interfaces<'a> {
     }
 
     /// The interfaces with one more behind them.
-    #[tactic(auto, using(crate::proofs::Found::nows_more))]
+    #[tactic(auto, using(crate::proofs::Found::references_more))]
     pub fn with(self, definition: &'a Interface) -> Result<Interfaces<'a>, AllocError>
         ensures { IfOk result (λ interfaces. interfaces ≡ self.entry ++ definition.now ∷ []) }
     {

@@ -3,14 +3,14 @@ use Rattle.std.specs.List.{filter_map}
 use Rattle.std.specs.Prelude.{take}
 use Rattle.service_check.specs.Files.{input_port_in}
 use Rattle.service_check.specs.Spared.{spared_in}
-use Rattle.service_check.proofs.BroughtIn.{interface_texts, brought_more}
+use Rattle.service_check.proofs.BroughtIn.{port_interfaces, brought_more}
 use Rattle.service_check.proofs.Loops.{picked_adds, picked_more}
 use Rattle.service_check.proofs.brought.brought_in.Goals as goal
 use Rattle.service_check.proofs.brought.brought_in.Goals.{in-Some+in_ok-bring_in, in_default}
 
 pub loop-clause-preserved : goal.loop-clause-preserved
 loop-clause-preserved c = (
-  picked_adds interface_texts input_port_in [] c.loop-clause.earlier c.match-input_port_in.earlier c.args.clauses.now c.loop-clause.clause-index c.clause-item.result c.loop-clause-test.true c.clause-item.is c.loop-clause.invariant.0
+  picked_adds port_interfaces input_port_in [] c.loop-clause.earlier c.match-input_port_in.earlier c.args.clauses.now c.loop-clause.clause-index c.clause-item.result c.loop-clause-test.true c.clause-item.is c.loop-clause.invariant.0
       (elim c.match-input_port_in.branch [
         | in-Some+in_ok-bring_in w ↦ rw (← c.input_port_in.ensures, w.in-Some.is, w.earlier-is) w.in_ok-bring_in.ensures.earlier
         | in_default w ↦ rw (← c.input_port_in.ensures, w.in_default.is, w.earlier-is) (sym (append-nil c.loop-clause.earlier))

@@ -1,12 +1,12 @@
 use Rattle.std.proofs.Common.{[], ap, ◌∙◌, arith, flat_map}
 use Rattle.std.proofs.lemmas.List.{take_all}
 use Rattle.service_check.specs.OperationTables.{operations_of_input, with_new}
-use Rattle.service_check.proofs.OperationTables.{inputs_found, with_turn}
+use Rattle.service_check.proofs.OperationTables.{inputs_found, with_new_turn}
 use Rattle.service_check.proofs.operation_tables.input_operations.Goals as goal
 
 pub loop-clause-preserved : goal.loop-clause-preserved
 loop-clause-preserved c =
-    with_turn (operations_of_input c.args.interfaces.now) [] c.loop-clause.operations c.in_ok-operations.operations c.as_slice-clause-items.result.now c.loop-clause.clause-index c.clause-item.result c.loop-clause-test.true c.clause-item.is c.loop-clause.invariant c.in_ok-operations.ensures
+    with_new_turn (operations_of_input c.args.interfaces.now) [] c.loop-clause.operations c.in_ok-operations.operations c.as_slice-clause-items.result.now c.loop-clause.clause-index c.clause-item.result c.loop-clause-test.true c.clause-item.is c.loop-clause.invariant c.in_ok-operations.ensures
 
 pub returns : goal.returns
 returns c =

@@ -3,13 +3,13 @@ use Rattle.std.proofs.lemmas.List.{take_all}
 use Rattle.jolie_ast.specs.declared.name.Name.{Name}
 use Rattle.service_check.specs.Files.{Operation, operations_named, texts_of}
 use Rattle.service_check.specs.Mentioned.{with_texts}
-use Rattle.service_check.proofs.Mentions.{turn_of}
+use Rattle.service_check.proofs.Mentions.{naming_turn}
 use Rattle.service_check.proofs.Loops.{mapped_each}
 use Rattle.service_check.proofs.service_numbers.include_interfaces.Goals as goal
 
 pub loop-name-preserved : goal.loop-name-preserved
 loop-name-preserved c =
-    turn_of (λ n. texts_of (operations_named c.args.interfaces.now n.text)) c.args.texts.now c.loop-name.texts c.include_named.new.texts c.args.names.now c.loop-name.name-index c.name-item.result c.loop-name-test.true c.name-item.is c.loop-name.invariant c.in_ok-include_named.ensures
+    naming_turn (λ n. texts_of (operations_named c.args.interfaces.now n.text)) c.args.texts.now c.loop-name.texts c.include_named.new.texts c.args.names.now c.loop-name.name-index c.name-item.result c.loop-name-test.true c.name-item.is c.loop-name.invariant c.in_ok-include_named.ensures
 
 pub returns : goal.returns
 returns c =

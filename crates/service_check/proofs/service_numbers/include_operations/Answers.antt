@@ -2,13 +2,13 @@ use Rattle.std.proofs.Common.{rules, flat_map, ap, sym, ◌∙◌}
 use Rattle.std.proofs.lemmas.List.{take_all}
 use Rattle.service_check.specs.Files.{Operation, group_operations, texts_of}
 use Rattle.service_check.specs.Mentioned.{with_texts}
-use Rattle.service_check.proofs.Mentions.{turn_of}
+use Rattle.service_check.proofs.Mentions.{naming_turn}
 use Rattle.service_check.proofs.Loops.{mapped_each}
 use Rattle.service_check.proofs.service_numbers.include_operations.Goals as goal
 
 pub loop-group-preserved : goal.loop-group-preserved
 loop-group-preserved c =
-    turn_of (λ g. texts_of (group_operations g)) c.args.texts.now c.loop-group.texts c.include_group.new.texts c.as_slice-group-items.result.now c.loop-group.group-index c.group-item.result c.loop-group-test.true c.group-item.is c.loop-group.invariant c.in_ok-include_group.ensures
+    naming_turn (λ g. texts_of (group_operations g)) c.args.texts.now c.loop-group.texts c.include_group.new.texts c.as_slice-group-items.result.now c.loop-group.group-index c.group-item.result c.loop-group-test.true c.group-item.is c.loop-group.invariant c.in_ok-include_group.ensures
 
 pub returns : goal.returns
 returns c =

@@ -4,13 +4,13 @@ use Rattle.std.specs.Option.{option_to_list}
 use Rattle.service_check.specs.Files.{input_port_in}
 use Rattle.service_check.specs.KeptPorts.{port_texts}
 use Rattle.service_check.specs.Mentioned.{with_texts}
-use Rattle.service_check.proofs.Mentions.{turn_of}
+use Rattle.service_check.proofs.Mentions.{naming_turn}
 use Rattle.service_check.proofs.Numbering.{inputs_taken}
 use Rattle.service_check.proofs.service_numbers.input_texts.Goals as goal
 
 pub loop-clause-preserved : goal.loop-clause-preserved
 loop-clause-preserved c =
-    turn_of (λ x. flat_map (port_texts c.args.interfaces.now) (option_to_list (input_port_in x))) c.new-texts.result c.loop-clause.texts c.include_clause.new.texts c.args.clauses.now c.loop-clause.clause-index c.clause-item.result c.loop-clause-test.true c.clause-item.is c.loop-clause.invariant c.in_ok-include_clause.ensures
+    naming_turn (λ x. flat_map (port_texts c.args.interfaces.now) (option_to_list (input_port_in x))) c.new-texts.result c.loop-clause.texts c.include_clause.new.texts c.args.clauses.now c.loop-clause.clause-index c.clause-item.result c.loop-clause-test.true c.clause-item.is c.loop-clause.invariant c.in_ok-include_clause.ensures
 
 pub returns : goal.returns
 returns c =
