@@ -12,10 +12,10 @@ use Rattle.jolie_ast.specs.declared.service.Service.{Service}
 use Rattle.service_check.specs.declared.numbers.NumberedPort as kept
 use Rattle.service_check.specs.declared.sides.SidedPort.{SidedPort}
 use Rattle.service_check.specs.Behaviours.{NumberedPort, Numbering}
-use Rattle.service_check.specs.Files.{Operation, Sided, each_once, input_operations, input_port_in, port_in, port_operations, set_in, texts_of, operations_among}
+use Rattle.service_check.specs.Files.{Operation, Sided, each_once, input_operations, input_port_in, operations_among, port_in, port_operations, texts_of}
 use Rattle.service_check.specs.Mentioned.{with_texts}
 use Rattle.service_check.specs.Numbers.{named_ports}
-use Rattle.service_check.specs.KeptPorts.{sided, kept_names, kept_ports, kept_from, input_operations_among, port_texts, set_texts, names_in_set, texts_in}
+use Rattle.service_check.specs.KeptPorts.{sided, kept_names, kept_ports, kept_from, input_operations_among, port_texts}
 use Rattle.service_check.specs.Programs.{numbered_from, numbering}
 use Rattle.service_check.specs.SetRules.{variables_of}
 use Rattle.service_check.proofs.Firsts.{once_taken}
@@ -69,7 +69,7 @@ kept_turn interfaces k1 k2 sides i s below item before turn =
     ∙ ap (λ y. kept_from interfaces 0 (map sided (take i sides ++ y ∷ []))) item
     ∙ ap (λ ss. kept_from interfaces 0 (map sided ss)) (sym (take_more sides i s below))
 
--- ---- operations and variables
+-- ---- operations
 
 -- the operations of the input ports, each once
 pub inputs_taken : (interfaces : List Interface) (clauses : List Clause)
@@ -79,12 +79,6 @@ inputs_taken interfaces clauses =
     (all_of_found (port_texts interfaces) input_port_in clauses
     ∙ sym (mapped_each (λ (o : Operation). o.name.text) (λ (p : Port). operations_among interfaces p.interfaces) (filter_map input_port_in clauses)))
     ∙ once_taken (input_operations_among interfaces clauses)
-
--- the variables of the sets
-pub variables_named : (clauses : List Clause) → flat_map (λ c. flat_map set_texts (option_to_list (set_in c))) clauses ≡ texts_in (flat_map names_in_set (filter_map set_in clauses))
-variables_named clauses =
-    all_of_found set_texts set_in clauses
-    ∙ sym (mapped_each (λ (n : Name). n.text) names_in_set (filter_map set_in clauses))
 
 -- ---- all together
 

@@ -4,7 +4,6 @@ use Rattle.std.specs.List.{filter_map}
 use Rattle.jolie_ast.specs.declared.name.Name.{Name}
 use Rattle.jolie_ast.specs.declared.interface.Interface.{Interface}
 use Rattle.jolie_ast.specs.declared.service.Clause.{Clause}
-use Rattle.jolie_ast.specs.declared.service.CorrelationVariable.{CorrelationVariable}
 use Rattle.jolie_ast.specs.declared.service.Execution.{Execution}
 use Rattle.jolie_ast.specs.declared.service.Execution.TheVariants.{Single}
 use Rattle.jolie_ast.specs.declared.service.Port.{Port}
@@ -33,10 +32,6 @@ kept_from interfaces n (p ∷ ports) = kept_ports interfaces n p ++ kept_from in
 abbrev pub texts_in : List Name → List (List ℕ)
 texts_in names = map (λ (n : Name). n.text) names
 
--- the names of the variables of a set
-abbrev pub names_in_set : List CorrelationVariable → List Name
-names_in_set set = map (λ (v : CorrelationVariable). v.name) set
-
 -- the names of the operations of a port's interfaces
 abbrev pub port_texts : List Interface → Port → List (List ℕ)
 port_texts interfaces port = texts_of (operations_among interfaces port.interfaces)
@@ -44,10 +39,6 @@ port_texts interfaces port = texts_of (operations_among interfaces port.interfac
 -- the operations of the input ports among clauses, as they stand
 abbrev pub input_operations_among : List Interface → List Clause → List Operation
 input_operations_among interfaces clauses = flat_map (λ (p : Port). operations_among interfaces p.interfaces) (filter_map input_port_in clauses)
-
--- the names of the variables of a set, as texts
-abbrev pub set_texts : List CorrelationVariable → List (List ℕ)
-set_texts set = texts_in (names_in_set set)
 
 -- how the sessions are run by what clauses say: one alone where nothing is said
 abbrev pub said_execution : List Clause → Execution

@@ -1,20 +1,19 @@
 ghost use Rattle.std.specs.Prelude.{◌≡◌, ◌++◌, ℕ, List, flat_map, map, IfOk, OnOk};
 ghost use Rattle.std.specs.List.{filter_map};
 ghost use Rattle.std.specs.Option.{option_to_list};
-ghost use Rattle.service_check.specs.Files.{answering, each_once, group_operations, input_port_in, operations_among, operations_in, operations_named, port_in, set_in, silent, texts_of};
+ghost use Rattle.service_check.specs.Files.{answering, each_once, group_operations, input_port_in, operations_among, operations_in, operations_named, port_in, silent, texts_of};
 ghost use Rattle.service_check.specs.Mentioned.{with_texts};
 ghost use Rattle.service_check.specs.Numbers.{named_ports, numbering_of};
-ghost use Rattle.service_check.specs.KeptPorts.{input_operations_among, names_in_set, kept_names, kept_ports, port_texts, set_texts, sided, texts_in};
+ghost use Rattle.service_check.specs.KeptPorts.{input_operations_among, kept_names, kept_ports, port_texts, sided};
 ghost use Rattle.service_check.specs.Programs.{numbered_from, numbering};
 
 use crate::mentioned::include;
 use crate::names::Names;
 use crate::numbers::{NumberedPort, Numbers, Ports, fitting};
+use crate::set_rules::variables_of;
 use crate::sides::SidedPort;
 use crate::tables::Interfaces;
-use jolie_ast::{
-    Clause, CorrelationVariable, Interface, Name, OneWay, OperationGroup, RequestResponse, Service,
-};
+use jolie_ast::{Clause, Interface, Name, OneWay, OperationGroup, RequestResponse, Service};
 use std::alloc::{AllocError, Global};
 
 /// What the processes of a service name by numbers.
@@ -35,7 +34,7 @@ pub fn numbers_of<'a>(
         inputs,
         ports,
         console,
-        variables: variable_texts(alloc, clauses)?,
+        variables: variables_of(alloc, service)?,
     })
 }
 
@@ -200,47 +199,6 @@ fn include_silent<'a>(operations: &'a [OneWay], texts: &mut Names<'a>) -> Result
 {
     for operation in operations {
         include(operation.name.text.as_str(), texts)?;
-    }
-    Ok(())
-}
-
-// ---- variables
-
-/// The variables of the sets among clauses.
-#[tactic(auto, using(crate::proofs::Numbering::variables_named))]
-fn variable_texts<'a>(alloc: Global, clauses: &'a [Clause]) -> Result<Names<'a>, AllocError>
-    ensures { IfOk result (λ texts. texts ≡ texts_in (flat_map names_in_set (filter_map set_in clauses.now))) }
-{
-    let mut texts = Names::new(alloc);
-    for clause in clauses {
-        add_set(clause, &mut texts)?;
-    }
-    Ok(texts)
-}
-
-/// Adds the variables of a set, if a clause is one.
-fn add_set<'a>(clause: &'a Clause, texts: &mut Names<'a>) -> Result<(), AllocError>
-    ensures { OnOk result (texts.new ≡ texts.old ++ flat_map set_texts (option_to_list (set_in clause.now))) }
-{
-    match clause {
-        Clause::CorrelationSet { variables, .. } => add_variables(variables.as_slice(), texts),
-        Clause::InputPort(_) => Ok(()),
-        Clause::OutputPort(_) => Ok(()),
-        Clause::Execution { .. } => Ok(()),
-        Clause::Init { .. } => Ok(()),
-        Clause::Main { .. } => Ok(()),
-    }
-}
-
-#[tactic(auto, using(crate::proofs::Loops::mapped_twice))]
-fn add_variables<'a>(
-    variables: &'a [CorrelationVariable],
-    texts: &mut Names<'a>,
-) -> Result<(), AllocError>
-    ensures { OnOk result (texts.new ≡ texts.old ++ set_texts variables.now) }
-{
-    for variable in variables {
-        texts.add(variable.name.text.as_str())?;
     }
     Ok(())
 }
