@@ -2,6 +2,7 @@ ghost use Rattle.std.specs.Prelude.{◌≡◌, [], ◌∷◌, IfOk, flat_map, ma
 ghost use Rattle.service_check.specs.Files.{answering, group_operations, input_operations, operations_among, operations_named, port_operations, silent};
 ghost use Rattle.service_check.specs.OperationTables.{answers_named, does_answer, operations_of_input, with_new};
 
+use crate::clauses::input_port_in;
 use crate::names::Names;
 use crate::tables::Interfaces;
 use jolie_ast::{Clause, Name, OneWay, OperationGroup, Port, RequestResponse, Service, TypeName};
@@ -190,17 +191,9 @@ fn with_input<'a>(
 ) -> Result<Operations<'a>, AllocError>
     ensures { IfOk result (λ more. more ≡ with_new operations.entry (operations_of_input interfaces.now clause.now)) }
 {
-    match clause {
-        Clause::InputPort(port) => with_interfaces(
-            operations,
-            interfaces,
-            port.interfaces.as_slice(),
-        ),
-        Clause::OutputPort(_) => Ok(operations),
-        Clause::Execution { .. } => Ok(operations),
-        Clause::CorrelationSet { .. } => Ok(operations),
-        Clause::Init { .. } => Ok(operations),
-        Clause::Main { .. } => Ok(operations),
+    match input_port_in(clause) {
+        Some(port) => with_interfaces(operations, interfaces, port.interfaces.as_slice()),
+        None => Ok(operations),
     }
 }
 

@@ -7,7 +7,7 @@ ghost use Rattle.service_check.specs.KeptPorts.{said_execution, sided, texts_in}
 ghost use Rattle.service_check.specs.Programs.{meant_alias, meant_execution, meant_port_part, meant_service, meant_set, meant_variable};
 
 use crate::behaviours::meant_if_there;
-use crate::clauses::{init_of, main_of, said_execution};
+use crate::clauses::{init_of, main_of, said_execution, set_in};
 use crate::names::Names;
 use crate::numbers::number;
 use crate::service_numbers::numbers_of;
@@ -176,17 +176,13 @@ fn add_set(
 ) -> Result<(), AllocError>
     ensures { OnOk result (map set_view meant.new.items ≡ map set_view meant.old.items ++ map (meant_set types.now) (option_to_list (set_in clause.now))) }
 {
-    match clause {
-        Clause::CorrelationSet { variables, .. } => {
-            let variables = meant_variables(alloc, variables.as_slice(), types)?;
+    match set_in(clause) {
+        Some(set) => {
+            let variables = meant_variables(alloc, set, types)?;
             meant.push(CorrelationSet { variables })?;
             Ok(())
         }
-        Clause::Execution { .. } => Ok(()),
-        Clause::InputPort(_) => Ok(()),
-        Clause::OutputPort(_) => Ok(()),
-        Clause::Init { .. } => Ok(()),
-        Clause::Main { .. } => Ok(()),
+        None => Ok(()),
     }
 }
 

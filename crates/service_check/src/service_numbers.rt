@@ -7,6 +7,7 @@ ghost use Rattle.service_check.specs.Numbers.{named_ports, numbering_of};
 ghost use Rattle.service_check.specs.KeptPorts.{input_operations_among, kept_names, kept_ports, port_texts, sided};
 ghost use Rattle.service_check.specs.Programs.{numbered_from, numbering};
 
+use crate::clauses::input_port_in;
 use crate::mentioned::include;
 use crate::names::Names;
 use crate::numbers::{NumberedPort, Numbers, Ports, fitting};
@@ -120,15 +121,9 @@ fn include_clause<'a>(
 ) -> Result<(), AllocError>
     ensures { OnOk result (texts.new ≡ with_texts texts.old (flat_map (port_texts interfaces.now) (option_to_list (input_port_in clause.now)))) }
 {
-    match clause {
-        Clause::InputPort(port) => {
-            include_interfaces(port.interfaces.as_slice(), interfaces, texts)
-        }
-        Clause::OutputPort(_) => Ok(()),
-        Clause::Execution { .. } => Ok(()),
-        Clause::CorrelationSet { .. } => Ok(()),
-        Clause::Init { .. } => Ok(()),
-        Clause::Main { .. } => Ok(()),
+    match input_port_in(clause) {
+        Some(port) => include_interfaces(port.interfaces.as_slice(), interfaces, texts),
+        None => Ok(()),
     }
 }
 

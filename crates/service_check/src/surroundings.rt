@@ -5,6 +5,7 @@ ghost use Rattle.service_check.specs.Files.{output_port_in, output_ports};
 ghost use Rattle.service_check.specs.ProcessRules.{outlet_named};
 ghost use Rattle.service_check.specs.ServiceRules.{outlet, surroundings};
 
+use crate::clauses::output_port_in;
 use crate::names::Names;
 use crate::operation_tables::{Operations, input_operations, port_operations};
 use crate::set_rules::variables_of;
@@ -147,16 +148,12 @@ fn with_outlet<'a>(
 ) -> Result<Outlets<'a>, AllocError>
     ensures { IfOk result (λ more. more ≡ outlets.entry ++ map (outlet interfaces.now) (option_to_list (output_port_in clause.now))) }
 {
-    match clause {
-        Clause::OutputPort(port) => {
+    match output_port_in(clause) {
+        Some(port) => {
             let outlet = Outlet::of_port(alloc, interfaces, port)?;
             outlets.with(outlet)
         }
-        Clause::InputPort(_) => Ok(outlets),
-        Clause::Execution { .. } => Ok(outlets),
-        Clause::CorrelationSet { .. } => Ok(outlets),
-        Clause::Init { .. } => Ok(outlets),
-        Clause::Main { .. } => Ok(outlets),
+        None => Ok(outlets),
     }
 }
 
