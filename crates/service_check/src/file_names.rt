@@ -11,6 +11,7 @@ ghost use Rattle.service_check.specs.Least.{joined, refused};
 ghost use Rattle.service_check.specs.Refusals.{locations_in, names_refused, no_service};
 ghost use Rattle.service_check.specs.Repeated.{as_name, repeated};
 
+use crate::definitions::service_in;
 use crate::least::Least;
 use crate::refusal::CheckName;
 use crate::repeated::{Mention, repeated_refused};
@@ -35,11 +36,7 @@ fn has_service(file: &[Definition]) -> bool
 fn is_service(definition: &Definition) -> bool
     ensures { result ≡ is_some (service_in definition.now) }
 {
-    match definition {
-        Definition::Type(_) => false,
-        Definition::Interface(_) => false,
-        Definition::Service(_) => true,
-    }
+    service_in(definition).is_some()
 }
 
 /// Names of types, interfaces and services that stand a second time, and locations of input ports that do.

@@ -6,6 +6,7 @@ ghost use Rattle.service_check.specs.Least.{joined};
 ghost use Rattle.service_check.specs.TypeRules.{type_refused};
 
 use crate::circles::Circles;
+use crate::definitions::{interface_in, type_in};
 use crate::interface_rules::interface_refused;
 use crate::least::Least;
 use crate::tables::Types;
@@ -50,10 +51,9 @@ fn defined_type_refused(
 ) -> Result<(), AllocError>
     ensures { OnOk result (least.new ≡ joined least.old (flat_map (type_refused circles.now) (option_to_list (type_in definition.now)))) }
 {
-    match definition {
-        Definition::Type(ty) => type_refused(alloc, circles, ty, least),
-        Definition::Interface(_) => Ok(()),
-        Definition::Service(_) => Ok(()),
+    match type_in(definition) {
+        Some(ty) => type_refused(alloc, circles, ty, least),
+        None => Ok(()),
     }
 }
 
@@ -79,9 +79,8 @@ fn defined_interface_refused(
 ) -> Result<(), AllocError>
     ensures { OnOk result (least.new ≡ joined least.old (flat_map (interface_refused types.now) (option_to_list (interface_in definition.now)))) }
 {
-    match definition {
-        Definition::Interface(interface) => interface_refused(alloc, types, interface, least),
-        Definition::Type(_) => Ok(()),
-        Definition::Service(_) => Ok(()),
+    match interface_in(definition) {
+        Some(interface) => interface_refused(alloc, types, interface, least),
+        None => Ok(()),
     }
 }

@@ -2,6 +2,7 @@ ghost use Rattle.std.specs.Prelude.{◌≡◌, ◌++◌, IfOk};
 ghost use Rattle.std.specs.Option.{option_to_list};
 ghost use Rattle.service_check.specs.Files.{interface_in, interfaces_of, type_in, types_of};
 
+use crate::definitions::{interface_in, type_in};
 use crate::tables::{Interfaces, Types};
 use jolie_ast::Definition;
 use std::alloc::{AllocError, Global};
@@ -21,10 +22,9 @@ pub fn types_of(alloc: Global, file: &[Definition]) -> Result<Types<'_>, AllocEr
 fn types_with<'a>(types: Types<'a>, definition: &'a Definition) -> Result<Types<'a>, AllocError>
     ensures { IfOk result (λ more. more ≡ types.entry ++ option_to_list (type_in definition.now)) }
 {
-    match definition {
-        Definition::Type(ty) => types.with(ty),
-        Definition::Interface(_) => Ok(types),
-        Definition::Service(_) => Ok(types),
+    match type_in(definition) {
+        Some(ty) => types.with(ty),
+        None => Ok(types),
     }
 }
 
@@ -46,9 +46,8 @@ fn interfaces_with<'a>(
 ) -> Result<Interfaces<'a>, AllocError>
     ensures { IfOk result (λ more. more ≡ interfaces.entry ++ option_to_list (interface_in definition.now)) }
 {
-    match definition {
-        Definition::Interface(interface) => interfaces.with(interface),
-        Definition::Type(_) => Ok(interfaces),
-        Definition::Service(_) => Ok(interfaces),
+    match interface_in(definition) {
+        Some(interface) => interfaces.with(interface),
+        None => Ok(interfaces),
     }
 }

@@ -8,6 +8,7 @@ mod brought;
 mod checking;
 mod circles;
 mod clauses;
+mod definitions;
 mod expressions;
 mod file_names;
 mod file_rules;

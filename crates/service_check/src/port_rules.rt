@@ -1,13 +1,13 @@
 ghost use Rattle.std.specs.Prelude.{◌≡◌, ◌++◌, IfOk, OnOk, flat_map, map};
 ghost use Rattle.std.specs.List.{filter_map};
-ghost use Rattle.std.specs.Option.{option_copied};
 ghost use Rattle.jolie_ast.specs.declared.service.Port.{Port};
-ghost use Rattle.service_check.specs.Files.{input_port_in, output_port_in, port_in, service_in, services_of};
+ghost use Rattle.service_check.specs.Files.{input_port_in, output_port_in, port_in, services_of};
 ghost use Rattle.service_check.specs.Least.{joined};
 ghost use Rattle.service_check.specs.PortRules.{input_locations, output_port_refused, port_name, port_refused, ports_refused, sided_refused, unknown_interface, unmet, wrong_local_protocol, wrong_location, wrong_protocol, wrong_socket_protocol};
 
 use crate::brought::{input_ports_refused, output_port_refused};
 use crate::clauses::{input_port_in, output_port_in, port_in};
+use crate::definitions::service_in;
 use crate::least::Least;
 use crate::locations::{begins_local, is_local, is_socket};
 use crate::names::Names;
@@ -182,17 +182,6 @@ pub fn input_locations(alloc: Global, file: &[Definition]) -> Result<Names<'_>, 
         }
     }
     Ok(locations)
-}
-
-/// A definition, if it is a service.
-fn service_in(definition: &Definition) -> Option<&Service>
-    ensures { option_copied result ≡ service_in definition.now }
-{
-    match definition {
-        Definition::Type(_) => None,
-        Definition::Interface(_) => None,
-        Definition::Service(service) => Some(service),
-    }
 }
 
 /// Adds the locations of the input ports of a service.

@@ -4,6 +4,7 @@ ghost use Rattle.behaviour_tree.specs.PartsView.{interface_view, operation_view,
 ghost use Rattle.service_check.specs.Files.{answering, group_operations, interface_in, interfaces_of, silent};
 ghost use Rattle.service_check.specs.Programs.{meant_fault, meant_interface, meant_operation};
 
+use crate::definitions::interface_in;
 use crate::names::Names;
 use crate::numbers::number;
 use crate::program_types::{meant_data, meant_type};
@@ -38,13 +39,12 @@ fn add_interface(
 ) -> Result<(), AllocError>
     ensures { OnOk result (map interface_view meant.new.items ≡ map interface_view meant.old.items ++ map (meant_interface types.now names.now) (option_to_list (interface_in definition.now))) }
 {
-    match definition {
-        Definition::Interface(interface) => {
+    match interface_in(definition) {
+        Some(interface) => {
             meant.push(meant_interface(alloc, interface, types, names)?)?;
             Ok(())
         }
-        Definition::Type(_) => Ok(()),
-        Definition::Service(_) => Ok(()),
+        None => Ok(()),
     }
 }
 

@@ -8,6 +8,7 @@ ghost use Rattle.service_check.specs.Programs.{meant_alias, meant_execution, mea
 
 use crate::behaviours::meant_if_there;
 use crate::clauses::{init_of, main_of, said_execution, set_in};
+use crate::definitions::service_in;
 use crate::names::Names;
 use crate::numbers::number;
 use crate::service_numbers::numbers_of;
@@ -47,13 +48,12 @@ fn add_service<'a>(
 ) -> Result<(), AllocError>
     ensures { OnOk result (map service_view meant.new.items ≡ map service_view meant.old.items ++ map (meant_service interfaces.now types.now names.now) (option_to_list (service_in definition.now))) }
 {
-    match definition {
-        Definition::Service(service) => {
+    match service_in(definition) {
+        Some(service) => {
             meant.push(meant_service(alloc, service, interfaces, types, names)?)?;
             Ok(())
         }
-        Definition::Type(_) => Ok(()),
-        Definition::Interface(_) => Ok(()),
+        None => Ok(()),
     }
 }
 

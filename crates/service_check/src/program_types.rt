@@ -5,6 +5,7 @@ ghost use Rattle.behaviour_tree.specs.View.{field_view, type_view};
 ghost use Rattle.service_check.specs.Files.{type_in, types_of};
 ghost use Rattle.service_check.specs.Programs.{least_of, meant_body, meant_data, meant_definition, meant_field, meant_kind, meant_type, most_of, natural};
 
+use crate::definitions::type_in;
 use crate::names::Names;
 use crate::numbers::number;
 use behaviour_tree::{Field, RootKind, TypeDef};
@@ -36,13 +37,12 @@ fn add_type(
 ) -> Result<(), AllocError>
     ensures { OnOk result (map type_view meant.new.items ≡ map type_view meant.old.items ++ map (meant_definition types.now) (option_to_list (type_in definition.now))) }
 {
-    match definition {
-        Definition::Type(ty) => {
+    match type_in(definition) {
+        Some(ty) => {
             meant.push(meant_definition(alloc, ty, types)?)?;
             Ok(())
         }
-        Definition::Interface(_) => Ok(()),
-        Definition::Service(_) => Ok(()),
+        None => Ok(()),
     }
 }
 

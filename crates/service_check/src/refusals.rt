@@ -5,6 +5,7 @@ ghost use Rattle.service_check.specs.Least.{joined};
 ghost use Rattle.service_check.specs.Refusals.{refusal_of};
 ghost use Rattle.service_check.specs.ServiceRules.{service_refused};
 
+use crate::definitions::service_in;
 use crate::file_names::{names_refused, no_service};
 use crate::file_rules::file_parts_refused;
 use crate::files::{interfaces_of, types_of};
@@ -60,11 +61,8 @@ fn definition_refused<'a>(
 ) -> Result<(), AllocError>
     ensures { OnOk result (least.new ≡ joined least.old (definition_refused types.now interfaces.now locations.now definition.now)) }
 {
-    match definition {
-        Definition::Service(service) => service_refused(
-            alloc, types, interfaces, locations, service, least,
-        ),
-        Definition::Type(_) => Ok(()),
-        Definition::Interface(_) => Ok(()),
+    match service_in(definition) {
+        Some(service) => service_refused(alloc, types, interfaces, locations, service, least),
+        None => Ok(()),
     }
 }
