@@ -41,16 +41,6 @@ pub all_found : {X A : Type 0} (h : X → Option A) (xs : List X) → flat_map (
 all_found h [] = refl
 all_found h (x ∷ xs) = ap (λ rest. option_to_list (h x) ++ rest) (all_found h xs) ∙ maybe_first (h x) (filter_map h xs)
 
--- what is made of one thing that may be found before the others
-pub maybe_made : {A B : Type 0} (f : A → B) (o : Option A) (xs : List A) → cons_option (option_map f o) (map f xs) ≡ map f (cons_option o xs)
-maybe_made f None xs = refl
-maybe_made f (Some a) xs = refl
-
--- what is made of all that is found
-pub made_of_found : {X A B : Type 0} (f : A → B) (h : X → Option A) (xs : List X) → filter_map (λ x. option_map f (h x)) xs ≡ map f (filter_map h xs)
-made_of_found f h [] = refl
-made_of_found f h (x ∷ xs) = ap (cons_option (option_map f (h x))) (made_of_found f h xs) ∙ maybe_made f (h x) (filter_map h xs)
-
 -- one of each thing that is found
 pub each_found : {X Y A : Type 0} (f : Y → A) (h : X → Option Y) (xs : List X) → flat_map (λ x. map f (option_to_list (h x))) xs ≡ map f (filter_map h xs)
 each_found f h xs = sym (mapped_each f (λ x. option_to_list (h x)) xs) ∙ ap (map f) (all_found h xs)

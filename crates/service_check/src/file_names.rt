@@ -1,21 +1,20 @@
-ghost use Rattle.std.specs.Prelude.{◌≡◌, ◌++◌, IfOk, OnOk, flat_map, is_some, map, option_map};
+ghost use Rattle.std.specs.Prelude.{◌≡◌, ◌++◌, IfOk, OnOk, flat_map, is_some, map};
 ghost use Rattle.std.specs.List.{list_any};
-ghost use Rattle.std.specs.Option.{option_to_list};
 ghost use Rattle.jolie_ast.specs.declared.interface.Interface.{Interface};
-ghost use Rattle.jolie_ast.specs.declared.service.Port.{Port};
 ghost use Rattle.jolie_ast.specs.declared.service.Service.{Service};
 ghost use Rattle.jolie_ast.specs.declared.types.TypeDefinition.{TypeDefinition};
 ghost use Rattle.service_check.specs.declared.refusal.CheckName.TheVariants.{DuplicateName};
-ghost use Rattle.service_check.specs.Files.{input_port_in, interface_in, interfaces_of, service_in, services_of, type_in, types_of};
+ghost use Rattle.service_check.specs.Files.{interfaces_of, service_in, services_of, types_of};
 ghost use Rattle.service_check.specs.Least.{joined, refused};
 ghost use Rattle.service_check.specs.Refusals.{locations_in, names_refused, no_service};
-ghost use Rattle.service_check.specs.Repeated.{as_name, repeated};
+ghost use Rattle.service_check.specs.Repeated.{repeated};
 
-use crate::definitions::service_in;
+use crate::clauses::input_port_in;
+use crate::definitions::{interface_in, service_in, type_in};
 use crate::least::Least;
 use crate::refusal::CheckName;
 use crate::repeated::{Mention, repeated_refused};
-use jolie_ast::{Clause, Definition, Service};
+use jolie_ast::{Definition, Service};
 use std::alloc::{AllocError, Global};
 
 /// A file without a service, at its beginning.
@@ -70,32 +69,11 @@ fn type_names(alloc: Global, file: &[Definition]) -> Result<Vec<Mention<'_>>, Al
 {
     let mut names = Vec::new(alloc);
     for definition in file {
-        add_found(type_name(definition), &mut names)?;
+        if let Some(ty) = type_in(definition) {
+            names.push(Mention::name(&ty.name))?;
+        }
     }
     Ok(names)
-}
-
-fn type_name(definition: &Definition) -> Option<Mention<'_>>
-    ensures { result ≡ option_map (λ (t : TypeDefinition). t.name) (type_in definition.now) }
-{
-    match definition {
-        Definition::Type(ty) => Some(Mention::name(&ty.name)),
-        Definition::Interface(_) => None,
-        Definition::Service(_) => None,
-    }
-}
-
-/// Adds a name, if there is one.
-fn add_found<'a>(found: Option<Mention<'a>>, names: &mut Vec<Mention<'a>>) -> Result<(), AllocError>
-    ensures { OnOk result (names.new.items ≡ names.old.items ++ option_to_list found.entry) }
-{
-    match found {
-        Some(name) => {
-            names.push(name)?;
-            Ok(())
-        }
-        None => Ok(()),
-    }
 }
 
 fn interface_names_refused(
@@ -114,19 +92,11 @@ fn interface_names(alloc: Global, file: &[Definition]) -> Result<Vec<Mention<'_>
 {
     let mut names = Vec::new(alloc);
     for definition in file {
-        add_found(interface_name(definition), &mut names)?;
+        if let Some(interface) = interface_in(definition) {
+            names.push(Mention::name(&interface.name))?;
+        }
     }
     Ok(names)
-}
-
-fn interface_name(definition: &Definition) -> Option<Mention<'_>>
-    ensures { result ≡ option_map (λ (i : Interface). i.name) (interface_in definition.now) }
-{
-    match definition {
-        Definition::Interface(interface) => Some(Mention::name(&interface.name)),
-        Definition::Type(_) => None,
-        Definition::Service(_) => None,
-    }
 }
 
 fn service_names_refused(
@@ -145,19 +115,11 @@ fn service_names(alloc: Global, file: &[Definition]) -> Result<Vec<Mention<'_>>,
 {
     let mut names = Vec::new(alloc);
     for definition in file {
-        add_found(service_name(definition), &mut names)?;
+        if let Some(service) = service_in(definition) {
+            names.push(Mention::name(&service.name))?;
+        }
     }
     Ok(names)
-}
-
-fn service_name(definition: &Definition) -> Option<Mention<'_>>
-    ensures { result ≡ option_map (λ (s : Service). s.name) (service_in definition.now) }
-{
-    match definition {
-        Definition::Service(service) => Some(Mention::name(&service.name)),
-        Definition::Type(_) => None,
-        Definition::Interface(_) => None,
-    }
 }
 
 fn locations_refused(
@@ -177,22 +139,11 @@ fn locations(alloc: Global, file: &[Definition]) -> Result<Vec<Mention<'_>>, All
 {
     let mut locations = Vec::new(alloc);
     for definition in file {
-        add_locations_of(definition, &mut locations)?;
+        if let Some(service) = service_in(definition) {
+            add_locations(service, &mut locations)?;
+        }
     }
     Ok(locations)
-}
-
-fn add_locations_of<'a>(
-    definition: &'a Definition,
-    locations: &mut Vec<Mention<'a>>,
-) -> Result<(), AllocError>
-    ensures { OnOk result (locations.new.items ≡ locations.old.items ++ flat_map locations_in (option_to_list (service_in definition.now))) }
-{
-    match definition {
-        Definition::Service(service) => add_locations(service, locations),
-        Definition::Type(_) => Ok(()),
-        Definition::Interface(_) => Ok(()),
-    }
 }
 
 fn add_locations<'a>(
@@ -202,20 +153,9 @@ fn add_locations<'a>(
     ensures { OnOk result (locations.new.items ≡ locations.old.items ++ locations_in service.now) }
 {
     for clause in service.clauses.as_slice() {
-        add_found(location(clause), locations)?;
+        if let Some(port) = input_port_in(clause) {
+            locations.push(Mention::quoted(&port.location))?;
+        }
     }
     Ok(())
-}
-
-fn location(clause: &Clause) -> Option<Mention<'_>>
-    ensures { result ≡ option_map (λ (p : Port). as_name p.location) (input_port_in clause.now) }
-{
-    match clause {
-        Clause::InputPort(port) => Some(Mention::quoted(&port.location)),
-        Clause::OutputPort(_) => None,
-        Clause::Execution { .. } => None,
-        Clause::CorrelationSet { .. } => None,
-        Clause::Init { .. } => None,
-        Clause::Main { .. } => None,
-    }
 }

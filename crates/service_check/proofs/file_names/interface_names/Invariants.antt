@@ -1,9 +1,8 @@
-use Rattle.std.proofs.Common.{◌≡◌, take, flat_map}
-use Rattle.std.specs.Prelude.{option_map}
-use Rattle.std.specs.Option.{option_to_list}
+use Rattle.std.proofs.Common.{◌≡◌, map, take}
+use Rattle.std.specs.List.{filter_map}
 use Rattle.jolie_ast.specs.declared.interface.Interface.{Interface}
 use Rattle.service_check.specs.Files.{interface_in}
 use Rattle.service_check.proofs.file_names.interface_names.Given as goal
 
 abbrev pub invariant-loop-definition : goal.invariant-loop-definition
-invariant-loop-definition l = l.names.items ≡ flat_map (λ d. option_to_list (option_map (λ (x : Interface). x.name) (interface_in d))) (take l.definition-index l.file)
+invariant-loop-definition l = l.names.items ≡ map (λ (i : Interface). i.name) (filter_map interface_in (take l.definition-index l.file))

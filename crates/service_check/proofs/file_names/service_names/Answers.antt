@@ -1,20 +1,14 @@
-use Rattle.std.proofs.Common.{[], ◌++◌, ap, ◌∙◌, arith, flat_map}
-use Rattle.std.specs.Prelude.{option_map}
-use Rattle.std.specs.Option.{option_to_list}
-use Rattle.std.proofs.lemmas.List.{take_all}
+use Rattle.std.proofs.Common.{[], append-nil, refl, sym}
 use Rattle.jolie_ast.specs.declared.service.Service.{Service}
-use Rattle.jolie_ast.specs.declared.tree.Definition.{Definition}
 use Rattle.service_check.specs.Files.{service_in}
-use Rattle.service_check.proofs.Loops.{adding_turn, all_found, made_of_found}
+use Rattle.service_check.proofs.Loops.{picked_maps}
 use Rattle.service_check.proofs.file_names.service_names.Goals as goal
+use Rattle.service_check.proofs.file_names.service_names.Goals.{in-Some+in_ok-push, in_default}
 
 pub loop-definition-preserved : goal.loop-definition-preserved
 loop-definition-preserved c =
-    adding_turn (λ d. option_to_list (option_map (λ (x : Service). x.name) (service_in d))) [] c.loop-definition.names.items c.add_found.new.names.items c.args.file.now c.loop-definition.definition-index c.definition-item.result c.loop-definition-test.true c.definition-item.is c.loop-definition.invariant (c.in_ok-add_found.ensures ∙ ap (λ o. c.loop-definition.names.items ++ option_to_list o) c.service_name.ensures)
-
-pub returns : goal.returns
-returns c =
-    c.loop-definition.invariant
-    ∙ ap (flat_map (λ d. option_to_list (option_map (λ (x : Service). x.name) (service_in d)))) (take_all c.loop-definition.definition-index c.args.file.now (omega arith))
-    ∙ all_found (λ (d : Definition). option_map (λ (x : Service). x.name) (service_in d)) c.args.file.now
-    ∙ made_of_found (λ (x : Service). x.name) service_in c.args.file.now
+    picked_maps (λ (s : Service). s.name) service_in [] c.loop-definition.names.items c.match-service_in.names.items c.args.file.now c.loop-definition.definition-index c.definition-item.result c.loop-definition-test.true c.definition-item.is c.loop-definition.invariant
+    (elim c.match-service_in.branch [
+      | in-Some+in_ok-push w ↦ rw (← c.service_in.ensures, w.in-Some.is, w.names-is, w.in_ok-push.ensures.items, w.name.ensures) refl
+      | in_default w ↦ rw (← c.service_in.ensures, w.in_default.is, w.names-is) (sym (append-nil c.loop-definition.names.items))
+    ])
