@@ -3,11 +3,9 @@ ghost use Rattle.std.specs.List.{list_any};
 ghost use Rattle.jolie_ast.specs.declared.interface.Interface.{Interface};
 ghost use Rattle.jolie_ast.specs.declared.service.Service.{Service};
 ghost use Rattle.jolie_ast.specs.declared.types.TypeDefinition.{TypeDefinition};
-ghost use Rattle.service_check.specs.declared.refusal.CheckName.TheVariants.{DuplicateName};
 ghost use Rattle.service_check.specs.Files.{interfaces_of, service_in, services_of, types_of};
-ghost use Rattle.service_check.specs.Least.{joined, refused};
+ghost use Rattle.service_check.specs.Least.{joined};
 ghost use Rattle.service_check.specs.Refusals.{locations_in, names_refused, no_service};
-ghost use Rattle.service_check.specs.Repeated.{repeated};
 
 use crate::clauses::input_port_in;
 use crate::definitions::{interface_in, service_in, type_in};
@@ -47,21 +45,14 @@ pub fn names_refused(
 ) -> Result<(), AllocError>
     ensures { OnOk result (least.new ≡ joined least.old (names_refused file.now)) }
 {
-    type_names_refused(alloc, file, least)?;
-    interface_names_refused(alloc, file, least)?;
-    service_names_refused(alloc, file, least)?;
-    locations_refused(alloc, file, least)
-}
-
-fn type_names_refused(
-    alloc: Global,
-    file: &[Definition],
-    least: &mut Least,
-) -> Result<(), AllocError>
-    ensures { OnOk result (least.new ≡ joined least.old (refused DuplicateName (repeated (map (λ (t : TypeDefinition). t.name) (types_of file.now))))) }
-{
-    let names = type_names(alloc, file)?;
-    repeated_refused(alloc, names.as_slice(), least)
+    let types = type_names(alloc, file)?;
+    repeated_refused(alloc, types.as_slice(), least)?;
+    let interfaces = interface_names(alloc, file)?;
+    repeated_refused(alloc, interfaces.as_slice(), least)?;
+    let services = service_names(alloc, file)?;
+    repeated_refused(alloc, services.as_slice(), least)?;
+    let locations = locations(alloc, file)?;
+    repeated_refused(alloc, locations.as_slice(), least)
 }
 
 fn type_names(alloc: Global, file: &[Definition]) -> Result<Vec<Mention<'_>>, AllocError>
@@ -76,17 +67,6 @@ fn type_names(alloc: Global, file: &[Definition]) -> Result<Vec<Mention<'_>>, Al
     Ok(names)
 }
 
-fn interface_names_refused(
-    alloc: Global,
-    file: &[Definition],
-    least: &mut Least,
-) -> Result<(), AllocError>
-    ensures { OnOk result (least.new ≡ joined least.old (refused DuplicateName (repeated (map (λ (i : Interface). i.name) (interfaces_of file.now))))) }
-{
-    let names = interface_names(alloc, file)?;
-    repeated_refused(alloc, names.as_slice(), least)
-}
-
 fn interface_names(alloc: Global, file: &[Definition]) -> Result<Vec<Mention<'_>>, AllocError>
     ensures { IfOk result (λ names. names.items ≡ map (λ (i : Interface). i.name) (interfaces_of file.now)) }
 {
@@ -99,17 +79,6 @@ fn interface_names(alloc: Global, file: &[Definition]) -> Result<Vec<Mention<'_>
     Ok(names)
 }
 
-fn service_names_refused(
-    alloc: Global,
-    file: &[Definition],
-    least: &mut Least,
-) -> Result<(), AllocError>
-    ensures { OnOk result (least.new ≡ joined least.old (refused DuplicateName (repeated (map (λ (s : Service). s.name) (services_of file.now))))) }
-{
-    let names = service_names(alloc, file)?;
-    repeated_refused(alloc, names.as_slice(), least)
-}
-
 fn service_names(alloc: Global, file: &[Definition]) -> Result<Vec<Mention<'_>>, AllocError>
     ensures { IfOk result (λ names. names.items ≡ map (λ (s : Service). s.name) (services_of file.now)) }
 {
@@ -120,17 +89,6 @@ fn service_names(alloc: Global, file: &[Definition]) -> Result<Vec<Mention<'_>>,
         }
     }
     Ok(names)
-}
-
-fn locations_refused(
-    alloc: Global,
-    file: &[Definition],
-    least: &mut Least,
-) -> Result<(), AllocError>
-    ensures { OnOk result (least.new ≡ joined least.old (refused DuplicateName (repeated (flat_map locations_in (services_of file.now))))) }
-{
-    let locations = locations(alloc, file)?;
-    repeated_refused(alloc, locations.as_slice(), least)
 }
 
 /// The locations of the input ports of a file.
