@@ -68,11 +68,10 @@ pub fn set_in(clause: &Clause) -> Option<&[CorrelationVariable]>
 pub fn is_concurrent(service: &Service) -> bool
     ensures { result ≡ is_concurrent (execution_of service.now) }
 {
-    match said_execution(service.clauses.as_slice()) {
-        Some(Execution::Concurrent) => true,
-        Some(Execution::Single) => false,
-        None => false,
-    }
+    matches!(
+        said_execution(service.clauses.as_slice()),
+        Some(Execution::Concurrent)
+    )
 }
 
 /// How the sessions of a service are run, if it is said.
