@@ -15,10 +15,7 @@ pub fn port_in(clause: &Clause) -> Option<&Port>
     match clause {
         Clause::InputPort(port) => Some(port),
         Clause::OutputPort(port) => Some(port),
-        Clause::Execution { .. } => None,
-        Clause::CorrelationSet { .. } => None,
-        Clause::Init { .. } => None,
-        Clause::Main { .. } => None,
+        _ => None,
     }
 }
 
@@ -28,11 +25,7 @@ pub fn input_port_in(clause: &Clause) -> Option<&Port>
 {
     match clause {
         Clause::InputPort(port) => Some(port),
-        Clause::OutputPort(_) => None,
-        Clause::Execution { .. } => None,
-        Clause::CorrelationSet { .. } => None,
-        Clause::Init { .. } => None,
-        Clause::Main { .. } => None,
+        _ => None,
     }
 }
 
@@ -41,12 +34,8 @@ pub fn output_port_in(clause: &Clause) -> Option<&Port>
     ensures { option_copied result ≡ output_port_in clause.now }
 {
     match clause {
-        Clause::InputPort(_) => None,
         Clause::OutputPort(port) => Some(port),
-        Clause::Execution { .. } => None,
-        Clause::CorrelationSet { .. } => None,
-        Clause::Init { .. } => None,
-        Clause::Main { .. } => None,
+        _ => None,
     }
 }
 
@@ -55,12 +44,8 @@ pub fn set_in(clause: &Clause) -> Option<&[CorrelationVariable]>
     ensures { option_copied result ≡ set_in clause.now }
 {
     match clause {
-        Clause::InputPort(_) => None,
-        Clause::OutputPort(_) => None,
-        Clause::Execution { .. } => None,
         Clause::CorrelationSet { variables, .. } => Some(variables.as_slice()),
-        Clause::Init { .. } => None,
-        Clause::Main { .. } => None,
+        _ => None,
     }
 }
 
@@ -91,12 +76,8 @@ fn execution_in(clause: &Clause) -> Option<Execution>
     ensures { result ≡ execution_in clause.now }
 {
     match clause {
-        Clause::InputPort(_) => None,
-        Clause::OutputPort(_) => None,
         Clause::Execution { execution, .. } => Some(*execution),
-        Clause::CorrelationSet { .. } => None,
-        Clause::Init { .. } => None,
-        Clause::Main { .. } => None,
+        _ => None,
     }
 }
 

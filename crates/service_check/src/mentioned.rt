@@ -126,10 +126,7 @@ fn clause_names<'a>(clause: &'a Clause, names: &mut Names<'a>) -> Result<(), All
     match clause {
         Clause::Init { body, .. } => block_names(body, names),
         Clause::Main { body, .. } => block_names(body, names),
-        Clause::Execution { .. } => Ok(()),
-        Clause::InputPort(_) => Ok(()),
-        Clause::OutputPort(_) => Ok(()),
-        Clause::CorrelationSet { .. } => Ok(()),
+        _ => Ok(()),
     }
 }
 

@@ -135,10 +135,7 @@ fn clause_refused(
             Ok(())
         }
         Clause::Main { body, .. } => block_refused(body, false, alloc, surroundings, least),
-        Clause::Execution { .. } => Ok(()),
-        Clause::InputPort(_) => Ok(()),
-        Clause::OutputPort(_) => Ok(()),
-        Clause::CorrelationSet { .. } => Ok(()),
+        _ => Ok(()),
     }
 }
 

@@ -379,16 +379,7 @@ fn sets_of_single(is_concurrent: bool, clauses: &[Clause], least: &mut Least)
 fn set_of_single(is_concurrent: bool, clause: &Clause, least: &mut Least)
     ensures { least.new ≡ joined least.old (set_of_single is_concurrent clause.now) }
 {
-    match clause {
-        Clause::CorrelationSet { at, .. } => least.offer_if(
-            !is_concurrent,
-            CheckName::WrongKind,
-            *at,
-        ),
-        Clause::InputPort(_) => {}
-        Clause::OutputPort(_) => {}
-        Clause::Execution { .. } => {}
-        Clause::Init { .. } => {}
-        Clause::Main { .. } => {}
+    if let Clause::CorrelationSet { at, .. } = clause {
+        least.offer_if(!is_concurrent, CheckName::WrongKind, *at);
     }
 }

@@ -39,9 +39,6 @@ fn add_port<'a>(clause: &'a Clause, ports: &mut Vec<SidedPort<'a>>) -> Result<()
             ports.push(SidedPort { input: false, port })?;
             Ok(())
         }
-        Clause::Execution { .. } => Ok(()),
-        Clause::CorrelationSet { .. } => Ok(()),
-        Clause::Init { .. } => Ok(()),
-        Clause::Main { .. } => Ok(()),
+        _ => Ok(()),
     }
 }
