@@ -1,5 +1,5 @@
 -- The faults and scopes of a file, in the order of the text.
-use Rattle.std.specs.Prelude.{ℕ, List, [], ◌∷◌, ◌++◌, map, flat_map, codes, if◌then◌else◌, Option, None, Some, unwrap_or}
+use Rattle.std.specs.Prelude.{ℕ, List, [], ◌∷◌, ◌++◌, map, flat_map, if◌then◌else◌, Option, None, Some, unwrap_or}
 use Rattle.jolie_ast.specs.declared.interface.Fault.{Fault}
 use Rattle.jolie_ast.specs.declared.service.Clause.{Clause}
 use Rattle.jolie_ast.specs.declared.service.Clause.TheVariants as clause
@@ -19,6 +19,7 @@ use Rattle.jolie_ast.specs.declared.process.Otherwise.{Otherwise}
 use Rattle.jolie_ast.specs.declared.process.Process.{Process}
 use Rattle.jolie_ast.specs.declared.process.Reply.{Reply}
 use Rattle.behaviour_tree.specs.Distinct.{is_in}
+use Rattle.behaviour_tree.specs.WellFormed.{standard_names}
 use Rattle.service_check.specs.Repeated.{firsts}
 use Rattle.service_check.specs.Files.{Operation, operations_in}
 
@@ -178,9 +179,7 @@ with_texts texts (t ∷ ts) = with_texts (with_text texts t) ts
 
 -- the standard faults and main, by which the names begin
 unfoldable pub standard : Texts
-standard =
-    codes "IOException" ∷ codes "TypeMismatch" ∷ codes "CorrelationError" ∷ codes "Refused" ∷ codes "UndeclaredFault"
-    ∷ codes "ExprFault" ∷ codes "HandlerTooLarge" ∷ codes "StoreTooLarge" ∷ codes "main" ∷ []
+standard = standard_names
 
 -- the names of a file: the standard ones, and then each other once, in the order of the text
 unfoldable pub names_of : List Definition → Texts
