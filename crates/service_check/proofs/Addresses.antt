@@ -1,24 +1,19 @@
 -- Laws of the bytes of locations.
-use Rattle.std.proofs.Common.{◌≡◌, ℕ, suc, ◌+◌, ◌*◌, ◌-◌, ◌^◌, ◌<◌, ◌≤◌, Bool, true, false, cond, List, [], ◌∷◌, ◌++◌, length, take, drop, get_or, min, refl, ap, sym, ◌∙◌, subst, arith, Option, Some, None, Bor, eqb, eq-eqb, MatchOption}
+use Rattle.std.proofs.Common.{◌≡◌, ℕ, suc, ◌+◌, ◌*◌, ◌-◌, ◌^◌, ◌<◌, Bool, true, false, cond, List, [], ◌∷◌, ◌++◌, length, take, drop, get_or, min, refl, ap, sym, ◌∙◌, arith, Option, Some, None, Bor, eqb, eq-eqb, MatchOption}
 use Rattle.std.proofs.Common.{eqb-true}
 use Rattle.std.specs.Prelude.{◌&&◌, if◌then◌else◌, nat_le}
 use Rattle.std.specs.Option.{option_copied}
-use Rattle.std.specs.List.{prefix_len, AllPass, list_all}
+use Rattle.std.specs.List.{prefix_len, list_all}
 use Rattle.std.specs.Char.{digit_value}
 use Rattle.std.specs.Str.Parse.{digits_value}
 use Rattle.std.specs.Str.Pattern.{FindsTextPrefix, StripsPrefix}
 use Rattle.std.proofs.lemmas.Bool.Decides.{nat_tests}
 use Rattle.std.proofs.lemmas.Int.Digits.{digits_value_more}
 use Rattle.std.proofs.lemmas.Str.{digit_value_digit}
-use Rattle.std.proofs.lemmas.List.Sums.{prefix_len_is}
-use Rattle.std.proofs.lemmas.List.Elements.{All-nil, All-cons}
+pub use Rattle.jolie_tokens.proofs.Runs.{run_is, run_passes}
 use Rattle.behaviour_tree.specs.Locations.{behind, front, back, all_are, is_digit}
 
 -- ---- fronts
-
--- bytes that pass up to one that fails are the longest front that passes
-pub run_is : (p : ℕ → Bool) (bs : List ℕ) (n : ℕ) → n ≤ length bs → ((k : ℕ) → k < n → p (get_or bs k 0) ≡ true) → (n < length bs → p (get_or bs n 0) ≡ false) → prefix_len p bs ≡ n
-run_is p bs n le all stop = prefix_len_is p bs n 0 le all stop
 
 one_more : (n : ℕ) → suc n ≡ 1 + n
 one_more n = omega arith
@@ -40,15 +35,6 @@ back_more p b bs false e = refl
 pub back_is : (p : ℕ → Bool) (bs : List ℕ) → back p bs ≡ drop (prefix_len p bs) bs
 back_is p [] = refl
 back_is p (b ∷ bs) = back_more p b bs (p b) (back_is p bs)
-
-passes_on : (p : ℕ → Bool) (b : ℕ) (bs : List ℕ) → AllPass p (take (prefix_len p bs) bs) → (c : Bool) → p b ≡ c → AllPass p (take (cond c (1 + prefix_len p bs) 0) (b ∷ bs))
-passes_on p b bs h true e = subst (λ n. AllPass p (take n (b ∷ bs))) (one_more (prefix_len p bs)) (All-cons (λ x. p x ≡ true) b (take (prefix_len p bs) bs) e h)
-passes_on p b bs h false e = All-nil (λ x. p x ≡ true)
-
--- each byte of the longest front that passes does pass
-pub front_passes : (p : ℕ → Bool) (bs : List ℕ) → AllPass p (take (prefix_len p bs) bs)
-front_passes p [] = All-nil (λ x. p x ≡ true)
-front_passes p (b ∷ bs) = passes_on p b bs (front_passes p bs) (p b) refl
 
 -- every byte passes
 pub all_are_is : (p : ℕ → Bool) (bs : List ℕ) → all_are p bs ≡ list_all p bs

@@ -80,7 +80,7 @@ fn is_colon_and_port(text: &[u8]) -> bool
     }
 }
 
-#[tactic(auto, using(crate::proofs::Addresses::front_is, crate::proofs::Addresses::back_is, crate::proofs::Addresses::front_passes))]
+#[tactic(auto, using(crate::proofs::Addresses::front_is, crate::proofs::Addresses::back_is, crate::proofs::Addresses::run_passes))]
 fn is_port_and_path(text: &[u8]) -> bool
     ensures { result ≡ spec.is_port_and_path text.now }
 {
