@@ -23,10 +23,10 @@ pub const MAIN: u32 = 8;
 const UNKEPT: u32 = 2;
 
 /// Whether nothing is left to do.
-pub fn is_finished(t: &Term) -> bool
-    ensures { result ≡ spec.is_finished (term_view t.now) }
+pub fn is_finished(term: &Term) -> bool
+    ensures { result ≡ spec.is_finished (term_view term.now) }
 {
-    match t {
+    match term {
         Term::Done => true,
         Term::Scope { name, body, state } => {
             body.is_done() && *state == ScopeState::Live && *name == MAIN
@@ -36,11 +36,11 @@ pub fn is_finished(t: &Term) -> bool
     }
 }
 
-/// A moment whose form became `t`, in normal form.
-fn with_form(moment: &Moment, store: Tree, t: Term, next: u64) -> Result<Moment, AllocError>
-    ensures { IfOk result (λ m. moment_view m ≡ spec.with_form (record (moment_view moment.now) { store = store }) (term_view t) next) }
+/// A moment with another form, once that is in normal form.
+fn with_form(moment: &Moment, store: Tree, form: Term, next: u64) -> Result<Moment, AllocError>
+    ensures { IfOk result (λ m. moment_view m ≡ spec.with_form (record (moment_view moment.now) { store = store }) (term_view form) next) }
 {
-    let Begun { form, next } = normal(moment.alloc, t, next)?;
+    let Begun { form, next } = normal(moment.alloc, form, next)?;
     Ok(Moment {
         alloc: moment.alloc,
         form,
@@ -52,10 +52,10 @@ fn with_form(moment: &Moment, store: Tree, t: Term, next: u64) -> Result<Moment,
 }
 
 /// Strand 0 finishes a session that has nothing left to do.
-fn finishes(moment: &Moment, n: u64, given: &Given) -> Result<Option<Done>, AllocError>
-    ensures { IfOk result (λ d. option_map done_view d ≡ spec.finishes (moment_view moment.now) n given.now) }
+fn finishes(moment: &Moment, strand: u64, given: &Given) -> Result<Option<Done>, AllocError>
+    ensures { IfOk result (λ d. option_map done_view d ≡ spec.finishes (moment_view moment.now) strand given.now) }
 {
-    if n != 0 || !matches!(given, Given::Nothing) {
+    if strand != 0 || !matches!(given, Given::Nothing) {
         return Ok(None);
     }
     Ok(Some(Done {
@@ -79,14 +79,21 @@ fn finishes(moment: &Moment, n: u64, given: &Given) -> Result<Option<Done>, Allo
 }
 
 /// A fault is carried as far as it comes.
-fn raised(moment: &Moment, n: u64, fault: &Fault) -> Result<Option<Done>, AllocError>
-    ensures { IfOk result (λ d. option_map done_view d ≡ spec.raised (moment_view moment.now) n fault.now.name (throw 0 (term_view moment.now.form) n fault.now.name fault.now.value)) }
+fn raised(moment: &Moment, strand: u64, fault: &Fault) -> Result<Option<Done>, AllocError>
+    ensures { IfOk result (λ d. option_map done_view d ≡ spec.raised (moment_view moment.now) strand fault.now.name (throw 0 (term_view moment.now.form) strand fault.now.name fault.now.value)) }
 {
-    match thrown(moment.alloc, 0, &moment.form, n, fault.name, &fault.value)? {
-        Carried::Up(t) => Ok(Some(Done {
-            moment: with_form(moment, moment.store.copied()?, t, moment.next)?,
+    match thrown(
+        moment.alloc,
+        0,
+        &moment.form,
+        strand,
+        fault.name,
+        &fault.value,
+    )? {
+        Carried::Up(form) => Ok(Some(Done {
+            moment: with_form(moment, moment.store.copied()?, form, moment.next)?,
             event: Event {
-                strand: n,
+                strand,
                 kind: Kind::Raise,
                 number: UNKEPT,
                 place: MAIN,
@@ -99,31 +106,31 @@ fn raised(moment: &Moment, n: u64, fault: &Fault) -> Result<Option<Done>, AllocE
     }
 }
 
-/// The event of strand `n` for a gift, or none.
+/// The event of a strand for a gift, or none.
 pub fn after(
     program: &Program,
     service: u32,
     moment: &Moment,
-    n: u64,
+    strand: u64,
     given: &Given,
 ) -> Result<Option<Done>, AllocError>
-    ensures { IfOk result (λ d. option_map done_view d ≡ spec.after (parts_of program.now) service (moment_view moment.now) n given.now) }
+    ensures { IfOk result (λ d. option_map done_view d ≡ spec.after (parts_of program.now) service (moment_view moment.now) strand given.now) }
 {
     if moment.ended {
         return Ok(None);
     }
     if is_finished(&moment.form) {
-        return finishes(moment, n, given);
+        return finishes(moment, strand, given);
     }
-    match fault_in(moment.alloc, &moment.store, n, 0, &moment.form)? {
+    match fault_in(moment.alloc, &moment.store, strand, 0, &moment.form)? {
         Some(fault) => {
             if matches!(given, Given::Nothing) {
-                raised(moment, n, &fault)
+                raised(moment, strand, &fault)
             } else {
                 Ok(None)
             }
         }
-        None => match moved(program, service, moment, n, given, 0, &moment.form)? {
+        None => match moved(program, service, moment, strand, given, 0, &moment.form)? {
             None => Ok(None),
             Some(Move { form, made }) => Ok(Some(Done {
                 moment: with_form(moment, made.store, form, made.next)?,

@@ -183,19 +183,19 @@ fn comes_to_branch(
 /// A message comes to the first branch of its operation.
 pub fn comes(
     moment: &Moment,
-    n: u64,
+    strand: u64,
     message: u32,
     op: u32,
     value: &Tree,
     list: &[Branch],
 ) -> Result<Option<Move>, AllocError>
-    ensures { IfOk result (λ m. option_map move_view m ≡ spec.comes n message op value.now (spec.ops_of (branches_of (map branch_view list.now))) moment.now.next moment.now.store 0 (branches_of (map branch_view list.now))) }
+    ensures { IfOk result (λ m. option_map move_view m ≡ spec.comes strand message op value.now (spec.ops_of (branches_of (map branch_view list.now))) moment.now.next moment.now.store 0 (branches_of (map branch_view list.now))) }
 {
     for i in 0..list.len() {
         let branch = &list[i];
         if branch.op == op {
             let arrival = Arrival {
-                strand: n,
+                strand,
                 message,
                 op,
                 place: u32::try_from(i).map_err(|_| AllocError)?,

@@ -89,14 +89,14 @@ fn placed_value(
     alloc: Global,
     store: &Tree,
     path: &PathExpr,
-    e: &Expr,
+    expr: &Expr,
 ) -> Result<Option<Placed>, AllocError>
-    ensures { IfOk result (λ p. option_map placed_view p ≡ together (values.steps_of store.now (path_view path.now)) (values.value store.now (expr_view e.now))) }
+    ensures { IfOk result (λ p. option_map placed_view p ≡ together (values.steps_of store.now (path_view path.now)) (values.value store.now (expr_view expr.now))) }
 {
     let Some(path) = steps_of(alloc, path, store)? else {
         return Ok(None);
     };
-    match value(alloc, e, store)? {
+    match value(alloc, expr, store)? {
         None => Ok(None),
         Some(value) => Ok(Some(Placed { path, value })),
     }
@@ -108,11 +108,11 @@ pub fn effect_of(
     alloc: Global,
     store: &Tree,
     path: &PathExpr,
-    e: &Expr,
+    expr: &Expr,
 ) -> Result<Effect, AllocError>
-    ensures { IfOk result (λ f. effect_view f ≡ spec.effect_of store.now (path_view path.now) (expr_view e.now)) }
+    ensures { IfOk result (λ f. effect_view f ≡ spec.effect_of store.now (path_view path.now) (expr_view expr.now)) }
 {
-    match placed_value(alloc, store, path, e)? {
+    match placed_value(alloc, store, path, expr)? {
         None => Ok(Effect::Faults(EXPR_FAULT)),
         Some(Placed { path, value }) => with_root(store, &path, value.root().copied()?),
     }
@@ -124,11 +124,11 @@ pub fn effect_of_copy(
     alloc: Global,
     store: &Tree,
     path: &PathExpr,
-    e: &Expr,
+    expr: &Expr,
 ) -> Result<Effect, AllocError>
-    ensures { IfOk result (λ f. effect_view f ≡ spec.copied store.now (path_view path.now) (expr_view e.now)) }
+    ensures { IfOk result (λ f. effect_view f ≡ spec.copied store.now (path_view path.now) (expr_view expr.now)) }
 {
-    match placed_value(alloc, store, path, e)? {
+    match placed_value(alloc, store, path, expr)? {
         None => Ok(Effect::Faults(EXPR_FAULT)),
         Some(Placed { path, value }) => with_tree(store, &path, value),
     }

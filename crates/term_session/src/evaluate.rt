@@ -18,10 +18,10 @@ pub fn tree_at(alloc: Global, store: &Tree, path: &Path) -> Result<Tree, AllocEr
 }
 
 /// The value of an expression, or none where it faults.
-pub fn value(alloc: Global, e: &Expr, store: &Tree) -> Result<Option<Tree>, AllocError>
-    ensures { IfOk result (λ v. v ≡ spec.value store.now (expr_view e.now)) }
+pub fn value(alloc: Global, expr: &Expr, store: &Tree) -> Result<Option<Tree>, AllocError>
+    ensures { IfOk result (λ v. v ≡ spec.value store.now (expr_view expr.now)) }
 {
-    match eval(alloc, store, e) {
+    match eval(alloc, store, expr) {
         Ok(value) => Ok(Some(value)),
         Err(EvalError::ExprFault) => Ok(None),
         Err(EvalError::Memory(error)) => Err(error),

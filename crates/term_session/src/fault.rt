@@ -31,10 +31,10 @@ fn fault_of_effect(alloc: Global, effect: Effect) -> Option<Fault>
 }
 
 /// The fault of a form that acts, where it has one.
-fn fault_of(alloc: Global, store: &Tree, p: &Behaviour) -> Result<Option<Fault>, AllocError>
-    ensures { IfOk result (λ f. option_map fault_view f ≡ spec.fault_of store.now (behaviour_view p.now)) }
+fn fault_of(alloc: Global, store: &Tree, behaviour: &Behaviour) -> Result<Option<Fault>, AllocError>
+    ensures { IfOk result (λ f. option_map fault_view f ≡ spec.fault_of store.now (behaviour_view behaviour.now)) }
 {
-    match p {
+    match behaviour {
         Behaviour::Assign { path, value } => {
             let effect = effect_of(alloc, store, path, value)?;
             Ok(fault_of_effect(alloc, effect))
@@ -51,26 +51,26 @@ fn fault_of(alloc: Global, store: &Tree, p: &Behaviour) -> Result<Option<Fault>,
     }
 }
 
-/// The fault of strand `n` in a form that runs in strand `s`.
+/// The fault of a strand in a form whose own strand is `own`.
 pub fn fault_in(
     alloc: Global,
     store: &Tree,
-    n: u64,
-    s: u64,
-    t: &Term,
+    strand: u64,
+    own: u64,
+    term: &Term,
 ) -> Result<Option<Fault>, AllocError>
-    ensures { IfOk result (λ f. option_map fault_view f ≡ spec.fault_in store.now n s (term_view t.now)) }
+    ensures { IfOk result (λ f. option_map fault_view f ≡ spec.fault_in store.now strand own (term_view term.now)) }
 {
-    match t {
-        Term::Place(p) => {
-            if s == n {
-                fault_of(alloc, store, p)
+    match term {
+        Term::Place(behaviour) => {
+            if own == strand {
+                fault_of(alloc, store, behaviour)
             } else {
                 Ok(None)
             }
         }
         Term::Thrown { fault, value } => {
-            if s == n {
+            if own == strand {
                 Ok(Some(Fault {
                     name: *fault,
                     value: value.copied()?,
@@ -79,10 +79,10 @@ pub fn fault_in(
                 Ok(None)
             }
         }
-        Term::Seq(head, _) => fault_in(alloc, store, n, s, head),
-        Term::Scope { body, .. } => fault_in(alloc, store, n, s, body),
-        Term::Exec { body, .. } => fault_in(alloc, store, n, s, body),
-        Term::Prot(body) => fault_in(alloc, store, n, s, body),
+        Term::Seq(head, _) => fault_in(alloc, store, strand, own, head),
+        Term::Scope { body, .. } => fault_in(alloc, store, strand, own, body),
+        Term::Exec { body, .. } => fault_in(alloc, store, strand, own, body),
+        Term::Prot(body) => fault_in(alloc, store, strand, own, body),
         Term::Done => Ok(None),
         Term::Fail { .. } => Ok(None),
     }

@@ -14,8 +14,8 @@ use behaviour_tree::{Behaviour, Event, Given, Kind, Need, Outcome, Program};
 use std::alloc::AllocError;
 
 /// An action on the store without a fault.
-fn acts_on_store(moment: &Moment, n: u64, effect: Effect) -> Option<Move>
-    ensures { option_map move_view result ≡ spec.acts_on_store n moment.now.next (effect_view effect) }
+fn acts_on_store(moment: &Moment, strand: u64, effect: Effect) -> Option<Move>
+    ensures { option_map move_view result ≡ spec.acts_on_store strand moment.now.next (effect_view effect) }
 {
     match effect {
         Effect::Faults(_) => None,
@@ -25,7 +25,7 @@ fn acts_on_store(moment: &Moment, n: u64, effect: Effect) -> Option<Move>
                 store,
                 next: moment.next,
                 event: Event {
-                    strand: n,
+                    strand,
                     kind: Kind::Local,
                     number: 0,
                     place: 0,
@@ -38,24 +38,29 @@ fn acts_on_store(moment: &Moment, n: u64, effect: Effect) -> Option<Move>
 }
 
 /// The event of a form without a fault, for a gift.
-fn act(moment: &Moment, n: u64, given: &Given, p: &Behaviour) -> Result<Option<Move>, AllocError>
-    ensures { IfOk result (λ m. option_map move_view m ≡ spec.act n given.now moment.now.store moment.now.next (behaviour_view p.now)) }
+fn act(
+    moment: &Moment,
+    strand: u64,
+    given: &Given,
+    behaviour: &Behaviour,
+) -> Result<Option<Move>, AllocError>
+    ensures { IfOk result (λ m. option_map move_view m ≡ spec.act strand given.now moment.now.store moment.now.next (behaviour_view behaviour.now)) }
 {
-    match (given, p) {
+    match (given, behaviour) {
         (Given::Nothing, Behaviour::Assign { path, value }) => {
             let effect = effect_of(moment.alloc, &moment.store, path, value)?;
-            Ok(acts_on_store(moment, n, effect))
+            Ok(acts_on_store(moment, strand, effect))
         }
         (Given::Nothing, Behaviour::Copy { path, value }) => {
             let effect = effect_of_copy(moment.alloc, &moment.store, path, value)?;
-            Ok(acts_on_store(moment, n, effect))
+            Ok(acts_on_store(moment, strand, effect))
         }
         (Given::Nothing, Behaviour::Undef { path }) => {
             let effect = effect_of_undef(moment.alloc, &moment.store, path)?;
-            Ok(acts_on_store(moment, n, effect))
+            Ok(acts_on_store(moment, strand, effect))
         }
         (Given::Mail { message, op, value }, Behaviour::Choice(list)) => {
-            comes(moment, n, *message, *op, value, list)
+            comes(moment, strand, *message, *op, value, list)
         }
         _ => Ok(None),
     }
@@ -64,12 +69,12 @@ fn act(moment: &Moment, n: u64, given: &Given, p: &Behaviour) -> Result<Option<M
 /// The move that answers a request.
 fn replies(
     moment: &Moment,
-    n: u64,
+    strand: u64,
     message: u32,
     outcome: Outcome,
     form: Term,
 ) -> Result<Move, AllocError>
-    ensures { IfOk result (λ m. move_view m ≡ spec.replies n message outcome (term_view form) moment.now.store moment.now.next) }
+    ensures { IfOk result (λ m. move_view m ≡ spec.replies strand message outcome (term_view form) moment.now.store moment.now.next) }
 {
     Ok(Move {
         form,
@@ -77,7 +82,7 @@ fn replies(
             store: moment.store.copied()?,
             next: moment.next,
             event: Event {
-                strand: n,
+                strand,
                 kind: Kind::Reply,
                 number: message,
                 place: 0,
@@ -88,27 +93,27 @@ fn replies(
     })
 }
 
-/// The event of strand `n`, for a gift, in a form without a fault that runs in strand `s`.
+/// The event of a strand, for a gift, in a form without a fault whose own strand is `own`.
 pub fn moved(
     program: &Program,
     service: u32,
     moment: &Moment,
-    n: u64,
+    strand: u64,
     given: &Given,
-    s: u64,
-    t: &Term,
+    own: u64,
+    term: &Term,
 ) -> Result<Option<Move>, AllocError>
-    ensures { IfOk result (λ m. option_map move_view m ≡ spec.moves (parts_of program.now) service n given.now moment.now.store moment.now.next s (term_view t.now)) }
+    ensures { IfOk result (λ m. option_map move_view m ≡ spec.moves (parts_of program.now) service strand given.now moment.now.store moment.now.next own (term_view term.now)) }
 {
-    match t {
-        Term::Place(p) => {
-            if s == n {
-                act(moment, n, given, p)
+    match term {
+        Term::Place(behaviour) => {
+            if own == strand {
+                act(moment, strand, given, behaviour)
             } else {
                 Ok(None)
             }
         }
-        Term::Seq(head, rest) => match moved(program, service, moment, n, given, s, head)? {
+        Term::Seq(head, rest) => match moved(program, service, moment, strand, given, own, head)? {
             None => Ok(None),
             Some(Move { form, made }) => Ok(Some(Move {
                 form: Term::Seq(Box::new(moment.alloc, form)?, rest.again()?),
@@ -116,7 +121,7 @@ pub fn moved(
             })),
         },
         Term::Scope { name, body, state } => {
-            match moved(program, service, moment, n, given, s, body)? {
+            match moved(program, service, moment, strand, given, own, body)? {
                 None => Ok(None),
                 Some(Move { form, made }) => Ok(Some(Move {
                     form: Term::Scope {
@@ -135,13 +140,13 @@ pub fn moved(
             body,
         } => {
             if body.is_done() {
-                if s != n || !matches!(given, Given::Nothing) {
+                if own != strand || !matches!(given, Given::Nothing) {
                     return Ok(None);
                 }
                 let outcome = reply_of(moment.alloc, program, service, *op, path, &moment.store)?;
-                return Ok(Some(replies(moment, n, *message, outcome, Term::Done)?));
+                return Ok(Some(replies(moment, strand, *message, outcome, Term::Done)?));
             }
-            match moved(program, service, moment, n, given, s, body)? {
+            match moved(program, service, moment, strand, given, own, body)? {
                 None => Ok(None),
                 Some(Move { form, made }) => Ok(Some(Move {
                     form: Term::Exec {
@@ -160,14 +165,14 @@ pub fn moved(
             value,
             body,
         } => {
-            if s != n || !matches!(given, Given::Nothing) {
+            if own != strand || !matches!(given, Given::Nothing) {
                 return Ok(None);
             }
             let outcome = fault_outcome(moment.alloc, program, *fault, value.copied()?)?;
             let body = body.copied(moment.alloc)?;
-            Ok(Some(replies(moment, n, *message, outcome, body)?))
+            Ok(Some(replies(moment, strand, *message, outcome, body)?))
         }
-        Term::Prot(body) => match moved(program, service, moment, n, given, s, body)? {
+        Term::Prot(body) => match moved(program, service, moment, strand, given, own, body)? {
             None => Ok(None),
             Some(Move { form, made }) => Ok(Some(Move {
                 form: Term::Prot(Box::new(moment.alloc, form)?),

@@ -24,57 +24,57 @@ fn awaited_by(alloc: Global, store: &Tree, place: &Behaviour) -> Result<Option<N
     }
 }
 
-/// The operations that strand `n` waits for a message of, in a form that runs in strand `s`.
+/// The operations that a strand waits for a message of, in a form whose own strand is `own`.
 fn awaited(
     alloc: Global,
     store: &Tree,
-    n: u64,
-    s: u64,
-    t: &Term,
+    strand: u64,
+    own: u64,
+    term: &Term,
 ) -> Result<Option<Numbers>, AllocError>
-    ensures { IfOk result (λ ops. ops ≡ spec.awaited store.now n s (term_view t.now)) }
+    ensures { IfOk result (λ ops. ops ≡ spec.awaited store.now strand own (term_view term.now)) }
 {
-    match t {
+    match term {
         Term::Place(place) => {
-            if s == n {
+            if own == strand {
                 awaited_by(alloc, store, place)
             } else {
                 Ok(None)
             }
         }
-        Term::Seq(head, _) => awaited(alloc, store, n, s, head),
-        Term::Scope { body, .. } => awaited(alloc, store, n, s, body),
-        Term::Exec { body, .. } => awaited(alloc, store, n, s, body),
-        Term::Prot(body) => awaited(alloc, store, n, s, body),
+        Term::Seq(head, _) => awaited(alloc, store, strand, own, head),
+        Term::Scope { body, .. } => awaited(alloc, store, strand, own, body),
+        Term::Exec { body, .. } => awaited(alloc, store, strand, own, body),
+        Term::Prot(body) => awaited(alloc, store, strand, own, body),
         Term::Done | Term::Thrown { .. } | Term::Fail { .. } => Ok(None),
     }
 }
 
-/// The operations that strand `n` of a session waits for a message of.
-fn awaited_now(moment: &Moment, n: u64) -> Result<Option<Numbers>, AllocError>
-    ensures { IfOk result (λ ops. ops ≡ spec.awaited_now (moment_view moment.now) n) }
+/// The operations that a strand of a session waits for a message of.
+fn awaited_now(moment: &Moment, strand: u64) -> Result<Option<Numbers>, AllocError>
+    ensures { IfOk result (λ ops. ops ≡ spec.awaited_now (moment_view moment.now) strand) }
 {
     if moment.ended || is_finished(&moment.form) {
         return Ok(None);
     }
-    match fault_in(moment.alloc, &moment.store, n, 0, &moment.form)? {
+    match fault_in(moment.alloc, &moment.store, strand, 0, &moment.form)? {
         Some(_) => Ok(None),
-        None => awaited(moment.alloc, &moment.store, n, 0, &moment.form),
+        None => awaited(moment.alloc, &moment.store, strand, 0, &moment.form),
     }
 }
 
-/// What the event of strand `n` asks for, or none where it has no event.
+/// What the event of a strand asks for, or none where it has no event.
 pub fn needed(
     program: &Program,
     service: u32,
     moment: &Moment,
-    n: u64,
+    strand: u64,
 ) -> Result<Option<Need>, AllocError>
-    ensures { IfOk result (λ need. need ≡ spec.needed (parts_of program.now) service (moment_view moment.now) n) }
+    ensures { IfOk result (λ need. need ≡ spec.needed (parts_of program.now) service (moment_view moment.now) strand) }
 {
-    match after(program, service, moment, n, &Given::Nothing)? {
+    match after(program, service, moment, strand, &Given::Nothing)? {
         Some(done) => Ok(Some(done.need)),
-        None => match awaited_now(moment, n)? {
+        None => match awaited_now(moment, strand)? {
             Some(ops) => Ok(Some(Need::Take { ops })),
             None => Ok(None),
         },

@@ -13,13 +13,13 @@ use std::alloc::{AllocError, Global};
 
 /// What no fault ends any more, of a form in normal form.
 #[tactic(auto, using(crate::proofs::NormalForms::prot_of_done, crate::proofs::NormalForms::prot_of_prot, crate::proofs::NormalForms::prot_of_other))]
-fn in_prot(alloc: Global, t: Term) -> Result<Term, AllocError>
-    ensures { IfOk result (λ u. term_view u ≡ prot_of (term_view t)) }
+fn in_prot(alloc: Global, form: Term) -> Result<Term, AllocError>
+    ensures { IfOk result (λ u. term_view u ≡ prot_of (term_view form)) }
 {
-    if t.is_done() || t.is_prot() {
-        return Ok(t);
+    if form.is_done() || form.is_prot() {
+        return Ok(form);
     }
-    Ok(Term::Prot(Box::new(alloc, t)?))
+    Ok(Term::Prot(Box::new(alloc, form)?))
 }
 
 /// A scope around a body in normal form.
@@ -51,10 +51,10 @@ fn then_rest(alloc: Global, head: Term, rest: Rest, next: u64) -> Result<Begun, 
 }
 
 /// Normal form after an event, innermost first.
-pub fn normal(alloc: Global, t: Term, next: u64) -> Result<Begun, AllocError>
-    ensures { IfOk result (λ b. begun_view b ≡ spec.normal (term_view t) next) }
+pub fn normal(alloc: Global, form: Term, next: u64) -> Result<Begun, AllocError>
+    ensures { IfOk result (λ b. begun_view b ≡ spec.normal (term_view form) next) }
 {
-    match t {
+    match form {
         Term::Seq(head, rest) => {
             let Begun { form, next } = normal(alloc, Box::into_inner(head), next)?;
             then_rest(alloc, form, rest, next)
@@ -107,6 +107,6 @@ pub fn normal(alloc: Global, t: Term, next: u64) -> Result<Begun, AllocError>
                 next,
             })
         }
-        t => Ok(Begun { form: t, next }),
+        form => Ok(Begun { form, next }),
     }
 }

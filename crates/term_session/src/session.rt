@@ -1,6 +1,6 @@
-ghost use Rattle.std.specs.Prelude.{◌≡◌, ◌<◌, ◌↔◌, ℕ, None, Some, Contains, IfOk, IfSome, IsErr, MatchOption, length};
+ghost use Rattle.std.specs.Prelude.{◌≡◌, ◌<◌, ◌↔◌, ℕ, false, None, Some, Contains, IfOk, IfSome, IsErr, MatchOption, length};
 ghost use Rattle.std.specs.List.Sorted.{IsStrictlyIncreasing};
-ghost use Rattle.behaviour_tree.specs.After.{Done as Made, HasEvent, after as after_of};
+ghost use Rattle.behaviour_tree.specs.After.{Done as DoneEvent, HasEvent, after as after_of};
 ghost use Rattle.behaviour_tree.specs.Built.{IsBuiltService};
 ghost use Rattle.behaviour_tree.specs.PartsView.{parts_of};
 ghost use Rattle.behaviour_tree.specs.Runs.{start_of};
@@ -80,7 +80,7 @@ impl TermSession {
     pub fn need(&self, program: &Program, strand: u64) -> Result<Option<Need>, AllocError>
         requires built { IsBuiltService (parts_of program.now) (service_of self.now) }
         ensures exact { IfOk result (λ o. IfSome (config_of self.now) (λ c. MatchOption o (¬ HasEvent (parts_of program.now) (service_of self.now) c strand)
-            (λ need. HasEvent (parts_of program.now) (service_of self.now) c strand × ((g : Gift) (d : Made) → after_of (parts_of program.now) (service_of self.now) c strand g ≡ Some d → d.need ≡ need)))) }
+            (λ need. HasEvent (parts_of program.now) (service_of self.now) c strand × ((g : Gift) (d : DoneEvent) → after_of (parts_of program.now) (service_of self.now) c strand g ≡ Some d → d.need ≡ need)))) }
         ensures spent { config_of self.now ≡ None → IsErr result }
     {
         let Some(moment) = &self.moment else {
@@ -92,7 +92,7 @@ impl TermSession {
     /// Does the event of a strand for a gift.
     pub fn step(&mut self, program: &Program, strand: u64, given: Given) -> Result<Event, StepError>
         requires built { IsBuiltService (parts_of program.now) (service_of self.old) }
-        ensures done { IfOk result (λ event. IfSome (config_of self.old) (λ c. (d : Made) × (after_of (parts_of program.now) (service_of self.old) c strand given ≡ Some d) × (event ≡ d.event) × (config_of self.new ≡ Some d.config))) }
+        ensures done { IfOk result (λ event. IfSome (config_of self.old) (λ c. (d : DoneEvent) × (after_of (parts_of program.now) (service_of self.old) c strand given ≡ Some d) × (event ≡ d.event) × (config_of self.new ≡ Some d.config))) }
         ensures refused { (k : ℕ) → result ≡ Err (StepError.NotEnabled k) → (k ≡ strand) × (config_of self.new ≡ config_of self.old) × IfSome (config_of self.old) (λ c. after_of (parts_of program.now) (service_of self.old) c strand given ≡ None) }
         ensures memory { (a : AllocError) → result ≡ Err (StepError.Memory a) → config_of self.new ≡ None }
         ensures spent { config_of self.old ≡ None → (a : AllocError) × (result ≡ Err (StepError.Memory a)) }
@@ -119,9 +119,10 @@ impl TermSession {
         }
     }
 
-    /// Whether the last event was Finish.
+    /// Whether the last event was Finish, as it never was of a session that is spent.
     pub fn ended(&self) -> bool
-        ensures { IfSome (config_of self.now) (λ c. result ≡ c.ended) }
+        ensures exact { IfSome (config_of self.now) (λ c. result ≡ c.ended) }
+        ensures spent { config_of self.now ≡ None → result ≡ false }
     {
         match &self.moment {
             Some(moment) => moment.ended,

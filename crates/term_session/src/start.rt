@@ -30,17 +30,17 @@ pub fn in_sequence(alloc: Global, head: Term, rest: Rest) -> Result<Term, AllocE
 
 /// A form as it starts.
 #[cycle(start)]
-pub fn started(alloc: Global, p: &Behaviour, next: u64) -> Result<Begun, AllocError>
-    ensures { IfOk result (λ b. begun_view b ≡ spec.start (behaviour_view p.now) next) }
+pub fn started(alloc: Global, behaviour: &Behaviour, next: u64) -> Result<Begun, AllocError>
+    ensures { IfOk result (λ b. begun_view b ≡ spec.start (behaviour_view behaviour.now) next) }
 {
-    match p {
+    match behaviour {
         Behaviour::Nothing => Ok(Begun {
             form: Term::Done,
             next,
         }),
         Behaviour::Sequence(list) => started_head(alloc, list, next),
         _ => Ok(Begun {
-            form: Term::Place(p.copied()?),
+            form: Term::Place(behaviour.copied()?),
             next,
         }),
     }
@@ -70,17 +70,17 @@ fn started_head(alloc: Global, list: &[Behaviour], next: u64) -> Result<Begun, A
 /// A form begins, in normal form.
 #[cycle(begin)]
 #[tactic(auto, using(crate::proofs::Begins::begin_sequence))]
-pub fn begin(alloc: Global, p: &Behaviour, next: u64) -> Result<Begun, AllocError>
-    ensures { IfOk result (λ b. begun_view b ≡ spec.begin (behaviour_view p.now) next) }
+pub fn begin(alloc: Global, behaviour: &Behaviour, next: u64) -> Result<Begun, AllocError>
+    ensures { IfOk result (λ b. begun_view b ≡ spec.begin (behaviour_view behaviour.now) next) }
 {
-    match p {
+    match behaviour {
         Behaviour::Nothing => Ok(Begun {
             form: Term::Done,
             next,
         }),
         Behaviour::Sequence(list) => begin_rest(alloc, list, next),
         _ => Ok(Begun {
-            form: Term::Place(p.copied()?),
+            form: Term::Place(behaviour.copied()?),
             next,
         }),
     }

@@ -17,53 +17,53 @@ pub enum Carried {
     Absent,
 }
 
-/// The strand of a form running in strand `n` that waits to finish a scope.
-fn ready(n: u64, t: &Term) -> Option<u64>
-    ensures { strands_of result ≡ spec.ready n (term_view t.now) }
+/// The strand of a form whose own strand is `own` that waits to finish a scope.
+fn ready(own: u64, term: &Term) -> Option<u64>
+    ensures { strands_of result ≡ spec.ready own (term_view term.now) }
 {
-    match t {
+    match term {
         Term::Scope { body, state, .. } => {
             if body.is_done() && *state == ScopeState::Live {
-                Some(n)
+                Some(own)
             } else {
                 None
             }
         }
-        Term::Seq(head, _) => ready(n, head),
-        Term::Exec { body, .. } => ready(n, body),
+        Term::Seq(head, _) => ready(own, head),
+        Term::Exec { body, .. } => ready(own, body),
         Term::Done | Term::Place(_) | Term::Thrown { .. } | Term::Fail { .. } | Term::Prot(_) =>
             None,
     }
 }
 
-/// The fault of strand `n` in a form that runs in strand `s` is carried upward.
+/// The fault of a strand in a form whose own strand is `own` is carried upward.
 pub fn thrown(
     alloc: Global,
-    s: u64,
-    t: &Term,
-    n: u64,
+    own: u64,
+    term: &Term,
+    strand: u64,
     fault: u32,
     value: &Tree,
 ) -> Result<Carried, AllocError>
-    ensures { IfOk result (λ c. carried_view c ≡ spec.throw s (term_view t.now) n fault value.now) }
+    ensures { IfOk result (λ c. carried_view c ≡ spec.throw own (term_view term.now) strand fault value.now) }
 {
-    match t {
+    match term {
         Term::Place(_) | Term::Thrown { .. } => {
-            if s == n {
+            if own == strand {
                 Ok(Carried::Up(Term::Done))
             } else {
                 Ok(Carried::Absent)
             }
         }
-        Term::Seq(head, _) => thrown(alloc, s, head, n, fault, value),
+        Term::Seq(head, _) => thrown(alloc, own, head, strand, fault, value),
         Term::Scope { name, body, state } => {
-            match thrown(alloc, s, body, n, fault, value)? {
-                Carried::Up(left) => at_scope(alloc, ready(s, body), *name, left, *state),
+            match thrown(alloc, own, body, strand, fault, value)? {
+                Carried::Up(left) => at_scope(alloc, ready(own, body), *name, left, *state),
                 carried => Ok(carried),
             }
         }
         Term::Exec { message, body, .. } => {
-            match thrown(alloc, s, body, n, fault, value)? {
+            match thrown(alloc, own, body, strand, fault, value)? {
                 Carried::Up(left) => {
                     let fail = Term::Fail {
                         message: *message,
@@ -76,7 +76,7 @@ pub fn thrown(
                 carried => Ok(carried),
             }
         }
-        Term::Prot(body) => match thrown(alloc, s, body, n, fault, value)? {
+        Term::Prot(body) => match thrown(alloc, own, body, strand, fault, value)? {
             Carried::Up(left) => Ok(Carried::Up(Term::Prot(Box::new(alloc, left)?))),
             carried => Ok(carried),
         },
@@ -94,8 +94,8 @@ fn at_scope(
 ) -> Result<Carried, AllocError>
     ensures { IfOk result (λ c. (f : ℕ) (v : Plain) → carried_view c ≡ spec.reaches (strands_of ready) name (term_view body) empty (state_view state) f v) }
 {
-    if let Some(n) = ready {
-        return Ok(Carried::Blocked(n));
+    if let Some(strand) = ready {
+        return Ok(Carried::Blocked(strand));
     }
     match state {
         ScopeState::Live => {

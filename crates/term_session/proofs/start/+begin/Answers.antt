@@ -22,6 +22,6 @@ begin_rest-returns t c =
 
 pub begin-returns-in-Sequence : goal.begin-returns-in-Sequence
 begin-returns-in-Sequence t c =
-    let seen : behaviour_view c.args.p.now ≡ sequence (procs_of (map behaviour_view c.deref.result.now)) = search (rules, behaviour.the_lemmas) in
+    let seen : behaviour_view c.args.behaviour.now ≡ sequence (procs_of (map behaviour_view c.deref.result.now)) = search (rules, behaviour.the_lemmas) in
     let same = sym (begin_sequence (procs_of (map behaviour_view c.deref.result.now)) c.args.next) ∙ ap (λ q. spec.begin q c.args.next) (sym seen) in
     subst (λ b'. IfOk c.begin_rest.result (λ b. begun_view b ≡ b')) same c.begin_rest.ensures
