@@ -1,2 +1,3 @@
+pub mod Behind
 pub mod Inputs
 pub mod Positions

@@ -5,6 +5,7 @@ mod behaviour;
 mod expr;
 mod operations;
 mod program;
+mod shape;
 mod types;
 mod words;
 
@@ -16,5 +17,6 @@ pub use program::{
     Alias, CorrelationSet, Execution, Interface, Operation, Parts, Port, Program, Service,
     SetVariable, Throws,
 };
+pub use shape::{at_most, behind_names};
 pub use types::{Field, RootKind, TypeDef};
 pub use words::{Event, Events, Given, Kind, Need, Numbers, Outcome, Reason, Strands};

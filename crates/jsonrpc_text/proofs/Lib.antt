@@ -1,5 +1,4 @@
 mod Batches
-mod Behind
 mod Children
 mod Depths
 mod Floats

@@ -4,12 +4,11 @@ ghost use Rattle.serde_json.specs.Data as json;
 ghost use Rattle.serde_json.specs.Data.{array};
 ghost use Rattle.behaviour_tree.specs.Data.{undefined as undefined_type};
 ghost use Rattle.serde_json.specs.View.{view, members_view};
-ghost use Rattle.behaviour_tree.specs.Conforms.{shape, at_most};
 ghost use Rattle.behaviour_tree.specs.View.{field_view, type_fields_of, type_view};
 ghost use Rattle.jolie_trees.specs.TreeView.{trees_of};
 ghost use Rattle.jsonrpc_text.specs.ToJson as spec;
 
-use behaviour_tree::{Field, TypeDef};
+use behaviour_tree::{Field, TypeDef, at_most, behind_names};
 use jolie_trees::{Root, Text, Tree};
 use serde_json::{Map, Value};
 use std::alloc::{AllocError, Global};
@@ -40,22 +39,6 @@ fn fields_behind<'a>(ty: &'a TypeDef, types: &'a [TypeDef]) -> &'a [Field]
         Some(TypeDef::Undefined) => &[],
         None => &[],
     }
-}
-
-/// The type behind its names, none where they lead nowhere or in a circle.
-fn behind_names<'a>(ty: &'a TypeDef, types: &'a [TypeDef]) -> Option<&'a TypeDef>
-    ensures { option_map type_view (option_copied result) ≡ shape (map type_view types.now) (length types.now) (type_view ty.now) }
-{
-    let mut found = ty;
-    let mut left = types.len();
-    while let TypeDef::Named(number) = found {
-        if left == 0 {
-            return None;
-        }
-        found = types.get(*number as usize)?;
-        left -= 1;
-    }
-    Some(found)
 }
 
 /// The value of a node whose type has these fields.
@@ -186,20 +169,11 @@ fn member_type<'a>(field: Option<&'a Field>, count: usize, undefined: &'a TypeDe
 {
     match field {
         None => undefined,
-        Some(field) => if repeats(Some(field)) || fits(field.most, count) {
+        Some(field) => if repeats(Some(field)) || at_most(field.most, count) {
             &field.ty
         } else {
             undefined
         },
-    }
-}
-
-fn fits(most: Option<u32>, count: usize) -> bool
-    ensures { result ≡ at_most most count }
-{
-    match most {
-        None => true,
-        Some(most) => count <= most as usize,
     }
 }
 

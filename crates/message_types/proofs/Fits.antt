@@ -1,9 +1,8 @@
 -- Types, fields and trees as a walk over them sees them, one by one.
-use Rattle.std.proofs.Common.{◌≡◌, ◌∙◌, ℕ, zero, suc, ◌-◌, ◌<◌, ◌≤◌, List, [], ◌∷◌, map, length, get_or, Option, None, Some, Bool, true, false, refl, ap, sym, arith, rules}
+use Rattle.std.proofs.Common.{◌≡◌, ◌∙◌, ℕ, zero, suc, ◌<◌, ◌≤◌, List, [], ◌∷◌, map, length, get_or, Option, None, Some, Bool, true, false, refl, ap, sym, arith, rules}
 use Rattle.std.proofs.lemmas.List.{length-map}
 use Rattle.std.proofs.lemmas.Bool.Decides.{nat_tests}
-use Rattle.std.proofs.lemmas.Option.{slice_get-map, slice_get_past, slice_get_read}
-use Rattle.std.specs.Prelude.{◌&&◌, nat_eq, nat_le, slice_get, option_map, option_and_then}
+use Rattle.std.specs.Prelude.{◌&&◌, nat_eq, nat_le}
 use Rattle.jolie_trees.specs.Data.{Tree, node, Fields, field}
 use Rattle.jolie_trees.specs.Trees.{root_of, count_of, levels, trees_levels}
 use Rattle.jolie_trees.specs.TreeView.{trees_of}
@@ -13,22 +12,6 @@ use Rattle.behaviour_tree.specs.Data.{TypeTree, plain, named, undefined}
 use Rattle.behaviour_tree.specs.Conforms.{shape, has_kind, at_most, counts_fit, fits, children_fit, members_fit}
 use Rattle.behaviour_tree.specs.View.{type_view}
 use Rattle.behaviour_tree.specs.declared.types.TypeDef.{TypeDef}
-
--- a name leads one step on
-shape-named : (types : List TypeTree) (left i : ℕ) (ty : TypeTree) → 1 ≤ left → ty ≡ named i → shape types left ty ≡ option_and_then (shape types (left - 1)) (slice_get types i)
-shape-named types zero i ty h e = absurd (omega (arith, h))
-shape-named types (suc left) i ty h e = let less : suc left - 1 ≡ left = omega arith in rw (e, less) refl
-
-pub shape-next : (types : List TypeDef) (left i : ℕ) (ty : TypeTree) (next : TypeDef) → 1 ≤ left → ty ≡ named i → i < length types → next ≡ get_or types i next
-    → shape (map type_view types) (left - 1) (type_view next) ≡ shape (map type_view types) left ty
-shape-next types left i ty next h e within is =
-    sym (shape-named (map type_view types) left i ty h e
-    ∙ ap (option_and_then (shape (map type_view types) (left - 1))) (slice_get-map type_view types i ∙ ap (option_map type_view) (slice_get_read types (length types) i next refl within is)))
-
-pub shape-past : (types : List TypeDef) (left i : ℕ) (ty : TypeTree) → 1 ≤ left → ty ≡ named i → length types ≤ i → None ≡ shape (map type_view types) left ty
-shape-past types left i ty h e past =
-    sym (shape-named (map type_view types) left i ty h e
-    ∙ ap (option_and_then (shape (map type_view types) (left - 1))) (slice_get-map type_view types i ∙ ap (option_map type_view) (slice_get_past types i past)))
 
 pub count_of-trees : (ts : List Tree) → count_of (trees_of ts) ≡ length ts
 count_of-trees [] = refl

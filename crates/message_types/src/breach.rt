@@ -8,8 +8,8 @@ ghost use Rattle.behaviour_tree.specs.View.{field_view, type_fields_of, type_vie
 ghost use Rattle.message_types.specs.Breaches as spec;
 
 use crate::conform::is_message;
-use crate::shape::{behind_names, counts_fit, field_named, has_kind};
-use behaviour_tree::{Field, Program, RootKind, TypeDef};
+use crate::shape::{counts_fit, field_named, has_kind};
+use behaviour_tree::{Field, Program, RootKind, TypeDef, behind_names};
 use jolie_trees::{Path, Step, Text, Tree};
 use sqlite_items::Items;
 use std::alloc::{AllocError, Global};

@@ -5,8 +5,8 @@ ghost use Rattle.behaviour_tree.specs.Conforms as spec;
 ghost use Rattle.behaviour_tree.specs.PartsView.{parts_of};
 ghost use Rattle.behaviour_tree.specs.View.{field_view, type_fields_of, type_view};
 
-use crate::shape::{behind_names, counts_fit, field_named, has_kind};
-use behaviour_tree::{Field, Program, TypeDef};
+use crate::shape::{counts_fit, field_named, has_kind};
+use behaviour_tree::{Field, Program, TypeDef, behind_names};
 use jolie_trees::{Text, Tree};
 
 /// The most nodes of a message.

@@ -1,28 +1,12 @@
-ghost use Rattle.std.specs.Prelude.{◌≡◌, ◌&&◌, map, length, nat_le, option_map};
+ghost use Rattle.std.specs.Prelude.{◌≡◌, ◌&&◌, map, nat_le, option_map};
 ghost use Rattle.std.specs.Option.{option_copied};
 ghost use Rattle.jolie_trees.specs.Extents.{children_of};
 ghost use Rattle.jolie_trees.specs.Trees.{count_of, under};
 ghost use Rattle.behaviour_tree.specs.Conforms as spec;
-ghost use Rattle.behaviour_tree.specs.View.{field_view, type_fields_of, type_view};
+ghost use Rattle.behaviour_tree.specs.View.{field_view, type_fields_of};
 
-use behaviour_tree::{Field, RootKind, TypeDef};
+use behaviour_tree::{Field, RootKind, at_most};
 use jolie_trees::{Root, Text, Tree};
-
-/// The type behind its names, none where they lead nowhere or in a circle.
-pub(crate) fn behind_names<'a>(ty: &'a TypeDef, types: &'a [TypeDef]) -> Option<&'a TypeDef>
-    ensures { option_map type_view (option_copied result) ≡ spec.shape (map type_view types.now) (length types.now) (type_view ty.now) }
-{
-    let mut found = ty;
-    let mut left = types.len();
-    while let TypeDef::Named(number) = found {
-        if left == 0 {
-            return None;
-        }
-        found = types.get(*number as usize)?;
-        left -= 1;
-    }
-    Some(found)
-}
 
 /// The first field of a name.
 pub(crate) fn field_named<'a>(name: &Text, fields: &'a [Field]) -> Option<&'a Field>
@@ -68,13 +52,4 @@ fn count_fits(value: &Tree, field: &Field) -> bool
 {
     let count = value.members(&field.name).len();
     field.least as usize <= count && at_most(field.most, count)
-}
-
-fn at_most(most: Option<u32>, count: usize) -> bool
-    ensures { result ≡ spec.at_most most count }
-{
-    match most {
-        None => true,
-        Some(most) => count <= most as usize,
-    }
 }

@@ -7,8 +7,8 @@ ghost use Rattle.behaviour_tree.specs.Conforms as spec;
 ghost use Rattle.behaviour_tree.specs.PartsView.{parts_of};
 ghost use Rattle.behaviour_tree.specs.View.{field_view, type_fields_of, type_view};
 
-use crate::shape::{behind_names, field_named};
-use behaviour_tree::{Field, Program, RootKind, TypeDef};
+use crate::shape::field_named;
+use behaviour_tree::{Field, Program, RootKind, TypeDef, behind_names};
 use jolie_trees::{Root, Tree};
 
 /// Turns each int into a long where the type says long.

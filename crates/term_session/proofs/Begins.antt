@@ -5,7 +5,7 @@ use Rattle.behaviour_tree.specs.Terms.{Term, done, place, thrown, seq, in_scope,
 use Rattle.behaviour_tree.specs.Start.{Begun, begun, begin, begin_rest}
 use Rattle.behaviour_tree.specs.View.{behaviour_view, procs_of}
 use Rattle.behaviour_tree.specs.declared.behaviour.Behaviour.{Behaviour}
-use Rattle.term_session.proofs.Lists.{taken_off}
+use Rattle.jolie_expr.proofs.Lists.{taken_off}
 
 -- a head with rests is a sequence
 pub seq_of_some : (t : Term) (xs : List Behaviour) → (xs ≡ [] → ⊥) → seq_of t (procs_of (map behaviour_view xs)) ≡ seq t (procs_of (map behaviour_view xs))

@@ -9,7 +9,7 @@ use Rattle.behaviour_tree.specs.After.{comes}
 use Rattle.behaviour_tree.specs.View.{BranchView, ReplyView, branch_of, branch_view, branches_of}
 use Rattle.behaviour_tree.specs.declared.behaviour.Branch.{Branch}
 use Rattle.term_session.specs.Moves.{comes_to}
-use Rattle.term_session.proofs.Lists.{taken_off}
+use Rattle.jolie_expr.proofs.Lists.{taken_off}
 
 differs : (a b : ℕ) → (a ≡ b → ⊥) → nat_eq a b ≡ false
 differs a b h = grind (arith, nat_tests)

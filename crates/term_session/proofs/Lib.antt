@@ -6,7 +6,6 @@ pub mod Enabled
 pub mod Events
 pub mod Histories
 pub mod KeptOpen
-pub mod Lists
 pub mod Moving
 pub mod NormalForms
 pub mod Options

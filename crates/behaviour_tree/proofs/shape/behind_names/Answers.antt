@@ -4,8 +4,8 @@ use Rattle.std.specs.Option.{option_copied}
 use Rattle.behaviour_tree.specs.Data.{named}
 use Rattle.behaviour_tree.specs.View.{type_view}
 use Rattle.behaviour_tree.specs.declared.types.TypeDef as type_def
-use Rattle.jsonrpc_text.proofs.Behind.{shape-next, shape-past}
-use Rattle.jsonrpc_text.proofs.to_json.behind_names.Goals as goal
+use Rattle.behaviour_tree.proofs.Behind.{shape-next, shape-past}
+use Rattle.behaviour_tree.proofs.shape.behind_names.Goals as goal
 
 pub returns-in_err-found : goal.returns-in_err-found
 returns-in_err-found c =
