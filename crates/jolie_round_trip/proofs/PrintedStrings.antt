@@ -6,11 +6,12 @@ use Rattle.std.specs.Str.{IsUtf8}
 use Rattle.std.proofs.lemmas.Bool.{ne_eqb}
 use Rattle.std.proofs.lemmas.Bool.Decides.{nat_tests}
 use Rattle.std.proofs.lemmas.List.Elements.{All-nil, All-cons, All-head, All-tail}
-use Rattle.std.proofs.lemmas.Str.{IsUtf8-append, IsUtf8-drop, IsUtf8-take, IsUtf8-from_ascii, IsCharBoundary-before_ascii, IsCharBoundary-after_ascii}
+use Rattle.std.proofs.lemmas.Str.{IsUtf8-append, IsUtf8-drop, IsUtf8-from_ascii, IsCharBoundary-after_ascii}
 use Rattle.std.proofs.lemmas.Str.Ascii.{IsAscii-nil, IsAscii-cons}
-use Rattle.std.proofs.Math.Seq.{take-append_seam, drop-append-add, get_or-append_seam}
+use Rattle.std.proofs.Math.Seq.{drop-append-add, get_or-append_seam}
 use Rattle.jolie_tokens.specs.declared.token.TokenKind.TheVariants as kind
 use Rattle.jolie_tokens.specs.Bytes.{quote, backslash, is_escape, meant_byte}
+use Rattle.jolie_tokens.proofs.Strings.{before_ascii}
 use Rattle.jolie_tokens.specs.Pieces.{Part, plain, escape, part_bytes, IsPart, IsKnown, meant, inside, string, written, IsPiece, kind_of}
 use Rattle.jolie_ast.specs.PrintedExpressions.{escaped_byte, quoted_token}
 
@@ -85,12 +86,6 @@ reprint (plain b) part known = by (plains b)
     )
 
 -- ---- texts that are cut at a byte of ASCII
-
-before_ascii : (a : List ℕ) (b : ℕ) (rest : List ℕ) → b < 128 → IsUtf8 (a ++ b ∷ rest) → IsUtf8 a
-before_ascii a b rest low u =
-    let there : get_or (a ++ b ∷ rest) (length a) 0 ≡ b = get_or-append_seam a b rest 0 in
-    subst IsUtf8 (take-append_seam a (b ∷ rest))
-    (IsUtf8-take (a ++ b ∷ rest) (length a) u (IsCharBoundary-before_ascii (a ++ b ∷ rest) (length a) (omega (arith, length-append a (b ∷ rest))) (rw there low)))
 
 after_ascii : (a : List ℕ) (b : ℕ) (rest : List ℕ) → b < 128 → IsUtf8 (a ++ b ∷ rest) → IsUtf8 rest
 after_ascii a b rest low u =

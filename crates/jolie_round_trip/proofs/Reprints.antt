@@ -38,9 +38,6 @@ module _ {w : (r : Part) → Lang (Meant r)} where
         (echo_as (echo_means (a.echo ts d.0 d.2 valid) also f k same) (q (f d.0)) (sym (printed d.0)));
   }
 
-  pub reprints_as : {A B : Type 0} {s : Syn A} {kept : A → B} {p : A → List Token} (q : A → List Token) → ((v : A) → q v ≡ p v) → Reprints w s kept p → Reprints w s kept q
-  reprints_as q same a = record { echo = λ ts v d valid. echo_as (a.echo ts v d valid) (q v) (sym (same v)) }
-
   many_echo : {A B : Type 0} (s : Syn A) (kept : A → B) (p : A → List Token) → Reprints w s kept p → (ts : List Spelled) (vs : List A) → Many (Derives w s) ts vs → Every IsValid ts → Echo (map kept) (many s) vs (flat_map p vs)
   many_echo s kept p a ts [] d valid = echo_nil kept s
   many_echo s kept p a ts (v ∷ vs) d valid =

@@ -236,7 +236,7 @@ byte_behind [] b rest = refl
 byte_behind (x ∷ a) b rest = byte_behind a b rest
 
 -- a text up to a byte of ASCII is one
-before_ascii : (a : List ℕ) (b : ℕ) (rest : List ℕ) → b < 128 → IsUtf8 (a ++ b ∷ rest) → IsUtf8 a
+pub before_ascii : (a : List ℕ) (b : ℕ) (rest : List ℕ) → b < 128 → IsUtf8 (a ++ b ∷ rest) → IsUtf8 a
 before_ascii a b rest low u =
     let there : get_or (a ++ b ∷ rest) (length a) 0 ≡ b = byte_behind a b rest in
     subst IsUtf8 (take-append_seam a (b ∷ rest))

@@ -6,7 +6,7 @@ use Rattle.std.specs.List.{remove}
 use Rattle.jolie_trees.specs.declared.root.Root.{Root}
 use Rattle.jolie_trees.specs.declared.path.Step.{Step}
 use Rattle.jolie_trees.specs.Data.{Tree, node, Fields, Trees, no_trees, tree}
-use Rattle.jolie_trees.specs.Trees.{void_tree, nth, index_of, count_of, one_if, with_last, without_nth, change_nth, change_nth_if_there, change_if_there, undef}
+use Rattle.jolie_trees.specs.Trees.{void_tree, nth, index_of, count_of, levels, trees_levels, one_if, with_last, without_nth, change_nth, change_nth_if_there, change_if_there, undef}
 use Rattle.jolie_trees.specs.Changes.{undef_below}
 use Rattle.jolie_trees.specs.TreeView.{trees_of}
 
@@ -59,6 +59,12 @@ nth-beyond (suc n) (x ∷ xs) h = nth-beyond n xs (omega (arith, h))
 pub count_of-length : (xs : List Tree) → count_of (trees_of xs) ≡ length xs
 count_of-length [] = refl
 count_of-length (x ∷ xs) = ap suc (count_of-length xs)
+
+-- a member has no more levels than all together
+pub levels-member : (ts : List Tree) (i : ℕ) (t : Tree) → i < length ts → t ≡ get_or ts i t → levels t ≤ trees_levels (trees_of ts)
+levels-member [] i t h is = absurd (omega (arith, h))
+levels-member (u ∷ ts) zero t h is = let e : levels t ≡ levels u = ap levels is in omega (arith, e)
+levels-member (u ∷ ts) (suc i) t h is = omega (arith, levels-member ts i t (omega (arith, h)) is)
 
 -- one more node goes last
 pub with_last-append : (t : Tree) (xs : List Tree) → trees_of (xs ++ t ∷ []) ≡ with_last t (trees_of xs)

@@ -13,6 +13,7 @@ use Rattle.jolie_trees.specs.Data.{Tree, node, Fields, no_fields, field, Trees}
 use Rattle.jolie_trees.specs.Extents.{children_of, names_of}
 use Rattle.jolie_trees.specs.Trees.{root_of, levels, fields_levels, trees_levels, count_of}
 use Rattle.jolie_trees.specs.TreeView.{trees_of, fields_of}
+use Rattle.jolie_trees.proofs.Vectors.{count_of-length}
 use Rattle.behaviour_tree.specs.Conforms.{shape}
 use Rattle.behaviour_tree.specs.Data.{TypeTree, TypeFields}
 use Rattle.behaviour_tree.specs.View.{type_view}
@@ -83,16 +84,6 @@ none-before (field name ts fs) = (tt, none-before fs)
 pub all-put : (types : List TypeTree) (fields : TypeFields) (fs : Fields) → IsStrictlySortedBy (slice_cmp nat_cmp) (names_of fs)
     → with_children types fields fs no_members ≡ members_json types fs fields
 all-put types fields fs sorted = children-put types fields fs no_members (none-before fs) sorted
-
-pub count_of-trees : (ts : List Tree) → count_of (trees_of ts) ≡ length ts
-count_of-trees [] = refl
-count_of-trees (t ∷ ts) = ap suc (count_of-trees ts)
-
--- a member has no more levels than all together
-pub levels-member : (ts : List Tree) (i : ℕ) (t : Tree) → i < length ts → t ≡ get_or ts i t → levels t ≤ trees_levels (trees_of ts)
-levels-member [] i t h is = absurd (omega (arith, h))
-levels-member (u ∷ ts) zero t h is = let e : levels t ≡ levels u = ap levels is in omega (arith, e)
-levels-member (u ∷ ts) (suc i) t h is = omega (arith, levels-member ts i t (omega (arith, h)) is)
 
 -- ---- the items of an array, pushed one after the other
 
@@ -186,5 +177,5 @@ pub several : (types : List TypeTree) (ts : List Tree) (f : Option FieldPart) (t
 several types [] f ty h is = absurd (omega (arith, h))
 several types (t ∷ []) f ty h is = absurd (omega (arith, h))
 several types (t ∷ u ∷ ts) f ty h is =
-    ap (λ x. array (items_json types (trees_of (t ∷ u ∷ ts)) x)) (is ∙ ap (λ n. member_type f (suc (suc n))) (sym (count_of-trees ts)))
+    ap (λ x. array (items_json types (trees_of (t ∷ u ∷ ts)) x)) (is ∙ ap (λ n. member_type f (suc (suc n))) (sym (count_of-length ts)))
     ∙ several-chosen (repeats f) _ _

@@ -13,20 +13,10 @@ use Rattle.behaviour_tree.specs.Conforms.{shape, has_kind, at_most, counts_fit, 
 use Rattle.behaviour_tree.specs.View.{type_view}
 use Rattle.behaviour_tree.specs.declared.types.TypeDef.{TypeDef}
 
-pub count_of-trees : (ts : List Tree) → count_of (trees_of ts) ≡ length ts
-count_of-trees [] = refl
-count_of-trees (t ∷ ts) = ap suc (count_of-trees ts)
-
 -- the members of a name that has no field
 pub members_fit-none : (types : List TypeTree) (ts : List Tree) (empty : Bool) → empty ≡ nat_eq (length ts) 0 → empty ≡ members_fit types (trees_of ts) None
 members_fit-none types [] empty h = h
 members_fit-none types (t ∷ ts) empty h = let more : nat_eq (length (t ∷ ts)) 0 ≡ false = grind (arith, nat_tests) in h ∙ more
-
--- a member has no more levels than all together
-pub levels-member : (ts : List Tree) (i : ℕ) (t : Tree) → i < length ts → t ≡ get_or ts i t → levels t ≤ trees_levels (trees_of ts)
-levels-member [] i t h is = absurd (omega (arith, h))
-levels-member (u ∷ ts) zero t h is = let e : levels t ≡ levels u = ap levels is in omega (arith, e)
-levels-member (u ∷ ts) (suc i) t h is = omega (arith, levels-member ts i t (omega (arith, h)) is)
 
 -- whether a node fits, by the type behind its names
 abbrev pub fits_at : List TypeTree → Root → Fields → Option TypeTree → Bool

@@ -8,7 +8,8 @@ use Rattle.jolie_trees.specs.Extents.{children_of}
 use Rattle.jolie_trees.specs.TreeView.{trees_of}
 use Rattle.behaviour_tree.specs.View.{field_view, type_fields_of, type_view}
 use Rattle.jsonrpc_text.specs.ToJson.{root_data, with_root, part_of, vector_json, items_json, node_json, json_of}
-use Rattle.jsonrpc_text.proofs.Children.{levels-member, item-step, items-done, child-step, lower-step, children-done, node-empty, node-whole, node-same, several}
+use Rattle.jolie_trees.proofs.Vectors.{levels-member}
+use Rattle.jsonrpc_text.proofs.Children.{item-step, items-done, child-step, lower-step, children-done, node-empty, node-whole, node-same, several}
 use Rattle.jsonrpc_text.proofs.to_json.+json_of.Goals as goal
 
 pub array-json_of-requires : goal.array-json_of-requires

@@ -8,7 +8,7 @@ use Rattle.behaviour_tree.specs.Data.{named, undefined, plain}
 use Rattle.behaviour_tree.specs.View.{type_view, field_view, type_fields_of}
 use Rattle.behaviour_tree.specs.declared.types.TypeDef as type_def
 use Rattle.message_types.specs.Breaches.{fits_alone, breach, breach_of_children, breach_of_members}
-use Rattle.message_types.proofs.Fits.{levels-member}
+use Rattle.jolie_trees.proofs.Vectors.{levels-member}
 use Rattle.message_types.proofs.Breaks.{breach-by, breach-below, breach-here, breach_of_members-none, same_fields, size-member, length-members}
 use Rattle.message_types.proofs.breach.+breach.Goals as goal
 

@@ -4,7 +4,8 @@ use Rattle.behaviour_tree.specs.Data.{named, undefined}
 use Rattle.behaviour_tree.specs.Conforms.{members_fit}
 use Rattle.behaviour_tree.specs.View.{type_view}
 use Rattle.behaviour_tree.specs.declared.types.TypeDef as type_def
-use Rattle.message_types.proofs.Fits.{fits-by, levels-member, members_fit-none}
+use Rattle.jolie_trees.proofs.Vectors.{levels-member}
+use Rattle.message_types.proofs.Fits.{fits-by, members_fit-none}
 use Rattle.message_types.proofs.conform.+fits.Goals as goal
 
 pub all_fit-fits-requires : goal.all_fit-fits-requires

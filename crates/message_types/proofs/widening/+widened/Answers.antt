@@ -10,7 +10,7 @@ use Rattle.jolie_trees.specs.TreeView.{trees_of}
 use Rattle.jolie_trees.specs.Lending.{written_over}
 use Rattle.jolie_trees.proofs.Lent.{all_written}
 use Rattle.jolie_trees.specs.Trees.{levels, trees_levels}
-use Rattle.message_types.proofs.Fits.{levels-member}
+use Rattle.jolie_trees.proofs.Vectors.{levels-member}
 use Rattle.message_types.proofs.Widens.{wide-by, whole, wide_members-map, member-kept, all-mapped, unwidened, grows-taken, step-new, step-same, step-missing, under-lent, levels-below, found}
 use Rattle.message_types.proofs.widening.+widened.Goals as goal
 use Rattle.message_types.proofs.widening.+widened.Goals.{widen_children-in-Some+then-is_none, widen_children-in-Some+else-is_none, widen_children-in_default}
