@@ -23,9 +23,10 @@ cut -d' ' -f2 "$work/stand" | sort -u > "$work/kept"
 # An edit that moved to another crate is still tried: names are looked for in all crates.
 awk 'NR == FNR { kept[$1]; next } !($2 in kept)' "$work/kept" "$work/stood" > "$work/gone"
 
-# A table row for each crate: how many stood, how many went, and these by name, no line above 120 columns but a row of the table.
+# An item for each crate: how many went of how many, and which, in lines of at most 120 columns.
 {
     echo "Of $(wc -l < "$work/stood") edits $(wc -l < "$work/gone") are no longer tried."
+    echo
     awk -v gone="$work/gone" '
         # Puts a word behind the line at hand, or begins a new one.
         function put(word) {
@@ -37,7 +38,6 @@ awk 'NR == FNR { kept[$1]; next } !($2 in kept)' "$work/kept" "$work/stood" > "$
             for (n = 1; n <= count; n++) {
                 crate = order[n]
                 if (!(crate in went)) continue
-                print ""
                 line = "- `" crate "` (" went[crate] " of " stood[crate] "):"
                 words = split(list[crate], word, " ")
                 for (w = 1; w <= words; w++) put("`" word[w] "`" (w < words ? "," : ""))
