@@ -4,6 +4,7 @@
 
 mod fields;
 mod head_reader;
+mod laws;
 mod response;
 mod scan;
 pub mod status;
@@ -11,4 +12,5 @@ mod unread;
 mod verdict;
 
 pub use head_reader::{Fed, HeadReader};
+pub use laws::cuts_do_not_matter;
 pub use response::response_bytes;
