@@ -59,7 +59,7 @@ Tail bytes a tail =
     ((length bytes < a.head + a.body) × (tail ≡ []))
     ⊎ (((a.head + a.body ≤ length bytes) × (a.close ≡ true) × (tail ≡ Request (body_of bytes a) a.close ∷ []))
     ⊎ ((a.head + a.body ≤ length bytes) × (a.close ≡ false)
-      × ((r : Reading (drop (a.head + a.body) bytes)) × (tail ≡ Request (body_of bytes a) a.close ∷ given (drop (a.head + a.body) bytes) r))))
+    × ((r : Reading (drop (a.head + a.body) bytes)) × (tail ≡ Request (body_of bytes a) a.close ∷ given (drop (a.head + a.body) bytes) r))))
 
 abbrev HasTail : List ℕ → List Fed → Admission → Type 0
 HasTail bytes fs a = (tail : List Fed) × (fs ≡ given_first a ++ tail) × Tail bytes a tail
@@ -110,7 +110,8 @@ refuses_grows bytes more s h = by_part (head_part bytes) refl h
     long_enough false e is = elim (cases_lt (length bytes) longest_head) [
       | inl short ↦ let f = lt-ltb (length bytes) longest_head short in absurd (cc)
       | inr long ↦ (long, is)
-      ]
+    ]
+
     by_part : (o : Option ℕ) → head_part bytes ≡ o → JudgesBy bytes o (Refuses s) → Judges (bytes ++ more) (Refuses s)
     by_part None e j =
         let long = long_enough (ltb (length bytes) longest_head) refl j in
@@ -148,25 +149,28 @@ comes_in_body : (b more : List ℕ) (a : Admission) (fs : List Fed) → Judges b
     → (t : HasTail (b ++ more) (given (b ++ more) r) a) → fs ≡ t.0 → Comes more fs (next_in_body b a)
 comes_in_body b more a fs j r t e = elim (cases_lt (length b) (a.head + a.body)) [
   | inl short ↦
-    subst (λ u. Comes more fs (cond u (NotYet, Open b a.interim) (Request (body_of b a) a.close, behind b a))) (sym (lt-ltb (length b) (a.head + a.body) short))
-    (t.0, e, ((r, sym (ap (still a.interim) t.1 ∙ still_first a.interim t.0)), λ i. (a, j, i)))
+      subst (λ u. Comes more fs (cond u (NotYet, Open b a.interim) (Request (body_of b a) a.close, behind b a))) (sym (lt-ltb (length b) (a.head + a.body) short))
+      (t.0, e, ((r, sym (ap (still a.interim) t.1 ∙ still_first a.interim t.0)), λ i. (a, j, i)))
   | inr whole ↦
-    subst (λ u. Comes more fs (cond u (NotYet, Open b a.interim) (Request (body_of b a) a.close, behind b a))) (sym (le-ltb (length b) (a.head + a.body) whole))
-    (by_tail whole t.2)
-  ]
+      subst (λ u. Comes more fs (cond u (NotYet, Open b a.interim) (Request (body_of b a) a.close, behind b a))) (sym (le-ltb (length b) (a.head + a.body) whole))
+      (by_tail whole t.2)
+]
   where
     by_tail : a.head + a.body ≤ length b → Tail (b ++ more) a t.0 → Comes more fs (Request (body_of b a) a.close, behind b a)
     by_tail whole (inl x) = let short = x.0 in absurd (omega (arith, length-append b more))
-    by_tail whole (inr (inl x)) =
-        ([], e ∙ x.2 ∙ ap (λ body. Request body a.close ∷ []) (body_same b more a whole),
-          subst (λ close. Went (cond close Over (Open (drop (a.head + a.body) b) false)) more []) (sym x.1) refl)
+    by_tail whole (inr (inl x)) = (
+      [],
+      e ∙ x.2 ∙ ap (λ body. Request body a.close ∷ []) (body_same b more a whole),
+      subst (λ close. Went (cond close Over (Open (drop (a.head + a.body) b) false)) more []) (sym x.1) refl,
+    )
     by_tail whole (inr (inr x)) =
         let n = a.head + a.body in
-        let rest = reading_along (drop n (b ++ more)) (drop n b ++ more) (drop-append-le n b more whole) x.2.0 in
-        (given (drop n b ++ more) rest.0,
+        let rest = reading_along (drop n (b ++ more)) (drop n b ++ more) (drop-append-le n b more whole) x.2.0 in (
+          given (drop n b ++ more) rest.0,
           e ∙ x.2.1 ∙ ap (λ body. Request body a.close ∷ given (drop n (b ++ more)) x.2.0) (body_same b more a whole) ∙ ap (λ gs. Request (body_of b a) a.close ∷ gs) rest.1,
           subst (λ close. Went (cond close Over (Open (drop n b) false)) more (given (drop n b ++ more) rest.0)) (sym x.1)
-          ((rest.0, refl), λ f. absurd (cc)))
+              ((rest.0, refl), λ f. absurd (cc)),
+        )
 
 -- one call from an open place
 comes : (b more : List ℕ) (asked : Bool) (v : Verdict) → Judges b v → (asked ≡ true → Asks b) → (r : Reading (b ++ more))
@@ -179,8 +183,10 @@ comes b more asked (Admits a) j asks r = by_tests a.interim asked refl refl
   where
     tail : HasTail (b ++ more) (given (b ++ more) r) a
     tail = tail_of (b ++ more) a (admits_grows b more a j) r
+
     seen : (i k : Bool) → a.interim ≡ i → asked ≡ k → still asked (given (b ++ more) r) ≡ still k (cond i (Interim ∷ []) [] ++ tail.0)
     seen i k e f = ap (λ u. still u (given (b ++ more) r)) f ∙ ap (still k) tail.1 ∙ ap (λ u. still k (cond u (Interim ∷ []) [] ++ tail.0)) e
+
     by_tests : (i k : Bool) → a.interim ≡ i → asked ≡ k → Comes more (still asked (given (b ++ more) r)) (cond (i && not k) (Interim, Open b true) (next_in_body b a))
     by_tests true true e f = comes_in_body b more a _ j r tail (seen true true e f)
     by_tests true false e f =
@@ -200,6 +206,7 @@ step (Open left asked) piece more fed mid fs feeds went = ∥∥₁_map feeds gi
   where
     b : List ℕ
     b = left ++ piece
+
     given_so : Gives (left ++ piece) asked fed mid → Comes more fs (fed, mid)
     given_so g =
         let r = reading_along (left ++ (piece ++ more)) (left ++ piece ++ more) (sym (append_assoc left piece more)) went.0.0 in
@@ -242,17 +249,18 @@ gives_a_front pieces feds place run reading =
 quiet_in_body : (b : List ℕ) (a : Admission) (mid : Place) (gs : List Fed) → Judges b (Admits a) → (NotYet, mid) ≡ next_in_body b a → Went mid [] gs → gs ≡ []
 quiet_in_body b a mid gs j e went = elim (cases_lt (length b) (a.head + a.body)) [
   | inl short ↦
-    let is = e ∙ ap (λ t. cond t (NotYet, Open b a.interim) (Request (body_of b a) a.close, behind b a)) (lt-ltb (length b) (a.head + a.body) short) in
-    at_place short (subst (λ p. Went p [] gs) (ap (λ x. x.1) is) went)
+      let is = e ∙ ap (λ t. cond t (NotYet, Open b a.interim) (Request (body_of b a) a.close, behind b a)) (lt-ltb (length b) (a.head + a.body) short) in
+      at_place short (subst (λ p. Went p [] gs) (ap (λ x. x.1) is) went)
   | inr whole ↦
-    let is = e ∙ ap (λ t. cond t (NotYet, Open b a.interim) (Request (body_of b a) a.close, behind b a)) (le-ltb (length b) (a.head + a.body) whole) in
-    let f = ap (λ x. x.0) is in absurd (cc)
-  ]
+      let is = e ∙ ap (λ t. cond t (NotYet, Open b a.interim) (Request (body_of b a) a.close, behind b a)) (le-ltb (length b) (a.head + a.body) whole) in
+      let f = ap (λ x. x.0) is in absurd (cc)
+]
   where
     by_tail : length b < a.head + a.body → (tail : List Fed) → Tail (b ++ []) a tail → tail ≡ []
     by_tail short tail (inl x) = x.1
     by_tail short tail (inr (inl x)) = let whole = x.0 in absurd (omega (arith, length-append b []))
     by_tail short tail (inr (inr x)) = let whole = x.0 in absurd (omega (arith, length-append b []))
+
     at_place : length b < a.head + a.body → Went (Open b a.interim) [] gs → gs ≡ []
     at_place short went =
         let t = tail_of (b ++ []) a (admits_grows b [] a j) went.0.0 in
