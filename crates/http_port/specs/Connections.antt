@@ -1,5 +1,6 @@
 -- What the bytes of a connection hold: its requests in order, and how they end.
-use Rattle.std.specs.Prelude.{◌≡◌, ℕ, ◌+◌, ◌<◌, ◌≤◌, Bool, true, false, if◌then◌else◌, List, [], ◌∷◌, ◌++◌, length, drop}
+use Rattle.std.specs.Prelude.{◌≡◌, ℕ, ◌+◌, ◌<◌, ◌≤◌, Bool, true, false, if◌then◌else◌}
+use Rattle.std.specs.Prelude.{List, [], ◌∷◌, ◌++◌, length, drop}
 use Rattle.http_port.specs.Rules.{Judges}
 use Rattle.http_port.specs.Feeding.{Place, Feeds, body_of}
 use Rattle.http_port.specs.declared.verdict.Admission.{Admission}
@@ -7,19 +8,22 @@ use Rattle.http_port.specs.declared.verdict.Verdict.TheVariants.{Pending, Refuse
 use Rattle.http_port.specs.declared.head_reader.Fed.{Fed}
 use Rattle.http_port.specs.declared.head_reader.Fed.TheVariants.{NotYet, Interim, Request, Refused}
 
--- A reading of the bytes, request by request: up to and with the first that closes the connection, or up to the first refusal.
+-- A reading of the bytes, request by request: up to and with the first that closes the connection, or up to the first
+-- refusal.
 pub data Reading : List ℕ → Type 0 where
   -- no more head is whole
   waits : (bytes : List ℕ) → Judges bytes Pending → Reading bytes
   -- what comes next is refused with this status
   refuses : (bytes : List ℕ) (status : ℕ) → Judges bytes (Refuses status) → Reading bytes
   -- the last head lacks its body
-  lacks : (bytes : List ℕ) (a : Admission) → Judges bytes (Admits a) → length bytes < a.head + a.body → Reading bytes
+  lacks : (bytes : List ℕ) (a : Admission) → Judges bytes (Admits a) → length bytes < a.head + a.body
+      → Reading bytes
   -- a request, with which the connection closes
-  closes : (bytes : List ℕ) (a : Admission) → Judges bytes (Admits a) → a.head + a.body ≤ length bytes → a.close ≡ true → Reading bytes
+  closes : (bytes : List ℕ) (a : Admission) → Judges bytes (Admits a) → a.head + a.body ≤ length bytes → a.close ≡ true
+      → Reading bytes
   -- a request, and the reading of what follows it
-  goes_on : (bytes : List ℕ) (a : Admission) → Judges bytes (Admits a) → a.head + a.body ≤ length bytes → a.close ≡ false
-      → Reading (drop (a.head + a.body) bytes) → Reading bytes
+  goes_on : (bytes : List ℕ) (a : Admission) → Judges bytes (Admits a) → a.head + a.body ≤ length bytes
+      → a.close ≡ false → Reading (drop (a.head + a.body) bytes) → Reading bytes
 
 -- a request as it came: whether it asks for the interim line, its body, and whether the connection closes with its answer
 pub record RequestRead : Type 0 where
@@ -27,8 +31,8 @@ pub record RequestRead : Type 0 where
   pub body : List ℕ
   pub close : Bool
 
--- how the requests end: no more is whole, and in WithInterim a last whole head that asks for the interim line lacks its body; or the
--- connection closes with the last; or what follows them is refused with a status
+-- how the requests end: no more is whole, and in WithInterim a last whole head that asks for the interim line lacks its
+-- body; or the connection closes with the last; or what follows them is refused with a status
 pub data End : Type 0 where
   Unfinished WithInterim Closed : End
   RefusedBy : ℕ → End
@@ -43,7 +47,8 @@ requests bytes (waits _ judged) = []
 requests bytes (refuses _ status judged) = []
 requests bytes (lacks _ a judged short) = []
 requests bytes (closes _ a judged whole close) = request_read bytes a ∷ []
-requests bytes (goes_on _ a judged whole stays rest) = request_read bytes a ∷ requests (drop (a.head + a.body) bytes) rest
+requests bytes (goes_on _ a judged whole stays rest) =
+    request_read bytes a ∷ requests (drop (a.head + a.body) bytes) rest
 
 -- how they end
 abbrev pub end_of : (bytes : List ℕ) → Reading bytes → End
@@ -63,7 +68,8 @@ given bytes (waits _ judged) = []
 given bytes (refuses _ status judged) = Refused status ∷ []
 given bytes (lacks _ a judged short) = given_first a
 given bytes (closes _ a judged whole close) = given_first a ++ Request (body_of bytes a) a.close ∷ []
-given bytes (goes_on _ a judged whole stays rest) = given_first a ++ Request (body_of bytes a) a.close ∷ given (drop (a.head + a.body) bytes) rest
+given bytes (goes_on _ a judged whole stays rest) =
+    given_first a ++ Request (body_of bytes a) a.close ∷ given (drop (a.head + a.body) bytes) rest
 
 -- calls of feed in a row, one for each piece, from one place to another
 abbrev pub Run : Place → List (List ℕ) → List Fed → Place → Type 0

@@ -1,5 +1,6 @@
 -- What a reader of a connection gives, piece by piece.
-use Rattle.std.specs.Prelude.{◌≡◌, ℕ, ◌+◌, Bool, true, false, nat_lt, not, ◌&&◌, if◌then◌else◌, List, ◌++◌, length, take, drop, slice_range}
+use Rattle.std.specs.Prelude.{◌≡◌, ℕ, ◌+◌, nat_lt, Bool, true, false, not, ◌&&◌, if◌then◌else◌}
+use Rattle.std.specs.Prelude.{List, ◌++◌, length, take, drop, slice_range}
 use Rattle.http_port.specs.HeadPart.{longest_head, HoldsScan}
 use Rattle.http_port.specs.Rules.{Judges}
 use Rattle.http_port.specs.declared.verdict.Admission.{Admission}
@@ -10,8 +11,8 @@ use Rattle.http_port.specs.declared.head_reader.Fed.TheVariants.{NotYet, Interim
 use Rattle.http_port.specs.declared.head_reader.Stage.{Stage}
 use Rattle.http_port.specs.declared.head_reader.Stage.TheVariants as Waits
 
--- Where a reader is. Open: before these bytes, which no request took, and whose first head had its interim line if asked is true.
--- Over: behind the last request, or a refusal. Spent: memory ran out.
+-- Where a reader is. Open: before these bytes, which no request took, and whose first head had its interim line if asked
+-- is true. Over: behind the last request, or a refusal. Spent: memory ran out.
 pub data Place : Type 0 where
   Open : List ℕ → Bool → Place
   Over Spent : Place

@@ -1,5 +1,6 @@
 -- What the fields of a head say of the body, one field after another.
-use Rattle.std.specs.Prelude.{ℕ, min, Bool, true, false, nat_lt, ◌&&◌, List, [], ◌∷◌, length, if◌then◌else◌, codes}
+use Rattle.std.specs.Prelude.{ℕ, min, nat_lt, Bool, true, false, ◌&&◌, if◌then◌else◌}
+use Rattle.std.specs.Prelude.{List, [], ◌∷◌, length, codes}
 use Rattle.std.specs.List.{list_all, list_any}
 use Rattle.std.specs.Char.{is_ascii_digit}
 use Rattle.std.specs.Str.Parse.{digits_value}

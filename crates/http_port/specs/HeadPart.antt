@@ -1,5 +1,6 @@
 -- The head part of a request: its bytes up to and with the first empty line that follows a line that is not empty.
-use Rattle.std.specs.Prelude.{◌≡◌, ℕ, ◌+◌, ◌≤◌, Bool, false, not, ◌&&◌, ◌||◌, ◌==◌, if◌then◌else◌, List, [], ◌∷◌, ◌++◌, length, take, Option, None, Some, bytes_eq, option_map}
+use Rattle.std.specs.Prelude.{◌≡◌, ℕ, ◌+◌, ◌≤◌, ◌==◌, Bool, false, not, ◌&&◌, ◌||◌, if◌then◌else◌}
+use Rattle.std.specs.Prelude.{List, [], ◌∷◌, ◌++◌, length, take, bytes_eq, Option, None, Some, option_map}
 use Rattle.httparse.specs.Ascii.{line_feed, crlf_bytes}
 use Rattle.http_port.specs.declared.scan.Scan.{Scan}
 
@@ -17,7 +18,8 @@ lines (b ∷ bytes) = if b == line_feed then (b ∷ []) ∷ lines bytes else beg
 abbrev pub is_empty_line : List ℕ → Bool
 is_empty_line line = bytes_eq line (line_feed ∷ []) || bytes_eq line crlf_bytes
 
--- how long the rest of a head part is, which goes on with these lines; begun says whether a line that is not empty came before
+-- how long the rest of a head part is, which goes on with these lines; begun says whether a line that is not empty came
+-- before
 abbrev pub part_length : Bool → List (List ℕ) → Option ℕ
 part_length begun [] = None
 part_length begun (line ∷ more) =

@@ -1,5 +1,6 @@
 -- What is refused of a request, and with which status: the first rule that holds decides.
-use Rattle.std.specs.Prelude.{◌≡◌, ℕ, ◌≤◌, ◌⊎◌, Bool, nat_lt, not, ◌&&◌, ◌||◌, ◌==◌, if◌then◌else◌, List, [], ◌∷◌, length, map, take, Option, None, Some, codes, count_by, bytes_eq}
+use Rattle.std.specs.Prelude.{◌≡◌, ℕ, ◌≤◌, nat_lt, ◌==◌, ◌⊎◌, Bool, not, ◌&&◌, ◌||◌, if◌then◌else◌}
+use Rattle.std.specs.Prelude.{List, [], ◌∷◌, length, map, take, count_by, bytes_eq, codes, Option, None, Some}
 use Rattle.std.specs.List.{list_all}
 use Rattle.std.specs.Str.Parse.{digits_value}
 use Rattle.httparse.specs.Grammar.{RequestHead, print_request, ReadsRequest}
@@ -44,7 +45,8 @@ wants_close minor headers = minor == 0 || has_option (codes "close") (elements_n
 
 -- a 1.1 head that expects 100-continue
 abbrev pub wants_interim : ℕ → List Header → Bool
-wants_interim minor headers = not (minor == 0) && has_option (codes "100-continue") (elements_named (codes "expect") headers)
+wants_interim minor headers =
+    not (minor == 0) && has_option (codes "100-continue") (elements_named (codes "expect") headers)
 
 -- these three
 abbrev pub wishes_of : ℕ → List Header → Wishes
@@ -56,7 +58,12 @@ wishes_of minor headers = record {
 
 -- the request of a head that is not refused, with a body of so many bytes
 abbrev pub admission : Head → ℕ → Admission
-admission h body = record { head = h.length; body = body; close = wants_close h.minor h.headers; interim = wants_interim h.minor h.headers }
+admission h body = record {
+  head = h.length;
+  body = body;
+  close = wants_close h.minor h.headers;
+  interim = wants_interim h.minor h.headers;
+}
 
 -- by the length that is stated, if one is
 abbrev pub verdict_by_length : Head → List (List ℕ) → Verdict

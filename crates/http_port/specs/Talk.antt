@@ -19,7 +19,8 @@ last_words WithInterim = interim
 last_words Closed = []
 last_words (RefusedBy status) = response status [] true
 
--- the interim lines and the responses in order, up to the first request whose text is not given, its interim line included
+-- the interim lines and the responses in order, up to the first request whose text is not given, its interim line
+-- included
 abbrev pub talk : List RequestRead → End → List (Option (List ℕ)) → List ℕ
 talk [] end texts = last_words end
 talk (request ∷ more) end [] = interim_of request

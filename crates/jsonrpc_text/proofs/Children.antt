@@ -10,8 +10,7 @@ use Rattle.serde_json.specs.Data.{Data, array, object, Items, no_items, item, Me
 use Rattle.serde_json.specs.View.{view, items_view, members_view}
 use Rattle.serde_json.specs.declared.value.Value.{Value}
 use Rattle.jolie_trees.specs.Data.{Tree, node, Fields, no_fields, field, Trees}
-use Rattle.jolie_trees.specs.Extents.{children_of, names_of}
-use Rattle.jolie_trees.specs.Trees.{root_of, levels, fields_levels, trees_levels, count_of}
+use Rattle.jolie_trees.specs.Trees.{children_of, names_of, root_of, levels, fields_levels, trees_levels, count_of}
 use Rattle.jolie_trees.specs.TreeView.{trees_of, fields_of}
 use Rattle.jolie_trees.proofs.Vectors.{count_of-length}
 use Rattle.behaviour_tree.specs.Conforms.{shape}

@@ -4,9 +4,8 @@ use Rattle.std.proofs.lemmas.List.{length-map}
 use Rattle.std.proofs.lemmas.Bool.Decides.{nat_tests}
 use Rattle.std.specs.Prelude.{◌&&◌, nat_eq, nat_le}
 use Rattle.jolie_trees.specs.Data.{Tree, node, Fields, field}
-use Rattle.jolie_trees.specs.Trees.{root_of, count_of, levels, trees_levels}
+use Rattle.jolie_trees.specs.Trees.{root_of, count_of, levels, trees_levels, children_of}
 use Rattle.jolie_trees.specs.TreeView.{trees_of}
-use Rattle.jolie_trees.specs.Extents.{children_of}
 use Rattle.jolie_trees.specs.declared.root.Root.{Root}
 use Rattle.behaviour_tree.specs.Data.{TypeTree, plain, named, undefined}
 use Rattle.behaviour_tree.specs.Conforms.{shape, has_kind, at_most, counts_fit, fits, children_fit, members_fit}

@@ -11,9 +11,8 @@ use Rattle.std.specs.Borrow.{Bor}
 use Rattle.std.specs.Option.{option_copied}
 use Rattle.std.specs.Prelude.{bytes_eq, is_some, option_map, if◌then◌else◌}
 use Rattle.jolie_trees.specs.Data.{Tree, node, Fields, no_fields, field, Trees, no_trees, tree}
-use Rattle.jolie_trees.specs.Extents.{children_of, names_of}
+use Rattle.jolie_trees.specs.Trees.{children_of, names_of, root_of, under, levels, fields_levels, trees_levels}
 use Rattle.jolie_trees.specs.Lending.{replaced_under, with_members}
-use Rattle.jolie_trees.specs.Trees.{root_of, under, levels, fields_levels, trees_levels}
 use Rattle.jolie_trees.specs.TreeView.{trees_of}
 use Rattle.jolie_trees.specs.declared.root.Root.{Root}
 use Rattle.behaviour_tree.specs.Data.{TypeTree, plain, named, undefined, TypeFields}
