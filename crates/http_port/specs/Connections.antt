@@ -25,7 +25,8 @@ pub data Reading : List ℕ → Type 0 where
   goes_on : (bytes : List ℕ) (a : Admission) → Judges bytes (Admits a) → a.head + a.body ≤ length bytes
       → a.close ≡ false → Reading (drop (a.head + a.body) bytes) → Reading bytes
 
--- a request as it came: whether it asks for the interim line, its body, and whether the connection closes with its answer
+-- a request as it came: whether it asks for the interim line, its body, and whether the connection closes with its
+-- answer
 pub record RequestRead : Type 0 where
   pub interim : Bool
   pub body : List ℕ

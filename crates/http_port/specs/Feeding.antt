@@ -11,8 +11,8 @@ use Rattle.http_port.specs.declared.head_reader.Fed.TheVariants.{NotYet, Interim
 use Rattle.http_port.specs.declared.head_reader.Stage.{Stage}
 use Rattle.http_port.specs.declared.head_reader.Stage.TheVariants as Waits
 
--- Where a reader is. Open: before these bytes, which no request took, and whose first head had its interim line if asked
--- is true. Over: behind the last request, or a refusal. Spent: memory ran out.
+-- Where a reader is. Open: before these bytes, which no request took, and whose first head had its interim line if
+-- asked is true. Over: behind the last request, or a refusal. Spent: memory ran out.
 pub data Place : Type 0 where
   Open : List ℕ → Bool → Place
   Over Spent : Place
