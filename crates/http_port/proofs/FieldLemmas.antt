@@ -14,8 +14,9 @@ use Rattle.http_port.specs.declared.fields.Stated.TheVariants.{Nothing, Length, 
 use Rattle.http_port.specs.declared.fields.Framing.{Framing}
 use Rattle.http_port.specs.declared.verdict.Verdict.{Verdict}
 use Rattle.http_port.specs.declared.verdict.Verdict.TheVariants.{Refuses, Admits}
-use Rattle.http_port.specs.Framing.{is_digits, lengths_in, is_coded, stated_by, stated, stated_after, framing_of, is_unclear_by, is_unclear}
-use Rattle.http_port.specs.Rules.{Head, lacks_host, wishes_of, admission, verdict_by_length, verdict_of}
+use Rattle.http_port.specs.Framing.{is_digits, lengths_in, is_coded}
+use Rattle.http_port.specs.Walks.{stated_by, stated, stated_after, framing_of, is_unclear_by, is_unclear, wishes_of}
+use Rattle.http_port.specs.Rules.{Head, lacks_host, admission, verdict_by_length, verdict_of}
 
 -- one more value
 stated_push : (values : List (List ℕ)) (value : List ℕ) → stated (values ++ value ∷ []) ≡ stated_after (stated values) value

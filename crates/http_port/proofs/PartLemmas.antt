@@ -6,7 +6,8 @@ use Rattle.std.proofs.lemmas.List.{take-append-drop, take-append-le, take-take, 
 use Rattle.std.proofs.Math.Seq.{take-suc, take-add}
 use Rattle.std.proofs.lemmas.Option.{none-some, same_Some}
 use Rattle.http_port.specs.declared.scan.Scan.{Scan}
-use Rattle.http_port.specs.HeadPart.{begin_with, lines, is_empty_line, part_length, longest_head, head_part, begun_behind, HoldsScan}
+use Rattle.http_port.specs.HeadPart.{begin_with, lines, is_empty_line, part_length, longest_head, head_part, HoldsScan}
+use Rattle.http_port.specs.Walks.{begun_behind}
 use Rattle.memchr.specs.Find.{IsFirstByte, is_byte}
 
 -- no byte of the list is an LF

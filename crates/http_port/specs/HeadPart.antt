@@ -34,10 +34,6 @@ longest_head = 8192
 abbrev pub head_part : List ℕ → Option ℕ
 head_part bytes = part_length false (lines (take longest_head bytes))
 
--- whether a line that is not empty came, with this one; none where this one ends the head part
-abbrev pub begun_behind : Bool → List ℕ → Option Bool
-begun_behind begun line = if begun && is_empty_line line then None else Some (begun || not (is_empty_line line))
-
 -- The search has read whole lines of these bytes, and whatever follows these decides.
 pub record HoldsScan (bytes : List ℕ) (scan : Scan) : Type 0 where
   pub inside : scan.at ≤ length bytes

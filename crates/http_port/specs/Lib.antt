@@ -1,6 +1,7 @@
 pub mod HeadPart
 pub mod Framing
 pub mod Rules
+pub mod Walks
 pub mod Feeding
 pub mod Connections
 pub mod Responses

@@ -10,7 +10,6 @@ use Rattle.http_port.specs.HeadPart.{longest_head, head_part}
 use Rattle.http_port.specs.Framing.{is_digits, lengths_in, is_coded}
 use Rattle.http_port.specs.declared.verdict.Admission.{Admission}
 use Rattle.http_port.specs.declared.verdict.Verdict.{Verdict}
-use Rattle.http_port.specs.declared.verdict.Wishes.{Wishes}
 use Rattle.http_port.specs.declared.verdict.Verdict.TheVariants.{Pending, Refuses, Admits}
 
 -- what the rules look at of a head: its length in bytes, and its method, minor version and fields
@@ -47,14 +46,6 @@ wants_close minor headers = minor == 0 || has_option (codes "close") (elements_n
 abbrev pub wants_interim : ℕ → List Header → Bool
 wants_interim minor headers =
     not (minor == 0) && has_option (codes "100-continue") (elements_named (codes "expect") headers)
-
--- these three
-abbrev pub wishes_of : ℕ → List Header → Wishes
-wishes_of minor headers = record {
-  lacks_host = lacks_host minor headers;
-  close = wants_close minor headers;
-  interim = wants_interim minor headers;
-}
 
 -- the request of a head that is not refused, with a body of so many bytes
 abbrev pub admission : Head → ℕ → Admission

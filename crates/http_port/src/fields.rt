@@ -2,7 +2,8 @@
 ghost use Rattle.std.specs.Prelude.{◌≡◌, ℕ, ◌++◌, ◌∷◌, [], List, length, map, min, Some, None, if◌then◌else◌, All};
 ghost use Rattle.std.specs.Str.Parse.{digits_value};
 ghost use Rattle.httparse.specs.Spans.{IsHeaderWithin, header_bytes};
-ghost use Rattle.http_port.specs.Framing.{is_digits, stated_after, framing_of, is_unclear};
+ghost use Rattle.http_port.specs.Framing.{is_digits};
+ghost use Rattle.http_port.specs.Walks.{stated_after, framing_of, is_unclear};
 
 use http1::text::eq_ignore_case;
 use httparse::spans::HeaderSpan;

@@ -1,6 +1,7 @@
 //! The search for the end of a head part, line by line.
 ghost use Rattle.std.specs.Prelude.{◌≡◌, false};
-ghost use Rattle.http_port.specs.HeadPart.{is_empty_line, part_length, lines, begun_behind, HoldsScan};
+ghost use Rattle.http_port.specs.HeadPart.{is_empty_line, part_length, lines, HoldsScan};
+ghost use Rattle.http_port.specs.Walks.{begun_behind};
 
 use memchr::memchr;
 

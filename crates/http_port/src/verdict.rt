@@ -2,7 +2,8 @@
 ghost use Rattle.std.specs.Prelude.{◌≡◌, ◌≤◌, List, ℕ, length, map, take, All};
 ghost use Rattle.httparse.specs.Spans.{IsHeaderWithin, header_bytes, span_bytes, IsWithin};
 ghost use Rattle.http_port.specs.HeadPart.{HoldsScan};
-ghost use Rattle.http_port.specs.Rules.{wishes_of, verdict_of, JudgesPart, Judges};
+ghost use Rattle.http_port.specs.Rules.{verdict_of, JudgesPart, Judges};
+ghost use Rattle.http_port.specs.Walks.{wishes_of};
 
 use crate::fields::{Framing, LONGEST_BODY, Stated};
 use crate::scan::Scan;

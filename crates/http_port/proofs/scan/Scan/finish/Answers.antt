@@ -1,5 +1,5 @@
 use Rattle.std.proofs.Common.{◌≡◌, ◌+◌, ◌-◌, arith, sym, ap, ◌∙◌, take, drop}
-use Rattle.http_port.specs.HeadPart.{begun_behind}
+use Rattle.http_port.specs.Walks.{begun_behind}
 use Rattle.http_port.proofs.PartLemmas.{IsNextLf, next_lf, no_next_lf, scan_ends, scan_on, scan_fails}
 use Rattle.http_port.proofs.scan.Scan.finish.Goals as goal
 
