@@ -4,7 +4,8 @@
 #   bench/gate.sh FILE [NAME..]    runs RT_JOBS=4 rt ci [NAME..], and ends with its status
 #   bench/gate.sh -t FILE          for each crate the processor seconds of its proof, its tests, the check that its edits begin
 #                                  with and its edits, their sum, and the seconds by the clock that its checks took together
-# A crate that an earlier run kept costs nothing and is not in it.
+# What an earlier run kept costs nothing and is not in it. The proof of a program has its two builds in it. What the whole run took
+# has the tests and programs that ran in it too, and `rt` itself.
 set -eu
 
 # The table of a file of times, whose lines are a crate, a stage, processor seconds and seconds by the clock.
@@ -69,6 +70,7 @@ note_check() {
 # Notes how far each check of the gate is: its processor ticks, and the hundredths of a second since the machine began.
 look() {
     read -r now _ < /proc/uptime
+    # shellcheck disable=SC2013
     for process in $(cat /proc/"$1"/task/*/children 2> "$work/gone"); do
         read -r stat 2> "$work/gone" < "/proc/$process/stat" || continue
         [ "${stat#*(rattle) }" != "$stat" ] || continue
@@ -89,6 +91,7 @@ look() {
 run=$!
 read -r start _ < /proc/uptime
 while kill -0 "$run" 2> "$work/gone"; do
+    # shellcheck disable=SC2013
     for gate in $(cat /proc/"$run"/task/*/children 2> "$work/gone"); do
         look "$gate"
     done
