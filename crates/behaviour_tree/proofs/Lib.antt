@@ -1,3 +1,4 @@
 pub mod Behind
 pub mod Inputs
 pub mod Positions
+pub mod Shapes

@@ -1,3 +1,4 @@
+-- These definitions serve the proofs alone: no promise speaks of them.
 -- The sign that no number has.
 use Rattle.std.specs.Prelude.{ℕ, Bool, false, ◌==◌, List, [], ◌∷◌}
 

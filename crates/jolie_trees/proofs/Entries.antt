@@ -12,10 +12,9 @@ use Rattle.std.specs.Prelude.{cond, bytes_eq, if◌then◌else◌}
 use Rattle.jolie_trees.specs.declared.root.Root.{Root}
 use Rattle.jolie_trees.specs.declared.path.Step.{Step}
 use Rattle.jolie_trees.specs.Data.{Tree, node, Fields, Trees, no_trees}
-use Rattle.jolie_trees.specs.Trees.{under, nth, child, index_of, count_at}
+use Rattle.jolie_trees.specs.Trees.{under, nth, child, index_of, count_at, names_of}
 use Rattle.jolie_trees.specs.Changes.{count_in}
 use Rattle.jolie_trees.specs.TreeView.{trees_of, fields_of}
-use Rattle.jolie_trees.specs.Extents.{names_of}
 
 abbrev pub Entry : Type 0
 Entry = List ℕ × Trees

@@ -8,8 +8,8 @@ use Rattle.std.specs.List.Sorted.{IsStrictlySortedBy}
 use Rattle.std.specs.Ordering.{match_ordering, is_eq}
 use Rattle.jolie_trees.specs.declared.path.Step.{Step}
 use Rattle.jolie_trees.specs.Data.{Tree, node, Fields, no_fields, field, Trees, no_trees}
-use Rattle.jolie_trees.specs.Trees.{void_tree, change_nth, change_under, under, index_of, change, size, levels, fields_size, fields_levels, trees_size, trees_levels}
-use Rattle.jolie_trees.specs.Extents.{extent, extent_of, children_of, names_of, others}
+use Rattle.jolie_trees.specs.Trees.{void_tree, change_nth, change_under, under, index_of, change, size, levels, fields_size, fields_levels, trees_size, trees_levels, children_of, names_of}
+use Rattle.jolie_trees.specs.Extents.{extent, extent_of, others}
 use Rattle.jolie_trees.specs.TreeView.{trees_of}
 
 -- ---- a vector

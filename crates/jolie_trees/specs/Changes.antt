@@ -1,9 +1,11 @@
--- A change in place, as the calls that change a tree make it: their own clauses say it by `set`, `set_root` and the like.
+-- These definitions serve the proofs alone: no promise speaks of them.
+-- A change in place, as the calls that change a tree make it.
 use Rattle.std.specs.Prelude.{ℕ, List, [], ◌∷◌, Option, None, Some}
 use Rattle.jolie_trees.specs.declared.tree.change.Change.{Change}
 use Rattle.jolie_trees.specs.declared.tree.change.Change.TheVariants.{Whole, OnlyRoot}
 use Rattle.jolie_trees.specs.Data.{Tree, node, Trees}
-use Rattle.jolie_trees.specs.Trees.{with_root, change_under, undef, left_of, change_nth_if_there, index_of, count_of, one_if, nth}
+use Rattle.jolie_trees.specs.Trees.{with_root, change_under, undef, left_of, change_nth_if_there, index_of}
+use Rattle.jolie_trees.specs.Trees.{count_of, one_if, nth}
 use Rattle.jolie_trees.specs.declared.path.Step.{Step}
 
 -- what a change makes of a node

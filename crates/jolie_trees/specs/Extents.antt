@@ -1,8 +1,9 @@
+-- These definitions serve the proofs alone: no promise speaks of them.
 -- How large a tree is: its nodes and its levels, as far as the machine's numbers hold them.
-use Rattle.std.specs.Prelude.{ℕ, List, [], ◌∷◌, bytes_eq, if◌then◌else◌, Option, option_and_then, unwrap_or}
+use Rattle.std.specs.Prelude.{ℕ, List, bytes_eq, if◌then◌else◌, Option, option_and_then, unwrap_or}
 use Rattle.jolie_trees.specs.declared.extent.Extent.{Extent}
 use Rattle.jolie_trees.specs.declared.path.Step.{Step}
-use Rattle.jolie_trees.specs.Data.{Tree, node, Fields, no_fields, field, Trees}
+use Rattle.jolie_trees.specs.Data.{Tree, Fields, no_fields, field, Trees}
 use Rattle.jolie_trees.specs.Trees.{get, void_tree, size, fields_size, trees_size, levels, fields_levels, trees_levels}
 use Rattle.jolie_trees.specs.Limits.{in_u64, in_u32}
 
@@ -21,15 +22,6 @@ fields_extent fs = extent (fields_size fs) (fields_levels fs)
 -- the extent of the nodes of a vector together
 abbrev pub trees_extent : Trees → Extent
 trees_extent ts = extent (trees_size ts) (trees_levels ts)
-
--- the children of a tree
-abbrev pub children_of : Tree → Fields
-children_of (node r fs) = fs
-
--- the names of all children
-abbrev pub names_of : Fields → List (List ℕ)
-names_of no_fields = []
-names_of (field name ts fs) = name ∷ names_of fs
 
 -- the children but those under a name
 abbrev pub others : List ℕ → Fields → Fields

@@ -4,6 +4,7 @@ pub mod Trees
 pub mod Limits
 pub mod TreeCode
 pub mod TreeView
+pub mod Ranks
 pub mod Extents
 pub mod Changes
 pub mod Refusals

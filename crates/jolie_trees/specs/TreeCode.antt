@@ -1,4 +1,5 @@
--- The code of trees, by which a proof tells two of them apart: no contract cites it.
+-- These definitions serve the proofs alone: no promise speaks of them.
+-- The code of trees, by which a proof tells two of them apart.
 use Rattle.std.specs.Prelude.{◌≡◌, ◌⊎◌, ℕ, List, refl}
 use Rattle.std.specs.Coded.{Coded, coded_list, coded_ℕ, coded⊎}
 use mathlib.Core.Path.{ap}
@@ -56,4 +57,5 @@ tree_code = coded_by_bin (coded⊎ root_row.the_row.coded (coded_list coded_ℕ)
 
 -- the code of lists of trees
 abbrev pub trees_code : Coded Trees
-trees_code = coded_by_bin (coded⊎ root_row.the_row.coded (coded_list coded_ℕ)) trees_to_bin trees_from_bin trees_back
+trees_code =
+    coded_by_bin (coded⊎ root_row.the_row.coded (coded_list coded_ℕ)) trees_to_bin trees_from_bin trees_back

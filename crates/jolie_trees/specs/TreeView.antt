@@ -1,10 +1,6 @@
 -- The tree that the fields of a program's tree stand for, one level at a time.
-use Rattle.std.specs.Prelude.{ℕ, ◌+◌, ◌*◌, ◌≤◌, List, [], ◌∷◌}
-use Rattle.std.proofs.Common.{arith}
-use Rattle.std.specs.Map.{values_of}
-use denote.Param.Weighed.{most}
+use Rattle.std.specs.Prelude.{ℕ, List, [], ◌∷◌}
 use Rattle.jolie_trees.specs.Data.{Tree, Fields, no_fields, field, Trees, no_trees, tree}
-use Rattle.jolie_trees.specs.Trees.{levels, fields_levels, trees_levels}
 
 -- the nodes of a list
 abbrev pub trees_of : List Tree → Trees
@@ -15,19 +11,3 @@ trees_of (t ∷ ts) = tree t (trees_of ts)
 abbrev pub fields_of : List (List ℕ × Trees) → Fields
 fields_of [] = no_fields
 fields_of (e ∷ es) = field e.0 e.1 (fields_of es)
-
--- a number above that of each vector below
-abbrev pub tree_rank : Tree → ℕ
-tree_rank t = 2 * levels t
-
--- a number above that of each tree in it
-abbrev pub trees_rank : Trees → ℕ
-trees_rank ts = 2 * trees_levels ts + 1
-
-pub trees_fall : (ts : List Tree) → most (λ t. tree_rank t + 1) ts ≤ trees_rank (trees_of ts)
-trees_fall [] = omega arith
-trees_fall (t ∷ ts) = omega (arith, trees_fall ts)
-
-pub fields_fall : (es : List (List ℕ × Trees)) → most (λ ts. trees_rank ts + 1) (values_of es) ≤ 2 * fields_levels (fields_of es) + 2
-fields_fall [] = omega arith
-fields_fall (e ∷ es) = omega (arith, fields_fall es)

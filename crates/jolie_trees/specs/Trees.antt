@@ -1,5 +1,6 @@
 -- What stands at a path of a tree, and what a change there makes of the tree.
-use Rattle.std.specs.Prelude.{ℕ, zero, suc, ◌+◌, List, [], ◌∷◌, length, max, Option, None, Some, option_and_then, option_map, unwrap_or, if◌then◌else◌, bytes_eq}
+use Rattle.std.specs.Prelude.{ℕ, zero, suc, ◌+◌, max, List, [], ◌∷◌, length, if◌then◌else◌, bytes_eq}
+use Rattle.std.specs.Prelude.{Option, None, Some, option_and_then, option_map, unwrap_or}
 use Rattle.std.specs.Ordering.{nat_cmp, match_ordering}
 use Rattle.std.specs.Cmp.Lexicographic.{slice_cmp}
 use Rattle.jolie_trees.specs.declared.root.Root.{Root}
@@ -14,6 +15,15 @@ void_tree = node root.Void no_fields
 -- the root of a tree
 abbrev pub root_of : Tree → Root
 root_of (node r fs) = r
+
+-- the children of a tree
+abbrev pub children_of : Tree → Fields
+children_of (node r fs) = fs
+
+-- the names of all children
+abbrev pub names_of : Fields → List (List ℕ)
+names_of no_fields = []
+names_of (field name ts fs) = name ∷ names_of fs
 
 -- the nodes under a name, none where the name is not there
 abbrev pub under : List ℕ → Fields → Trees
@@ -129,7 +139,8 @@ left_of (Some n) ts = without_nth n ts
 abbrev pub undef : List Step → Tree → Tree
 undef [] t = t
 undef (s ∷ []) (node r fs) = node r (change_if_there s.name (left_of s.index) fs)
-undef (s ∷ s' ∷ p) (node r fs) = node r (change_if_there s.name (change_nth_if_there (index_of s) (undef (s' ∷ p))) fs)
+undef (s ∷ s' ∷ p) (node r fs) =
+    node r (change_if_there s.name (change_nth_if_there (index_of s) (undef (s' ∷ p))) fs)
 
 -- a vector with one node more at its end
 abbrev pub with_last : Tree → Trees → Trees

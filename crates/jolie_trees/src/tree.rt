@@ -41,7 +41,8 @@ pub struct Members {
 impl Model for Tree {
     ghost use Rattle.jolie_trees.specs.Data.{Tree as Plain, node};
     ghost use Rattle.jolie_trees.specs.TreeCode.{tree_code};
-    ghost use Rattle.jolie_trees.specs.TreeView.{fields_of, tree_rank, fields_fall};
+    ghost use Rattle.jolie_trees.specs.TreeView.{fields_of};
+    ghost use Rattle.jolie_trees.specs.Ranks.{tree_rank, fields_fall};
     ghost use Rattle.std.proofs.Common.{arith};
 
     ghost Value = { Plain };
@@ -58,7 +59,8 @@ impl Model for Tree {
 impl Model for Members {
     ghost use Rattle.jolie_trees.specs.Data.{Trees};
     ghost use Rattle.jolie_trees.specs.TreeCode.{trees_code};
-    ghost use Rattle.jolie_trees.specs.TreeView.{trees_of, trees_rank, trees_fall};
+    ghost use Rattle.jolie_trees.specs.TreeView.{trees_of};
+    ghost use Rattle.jolie_trees.specs.Ranks.{trees_rank, trees_fall};
     ghost use Rattle.std.proofs.Common.{arith};
 
     ghost Value = { Trees };

@@ -1,7 +1,8 @@
 -- The texts of a batch, one after the other.
-use Rattle.std.proofs.Common.{◌≡◌, ◌∙◌, refl, sym, ap, ℕ, zero, suc, ◌+◌, ◌<◌, ◌≤◌, List, [], ◌∷◌, ◌++◌, length, drop, get_or, codes, arith, drop-cons, append_assoc}
+use Rattle.std.proofs.Common.{◌≡◌, ◌∙◌, refl, sym, ap, ℕ, zero, suc, ◌+◌, ◌<◌, ◌≤◌, List, [], ◌∷◌, ◌++◌, length, drop, get_or, codes, arith, append_assoc}
 use Rattle.std.proofs.lemmas.List.{append-nil, drop_all}
 use Rattle.jsonrpc_text.specs.Responses.{listed, batch}
+use Rattle.jsonrpc_text.proofs.Lists.{taken_off}
 
 -- texts with a comma before each
 abbrev pub each_behind : List (List ℕ) → List ℕ
@@ -22,9 +23,6 @@ each-two text texts = refl
 listed-cons : (text : List ℕ) (texts : List (List ℕ)) → listed (text ∷ texts) ≡ text ++ each_behind texts
 listed-cons text [] = sym (append-nil text)
 listed-cons text (next ∷ texts) = listed-two text next texts ∙ ap (λ x. text ++ (codes "," ++ x)) (listed-cons next texts) ∙ ap (λ x. text ++ x) (sym (each-two next texts))
-
-taken_off : {A : Type 0} (xs : List A) (i : ℕ) (x : A) → i < length xs → x ≡ get_or xs i x → drop i xs ≡ x ∷ drop (suc i) xs
-taken_off xs i x h is = drop-cons xs i x h ∙ ap (λ y. y ∷ drop (suc i) xs) (sym is)
 
 pub first-written : (texts : List (List ℕ)) (i : ℕ) (text done all : List ℕ) → i < length texts → text ≡ get_or texts i text → i ≡ 0
     → done ++ left_after i (drop i texts) ≡ all → (done ++ text) ++ left_after (i + 1) (drop (i + 1) texts) ≡ all

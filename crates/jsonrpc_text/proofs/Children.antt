@@ -1,5 +1,5 @@
 -- Children in the order of their names, put one after the other, are the members of an object.
-use Rattle.std.proofs.Common.{◌≡◌, refl, sym, ap, ◌∙◌, ℕ, zero, suc, ◌+◌, List, [], ◌∷◌, ◌++◌, length, map, drop, get_or, drop-cons, ◌≤◌, ◌<◌, arith, Option, Bool, true, false, true≢false, ◌||◌, if◌then◌else◌, Less, Greater, nat_cmp, String, Global}
+use Rattle.std.proofs.Common.{◌≡◌, refl, sym, ap, ◌∙◌, ℕ, zero, suc, ◌+◌, List, [], ◌∷◌, ◌++◌, length, map, drop, get_or, ◌≤◌, ◌<◌, arith, Option, Bool, true, false, true≢false, ◌||◌, if◌then◌else◌, Less, Greater, nat_cmp, String, Global}
 use Rattle.std.proofs.lemmas.Cmp.{nat_list_cmp_total}
 use Rattle.std.proofs.lemmas.List.{drop_all, length-map}
 use Rattle.std.specs.Cmp.Lexicographic.{slice_cmp}
@@ -10,15 +10,16 @@ use Rattle.serde_json.specs.Data.{Data, array, object, Items, no_items, item, Me
 use Rattle.serde_json.specs.View.{view, items_view, members_view}
 use Rattle.serde_json.specs.declared.value.Value.{Value}
 use Rattle.jolie_trees.specs.Data.{Tree, node, Fields, no_fields, field, Trees}
-use Rattle.jolie_trees.specs.Extents.{children_of, names_of}
-use Rattle.jolie_trees.specs.Trees.{root_of, levels, fields_levels, trees_levels, count_of}
+use Rattle.jolie_trees.specs.Trees.{children_of, names_of, root_of, levels, fields_levels, trees_levels, count_of}
 use Rattle.jolie_trees.specs.TreeView.{trees_of, fields_of}
 use Rattle.jolie_trees.proofs.Vectors.{count_of-length}
 use Rattle.behaviour_tree.specs.Conforms.{shape}
 use Rattle.behaviour_tree.specs.Data.{TypeTree, TypeFields}
 use Rattle.behaviour_tree.specs.View.{type_view}
 use Rattle.behaviour_tree.specs.declared.types.TypeDef.{TypeDef}
-use Rattle.jsonrpc_text.specs.ToJson.{root_data, with_root, FieldPart, field_part, fields_behind, fields_of_type, repeats, member_type, json_of, members_json, vector_json, items_json, node_json}
+use Rattle.jsonrpc_text.specs.ToJson.{root_data, with_root, FieldPart, field_part, fields_behind, fields_of_type, repeats, member_type, json_of, members_json, vector_json, items_json}
+use Rattle.jsonrpc_text.specs.Walks.{node_json}
+use Rattle.jsonrpc_text.proofs.Lists.{taken_off}
 
 -- members with children put after them, one after the other
 abbrev pub with_children : List TypeTree → TypeFields → Fields → Members → Members
@@ -104,17 +105,16 @@ followed-none (item d ds) = ap (item d) (followed-none ds)
 
 -- ---- one step of a walk
 
-taken_off : {A : Type 0} (xs : List A) (i : ℕ) (x : A) → i < length xs → x ≡ get_or xs i x → drop i xs ≡ x ∷ drop (i + 1) xs
-taken_off xs i x h is = let f : i + 1 ≡ suc i = omega arith in rw f (drop-cons xs i x h ∙ ap (λ y. y ∷ drop (suc i) xs) (sym is))
-
 -- the next item is pushed
 pub item-step : (types : List TypeTree) (ts : List Tree) (i : ℕ) (t : Tree) (ty : TypeTree) (vs ws : List Value) (v : Value) (all : Items) → i < length ts → t ≡ get_or ts i t
     → view v ≡ json_of types t ty → ws ≡ vs ++ v ∷ [] → followed_by (items_view vs) (items_json types (trees_of (drop i ts)) ty) ≡ all
     → followed_by (items_view ws) (items_json types (trees_of (drop (i + 1) ts)) ty) ≡ all
 item-step types ts i t ty vs ws v all h at made is kept =
+    let f : i + 1 ≡ suc i = omega arith in
+    let took : drop i ts ≡ t ∷ drop (i + 1) ts = rw f (taken_off ts i t h at) in
     let rest = items_json types (trees_of (drop (i + 1) ts)) ty in
     ap (λ xs. followed_by (items_view xs) rest) is ∙ pushed vs v rest ∙ ap (λ d. followed_by (items_view vs) (item d rest)) made
-    ∙ sym (ap (λ xs. followed_by (items_view vs) (items_json types (trees_of xs) ty)) (taken_off ts i t h at)) ∙ kept
+    ∙ sym (ap (λ xs. followed_by (items_view vs) (items_json types (trees_of xs) ty)) took) ∙ kept
 
 -- after the last one the array is whole
 pub items-done : (types : List TypeTree) (ts : List Tree) (i : ℕ) (ty : TypeTree) (vs : List Value) → length ts ≤ i

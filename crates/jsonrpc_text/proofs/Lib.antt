@@ -2,6 +2,7 @@ mod Batches
 mod Children
 mod Depths
 mod Floats
+mod Lists
 mod Posts
 mod ReadBack
 mod Reading

@@ -9,6 +9,7 @@ use Rattle.behaviour_tree.specs.declared.types.RootKind.{RootKind}
 use Rattle.behaviour_tree.specs.declared.types.RootKind.TheVariants as kind
 use Rattle.behaviour_tree.specs.Data.{TypeTree, plain, named, undefined, TypeFields, no_type_fields, type_field}
 use Rattle.behaviour_tree.specs.Conforms.{shape, has_kind, counts_fit, field_type, fits, children_fit, members_fit, wide_root, wide_children, wide_members}
+use Rattle.behaviour_tree.proofs.Shapes.{fits_at, wide_at}
 use Rattle.jsonrpc_text.specs.Laws.{root_read_back, fields_read_back, trees_read_back, is_exact, are_exact, all_exact, TypedTreesReadBack}
 use Rattle.jsonrpc_text.proofs.ReadBack.{and-left, and-right}
 
@@ -88,30 +89,6 @@ field-exact name (type_field other least most ty fields) h =
     field-exact_if (bytes_eq name other) ty (field_type name fields) (and-left (is_exact ty) (are_exact fields) h) (field-exact name fields (and-right (is_exact ty) (are_exact fields) h))
 
 -- ---- trees
-
--- whether a node fits, by the type behind its names
-abbrev fits_at : List TypeTree → Root → Fields → Option TypeTree → Bool
-fits_at types r children o =
-    elim o [
-      | None ↦ false
-      | Some s ↦ elim s [
-        | plain k fields ↦ has_kind k r && counts_fit children fields && children_fit types children fields
-        | named i ↦ false
-        | undefined ↦ true
-      ]
-    ]
-
--- a node widened, by the type behind its names
-abbrev wide_at : List TypeTree → Root → Fields → Option TypeTree → Tree
-wide_at types r children o =
-    elim o [
-      | None ↦ node r children
-      | Some s ↦ elim s [
-        | plain k fields ↦ node (wide_root k r) (wide_children types children fields)
-        | named i ↦ node r children
-        | undefined ↦ node r children
-      ]
-    ]
 
 two : (r q : Root) (fs gs : Fields) → r ≡ q → fs ≡ gs → node r fs ≡ node q gs
 two r q fs gs h k = rw (h, k) refl

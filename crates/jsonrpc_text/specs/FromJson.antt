@@ -1,6 +1,8 @@
 -- The tree that a JSON value is, and the tree of the params of a call: none where they make no tree.
-use Rattle.std.specs.Prelude.{ℕ, ℤ, pos, negsuc, int_le, ◌&&◌, List, bytes_eq, codes, if◌then◌else◌, Option, None, Some, option_map}
-use Rattle.serde_json.specs.Data.{Num, Data, null, boolean, number, string, array, object, Items, no_items, item, Members, no_members, member}
+use Rattle.std.specs.Prelude.{ℕ, ℤ, pos, negsuc, int_le, ◌&&◌, if◌then◌else◌, List, bytes_eq, codes}
+use Rattle.std.specs.Prelude.{Option, None, Some, option_map}
+use Rattle.serde_json.specs.Data.{Num, Data, null, boolean, number, string, array, object}
+use Rattle.serde_json.specs.Data.{Items, no_items, item, Members, no_members, member}
 use Rattle.serde_json.specs.Find.{as_i64, get_member}
 use Rattle.jolie_trees.specs.declared.root.Root.{Root}
 use Rattle.jolie_trees.specs.declared.root.Root.TheVariants as root
@@ -70,7 +72,8 @@ abbrev mutual
   -- the children that members are, all but `$`
   pub children_in : Members → Option Fields
   children_in no_members = Some no_fields
-  children_in (member name d ms) = if bytes_eq name root_name then children_in ms else and_under name (vector_in d) (children_in ms)
+  children_in (member name d ms) =
+      if bytes_eq name root_name then children_in ms else and_under name (vector_in d) (children_in ms)
 
   -- the trees of a member: an array is a vector, an empty one is absence
   pub vector_in : Data → Option Trees

@@ -1,5 +1,6 @@
 -- What holds of all texts, answers and trees.
-use Rattle.std.specs.Prelude.{◌≡◌, ◌≤◌, ℕ, ℤ, pos, negsuc, int_le, Bool, true, false, not, ◌&&◌, List, [], ◌∷◌, length, bytes_eq, codes, Option, None, Some, is_some}
+use Rattle.std.specs.Prelude.{◌≡◌, ◌≤◌, ℕ, ℤ, pos, negsuc, int_le, Bool, true, false, not, ◌&&◌}
+use Rattle.std.specs.Prelude.{List, [], ◌∷◌, length, bytes_eq, codes, Option, None, Some, is_some}
 use Rattle.serde_json.specs.Data.{Data, number, string, depth}
 use Rattle.serde_json.specs.Find.{get, of_integer}
 use Rattle.serde_json.specs.Read.{max_depth}
@@ -49,7 +50,8 @@ abbrev mutual
   -- the same of children
   pub fields_can_be_written : Fields → Bool
   fields_can_be_written no_fields = true
-  fields_can_be_written (field name ts fs) = not (bytes_eq name root_name) && is_some_tree ts && trees_can_be_written ts && fields_can_be_written fs
+  fields_can_be_written (field name ts fs) =
+      not (bytes_eq name root_name) && is_some_tree ts && trees_can_be_written ts && fields_can_be_written fs
 
   -- the same of a vector
   pub trees_can_be_written : Trees → Bool
@@ -78,7 +80,8 @@ abbrev mutual
 
 -- A tree that is written under any type and read again is that tree, but that longs in the range of ints are ints.
 abbrev pub TreesReadBack : Type 0
-TreesReadBack = (types : List TypeTree) (t : Tree) (ty : TypeTree) → can_be_written t ≡ true → tree_in (json_of types t ty) ≡ Some (read_back t)
+TreesReadBack = (types : List TypeTree) (t : Tree) (ty : TypeTree) → can_be_written t ≡ true
+    → tree_in (json_of types t ty) ≡ Some (read_back t)
 
 abbrev mutual
   -- a type that says of each root which kind it has
@@ -104,7 +107,8 @@ all_exact (ty ∷ types) = is_exact ty && all_exact types
 
 -- A tree of a type that says the kind of each root is the same tree when it is read back, both being widened.
 abbrev pub TypedTreesReadBack : Type 0
-TypedTreesReadBack = (types : List TypeTree) (t : Tree) (ty : TypeTree) → all_exact types ≡ true → is_exact ty ≡ true → fits types t ty ≡ true
+TypedTreesReadBack = (types : List TypeTree) (t : Tree) (ty : TypeTree)
+    → all_exact types ≡ true → is_exact ty ≡ true → fits types t ty ≡ true
     → wide types (read_back t) ty ≡ wide types t ty
 
 -- ---- answers
@@ -125,17 +129,20 @@ pub record Says (d : Data) (i : Id) (result code message data_ : Option Data) : 
 
 -- A value is said as a result.
 abbrev pub SaysValues : Type 0
-SaysValues = (types : List TypeTree) (ty : TypeTree) (i : Id) (t : Tree) → Says (answer_data types ty i (outcome.Value t)) i (Some (json_of types t ty)) None None None
+SaysValues = (types : List TypeTree) (ty : TypeTree) (i : Id) (t : Tree)
+    → Says (answer_data types ty i (outcome.Value t)) i (Some (json_of types t ty)) None None None
 
 -- A fault is said by its name and its data.
 abbrev pub SaysFaults : Type 0
 SaysFaults = (types : List TypeTree) (ty : TypeTree) (i : Id) (name : List ℕ) (t : Tree)
-    → Says (answer_data types ty i (outcome.Fault name t)) i None (Some (number (of_integer fault_code))) (Some (string name)) (Some (json_under_undefined types t))
+    → Says (answer_data types ty i (outcome.Fault name t)) i None
+    (Some (number (of_integer fault_code))) (Some (string name)) (Some (json_under_undefined types t))
 
 -- A refusal is said by its code and its message, without data.
 abbrev pub SaysRefusals : Type 0
 SaysRefusals = (types : List TypeTree) (ty : TypeTree) (i : Id) (reason : Reason)
-    → Says (answer_data types ty i (outcome.Refused reason)) i None (Some (number (of_integer (code_of reason)))) (Some (string (message_of reason))) None
+    → Says (answer_data types ty i (outcome.Refused reason)) i None
+    (Some (number (of_integer (code_of reason)))) (Some (string (message_of reason))) None
 
 -- the tree of a value has at most 64 levels, and that of the data of a fault, which lies one deeper, at most 63
 abbrev pub IsShallow : Outcome → Type 0
@@ -145,10 +152,12 @@ IsShallow (outcome.Refused reason) = Unit {0}
 
 -- Such an answer nests no deeper than what is read.
 abbrev pub AnswersAreShallow : Type 0
-AnswersAreShallow = (types : List TypeTree) (ty : TypeTree) (i : Id) (o : Outcome) → IsShallow o → depth (answer_data types ty i o) ≤ max_depth
+AnswersAreShallow = (types : List TypeTree) (ty : TypeTree) (i : Id) (o : Outcome) → IsShallow o
+    → depth (answer_data types ty i o) ≤ max_depth
 
 -- ---- what is posted
 
 -- A text posts at least one call or refusal, and exactly one where it is no batch.
 abbrev pub PostsSome : Type 0
-PostsSome = (bytes : List ℕ) → (1 ≤ length (posted bytes).calls) × ((posted bytes).batch ≡ false → length (posted bytes).calls ≡ 1)
+PostsSome = (bytes : List ℕ)
+    → (1 ≤ length (posted bytes).calls) × ((posted bytes).batch ≡ false → length (posted bytes).calls ≡ 1)

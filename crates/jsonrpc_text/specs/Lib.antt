@@ -4,3 +4,4 @@ pub mod Posted
 pub mod Putting
 pub mod Responses
 pub mod ToJson
+pub mod Walks

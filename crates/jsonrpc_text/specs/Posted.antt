@@ -1,7 +1,9 @@
 -- What a JSON-RPC text posts: calls with their ids, or refusals of what is no call.
-use Rattle.std.specs.Prelude.{ℕ, nat_le, Bool, true, false, ◌&&◌, List, [], ◌∷◌, length, codes, if◌then◌else◌, Option, None, Some, option_and_then, option_map, unwrap_or, Result, Ok, Err}
+use Rattle.std.specs.Prelude.{ℕ, nat_le, Bool, true, false, ◌&&◌, if◌then◌else◌, List, [], ◌∷◌, length, codes}
+use Rattle.std.specs.Prelude.{Option, None, Some, option_and_then, option_map, unwrap_or, Result, Ok, Err}
 use Rattle.std.specs.Str.{is_utf8, bytes_eq}
-use Rattle.serde_json.specs.Data.{Num, unsigned, negative, float, Data, null, boolean, number, string, array, object, Items, no_items, item}
+use Rattle.serde_json.specs.Data.{Num, unsigned, negative, float, Data, null, boolean, number, string, array, object}
+use Rattle.serde_json.specs.Data.{Items, no_items, item}
 use Rattle.serde_json.specs.Read.{read}
 use Rattle.serde_json.specs.Find.{get, as_str, as_i64}
 use Rattle.jolie_trees.specs.Data.{Tree}
@@ -51,7 +53,8 @@ id_or_null d = unwrap_or (option_and_then id_from (get (codes "id") d)) id.Null
 
 -- the version that a call has to name
 abbrev pub is_version : Data → Bool
-is_version d = unwrap_or (option_map (λ s. bytes_eq s (codes "2.0")) (option_and_then as_str (get (codes "jsonrpc") d))) false
+is_version d =
+    unwrap_or (option_map (λ s. bytes_eq s (codes "2.0")) (option_and_then as_str (get (codes "jsonrpc") d))) false
 
 -- params are absent, null, an object or an array
 abbrev pub are_params : Option Data → Bool

@@ -1,6 +1,8 @@
+-- These definitions serve the proofs alone: no promise speaks of them.
 -- The trees of members put under their names one after the other.
 use Rattle.std.specs.Prelude.{ℕ, List, bytes_eq, if◌then◌else◌, Option, Some, option_and_then, option_map}
-use Rattle.serde_json.specs.Data.{Data, null, boolean, number, string, array, object, Items, no_items, item, Members, no_members, member}
+use Rattle.serde_json.specs.Data.{Data, null, boolean, number, string, array, object}
+use Rattle.serde_json.specs.Data.{Items, no_items, item, Members, no_members, member}
 use Rattle.jolie_trees.specs.Data.{Tree}
 use Rattle.jolie_trees.specs.Trees.{push}
 use Rattle.jsonrpc_text.specs.FromJson.{root_name, tree_in}

@@ -23,19 +23,30 @@ id_data id.None = null
 
 -- a response with a result, its members in order
 abbrev pub result_data : Data → Data → Data
-result_data i result = object (member (codes "id") i (member (codes "jsonrpc") (string (codes "2.0")) (member (codes "result") result no_members)))
+result_data i result =
+    object (member (codes "id") i
+    (member (codes "jsonrpc") (string (codes "2.0"))
+    (member (codes "result") result no_members)))
 
 -- a response with an error, its members in order
 abbrev pub error_data : Data → Data → Data
-error_data i error = object (member (codes "error") error (member (codes "id") i (member (codes "jsonrpc") (string (codes "2.0")) no_members)))
+error_data i error =
+    object (member (codes "error") error
+    (member (codes "id") i
+    (member (codes "jsonrpc") (string (codes "2.0")) no_members)))
 
 -- an error without data
 abbrev pub bare_error : ℤ → List ℕ → Data
-bare_error code message = object (member (codes "code") (number (of_integer code)) (member (codes "message") (string message) no_members))
+bare_error code message =
+    object (member (codes "code") (number (of_integer code))
+    (member (codes "message") (string message) no_members))
 
 -- an error with data
 abbrev pub full_error : ℤ → Data → List ℕ → Data
-full_error code value message = object (member (codes "code") (number (of_integer code)) (member (codes "data") value (member (codes "message") (string message) no_members)))
+full_error code value message =
+    object (member (codes "code") (number (of_integer code))
+    (member (codes "data") value
+    (member (codes "message") (string message) no_members)))
 
 -- the code of an error that is a fault of a session
 abbrev pub fault_code : ℤ
@@ -44,8 +55,10 @@ fault_code = neg_ℤ (pos 32000)
 -- the response to a call that ended so, whose result is of the type
 abbrev pub answer_data : List TypeTree → TypeTree → Id → Outcome → Data
 answer_data types ty i (outcome.Value t) = result_data (id_data i) (json_of types t ty)
-answer_data types ty i (outcome.Fault name t) = error_data (id_data i) (full_error fault_code (json_under_undefined types t) name)
-answer_data types ty i (outcome.Refused reason) = error_data (id_data i) (bare_error (code_of reason) (message_of reason))
+answer_data types ty i (outcome.Fault name t) =
+    error_data (id_data i) (full_error fault_code (json_under_undefined types t) name)
+answer_data types ty i (outcome.Refused reason) =
+    error_data (id_data i) (bare_error (code_of reason) (message_of reason))
 
 -- the code of an early refusal
 abbrev pub early_code : Early → ℤ

@@ -1,13 +1,14 @@
 -- The JSON of a tree under a type.
-use Rattle.std.specs.Prelude.{ℕ, suc, Bool, true, false, not, ◌||◌, List, length, nat_le, bytes_eq, if◌then◌else◌, Option, None, Some}
-use Rattle.serde_json.specs.Data.{Data, null, boolean, number, string, array, object, Items, no_items, item, Members, no_members, member, put}
+use Rattle.std.specs.Prelude.{ℕ, suc, nat_le, Bool, true, false, not, ◌||◌, if◌then◌else◌, List, length, bytes_eq}
+use Rattle.std.specs.Prelude.{Option, None, Some}
+use Rattle.serde_json.specs.Data.{Data, null, boolean, number, string, array, object}
+use Rattle.serde_json.specs.Data.{Items, no_items, item, Members, no_members, member, put}
 use Rattle.serde_json.specs.Find.{of_integer}
 use Rattle.jolie_trees.specs.declared.root.Root.{Root}
 use Rattle.jolie_trees.specs.declared.root.Root.TheVariants as root
 use Rattle.jolie_trees.specs.Data.{Tree, node, Fields, no_fields, field, Trees, no_trees, tree}
 use Rattle.jolie_trees.specs.Trees.{count_of}
 use Rattle.behaviour_tree.specs.Data.{TypeTree, plain, named, undefined, TypeFields, no_type_fields, type_field}
-use Rattle.behaviour_tree.specs.View.{FieldView}
 use Rattle.behaviour_tree.specs.Conforms.{shape, at_most}
 use Rattle.jsonrpc_text.specs.FromJson.{root_name}
 
@@ -35,7 +36,8 @@ pub record FieldPart : Type 0 where
 -- the field of a name
 abbrev pub field_part : List ℕ → TypeFields → Option FieldPart
 field_part name no_type_fields = None
-field_part name (type_field other least most ty rest) = if bytes_eq name other then Some (record { most = most; ty = ty }) else field_part name rest
+field_part name (type_field other least most ty rest) =
+    if bytes_eq name other then Some (record { most = most; ty = ty }) else field_part name rest
 
 -- the fields of the type behind the names, where it has any
 abbrev pub fields_behind : Option TypeTree → TypeFields
@@ -73,19 +75,22 @@ abbrev mutual
   -- a node without children is its root, another is an object of its children and its root
   pub json_of : List TypeTree → Tree → TypeTree → Data
   json_of types (node r no_fields) ty = root_data r
-  json_of types (node r (field name ts fs)) ty = object (with_root r (members_json types (field name ts fs) (fields_of_type types ty)))
+  json_of types (node r (field name ts fs)) ty =
+      object (with_root r (members_json types (field name ts fs) (fields_of_type types ty)))
 
   -- the children as members
   pub members_json : List TypeTree → Fields → TypeFields → Members
   members_json types no_fields fields = no_members
-  members_json types (field name ts fs) fields = member name (vector_json types ts (field_part name fields)) (members_json types fs fields)
+  members_json types (field name ts fs) fields =
+      member name (vector_json types ts (field_part name fields)) (members_json types fs fields)
 
   -- the members of one name: an array where their field may repeat or where there are several, else the one
   pub vector_json : List TypeTree → Trees → Option FieldPart → Data
   vector_json types no_trees f = array no_items
   vector_json types (tree t ts) f =
       if repeats f || are_there ts
-      then array (item (json_of types t (member_type f (suc (count_of ts)))) (items_json types ts (member_type f (suc (count_of ts)))))
+      then array (item (json_of types t (member_type f (suc (count_of ts))))
+      (items_json types ts (member_type f (suc (count_of ts)))))
       else json_of types t (member_type f (suc (count_of ts)))
 
   -- the trees of a vector in order
@@ -96,13 +101,3 @@ abbrev mutual
 -- the JSON of a tree of which no type says anything
 abbrev pub json_under_undefined : List TypeTree → Tree → Data
 json_under_undefined types t = json_of types t undefined
-
--- the JSON of a node whose type has these fields
-abbrev pub node_json : List TypeTree → Tree → TypeFields → Data
-node_json types (node r no_fields) fields = root_data r
-node_json types (node r (field name ts fs)) fields = object (with_root r (members_json types (field name ts fs) fields))
-
--- what a field says of the members of its name
-abbrev pub part_of : Option FieldView → Option FieldPart
-part_of None = None
-part_of (Some f) = Some (record { most = f.most; ty = f.ty })

@@ -7,6 +7,7 @@ ghost use Rattle.serde_json.specs.View.{view, members_view};
 ghost use Rattle.behaviour_tree.specs.View.{field_view, type_fields_of, type_view};
 ghost use Rattle.jolie_trees.specs.TreeView.{trees_of};
 ghost use Rattle.jsonrpc_text.specs.ToJson as spec;
+ghost use Rattle.jsonrpc_text.specs.Walks as walks;
 
 use behaviour_tree::{Field, TypeDef, at_most, behind_names};
 use jolie_trees::{Root, Text, Tree};
@@ -49,7 +50,7 @@ fn node(
     fields: &[Field],
     types: &[TypeDef],
 ) -> Result<Value, AllocError>
-    ensures { IfOk result (λ value. view value ≡ spec.node_json (map type_view types.now) tree.now (type_fields_of (map field_view fields.now))) }
+    ensures { IfOk result (λ value. view value ≡ walks.node_json (map type_view types.now) tree.now (type_fields_of (map field_view fields.now))) }
 {
     let mut members = Map::new(alloc);
     for (name, trees) in tree.children() {
@@ -103,7 +104,7 @@ fn members_of(
     field: Option<&Field>,
     types: &[TypeDef],
 ) -> Result<Value, AllocError>
-    ensures { IfOk result (λ value. view value ≡ spec.vector_json (map type_view types.now) (trees_of trees.now) (spec.part_of (option_map field_view (option_copied field.entry)))) }
+    ensures { IfOk result (λ value. view value ≡ spec.vector_json (map type_view types.now) (trees_of trees.now) (walks.part_of (option_map field_view (option_copied field.entry)))) }
 {
     let undefined = TypeDef::Undefined;
     let ty = member_type(field, trees.len(), &undefined);
@@ -139,7 +140,7 @@ fn array(
 
 /// The first field of a name.
 fn field_named<'a>(name: &Text, fields: &'a [Field]) -> Option<&'a Field>
-    ensures { spec.part_of (option_map field_view (option_copied result)) ≡ spec.field_part name.now (type_fields_of (map field_view fields.now)) }
+    ensures { walks.part_of (option_map field_view (option_copied result)) ≡ spec.field_part name.now (type_fields_of (map field_view fields.now)) }
 {
     for field in fields {
         if field.name == *name {
@@ -151,7 +152,7 @@ fn field_named<'a>(name: &Text, fields: &'a [Field]) -> Option<&'a Field>
 
 /// Whether a field allows more than one occurrence.
 fn repeats(field: Option<&Field>) -> bool
-    ensures { result ≡ spec.repeats (spec.part_of (option_map field_view (option_copied field.entry))) }
+    ensures { result ≡ spec.repeats (walks.part_of (option_map field_view (option_copied field.entry))) }
 {
     match field {
         None => false,
@@ -165,7 +166,7 @@ fn repeats(field: Option<&Field>) -> bool
 /// The type under which so many members of one name are written: that of their field where it allows as many.
 fn member_type<'a>(field: Option<&'a Field>, count: usize, undefined: &'a TypeDef) -> &'a TypeDef
     requires { type_view undefined.now ≡ undefined_type }
-    ensures { type_view result.now ≡ spec.member_type (spec.part_of (option_map field_view (option_copied field.entry))) count }
+    ensures { type_view result.now ≡ spec.member_type (walks.part_of (option_map field_view (option_copied field.entry))) count }
 {
     match field {
         None => undefined,

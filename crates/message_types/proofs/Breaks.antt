@@ -6,8 +6,7 @@ use Rattle.std.specs.Prelude.{◌&&◌, ◌||◌, ◌==◌, is_some, if◌then�
 use Rattle.jolie_trees.specs.Data.{Tree, node, Fields, field, Trees, no_trees, tree}
 use Rattle.jolie_trees.specs.declared.path.Step.{Step}
 use Rattle.jolie_trees.specs.declared.root.Root.{Root}
-use Rattle.jolie_trees.specs.Extents.{children_of}
-use Rattle.jolie_trees.specs.Trees.{root_of, size, trees_size}
+use Rattle.jolie_trees.specs.Trees.{children_of, root_of, size, trees_size}
 use Rattle.jolie_trees.specs.TreeView.{trees_of}
 use Rattle.behaviour_tree.specs.Data.{TypeTree, plain, named, undefined, TypeFields}
 use Rattle.behaviour_tree.specs.Conforms.{shape, field_type}

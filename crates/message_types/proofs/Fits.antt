@@ -3,32 +3,19 @@ use Rattle.std.proofs.Common.{◌≡◌, ◌∙◌, ℕ, zero, suc, ◌<◌, ◌
 use Rattle.std.proofs.lemmas.List.{length-map}
 use Rattle.std.proofs.lemmas.Bool.Decides.{nat_tests}
 use Rattle.std.specs.Prelude.{◌&&◌, nat_eq, nat_le}
-use Rattle.jolie_trees.specs.Data.{Tree, node, Fields, field}
-use Rattle.jolie_trees.specs.Trees.{root_of, count_of, levels, trees_levels}
+use Rattle.jolie_trees.specs.Data.{Tree, node}
+use Rattle.jolie_trees.specs.Trees.{root_of, count_of, levels, trees_levels, children_of}
 use Rattle.jolie_trees.specs.TreeView.{trees_of}
-use Rattle.jolie_trees.specs.Extents.{children_of}
-use Rattle.jolie_trees.specs.declared.root.Root.{Root}
-use Rattle.behaviour_tree.specs.Data.{TypeTree, plain, named, undefined}
-use Rattle.behaviour_tree.specs.Conforms.{shape, has_kind, at_most, counts_fit, fits, children_fit, members_fit}
+use Rattle.behaviour_tree.specs.Data.{TypeTree}
+use Rattle.behaviour_tree.specs.Conforms.{shape, at_most, fits, members_fit}
 use Rattle.behaviour_tree.specs.View.{type_view}
 use Rattle.behaviour_tree.specs.declared.types.TypeDef.{TypeDef}
+use Rattle.behaviour_tree.proofs.Shapes.{fits_at}
 
 -- the members of a name that has no field
 pub members_fit-none : (types : List TypeTree) (ts : List Tree) (empty : Bool) → empty ≡ nat_eq (length ts) 0 → empty ≡ members_fit types (trees_of ts) None
 members_fit-none types [] empty h = h
 members_fit-none types (t ∷ ts) empty h = let more : nat_eq (length (t ∷ ts)) 0 ≡ false = grind (arith, nat_tests) in h ∙ more
-
--- whether a node fits, by the type behind its names
-abbrev pub fits_at : List TypeTree → Root → Fields → Option TypeTree → Bool
-fits_at types r children o =
-    elim o [
-      | None ↦ false
-      | Some s ↦ elim s [
-        | plain k fields ↦ has_kind k r && counts_fit children fields && children_fit types children fields
-        | named i ↦ false
-        | undefined ↦ true
-      ]
-    ]
 
 pub fits-by : (types : List TypeDef) (t : Tree) (ty : TypeTree) (s : Option TypeTree) → s ≡ shape (map type_view types) (length types) ty
     → fits_at (map type_view types) (root_of t) (children_of t) s ≡ fits (map type_view types) t ty

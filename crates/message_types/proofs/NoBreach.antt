@@ -7,8 +7,8 @@ use Rattle.jolie_trees.specs.declared.path.Step.{Step}
 use Rattle.jolie_trees.specs.declared.root.Root.{Root}
 use Rattle.behaviour_tree.specs.Data.{TypeTree, plain, named, undefined, TypeFields}
 use Rattle.behaviour_tree.specs.Conforms.{shape, has_kind, counts_fit, field_type, fits, children_fit, members_fit, is_message}
+use Rattle.behaviour_tree.proofs.Shapes.{fits_at}
 use Rattle.message_types.proofs.Breaks.{breach_at}
-use Rattle.message_types.proofs.Fits.{fits_at}
 use Rattle.message_types.specs.Breaches.{all_have_fields, first_of, step_to, breach, breach_of_children, breach_of_members, IsBreachUnlessFits, IsBreachUnlessConforms}
 
 and-left : (a b : Bool) → (a && b) ≡ true → a ≡ true

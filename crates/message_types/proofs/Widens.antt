@@ -11,9 +11,8 @@ use Rattle.std.specs.Borrow.{Bor}
 use Rattle.std.specs.Option.{option_copied}
 use Rattle.std.specs.Prelude.{bytes_eq, is_some, option_map, if◌then◌else◌}
 use Rattle.jolie_trees.specs.Data.{Tree, node, Fields, no_fields, field, Trees, no_trees, tree}
-use Rattle.jolie_trees.specs.Extents.{children_of, names_of}
+use Rattle.jolie_trees.specs.Trees.{children_of, names_of, root_of, under, levels, fields_levels, trees_levels}
 use Rattle.jolie_trees.specs.Lending.{replaced_under, with_members}
-use Rattle.jolie_trees.specs.Trees.{root_of, under, levels, fields_levels, trees_levels}
 use Rattle.jolie_trees.specs.TreeView.{trees_of}
 use Rattle.jolie_trees.specs.declared.root.Root.{Root}
 use Rattle.behaviour_tree.specs.Data.{TypeTree, plain, named, undefined, TypeFields}
@@ -21,20 +20,9 @@ use Rattle.behaviour_tree.specs.Conforms.{shape, field_type, wide, wide_root, wi
 use Rattle.behaviour_tree.specs.View.{FieldView, field_view, type_fields_of, type_view}
 use Rattle.behaviour_tree.specs.declared.types.Field.{Field}
 use Rattle.behaviour_tree.specs.declared.types.TypeDef.{TypeDef}
+use Rattle.behaviour_tree.proofs.Shapes.{wide_at}
 
 -- ---- a node
-
--- a node that is widened, by the type behind its names
-abbrev pub wide_at : List TypeTree → Root → Fields → Option TypeTree → Tree
-wide_at types r children o =
-    elim o [
-      | None ↦ node r children
-      | Some s ↦ elim s [
-        | plain k fields ↦ node (wide_root k r) (wide_children types children fields)
-        | named i ↦ node r children
-        | undefined ↦ node r children
-      ]
-    ]
 
 pub wide-by : (types : List TypeDef) (t : Tree) (ty : TypeTree) (s : Option TypeTree) → s ≡ shape (map type_view types) (length types) ty
     → wide_at (map type_view types) (root_of t) (children_of t) s ≡ wide (map type_view types) t ty

@@ -1,5 +1,6 @@
 -- Where a tree breaks its type: the first node in preorder that does, by its path.
-use Rattle.std.specs.Prelude.{◌≡◌, ℕ, suc, Bool, true, not, ◌&&◌, List, [], ◌∷◌, length, Option, None, Some, option_map, is_some, if◌then◌else◌}
+use Rattle.std.specs.Prelude.{◌≡◌, ℕ, suc, Bool, true, not, ◌&&◌, if◌then◌else◌, List, [], ◌∷◌, length}
+use Rattle.std.specs.Prelude.{Option, None, Some, option_map, is_some}
 use Rattle.jolie_trees.specs.Data.{Tree, node, Fields, no_fields, field, Trees, no_trees, tree}
 use Rattle.jolie_trees.specs.declared.path.Step.{Step}
 use Rattle.jolie_trees.specs.declared.root.Root.{Root}
@@ -33,7 +34,8 @@ abbrev mutual
       elim (shape types (length types) ty) [
         | None ↦ Some []
         | Some s ↦ elim s [
-          | plain k fields ↦ if fits_alone k fields r children then breach_of_children types children fields else Some []
+          | plain k fields ↦
+              if fits_alone k fields r children then breach_of_children types children fields else Some []
           | named i ↦ Some []
           | undefined ↦ None
         ]
@@ -50,7 +52,8 @@ abbrev mutual
   breach_of_members types name index no_trees ty = None
   breach_of_members types name index (tree t ts) None = None
   breach_of_members types name index (tree t ts) (Some ty) =
-      first_of (option_map (λ path. step_to name index ∷ path) (breach types t ty)) (breach_of_members types name (suc index) ts (Some ty))
+      first_of (option_map (λ path. step_to name index ∷ path) (breach types t ty))
+      (breach_of_members types name (suc index) ts (Some ty))
 
 -- the path of the breach, which is the root where the tree passes a limit of a message
 abbrev pub first_breach : List TypeTree → Tree → TypeTree → Option (List Step)
@@ -58,8 +61,10 @@ first_breach types t ty = if is_message t then breach types t ty else Some []
 
 -- there is a breach exactly where the tree does not fit
 abbrev pub IsBreachUnlessFits : Type 0
-IsBreachUnlessFits = (types : List TypeTree) (t : Tree) (ty : TypeTree) → is_some (breach types t ty) ≡ not (fits types t ty)
+IsBreachUnlessFits = (types : List TypeTree) (t : Tree) (ty : TypeTree)
+    → is_some (breach types t ty) ≡ not (fits types t ty)
 
 -- there is a first breach exactly where the tree does not conform
 abbrev pub IsBreachUnlessConforms : Type 0
-IsBreachUnlessConforms = (types : List TypeTree) (t : Tree) (ty : TypeTree) → is_some (first_breach types t ty) ≡ not (conforms types t ty)
+IsBreachUnlessConforms = (types : List TypeTree) (t : Tree) (ty : TypeTree)
+    → is_some (first_breach types t ty) ≡ not (conforms types t ty)

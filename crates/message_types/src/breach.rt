@@ -1,6 +1,5 @@
 ghost use Rattle.std.specs.Prelude.{◌≡◌, ◌==◌, ◌≤◌, ◌||◌, ◌∷◌, Some, IfOk, is_some, length, map, option_map};
-ghost use Rattle.jolie_trees.specs.Extents.{children_of};
-ghost use Rattle.jolie_trees.specs.Trees.{root_of, size, trees_size};
+ghost use Rattle.jolie_trees.specs.Trees.{children_of, root_of, size, trees_size};
 ghost use Rattle.jolie_trees.specs.TreeView.{trees_of};
 ghost use Rattle.behaviour_tree.specs.Conforms.{field_type};
 ghost use Rattle.behaviour_tree.specs.PartsView.{parts_of};

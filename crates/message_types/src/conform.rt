@@ -1,5 +1,5 @@
 ghost use Rattle.std.specs.Prelude.{◌≡◌, Some, map};
-ghost use Rattle.jolie_trees.specs.Extents.{children_of};
+ghost use Rattle.jolie_trees.specs.Trees.{children_of};
 ghost use Rattle.jolie_trees.specs.TreeView.{trees_of};
 ghost use Rattle.behaviour_tree.specs.Conforms as spec;
 ghost use Rattle.behaviour_tree.specs.PartsView.{parts_of};

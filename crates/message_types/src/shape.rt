@@ -1,7 +1,6 @@
 ghost use Rattle.std.specs.Prelude.{◌≡◌, ◌&&◌, map, nat_le, option_map};
 ghost use Rattle.std.specs.Option.{option_copied};
-ghost use Rattle.jolie_trees.specs.Extents.{children_of};
-ghost use Rattle.jolie_trees.specs.Trees.{count_of, under};
+ghost use Rattle.jolie_trees.specs.Trees.{children_of, count_of, under};
 ghost use Rattle.behaviour_tree.specs.Conforms as spec;
 ghost use Rattle.behaviour_tree.specs.View.{field_view, type_fields_of};
 

@@ -1,7 +1,6 @@
 ghost use Rattle.std.specs.Prelude.{◌≡◌, IsTrue, Some, map};
 ghost use Rattle.jolie_trees.specs.Data.{node};
-ghost use Rattle.jolie_trees.specs.Extents.{children_of};
-ghost use Rattle.jolie_trees.specs.Trees.{root_of, with_root};
+ghost use Rattle.jolie_trees.specs.Trees.{children_of, root_of, with_root};
 ghost use Rattle.jolie_trees.specs.TreeView.{trees_of};
 ghost use Rattle.behaviour_tree.specs.Conforms as spec;
 ghost use Rattle.behaviour_tree.specs.PartsView.{parts_of};

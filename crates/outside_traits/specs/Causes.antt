@@ -1,5 +1,6 @@
 -- When a call of the outside may answer that it failed: only where that object's count of faults rose in the call.
-use Rattle.std.specs.Prelude.{◌≡◌, ℕ, ◌+◌, ◌-◌, ◌^◌, ◌≤◌, min, Result, OnErr, OnOk, IsErrOf, alloc_error}
+use Rattle.std.specs.Prelude.{◌≡◌, ℕ, ◌+◌, ◌-◌, ◌^◌, ◌≤◌, min}
+use Rattle.std.specs.Prelude.{Result, OnErr, OnOk, IsErrOf, alloc_error}
 use Rattle.outside_traits.specs.declared.errors.CallError.{CallError}
 use Rattle.outside_traits.specs.declared.errors.CallError.TheVariants.{Failed, Memory}
 
@@ -13,7 +14,8 @@ pub record HasCause {T E : Type 0} (before now : ℕ) (result : Result T E) : Ty
   pub failed : OnErr result (Rose before now)
   pub calm : OnOk result (now ≡ before)
 
--- the same for a call that takes memory: `Failed` comes only where the count rose, and want of memory leaves it as it was
+-- the same for a call that takes memory: `Failed` comes only where the count rose, and want of memory leaves it as it
+-- was
 pub record HasCallCause {T : Type 0} (before now : ℕ) (result : Result T CallError) : Type 0 where
   pub later : before ≤ now
   pub failed : IsErrOf result Failed → Rose before now

@@ -6,7 +6,7 @@ ghost use Rattle.std.specs.Ordering.{nat_cmp};
 ghost use Rattle.std.specs.Cmp.Lexicographic.{slice_cmp};
 ghost use Rattle.std.specs.List.Sorted.{IsStrictlySortedBy};
 ghost use Rattle.jolie_trees.specs.Trees as spec;
-ghost use Rattle.jolie_trees.specs.Extents.{children_of, names_of};
+ghost use Rattle.jolie_trees.specs.Trees.{children_of, names_of};
 ghost use Rattle.jolie_trees.specs.TreeView.{trees_of, fields_of};
 ghost use Rattle.jolie_trees.specs.Children.{named_trees, or_none};
 ghost use Rattle.jolie_trees.specs.Lending.{LendsMembers, LendsSlice};

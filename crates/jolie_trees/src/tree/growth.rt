@@ -4,7 +4,8 @@ ghost use Rattle.std.specs.Cmp.Lexicographic.{slice_cmp};
 ghost use Rattle.std.specs.List.Sorted.{IsStrictlySortedBy};
 ghost use Rattle.jolie_trees.specs.Data.{Tree as Plain, no_trees};
 ghost use Rattle.jolie_trees.specs.Trees as spec;
-ghost use Rattle.jolie_trees.specs.Extents.{extent_of, fields_extent, trees_extent, at_or_void, children_of, others, names_of};
+ghost use Rattle.jolie_trees.specs.Extents.{extent_of, fields_extent, trees_extent, at_or_void, others};
+ghost use Rattle.jolie_trees.specs.Trees.{children_of, names_of};
 
 use super::measure::extent_of_all;
 use super::{Members, Tree};

@@ -1,7 +1,7 @@
 use Rattle.std.proofs.Common.{◌≡◌, Some, None, suc, ◌+◌, ◌-◌, max, ◌∷◌, take, drop, get_or, length, ◌∙◌, ap, sym, arith}
 use Rattle.jolie_trees.specs.Data.{no_trees}
-use Rattle.jolie_trees.specs.Trees.{nth, child, change, change_nth, index_of, size, levels, trees_size, trees_levels, fields_size, fields_levels, under}
-use Rattle.jolie_trees.specs.Extents.{extent, extent_of, trees_extent, others, children_of, at_or_void}
+use Rattle.jolie_trees.specs.Trees.{nth, child, change, change_nth, index_of, size, levels, trees_size, trees_levels, fields_size, fields_levels, under, children_of}
+use Rattle.jolie_trees.specs.Extents.{extent, extent_of, trees_extent, others, at_or_void}
 use Rattle.jolie_trees.specs.TreeView.{trees_of}
 use Rattle.jolie_trees.proofs.Entries.{steps-split, under-found, under-missing, child-found, child-missing}
 use Rattle.jolie_trees.proofs.Sizes.{extent-beside, extent-above}

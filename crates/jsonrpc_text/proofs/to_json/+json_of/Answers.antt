@@ -4,10 +4,11 @@ use Rattle.std.specs.Option.{option_copied}
 use Rattle.serde_json.specs.Data.{array, put}
 use Rattle.serde_json.specs.View.{view, members_view}
 use Rattle.serde_json.proofs.Views.{view-Array, view-Object}
-use Rattle.jolie_trees.specs.Extents.{children_of}
+use Rattle.jolie_trees.specs.Trees.{children_of}
 use Rattle.jolie_trees.specs.TreeView.{trees_of}
 use Rattle.behaviour_tree.specs.View.{field_view, type_fields_of, type_view}
-use Rattle.jsonrpc_text.specs.ToJson.{root_data, with_root, part_of, vector_json, items_json, node_json, json_of}
+use Rattle.jsonrpc_text.specs.ToJson.{root_data, with_root, vector_json, items_json, json_of}
+use Rattle.jsonrpc_text.specs.Walks.{node_json, part_of}
 use Rattle.jolie_trees.proofs.Vectors.{levels-member}
 use Rattle.jsonrpc_text.proofs.Children.{item-step, items-done, child-step, lower-step, children-done, node-empty, node-whole, node-same, several}
 use Rattle.jsonrpc_text.proofs.to_json.+json_of.Goals as goal

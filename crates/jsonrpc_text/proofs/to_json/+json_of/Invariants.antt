@@ -1,8 +1,7 @@
 use Rattle.std.proofs.Common.{◌≡◌, ◌≤◌, ◌+◌, ◌*◌, map, drop}
 use Rattle.serde_json.specs.Data.{no_members}
 use Rattle.serde_json.specs.View.{items_view, members_view}
-use Rattle.jolie_trees.specs.Extents.{children_of}
-use Rattle.jolie_trees.specs.Trees.{levels, fields_levels, trees_levels}
+use Rattle.jolie_trees.specs.Trees.{children_of, levels, fields_levels, trees_levels}
 use Rattle.jolie_trees.specs.TreeView.{trees_of, fields_of}
 use Rattle.behaviour_tree.specs.View.{field_view, type_fields_of, type_view}
 use Rattle.jsonrpc_text.specs.ToJson.{items_json}

@@ -1,8 +1,7 @@
 use Rattle.std.proofs.Common.{◌≡◌, ◌∙◌, Some, None, Vec, Global, true, false, map, ap, sym, subst, arith, rules}
 use Rattle.std.specs.Prelude.{IfOk, option_map}
 use Rattle.jolie_trees.specs.declared.path.Step.{Step}
-use Rattle.jolie_trees.specs.Extents.{children_of}
-use Rattle.jolie_trees.specs.Trees.{root_of}
+use Rattle.jolie_trees.specs.Trees.{children_of, root_of}
 use Rattle.jolie_trees.specs.TreeView.{trees_of}
 use Rattle.behaviour_tree.specs.Data.{named, undefined, plain}
 use Rattle.behaviour_tree.specs.View.{type_view, field_view, type_fields_of}

@@ -1,5 +1,5 @@
 use Rattle.std.proofs.Common.{◌≡◌, map}
-use Rattle.jolie_trees.specs.Extents.{children_of}
+use Rattle.jolie_trees.specs.Trees.{children_of}
 use Rattle.jolie_trees.specs.TreeView.{fields_of}
 use Rattle.behaviour_tree.specs.View.{field_view, type_fields_of}
 use Rattle.message_types.specs.Breaches.{all_have_fields}

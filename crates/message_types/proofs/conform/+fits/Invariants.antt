@@ -1,6 +1,5 @@
 use Rattle.std.proofs.Common.{◌≡◌, ◌≤◌, ◌+◌, ◌*◌, map, drop, Some}
-use Rattle.jolie_trees.specs.Extents.{children_of}
-use Rattle.jolie_trees.specs.Trees.{levels, fields_levels, trees_levels}
+use Rattle.jolie_trees.specs.Trees.{children_of, levels, fields_levels, trees_levels}
 use Rattle.jolie_trees.specs.TreeView.{trees_of, fields_of}
 use Rattle.behaviour_tree.specs.Conforms.{children_fit, members_fit}
 use Rattle.behaviour_tree.specs.View.{field_view, type_fields_of, type_view}

@@ -1,6 +1,5 @@
 use Rattle.std.proofs.Common.{◌≡◌, ◌∙◌, ap, sym, length}
-use Rattle.jolie_trees.specs.Extents.{children_of}
-use Rattle.jolie_trees.specs.Trees.{count_of, under}
+use Rattle.jolie_trees.specs.Trees.{children_of, count_of, under}
 use Rattle.jolie_trees.proofs.Vectors.{count_of-length}
 use Rattle.message_types.proofs.Fits.{count-below, count-within}
 use Rattle.message_types.proofs.shape.count_fits.Goals as goal

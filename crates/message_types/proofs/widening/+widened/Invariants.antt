@@ -1,7 +1,6 @@
 use Rattle.std.proofs.Common.{◌≡◌, ◌+◌, ◌*◌, ◌++◌, map, take, drop}
 use Rattle.jolie_trees.specs.Data.{node}
-use Rattle.jolie_trees.specs.Extents.{children_of}
-use Rattle.jolie_trees.specs.Trees.{root_of, levels, trees_levels}
+use Rattle.jolie_trees.specs.Trees.{children_of, root_of, levels, trees_levels}
 use Rattle.jolie_trees.specs.TreeView.{trees_of}
 use Rattle.behaviour_tree.specs.Conforms as spec
 use Rattle.behaviour_tree.specs.View.{field_view, type_fields_of, type_view}

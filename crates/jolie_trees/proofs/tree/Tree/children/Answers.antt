@@ -1,7 +1,7 @@
 use Rattle.std.proofs.Common.{◌∙◌, ap, subst, nat_cmp, length}
 use Rattle.std.specs.Cmp.Lexicographic.{slice_cmp}
 use Rattle.std.specs.List.Sorted.{IsStrictlySortedBy}
-use Rattle.jolie_trees.specs.Extents.{names_of, children_of}
+use Rattle.jolie_trees.specs.Trees.{names_of, children_of}
 use Rattle.std.specs.Map.Iter.{TakesFirst}
 use Rattle.std.proofs.iter.runs.Sources.{from_front}
 use Rattle.jolie_trees.specs.Children.{named_trees}

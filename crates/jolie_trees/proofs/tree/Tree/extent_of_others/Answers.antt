@@ -1,7 +1,7 @@
 use Rattle.std.proofs.Common.{◌∙◌, ap, subst, nat_cmp}
 use Rattle.std.specs.Cmp.Lexicographic.{slice_cmp}
 use Rattle.std.specs.List.Sorted.{IsStrictlySortedBy}
-use Rattle.jolie_trees.specs.Extents.{names_of, children_of}
+use Rattle.jolie_trees.specs.Trees.{names_of, children_of}
 use Rattle.jolie_trees.proofs.Entries.{keys_of-names}
 use Rattle.jolie_trees.proofs.tree.Tree.extent_of_others.Goals as goal
 

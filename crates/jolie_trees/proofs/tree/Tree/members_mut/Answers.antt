@@ -2,8 +2,7 @@ use Rattle.std.proofs.Common.{inr, sym, ap, subst, ◌∙◌, nat_cmp}
 use Rattle.std.specs.Cmp.Lexicographic.{slice_cmp}
 use Rattle.std.specs.List.Sorted.{IsStrictlySortedBy}
 use Rattle.jolie_trees.specs.Data.{node}
-use Rattle.jolie_trees.specs.Trees.{under}
-use Rattle.jolie_trees.specs.Extents.{names_of, children_of}
+use Rattle.jolie_trees.specs.Trees.{under, names_of, children_of}
 use Rattle.jolie_trees.specs.TreeView.{fields_of}
 use Rattle.jolie_trees.specs.Lending.{with_members}
 use Rattle.jolie_trees.proofs.Entries.{keys_of-names, under-found, under-missing}

@@ -1,0 +1,4 @@
+pub mod FieldLemmas
+pub mod JudgeLemmas
+pub mod PartLemmas
+pub mod ReadingLemmas

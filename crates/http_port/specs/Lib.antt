@@ -1,0 +1,9 @@
+pub mod HeadPart
+pub mod Framing
+pub mod Rules
+pub mod Walks
+pub mod Feeding
+pub mod Connections
+pub mod Responses
+pub mod Talk
+pub mod Laws
