@@ -1,4 +1,4 @@
-//! A program as words with one blank between every two, for tests that compare it with what was found by hand.
+//! A program as words with one blank between every two.
 
 mod behaviours;
 mod expressions;
@@ -8,26 +8,6 @@ mod types;
 use behaviour_tree::{Parts, Service};
 use jolie_trees::Text;
 use std::alloc::{AllocError, Global};
-
-/// A part of a program.
-#[derive(Clone, Copy)]
-pub enum Part {
-    Types,
-    Interfaces,
-    Names,
-    /// What the service of a number has there.
-    Of(usize, Clause),
-}
-
-/// A part of a service.
-#[derive(Clone, Copy)]
-pub enum Clause {
-    Execution,
-    Ports,
-    Sets,
-    Init,
-    Main,
-}
 
 /// The words so far.
 #[derive(Drop)]
@@ -49,25 +29,27 @@ impl Outline {
         text
     }
 
-    pub fn part(&mut self, parts: &Parts, part: Part) -> Result<(), AllocError> {
-        match part {
-            Part::Types => self.types(&parts.types),
-            Part::Interfaces => self.interfaces(&parts.interfaces),
-            Part::Names => self.texts(&parts.names),
-            Part::Of(number, clause) => match parts.services.get(number) {
-                Some(service) => self.clause(service, clause),
+    /// The part of this name, which may be one of the service of this number.
+    pub fn part(&mut self, parts: &Parts, name: &str, number: usize) -> Result<(), AllocError> {
+        match name {
+            "types" => self.types(&parts.types),
+            "interfaces" => self.interfaces(&parts.interfaces),
+            "names" => self.texts(&parts.names),
+            _ => match parts.services.get(number) {
+                Some(service) => self.clause(service, name),
                 None => self.word("no service"),
             },
         }
     }
 
-    fn clause(&mut self, service: &Service, clause: Clause) -> Result<(), AllocError> {
-        match clause {
-            Clause::Execution => self.execution(service.execution),
-            Clause::Ports => self.ports(&service.ports),
-            Clause::Sets => self.sets(&service.sets),
-            Clause::Init => self.behaviour(&service.init),
-            Clause::Main => self.behaviour(&service.main),
+    fn clause(&mut self, service: &Service, name: &str) -> Result<(), AllocError> {
+        match name {
+            "execution" => self.execution(service.execution),
+            "ports" => self.ports(&service.ports),
+            "sets" => self.sets(&service.sets),
+            "init" => self.behaviour(&service.init),
+            "main" => self.behaviour(&service.main),
+            _ => self.word("no part"),
         }
     }
 

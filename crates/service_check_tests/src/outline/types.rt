@@ -1,6 +1,6 @@
 //! Types and interfaces as words.
 
-use crate::tests::outline::Outline;
+use crate::outline::Outline;
 use behaviour_tree::{Field, Interface, Operation, RootKind, Throws, TypeDef};
 use std::alloc::AllocError;
 

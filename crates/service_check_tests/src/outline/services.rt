@@ -1,6 +1,6 @@
 //! The clauses of a service as words, but for its behaviours.
 
-use crate::tests::outline::Outline;
+use crate::outline::Outline;
 use behaviour_tree::{Alias, CorrelationSet, Execution, Port, SetVariable};
 use std::alloc::AllocError;
 

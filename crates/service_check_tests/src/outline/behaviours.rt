@@ -1,6 +1,6 @@
 //! Behaviours as words.
 
-use crate::tests::outline::Outline;
+use crate::outline::Outline;
 use behaviour_tree::{Behaviour, Branch, Handler, HandlerKey, Handlers, PathExpr, ReplyPart};
 use std::alloc::AllocError;
 

@@ -1,6 +1,6 @@
 //! Expressions as words.
 
-use crate::tests::outline::Outline;
+use crate::outline::Outline;
 use behaviour_tree::{
     CastKind, CompareOp, Expr, Member, MulOp, MulPart, PathExpr, PathStep, SumOp, SumPart,
 };
