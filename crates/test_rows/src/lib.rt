@@ -1,11 +1,44 @@
-//! Files of rows, which the programs of tests read.
+//! Tables of tests for programs that print a line for each row.
 //!
-//! A line of such a file is a heading, a row between two bars, or a setting: its name before such a row. In a row a part
-//! between two marks `§` is a byte by its two digits, as `§0A§`, or a text again and again, as `§62*{§`.
+//! A table is a text file of groups, a group is a name, fields that all its rows share and rows, and a row is a name and
+//! fields of its own:
+//!
+//! ```text
+//! What stands before the first group is a remark.
+//!
+//! == words_and_signs
+//! before: main {
+//! behind =  " }"
+//! -- 1
+//! text: a < b
+//! tokens: word < word
+//! -- a line feed ends a comment
+//! text: // x
+//! text: a
+//! tokens: word
+//! -- bytes that are no text
+//! text = "a \xFF\n"
+//! tokens: bad byte at 2
+//! ```
+//!
+//! - `KEY: VALUE` is a field whose value is the rest of the line, as it stands.
+//! - `KEY = "VALUE"` is a field whose value is read with the escapes `\n`, `\r`, `\t`, `\0`, `\\`, `\"` and `\xHH`, a byte.
+//! - A key that stands on several lines means what these lines say with a line feed between them.
+//! - A field that a row lacks is that of its group.
+//! - Lines of another form mean nothing.
+//!
+//! A program reads the tables that its command line names by `tables`, takes their `rows`, asks each row for its fields, and
+//! tells a `Report` what it has and what was expected. Its `args` names the files of its `data/`, and its `stdout` has the line
+//! `GROUP NAME: as expected` for each row and a last line with the count.
 #![tactic(auto)]
 
-mod line;
+mod error;
+mod field;
+mod files;
+mod report;
 mod row;
 
-pub use line::Line;
-pub use row::bytes_of;
+pub use error::TableError;
+pub use files::tables;
+pub use report::Report;
+pub use row::{Row, rows};

@@ -1,0 +1,82 @@
+//! Tables of texts with what is refused of them, and of programs with what they consist of, found by hand from the rules of
+//! the language.
+//!
+//! A row's text stands between the `before` and the `behind` of its group. Where it is to be `refused`, it has the sign `^`,
+//! which stands in no text, in front of the token at whose place it is. Else its `verdict` is given whole, or what a `part`
+//! of its program `means`.
+#![tactic(auto)]
+
+mod answer;
+mod outline;
+
+use crate::answer::{outlined, verdict};
+use std::alloc::{AllocError, Global};
+use std::io;
+use test_rows::{Report, Row, TableError, rows, tables};
+
+fn main(rt: HostRuntime) -> anyhow::Result<()> {
+    let text = tables(&rt)?;
+    let mut report = Report::new(io::writer(&rt));
+    for row in &rows(rt.alloc(), text.as_str())? {
+        let want = expected(rt.alloc(), row)?;
+        let have = given(rt.alloc(), row)?;
+        report.row(row, have.as_str(), want.as_str())?;
+    }
+    report.end()?;
+    Ok(())
+}
+
+/// What the row expects.
+fn expected(alloc: Global, row: &Row<'_>) -> Result<String, TableError> {
+    if row.has("refused") {
+        return refusal(alloc, row);
+    }
+    if row.has("part") {
+        return row.text(alloc, "means");
+    }
+    row.text(alloc, "verdict")
+}
+
+/// The refusal at the mark.
+fn refusal(alloc: Global, row: &Row<'_>) -> Result<String, TableError> {
+    let name = row.text(alloc, "refused")?;
+    let marked = framed(alloc, row)?;
+    let (front, _) = marked.as_str().split_once('^').unwrap_or(("", ""));
+    let at = front.len();
+    Ok(format!(in alloc; "{name} {at}")?)
+}
+
+/// What comes of the row's text.
+fn given(alloc: Global, row: &Row<'_>) -> Result<String, TableError> {
+    let marked = framed(alloc, row)?;
+    let text = unmarked(alloc, marked.as_str())?;
+    if row.has("part") {
+        return part_of(alloc, row, text.as_str());
+    }
+    Ok(verdict(alloc, text.as_str().as_bytes())?)
+}
+
+fn part_of(alloc: Global, row: &Row<'_>, text: &str) -> Result<String, TableError> {
+    let part = row.text(alloc, "part")?;
+    let number = row.number(alloc, "service")?;
+    Ok(outlined(alloc, text.as_bytes(), part.as_str(), number)?)
+}
+
+/// The row's text in its frame.
+fn framed(alloc: Global, row: &Row<'_>) -> Result<String, TableError> {
+    let mut text = String::new(alloc);
+    for key in ["before", "text", "behind"] {
+        if row.has(key) {
+            text.push_str(row.text(alloc, key)?.as_str())?;
+        }
+    }
+    Ok(text)
+}
+
+/// A text without its mark.
+fn unmarked(alloc: Global, marked: &str) -> Result<String, AllocError> {
+    let (front, back) = marked.split_once('^').unwrap_or((marked, ""));
+    let mut text = String::from_str(alloc, front)?;
+    text.push_str(back)?;
+    Ok(text)
+}
