@@ -20,99 +20,99 @@ use Rattle.behaviour_tree.specs.Data.{PathTree, Exp}
 use Rattle.behaviour_tree.specs.View.{StepView, SumPartView, MulPartView, MemberView, path_of, exps_of, sum_parts_of, mul_parts_of, member_list_of}
 use Rattle.process_lowering.specs.Expressions.{sum_op, mul_op, compare_op, cast_kind, form_level, expr_level, factor_level, member_level, path_level, step_level, term_level, lowered_expr, lowered_form, lowered_factor, lowered_member, lowered_path, lowered_place, lowered_term}
 
-pub int_meant : (n : ℤ) → lowered_form (form.Int n) ≡ plain.constant (root.Int n)
+pub int_lowered : (n : ℤ) → lowered_form (form.Int n) ≡ plain.constant (root.Int n)
 unfolding lowered_expr lowered_form lowered_factor lowered_member lowered_path lowered_place lowered_term
-int_meant n =
+int_lowered n =
     ap lowered_form (sym (form.rolls-Int n))
     ∙ fold-roll-ExprForm Exp Exp MulPartView MemberView PathTree StepView SumPartView form_level expr_level factor_level member_level path_level step_level term_level (ExprForm-F.Int n)
 
-pub long_meant : (n : ℤ) → lowered_form (form.Long n) ≡ plain.constant (root.Long n)
+pub long_lowered : (n : ℤ) → lowered_form (form.Long n) ≡ plain.constant (root.Long n)
 unfolding lowered_expr lowered_form lowered_factor lowered_member lowered_path lowered_place lowered_term
-long_meant n =
+long_lowered n =
     ap lowered_form (sym (form.rolls-Long n))
     ∙ fold-roll-ExprForm Exp Exp MulPartView MemberView PathTree StepView SumPartView form_level expr_level factor_level member_level path_level step_level term_level (ExprForm-F.Long n)
 
-pub text_meant : (t : List ℕ) → lowered_form (form.Str t) ≡ plain.constant (root.Text t)
+pub text_lowered : (t : List ℕ) → lowered_form (form.Str t) ≡ plain.constant (root.Text t)
 unfolding lowered_expr lowered_form lowered_factor lowered_member lowered_path lowered_place lowered_term
-text_meant t =
+text_lowered t =
     ap lowered_form (sym (form.rolls-Str t))
     ∙ fold-roll-ExprForm Exp Exp MulPartView MemberView PathTree StepView SumPartView form_level expr_level factor_level member_level path_level step_level term_level (ExprForm-F.Str t)
 
-pub truth_meant : (b : Bool) → lowered_form (form.Bool b) ≡ plain.constant (root.Bool b)
+pub truth_lowered : (b : Bool) → lowered_form (form.Bool b) ≡ plain.constant (root.Bool b)
 unfolding lowered_expr lowered_form lowered_factor lowered_member lowered_path lowered_place lowered_term
-truth_meant b =
+truth_lowered b =
     ap lowered_form (sym (form.rolls-Bool b))
     ∙ fold-roll-ExprForm Exp Exp MulPartView MemberView PathTree StepView SumPartView form_level expr_level factor_level member_level path_level step_level term_level (ExprForm-F.Bool b)
 
-pub path_form_meant : (path : Path) → lowered_form (form.Path path) ≡ plain.at_path (lowered_path path)
+pub path_form_lowered : (path : Path) → lowered_form (form.Path path) ≡ plain.at_path (lowered_path path)
 unfolding lowered_expr lowered_form lowered_factor lowered_member lowered_path lowered_place lowered_term
-path_form_meant path =
+path_form_lowered path =
     ap lowered_form (sym (form.rolls-Path path))
     ∙ fold-roll-ExprForm Exp Exp MulPartView MemberView PathTree StepView SumPartView form_level expr_level factor_level member_level path_level step_level term_level (ExprForm-F.Path path)
 
-pub size_meant : (path : Path) → lowered_form (form.Size path) ≡ plain.count_at (lowered_path path)
+pub size_lowered : (path : Path) → lowered_form (form.Size path) ≡ plain.count_at (lowered_path path)
 unfolding lowered_expr lowered_form lowered_factor lowered_member lowered_path lowered_place lowered_term
-size_meant path =
+size_lowered path =
     ap lowered_form (sym (form.rolls-Size path))
     ∙ fold-roll-ExprForm Exp Exp MulPartView MemberView PathTree StepView SumPartView form_level expr_level factor_level member_level path_level step_level term_level (ExprForm-F.Size path)
 
-pub defined_meant : (path : Path) → lowered_form (form.IsDefined path) ≡ plain.defined_at (lowered_path path)
+pub defined_lowered : (path : Path) → lowered_form (form.IsDefined path) ≡ plain.defined_at (lowered_path path)
 unfolding lowered_expr lowered_form lowered_factor lowered_member lowered_path lowered_place lowered_term
-defined_meant path =
+defined_lowered path =
     ap lowered_form (sym (form.rolls-IsDefined path))
     ∙ fold-roll-ExprForm Exp Exp MulPartView MemberView PathTree StepView SumPartView form_level expr_level factor_level member_level path_level step_level term_level (ExprForm-F.IsDefined path)
 
-pub cast_meant : (to : CastTarget) (e : Expr) → lowered_form (form.Cast to e) ≡ plain.cast (cast_kind to) (lowered_expr e)
+pub cast_lowered : (to : CastTarget) (e : Expr) → lowered_form (form.Cast to e) ≡ plain.cast (cast_kind to) (lowered_expr e)
 unfolding lowered_expr lowered_form lowered_factor lowered_member lowered_path lowered_place lowered_term
-cast_meant to e =
+cast_lowered to e =
     ap lowered_form (sym (form.rolls-Cast to e))
     ∙ fold-roll-ExprForm Exp Exp MulPartView MemberView PathTree StepView SumPartView form_level expr_level factor_level member_level path_level step_level term_level (ExprForm-F.Cast to e)
 
-pub literal_meant : (ms : List Member) → lowered_form (form.Literal ms) ≡ plain.literal (member_list_of (map lowered_member ms))
+pub literal_lowered : (ms : List Member) → lowered_form (form.Literal ms) ≡ plain.literal (member_list_of (map lowered_member ms))
 unfolding lowered_expr lowered_form lowered_factor lowered_member lowered_path lowered_place lowered_term
-literal_meant ms =
+literal_lowered ms =
     ap lowered_form (sym (form.rolls-Literal ms))
     ∙ fold-roll-ExprForm Exp Exp MulPartView MemberView PathTree StepView SumPartView form_level expr_level factor_level member_level path_level step_level term_level (ExprForm-F.Literal ms)
 
-pub minus_meant : (e : Expr) → lowered_form (form.Minus e) ≡ plain.minus (lowered_expr e)
+pub minus_lowered : (e : Expr) → lowered_form (form.Minus e) ≡ plain.minus (lowered_expr e)
 unfolding lowered_expr lowered_form lowered_factor lowered_member lowered_path lowered_place lowered_term
-minus_meant e =
+minus_lowered e =
     ap lowered_form (sym (form.rolls-Minus e))
     ∙ fold-roll-ExprForm Exp Exp MulPartView MemberView PathTree StepView SumPartView form_level expr_level factor_level member_level path_level step_level term_level (ExprForm-F.Minus e)
 
-pub not_meant : (e : Expr) → lowered_form (form.Not e) ≡ plain.negation (lowered_expr e)
+pub not_lowered : (e : Expr) → lowered_form (form.Not e) ≡ plain.negation (lowered_expr e)
 unfolding lowered_expr lowered_form lowered_factor lowered_member lowered_path lowered_place lowered_term
-not_meant e =
+not_lowered e =
     ap lowered_form (sym (form.rolls-Not e))
     ∙ fold-roll-ExprForm Exp Exp MulPartView MemberView PathTree StepView SumPartView form_level expr_level factor_level member_level path_level step_level term_level (ExprForm-F.Not e)
 
-pub product_meant : (e : Expr) (fs : List Factor) → lowered_form (form.Product e fs) ≡ plain.product (lowered_expr e) (mul_parts_of (map lowered_factor fs))
+pub product_lowered : (e : Expr) (fs : List Factor) → lowered_form (form.Product e fs) ≡ plain.product (lowered_expr e) (mul_parts_of (map lowered_factor fs))
 unfolding lowered_expr lowered_form lowered_factor lowered_member lowered_path lowered_place lowered_term
-product_meant e fs =
+product_lowered e fs =
     ap lowered_form (sym (form.rolls-Product e fs))
     ∙ fold-roll-ExprForm Exp Exp MulPartView MemberView PathTree StepView SumPartView form_level expr_level factor_level member_level path_level step_level term_level (ExprForm-F.Product e fs)
 
-pub sum_meant : (e : Expr) (ts : List Term) → lowered_form (form.Sum e ts) ≡ plain.sum (lowered_expr e) (sum_parts_of (map lowered_term ts))
+pub sum_lowered : (e : Expr) (ts : List Term) → lowered_form (form.Sum e ts) ≡ plain.sum (lowered_expr e) (sum_parts_of (map lowered_term ts))
 unfolding lowered_expr lowered_form lowered_factor lowered_member lowered_path lowered_place lowered_term
-sum_meant e ts =
+sum_lowered e ts =
     ap lowered_form (sym (form.rolls-Sum e ts))
     ∙ fold-roll-ExprForm Exp Exp MulPartView MemberView PathTree StepView SumPartView form_level expr_level factor_level member_level path_level step_level term_level (ExprForm-F.Sum e ts)
 
-pub compare_meant : (l : Expr) (by : Comparison) (r : Expr) → lowered_form (form.Compare l by r) ≡ plain.compared (lowered_expr l) (compare_op by) (lowered_expr r)
+pub compare_lowered : (l : Expr) (by : Comparison) (r : Expr) → lowered_form (form.Compare l by r) ≡ plain.compared (lowered_expr l) (compare_op by) (lowered_expr r)
 unfolding lowered_expr lowered_form lowered_factor lowered_member lowered_path lowered_place lowered_term
-compare_meant l by r =
+compare_lowered l by r =
     ap lowered_form (sym (form.rolls-Compare l by r))
     ∙ fold-roll-ExprForm Exp Exp MulPartView MemberView PathTree StepView SumPartView form_level expr_level factor_level member_level path_level step_level term_level (ExprForm-F.Compare l by r)
 
-pub and_meant : (es : List Expr) → lowered_form (form.And es) ≡ plain.all_of (exps_of (map lowered_expr es))
+pub and_lowered : (es : List Expr) → lowered_form (form.And es) ≡ plain.all_of (exps_of (map lowered_expr es))
 unfolding lowered_expr lowered_form lowered_factor lowered_member lowered_path lowered_place lowered_term
-and_meant es =
+and_lowered es =
     ap lowered_form (sym (form.rolls-And es))
     ∙ fold-roll-ExprForm Exp Exp MulPartView MemberView PathTree StepView SumPartView form_level expr_level factor_level member_level path_level step_level term_level (ExprForm-F.And es)
 
-pub or_meant : (es : List Expr) → lowered_form (form.Or es) ≡ plain.any_of (exps_of (map lowered_expr es))
+pub or_lowered : (es : List Expr) → lowered_form (form.Or es) ≡ plain.any_of (exps_of (map lowered_expr es))
 unfolding lowered_expr lowered_form lowered_factor lowered_member lowered_path lowered_place lowered_term
-or_meant es =
+or_lowered es =
     ap lowered_form (sym (form.rolls-Or es))
     ∙ fold-roll-ExprForm Exp Exp MulPartView MemberView PathTree StepView SumPartView form_level expr_level factor_level member_level path_level step_level term_level (ExprForm-F.Or es)
 

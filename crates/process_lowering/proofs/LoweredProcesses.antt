@@ -25,134 +25,134 @@ use Rattle.check_base.specs.Files.{place_in}
 use Rattle.process_lowering.specs.Expressions.{lowered_expr, lowered_path, lowered_if_written}
 use Rattle.process_lowering.specs.Behaviours.{Numbering, AnswerView, InputView, alone, branch_after, sent, lowered_port, lowered_assignment, lowered_for, lowered_step, lowered_key, otherwise_level, process_level, answer_level, block_level, branch_level, handler_level, if_level, input_level, reply_level, lowered_process, lowered_conditional, lowered_otherwise, lowered_input, lowered_reply, lowered_branch, lowered_answer, lowered_handler, lowered_block}
 
-pub nothing_meant : (e : Numbering) (at : ℕ) → lowered_process e (process.Nothing at) ≡ plain.nothing
+pub nothing_lowered : (e : Numbering) (at : ℕ) → lowered_process e (process.Nothing at) ≡ plain.nothing
 unfolding lowered_process lowered_conditional lowered_otherwise lowered_input lowered_reply lowered_branch lowered_answer lowered_handler lowered_block
-nothing_meant e at =
+nothing_lowered e at =
     ap (lowered_process e) (sym (process.rolls-Nothing at))
     ∙ fold-roll-Process Proc Proc AnswerView Proc BranchView HandlerView Proc InputView ReplyView otherwise_level (process_level e) answer_level block_level branch_level (handler_level e) if_level (input_level e) reply_level (Process-F.«Process::Nothing» at)
 
-pub assign_meant : (e : Numbering) (path : Path) (a : Assignment) → lowered_process e (process.Assign path a) ≡ lowered_assignment (lowered_path path) a
+pub assign_lowered : (e : Numbering) (path : Path) (a : Assignment) → lowered_process e (process.Assign path a) ≡ lowered_assignment (lowered_path path) a
 unfolding lowered_process lowered_conditional lowered_otherwise lowered_input lowered_reply lowered_branch lowered_answer lowered_handler lowered_block
-assign_meant e path a =
+assign_lowered e path a =
     ap (lowered_process e) (sym (process.rolls-Assign path a))
     ∙ fold-roll-Process Proc Proc AnswerView Proc BranchView HandlerView Proc InputView ReplyView otherwise_level (process_level e) answer_level block_level branch_level (handler_level e) if_level (input_level e) reply_level (Process-F.Assign path a)
 
-pub undef_meant : (e : Numbering) (at : ℕ) (path : Path) → lowered_process e (process.Undef at path) ≡ plain.undef (lowered_path path)
+pub undef_lowered : (e : Numbering) (at : ℕ) (path : Path) → lowered_process e (process.Undef at path) ≡ plain.undef (lowered_path path)
 unfolding lowered_process lowered_conditional lowered_otherwise lowered_input lowered_reply lowered_branch lowered_answer lowered_handler lowered_block
-undef_meant e at path =
+undef_lowered e at path =
     ap (lowered_process e) (sym (process.rolls-Undef at path))
     ∙ fold-roll-Process Proc Proc AnswerView Proc BranchView HandlerView Proc InputView ReplyView otherwise_level (process_level e) answer_level block_level branch_level (handler_level e) if_level (input_level e) reply_level (Process-F.Undef at path)
 
-pub correlate_meant : (e : Numbering) (at : ℕ) (variable : Name) (value : Expr) → lowered_process e (process.Correlate at variable value) ≡ plain.bind (place_in e.variables variable.text) (lowered_expr value)
+pub correlate_lowered : (e : Numbering) (at : ℕ) (variable : Name) (value : Expr) → lowered_process e (process.Correlate at variable value) ≡ plain.bind (place_in e.variables variable.text) (lowered_expr value)
 unfolding lowered_process lowered_conditional lowered_otherwise lowered_input lowered_reply lowered_branch lowered_answer lowered_handler lowered_block
-correlate_meant e at variable value =
+correlate_lowered e at variable value =
     ap (lowered_process e) (sym (process.rolls-Correlate at variable value))
     ∙ fold-roll-Process Proc Proc AnswerView Proc BranchView HandlerView Proc InputView ReplyView otherwise_level (process_level e) answer_level block_level branch_level (handler_level e) if_level (input_level e) reply_level (Process-F.Correlate at variable value)
 
-pub conditional_meant : (e : Numbering) (i : If) → lowered_process e (process.If i) ≡ lowered_conditional e i
+pub conditional_lowered : (e : Numbering) (i : If) → lowered_process e (process.If i) ≡ lowered_conditional e i
 unfolding lowered_process lowered_conditional lowered_otherwise lowered_input lowered_reply lowered_branch lowered_answer lowered_handler lowered_block
-conditional_meant e i =
+conditional_lowered e i =
     ap (lowered_process e) (sym (process.rolls-If i))
     ∙ fold-roll-Process Proc Proc AnswerView Proc BranchView HandlerView Proc InputView ReplyView otherwise_level (process_level e) answer_level block_level branch_level (handler_level e) if_level (input_level e) reply_level (Process-F.If i)
 
-pub while_meant : (e : Numbering) (at : ℕ) (test : Expr) (body : Block) → lowered_process e (process.While at test body) ≡ plain.repeat (lowered_expr test) (lowered_block e body)
+pub while_lowered : (e : Numbering) (at : ℕ) (test : Expr) (body : Block) → lowered_process e (process.While at test body) ≡ plain.repeat (lowered_expr test) (lowered_block e body)
 unfolding lowered_process lowered_conditional lowered_otherwise lowered_input lowered_reply lowered_branch lowered_answer lowered_handler lowered_block
-while_meant e at test body =
+while_lowered e at test body =
     ap (lowered_process e) (sym (process.rolls-While at test body))
     ∙ fold-roll-Process Proc Proc AnswerView Proc BranchView HandlerView Proc InputView ReplyView otherwise_level (process_level e) answer_level block_level branch_level (handler_level e) if_level (input_level e) reply_level (Process-F.While at test body)
 
-pub for_meant : (e : Numbering) (at : ℕ) (path : Path) (first test : Expr) (stepped : Path) (step : ForStep) (body : Block) → lowered_process e (process.For at path first test stepped step body) ≡ lowered_for (plain.assign (lowered_path path) (lowered_expr first)) (lowered_expr test) (lowered_block e body) (lowered_step (lowered_path stepped) step)
+pub for_lowered : (e : Numbering) (at : ℕ) (path : Path) (first test : Expr) (stepped : Path) (step : ForStep) (body : Block) → lowered_process e (process.For at path first test stepped step body) ≡ lowered_for (plain.assign (lowered_path path) (lowered_expr first)) (lowered_expr test) (lowered_block e body) (lowered_step (lowered_path stepped) step)
 unfolding lowered_process lowered_conditional lowered_otherwise lowered_input lowered_reply lowered_branch lowered_answer lowered_handler lowered_block
-for_meant e at path first test stepped step body =
+for_lowered e at path first test stepped step body =
     ap (lowered_process e) (sym (process.rolls-For at path first test stepped step body))
     ∙ fold-roll-Process Proc Proc AnswerView Proc BranchView HandlerView Proc InputView ReplyView otherwise_level (process_level e) answer_level block_level branch_level (handler_level e) if_level (input_level e) reply_level (Process-F.For at path first test stepped step body)
 
-pub input_form_meant : (e : Numbering) (i : Input) → lowered_process e (process.Input i) ≡ alone (lowered_input e i)
+pub input_form_lowered : (e : Numbering) (i : Input) → lowered_process e (process.Input i) ≡ alone (lowered_input e i)
 unfolding lowered_process lowered_conditional lowered_otherwise lowered_input lowered_reply lowered_branch lowered_answer lowered_handler lowered_block
-input_form_meant e i =
+input_form_lowered e i =
     ap (lowered_process e) (sym (process.rolls-Input i))
     ∙ fold-roll-Process Proc Proc AnswerView Proc BranchView HandlerView Proc InputView ReplyView otherwise_level (process_level e) answer_level block_level branch_level (handler_level e) if_level (input_level e) reply_level (Process-F.Input i)
 
-pub choice_meant : (e : Numbering) (at : ℕ) (branches : List Branch) → lowered_process e (process.Choice at branches) ≡ plain.choice (branches_of (map (lowered_branch e) branches))
+pub choice_lowered : (e : Numbering) (at : ℕ) (branches : List Branch) → lowered_process e (process.Choice at branches) ≡ plain.choice (branches_of (map (lowered_branch e) branches))
 unfolding lowered_process lowered_conditional lowered_otherwise lowered_input lowered_reply lowered_branch lowered_answer lowered_handler lowered_block
-choice_meant e at branches =
+choice_lowered e at branches =
     ap (lowered_process e) (sym (process.rolls-Choice at branches))
     ∙ fold-roll-Process Proc Proc AnswerView Proc BranchView HandlerView Proc InputView ReplyView otherwise_level (process_level e) answer_level block_level branch_level (handler_level e) if_level (input_level e) reply_level (Process-F.Choice at branches)
 
-pub output_meant : (e : Numbering) (operation port : Name) (value : Option Expr) (answer : Option Answer) → lowered_process e (process.Output operation port value answer) ≡ sent (lowered_port e port.text).number (place_in (lowered_port e port.text).operations operation.text) (lowered_if_written value) (option_map (lowered_answer e) answer)
+pub output_lowered : (e : Numbering) (operation port : Name) (value : Option Expr) (answer : Option Answer) → lowered_process e (process.Output operation port value answer) ≡ sent (lowered_port e port.text).number (place_in (lowered_port e port.text).operations operation.text) (lowered_if_written value) (option_map (lowered_answer e) answer)
 unfolding lowered_process lowered_conditional lowered_otherwise lowered_input lowered_reply lowered_branch lowered_answer lowered_handler lowered_block
-output_meant e operation port value None =
+output_lowered e operation port value None =
     ap (lowered_process e) (sym (process.rolls-Output operation port value None))
     ∙ fold-roll-Process Proc Proc AnswerView Proc BranchView HandlerView Proc InputView ReplyView otherwise_level (process_level e) answer_level block_level branch_level (handler_level e) if_level (input_level e) reply_level (Process-F.Output operation port value None)
-output_meant e operation port value (Some it) =
+output_lowered e operation port value (Some it) =
     ap (lowered_process e) (sym (process.rolls-Output operation port value (Some it)))
     ∙ fold-roll-Process Proc Proc AnswerView Proc BranchView HandlerView Proc InputView ReplyView otherwise_level (process_level e) answer_level block_level branch_level (handler_level e) if_level (input_level e) reply_level (Process-F.Output operation port value (Some it))
 
-pub scope_meant : (e : Numbering) (at : ℕ) (name : Name) (body : Block) → lowered_process e (process.Scope at name body) ≡ plain.scope (place_in e.names name.text) (lowered_block e body)
+pub scope_lowered : (e : Numbering) (at : ℕ) (name : Name) (body : Block) → lowered_process e (process.Scope at name body) ≡ plain.scope (place_in e.names name.text) (lowered_block e body)
 unfolding lowered_process lowered_conditional lowered_otherwise lowered_input lowered_reply lowered_branch lowered_answer lowered_handler lowered_block
-scope_meant e at name body =
+scope_lowered e at name body =
     ap (lowered_process e) (sym (process.rolls-Scope at name body))
     ∙ fold-roll-Process Proc Proc AnswerView Proc BranchView HandlerView Proc InputView ReplyView otherwise_level (process_level e) answer_level block_level branch_level (handler_level e) if_level (input_level e) reply_level (Process-F.Scope at name body)
 
-pub install_meant : (e : Numbering) (at : ℕ) (handlers : List Handler) → lowered_process e (process.Install at handlers) ≡ plain.install (handlers_of (map (lowered_handler e) handlers))
+pub install_lowered : (e : Numbering) (at : ℕ) (handlers : List Handler) → lowered_process e (process.Install at handlers) ≡ plain.install (handlers_of (map (lowered_handler e) handlers))
 unfolding lowered_process lowered_conditional lowered_otherwise lowered_input lowered_reply lowered_branch lowered_answer lowered_handler lowered_block
-install_meant e at handlers =
+install_lowered e at handlers =
     ap (lowered_process e) (sym (process.rolls-Install at handlers))
     ∙ fold-roll-Process Proc Proc AnswerView Proc BranchView HandlerView Proc InputView ReplyView otherwise_level (process_level e) answer_level block_level branch_level (handler_level e) if_level (input_level e) reply_level (Process-F.Install at handlers)
 
-pub throw_meant : (e : Numbering) (at : ℕ) (fault : Name) (value : Option Expr) → lowered_process e (process.Throw at fault value) ≡ plain.throw (place_in e.names fault.text) (lowered_if_written value)
+pub throw_lowered : (e : Numbering) (at : ℕ) (fault : Name) (value : Option Expr) → lowered_process e (process.Throw at fault value) ≡ plain.throw (place_in e.names fault.text) (lowered_if_written value)
 unfolding lowered_process lowered_conditional lowered_otherwise lowered_input lowered_reply lowered_branch lowered_answer lowered_handler lowered_block
-throw_meant e at fault value =
+throw_lowered e at fault value =
     ap (lowered_process e) (sym (process.rolls-Throw at fault value))
     ∙ fold-roll-Process Proc Proc AnswerView Proc BranchView HandlerView Proc InputView ReplyView otherwise_level (process_level e) answer_level block_level branch_level (handler_level e) if_level (input_level e) reply_level (Process-F.Throw at fault value)
 
-pub compensate_meant : (e : Numbering) (at : ℕ) (scope : Name) → lowered_process e (process.Compensate at scope) ≡ plain.comp (place_in e.names scope.text)
+pub compensate_lowered : (e : Numbering) (at : ℕ) (scope : Name) → lowered_process e (process.Compensate at scope) ≡ plain.comp (place_in e.names scope.text)
 unfolding lowered_process lowered_conditional lowered_otherwise lowered_input lowered_reply lowered_branch lowered_answer lowered_handler lowered_block
-compensate_meant e at scope =
+compensate_lowered e at scope =
     ap (lowered_process e) (sym (process.rolls-Compensate at scope))
     ∙ fold-roll-Process Proc Proc AnswerView Proc BranchView HandlerView Proc InputView ReplyView otherwise_level (process_level e) answer_level block_level branch_level (handler_level e) if_level (input_level e) reply_level (Process-F.Compensate at scope)
 
-pub inner_handler_meant : (e : Numbering) (at : ℕ) → lowered_process e (process.InnerHandler at) ≡ plain.inner_handler
+pub inner_handler_lowered : (e : Numbering) (at : ℕ) → lowered_process e (process.InnerHandler at) ≡ plain.inner_handler
 unfolding lowered_process lowered_conditional lowered_otherwise lowered_input lowered_reply lowered_branch lowered_answer lowered_handler lowered_block
-inner_handler_meant e at =
+inner_handler_lowered e at =
     ap (lowered_process e) (sym (process.rolls-InnerHandler at))
     ∙ fold-roll-Process Proc Proc AnswerView Proc BranchView HandlerView Proc InputView ReplyView otherwise_level (process_level e) answer_level block_level branch_level (handler_level e) if_level (input_level e) reply_level (Process-F.InnerHandler at)
 
-pub block_form_meant : (e : Numbering) (b : Block) → lowered_process e (process.Block b) ≡ plain.block (lowered_block e b)
+pub block_form_lowered : (e : Numbering) (b : Block) → lowered_process e (process.Block b) ≡ plain.block (lowered_block e b)
 unfolding lowered_process lowered_conditional lowered_otherwise lowered_input lowered_reply lowered_branch lowered_answer lowered_handler lowered_block
-block_form_meant e b =
+block_form_lowered e b =
     ap (lowered_process e) (sym (process.rolls-Block b))
     ∙ fold-roll-Process Proc Proc AnswerView Proc BranchView HandlerView Proc InputView ReplyView otherwise_level (process_level e) answer_level block_level branch_level (handler_level e) if_level (input_level e) reply_level (Process-F.Block b)
 
-pub sequence_meant : (e : Numbering) (ps : List Process) → lowered_process e (process.Sequence ps) ≡ plain.sequence (procs_of (map (lowered_process e) ps))
+pub sequence_lowered : (e : Numbering) (ps : List Process) → lowered_process e (process.Sequence ps) ≡ plain.sequence (procs_of (map (lowered_process e) ps))
 unfolding lowered_process lowered_conditional lowered_otherwise lowered_input lowered_reply lowered_branch lowered_answer lowered_handler lowered_block
-sequence_meant e ps =
+sequence_lowered e ps =
     ap (lowered_process e) (sym (process.rolls-Sequence ps))
     ∙ fold-roll-Process Proc Proc AnswerView Proc BranchView HandlerView Proc InputView ReplyView otherwise_level (process_level e) answer_level block_level branch_level (handler_level e) if_level (input_level e) reply_level (Process-F.Sequence ps)
 
-pub parallel_meant : (e : Numbering) (ps : List Process) → lowered_process e (process.Parallel ps) ≡ plain.parallel (procs_of (map (lowered_process e) ps))
+pub parallel_lowered : (e : Numbering) (ps : List Process) → lowered_process e (process.Parallel ps) ≡ plain.parallel (procs_of (map (lowered_process e) ps))
 unfolding lowered_process lowered_conditional lowered_otherwise lowered_input lowered_reply lowered_branch lowered_answer lowered_handler lowered_block
-parallel_meant e ps =
+parallel_lowered e ps =
     ap (lowered_process e) (sym (process.rolls-Parallel ps))
     ∙ fold-roll-Process Proc Proc AnswerView Proc BranchView HandlerView Proc InputView ReplyView otherwise_level (process_level e) answer_level block_level branch_level (handler_level e) if_level (input_level e) reply_level (Process-F.Parallel ps)
 
 -- ---- what an `if` does where its test fails
 
-pub no_else_meant : (e : Numbering) → lowered_otherwise e otherwise.Nothing ≡ plain.nothing
+pub no_else_lowered : (e : Numbering) → lowered_otherwise e otherwise.Nothing ≡ plain.nothing
 unfolding lowered_process lowered_conditional lowered_otherwise lowered_input lowered_reply lowered_branch lowered_answer lowered_handler lowered_block
-no_else_meant e =
+no_else_lowered e =
     ap (lowered_otherwise e) (sym otherwise.rolls-Nothing)
     ∙ fold-roll-Otherwise Proc Proc AnswerView Proc BranchView HandlerView Proc InputView ReplyView otherwise_level (process_level e) answer_level block_level branch_level (handler_level e) if_level (input_level e) reply_level Otherwise-F.«Otherwise::Nothing»
 
-pub else_if_meant : (e : Numbering) (i : If) → lowered_otherwise e (otherwise.ElseIf i) ≡ lowered_conditional e i
+pub else_if_lowered : (e : Numbering) (i : If) → lowered_otherwise e (otherwise.ElseIf i) ≡ lowered_conditional e i
 unfolding lowered_process lowered_conditional lowered_otherwise lowered_input lowered_reply lowered_branch lowered_answer lowered_handler lowered_block
-else_if_meant e i =
+else_if_lowered e i =
     ap (lowered_otherwise e) (sym (otherwise.rolls-ElseIf i))
     ∙ fold-roll-Otherwise Proc Proc AnswerView Proc BranchView HandlerView Proc InputView ReplyView otherwise_level (process_level e) answer_level block_level branch_level (handler_level e) if_level (input_level e) reply_level (Otherwise-F.ElseIf i)
 
-pub else_meant : (e : Numbering) (b : Block) → lowered_otherwise e (otherwise.Else b) ≡ lowered_block e b
+pub else_lowered : (e : Numbering) (b : Block) → lowered_otherwise e (otherwise.Else b) ≡ lowered_block e b
 unfolding lowered_process lowered_conditional lowered_otherwise lowered_input lowered_reply lowered_branch lowered_answer lowered_handler lowered_block
-else_meant e b =
+else_lowered e b =
     ap (lowered_otherwise e) (sym (otherwise.rolls-Else b))
     ∙ fold-roll-Otherwise Proc Proc AnswerView Proc BranchView HandlerView Proc InputView ReplyView otherwise_level (process_level e) answer_level block_level branch_level (handler_level e) if_level (input_level e) reply_level (Otherwise-F.Else b)
 
@@ -200,16 +200,16 @@ pub input_is : (e : Numbering) (i : Input) → lowered_input e i ≡ record { op
 input_is e i = ap (lowered_input e) (sym (roll-out-Input i)) ∙ input_made e (out-Input i).operation (out-Input i).request (out-Input i).reply
 
 -- the handlers of an answer, none where no list is written
-abbrev pub handlers_meant : Numbering → Option (List Handler) → plain.HandlerList
-handlers_meant e None = plain.no_handlers
-handlers_meant e (Some handlers) = handlers_of (map (lowered_handler e) handlers)
+abbrev pub handlers_lowered : Numbering → Option (List Handler) → plain.HandlerList
+handlers_lowered e None = plain.no_handlers
+handlers_lowered e (Some handlers) = handlers_of (map (lowered_handler e) handlers)
 
-pub answer_made : (e : Numbering) (path : Option Path) (handlers : Option (List Handler)) → lowered_answer e (roll-Answer (record { path = path; handlers = handlers })) ≡ record { target = option_map lowered_path path; handlers = handlers_meant e handlers }
+pub answer_made : (e : Numbering) (path : Option Path) (handlers : Option (List Handler)) → lowered_answer e (roll-Answer (record { path = path; handlers = handlers })) ≡ record { target = option_map lowered_path path; handlers = handlers_lowered e handlers }
 unfolding lowered_process lowered_conditional lowered_otherwise lowered_input lowered_reply lowered_branch lowered_answer lowered_handler lowered_block
 answer_made e path None = fold-roll-Answer Proc Proc AnswerView Proc BranchView HandlerView Proc InputView ReplyView otherwise_level (process_level e) answer_level block_level branch_level (handler_level e) if_level (input_level e) reply_level (record { path = path; handlers = None })
 answer_made e path (Some it) = fold-roll-Answer Proc Proc AnswerView Proc BranchView HandlerView Proc InputView ReplyView otherwise_level (process_level e) answer_level block_level branch_level (handler_level e) if_level (input_level e) reply_level (record { path = path; handlers = Some it })
 
-pub answer_is : (e : Numbering) (a : Answer) → lowered_answer e a ≡ record { target = option_map lowered_path (out-Answer a).path; handlers = handlers_meant e (out-Answer a).handlers }
+pub answer_is : (e : Numbering) (a : Answer) → lowered_answer e a ≡ record { target = option_map lowered_path (out-Answer a).path; handlers = handlers_lowered e (out-Answer a).handlers }
 answer_is e a = ap (lowered_answer e) (sym (roll-out-Answer a)) ∙ answer_made e (out-Answer a).path (out-Answer a).handlers
 
 -- ---- parts that may be missing
@@ -230,8 +230,8 @@ answer_target e a = ap (λ (v : AnswerView). v.target) (answer_is e a)
 
 -- an answer with no list of handlers
 pub bare_answer : (e : Numbering) (a : Answer) → (out-Answer a).handlers ≡ None → (lowered_answer e a).handlers ≡ plain.no_handlers
-bare_answer e a none = ap (λ (v : AnswerView). v.handlers) (answer_is e a) ∙ ap (handlers_meant e) none
+bare_answer e a none = ap (λ (v : AnswerView). v.handlers) (answer_is e a) ∙ ap (handlers_lowered e) none
 
 -- an answer with handlers
 pub handled_answer : (e : Numbering) (a : Answer) (hs : List Handler) → (out-Answer a).handlers ≡ Some hs → (lowered_answer e a).handlers ≡ handlers_of (map (lowered_handler e) hs)
-handled_answer e a hs some = ap (λ (v : AnswerView). v.handlers) (answer_is e a) ∙ ap (handlers_meant e) some
+handled_answer e a hs some = ap (λ (v : AnswerView). v.handlers) (answer_is e a) ∙ ap (handlers_lowered e) some

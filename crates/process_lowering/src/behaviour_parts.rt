@@ -54,9 +54,12 @@ fn copied_to(alloc: Global, path: &Path, value: &jolie_ast::Expr) -> Result<Beha
 fn counted(alloc: Global, path: &Path, count: Count) -> Result<Behaviour, AllocError>
     ensures { IfOk result (λ p. behaviour_view p ≡ counted (lowered_path path.now) count) }
 {
+    let target = lowered_path(alloc, path)?;
     let value = one_further(alloc, path, count)?;
-    let path = lowered_path(alloc, path)?;
-    Ok(Behaviour::Assign { path, value })
+    Ok(Behaviour::Assign {
+        path: target,
+        value,
+    })
 }
 
 /// The value at a path, and one more or less.
@@ -87,37 +90,52 @@ fn count_op(count: Count) -> SumOp
 
 // ---- loops
 
-/// A path that is given its first value, and then a behaviour.
-pub fn led_by(
+/// A path that is given its first value, and then a turn as long as a test holds.
+pub fn looped(
     alloc: Global,
     path: &Path,
     first: &jolie_ast::Expr,
-    repeated: Behaviour,
+    test: &jolie_ast::Expr,
+    turn: Box<Behaviour>,
 ) -> Result<Behaviour, AllocError>
-    ensures { IfOk result (λ p. behaviour_view p ≡ in_turn (assign (lowered_path path.now) (lowered_expr first.now)) (behaviour_view repeated)) }
+    ensures { IfOk result (λ p. behaviour_view p ≡ in_turn (assign (lowered_path path.now) (lowered_expr first.now)) (repeat (lowered_expr test.now) (behaviour_view turn.value))) }
 {
+    let repeated = repeated(alloc, test, turn)?;
     let first = assigned(alloc, path, first)?;
     in_turn(alloc, first, repeated)
 }
 
-/// A body and a step, as long as a test holds.
+/// A turn, as long as a test holds.
 #[tactic(auto, using(crate::proofs::SeenBehaviours::while_seen))]
-pub fn repeated(
+fn repeated(
     alloc: Global,
     test: &jolie_ast::Expr,
-    body: Behaviour,
-    stepped: &Path,
-    step: &ForStep,
-) -> Result<Behaviour, AllocError>
-    ensures { IfOk result (λ p. behaviour_view p ≡ repeat (lowered_expr test.now) (in_turn (behaviour_view body) (lowered_step (lowered_path stepped.now) step.now))) }
+    turn: Box<Behaviour>,
+) -> Result<Box<Behaviour>, AllocError>
+    ensures { IfOk result (λ b. behaviour_view b.value ≡ repeat (lowered_expr test.now) (behaviour_view turn.value)) }
 {
-    let step = lowered_step(alloc, stepped, step)?;
+    let test = lowered_expr(alloc, test)?;
+    Ok(Box::new(alloc, Behaviour::While { test, body: turn })?)
+}
+
+/// A body and a step behind it.
+pub fn boxed_turn(
+    alloc: Global,
+    body: Behaviour,
+    step: Box<Behaviour>,
+) -> Result<Box<Behaviour>, AllocError>
+    ensures { IfOk result (λ b. behaviour_view b.value ≡ in_turn (behaviour_view body) (behaviour_view step.value)) }
+{
     let turn = in_turn(alloc, body, step)?;
-    let body = Box::new(alloc, turn)?;
-    Ok(Behaviour::While {
-        test: lowered_expr(alloc, test)?,
-        body,
-    })
+    Ok(Box::new(alloc, turn)?)
+}
+
+/// What the last part of a `for` means.
+pub fn boxed_step(alloc: Global, path: &Path, step: &ForStep) -> Result<Box<Behaviour>, AllocError>
+    ensures { IfOk result (λ b. behaviour_view b.value ≡ lowered_step (lowered_path path.now) step.now) }
+{
+    let step = lowered_step(alloc, path, step)?;
+    Ok(Box::new(alloc, step)?)
 }
 
 fn lowered_step(alloc: Global, path: &Path, step: &ForStep) -> Result<Behaviour, AllocError>
@@ -131,12 +149,12 @@ fn lowered_step(alloc: Global, path: &Path, step: &ForStep) -> Result<Behaviour,
 
 /// Two behaviours, one after the other.
 #[tactic(auto, using(crate::proofs::SeenBehaviours::sequence_seen))]
-fn in_turn(alloc: Global, first: Behaviour, second: Behaviour) -> Result<Behaviour, AllocError>
-    ensures { IfOk result (λ p. behaviour_view p ≡ in_turn (behaviour_view first) (behaviour_view second)) }
+fn in_turn(alloc: Global, first: Behaviour, second: Box<Behaviour>) -> Result<Behaviour, AllocError>
+    ensures { IfOk result (λ p. behaviour_view p ≡ in_turn (behaviour_view first) (behaviour_view second.value)) }
 {
     let mut both = Vec::new(alloc);
     both.push(first)?;
-    both.push(second)?;
+    both.push(Box::into_inner(second))?;
     Ok(Behaviour::Sequence(both))
 }
 
@@ -177,10 +195,10 @@ pub fn throwing(
 ) -> Result<Behaviour, AllocError>
     ensures { IfOk result (λ p. behaviour_view p ≡ throw (place_in names.now fault.now.text) (lowered_if_written value.now)) }
 {
-    let value = lowered_if_written(alloc, value)?;
+    let fault = number(names, fault.text.as_str())?;
     Ok(Behaviour::Throw {
-        fault: number(names, fault.text.as_str())?,
-        value,
+        fault,
+        value: lowered_if_written(alloc, value)?,
     })
 }
 

@@ -1,15 +1,17 @@
 ghost use Rattle.std.specs.Prelude.{◌≡◌, map, option_map, IfOk};
 ghost use Rattle.std.specs.Option.{option_copied};
-ghost use Rattle.behaviour_tree.specs.View.{behaviour_view, branch_view, expr_view, handler_view, handlers_of, handlers_view, reply_view};
+ghost use Rattle.behaviour_tree.specs.View.{behaviour_view, branch_view, handler_view, handlers_of, handlers_view, reply_view};
 ghost use Rattle.process_lowering.specs.Behaviours.{alone, branch_after, lowered_answer, lowered_block, lowered_branch, lowered_conditional, lowered_handler, lowered_if_there, lowered_input, lowered_otherwise, lowered_process, lowered_reply, sent};
+ghost use Rattle.process_lowering.specs.Expressions.{lowered_if_written};
 ghost use Rattle.process_lowering.specs.Numbers.{numbering_of};
 
 use crate::behaviour_parts::{
-    bound, led_by, lowered_assignment, lowered_key, lowered_target, repeated, throwing,
+    bound, boxed_step, boxed_turn, looped, lowered_assignment, lowered_key, lowered_target,
+    throwing,
 };
 use crate::expressions::{lowered_expr, lowered_if_written, lowered_path};
 use crate::numbers::{NumberedOperation, Numbers};
-use behaviour_tree::{Behaviour, Branch, Expr, Handler, Handlers, ReplyPart};
+use behaviour_tree::{Behaviour, Branch, Handler, Handlers, ReplyPart};
 use check_base::{Names, number};
 use jolie_ast::{Answer, Block, If, Input, Otherwise, Process, Reply};
 use std::alloc::{AllocError, Global};
@@ -51,9 +53,10 @@ pub fn lowered_process(
             body,
             ..
         } => {
+            let step = boxed_step(alloc, stepped, step)?;
             let body = lowered_block(alloc, body, numbers, names)?;
-            let repeated = repeated(alloc, test, body, stepped, step)?;
-            led_by(alloc, path, first, repeated)
+            let turn = boxed_turn(alloc, body, step)?;
+            looped(alloc, path, first, test, turn)
         }
         Process::Input(input) => lowered_alone(alloc, input, numbers, names),
         Process::Choice { branches, .. } => Ok(Behaviour::Choice(lowered_branches(
@@ -69,7 +72,6 @@ pub fn lowered_process(
             answer,
         } => {
             let numbered = numbers.numbered_operation(port.text.as_str(), operation.text.as_str())?;
-            let value = lowered_if_written(alloc, value)?;
             lowered_output(alloc, answer, numbered, value, numbers, names)
         }
         Process::Scope { name, body, .. } => {
@@ -161,12 +163,12 @@ fn lowered_conditional(
 ) -> Result<Behaviour, AllocError>
     ensures { IfOk result (λ p. behaviour_view p ≡ lowered_conditional (numbering_of numbers.now names.now) conditional.now) }
 {
-    let test = lowered_expr(alloc, &conditional.test)?;
     let then = boxed_block(alloc, &conditional.body, numbers, names)?;
+    let other = lowered_otherwise(alloc, &conditional.otherwise, numbers, names)?;
     Ok(Behaviour::If {
-        test,
+        test: lowered_expr(alloc, &conditional.test)?,
         then,
-        other: lowered_otherwise(alloc, &conditional.otherwise, numbers, names)?,
+        other,
     })
 }
 
@@ -199,8 +201,9 @@ fn lowered_alone(
 ) -> Result<Behaviour, AllocError>
     ensures { IfOk result (λ p. behaviour_view p ≡ alone (lowered_input (numbering_of numbers.now names.now) input.now)) }
 {
+    let nothing = Box::new(alloc, Behaviour::Nothing)?;
     let mut branches = Vec::new(alloc);
-    branches.push(lowered_input(alloc, input, Behaviour::Nothing, numbers, names)?)?;
+    branches.push(lowered_input(alloc, input, nothing, numbers, names)?)?;
     Ok(Behaviour::Choice(branches))
 }
 
@@ -229,7 +232,7 @@ fn lowered_branch(
 ) -> Result<Branch, AllocError>
     ensures { IfOk result (λ b. branch_view b ≡ lowered_branch (numbering_of numbers.now names.now) branch.now) }
 {
-    let after = lowered_block(alloc, &branch.after, numbers, names)?;
+    let after = boxed_block(alloc, &branch.after, numbers, names)?;
     lowered_input(alloc, &branch.input, after, numbers, names)
 }
 
@@ -238,19 +241,20 @@ fn lowered_branch(
 fn lowered_input(
     alloc: Global,
     input: &Input,
-    after: Behaviour,
+    after: Box<Behaviour>,
     numbers: &Numbers<'_>,
     names: &Names<'_>,
 ) -> Result<Branch, AllocError>
-    ensures { IfOk result (λ b. branch_view b ≡ branch_after (lowered_input (numbering_of numbers.now names.now) input.now) (behaviour_view after)) }
+    ensures { IfOk result (λ b. branch_view b ≡ branch_after (lowered_input (numbering_of numbers.now names.now) input.now) (behaviour_view after.value)) }
 {
     let op = number(&numbers.inputs, input.operation.text.as_str())?;
     let target = lowered_target(alloc, &input.request)?;
+    let reply = lowered_optional_reply(alloc, &input.reply, numbers, names)?;
     Ok(Branch {
         op,
         target,
-        reply: lowered_optional_reply(alloc, &input.reply, numbers, names)?,
-        after,
+        reply,
+        after: Box::into_inner(after),
     })
 }
 
@@ -291,26 +295,27 @@ fn lowered_output(
     alloc: Global,
     answer: &Option<Answer>,
     operation: NumberedOperation,
-    value: Expr,
+    value: &Option<jolie_ast::Expr>,
     numbers: &Numbers<'_>,
     names: &Names<'_>,
 ) -> Result<Behaviour, AllocError>
-    ensures { IfOk result (λ p. behaviour_view p ≡ sent operation.port operation.op (expr_view value) (option_map (lowered_answer (numbering_of numbers.now names.now)) answer.now)) }
+    ensures { IfOk result (λ p. behaviour_view p ≡ sent operation.port operation.op (lowered_if_written value.now) (option_map (lowered_answer (numbering_of numbers.now names.now)) answer.now)) }
 {
     match answer {
         None => Ok(Behaviour::Notify {
             port: operation.port,
             op: operation.op,
-            value,
+            value: lowered_if_written(alloc, value)?,
         }),
         Some(answer) => {
             let target = lowered_target(alloc, &answer.path)?;
+            let handlers = answer_handlers(alloc, answer, numbers, names)?;
             Ok(Behaviour::Solicit {
                 port: operation.port,
                 op: operation.op,
-                value,
+                value: lowered_if_written(alloc, value)?,
                 target,
-                handlers: answer_handlers(alloc, answer, numbers, names)?,
+                handlers,
             })
         }
     }

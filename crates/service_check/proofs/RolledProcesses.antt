@@ -65,21 +65,21 @@ if_rolled e at test body rest h = ap (λ (f : Found). f h) (fold-roll-If Found F
 
 -- ---- what is meant
 
-pub reply_meant : (m : Numbering) (path : Option Path) (body : Block) → lowered_reply m (roll-Reply (record { path = path; body = body })) ≡ record { path = option_map lowered_path path; body = lowered_block m body }
+pub reply_lowered : (m : Numbering) (path : Option Path) (body : Block) → lowered_reply m (roll-Reply (record { path = path; body = body })) ≡ record { path = option_map lowered_path path; body = lowered_block m body }
 unfolding lowered_process lowered_conditional lowered_otherwise lowered_input lowered_reply lowered_branch lowered_answer lowered_handler lowered_block
-reply_meant m path body = fold-roll-Reply Proc Proc AnswerView Proc BranchView HandlerView Proc InputView ReplyView means.otherwise_level (means.process_level m) means.answer_level means.block_level means.branch_level (means.handler_level m) means.if_level (means.input_level m) means.reply_level (record { path = path; body = body })
+reply_lowered m path body = fold-roll-Reply Proc Proc AnswerView Proc BranchView HandlerView Proc InputView ReplyView means.otherwise_level (means.process_level m) means.answer_level means.block_level means.branch_level (means.handler_level m) means.if_level (means.input_level m) means.reply_level (record { path = path; body = body })
 
-pub branch_meant : (m : Numbering) (at : ℕ) (input : Input) (after : Block) → lowered_branch m (roll-Branch (record { at = at; input = input; after = after })) ≡ branch_after (lowered_input m input) (lowered_block m after)
+pub branch_lowered : (m : Numbering) (at : ℕ) (input : Input) (after : Block) → lowered_branch m (roll-Branch (record { at = at; input = input; after = after })) ≡ branch_after (lowered_input m input) (lowered_block m after)
 unfolding lowered_process lowered_conditional lowered_otherwise lowered_input lowered_reply lowered_branch lowered_answer lowered_handler lowered_block
-branch_meant m at input after = fold-roll-Branch Proc Proc AnswerView Proc BranchView HandlerView Proc InputView ReplyView means.otherwise_level (means.process_level m) means.answer_level means.block_level means.branch_level (means.handler_level m) means.if_level (means.input_level m) means.reply_level (record { at = at; input = input; after = after })
+branch_lowered m at input after = fold-roll-Branch Proc Proc AnswerView Proc BranchView HandlerView Proc InputView ReplyView means.otherwise_level (means.process_level m) means.answer_level means.block_level means.branch_level (means.handler_level m) means.if_level (means.input_level m) means.reply_level (record { at = at; input = input; after = after })
 
-pub handler_meant : (m : Numbering) (key : HandlerKey) (body : Process) → lowered_handler m (roll-Handler (record { key = key; body = body })) ≡ record { key = key_of m.names key; body = lowered_process m body }
+pub handler_lowered : (m : Numbering) (key : HandlerKey) (body : Process) → lowered_handler m (roll-Handler (record { key = key; body = body })) ≡ record { key = key_of m.names key; body = lowered_process m body }
 unfolding lowered_process lowered_conditional lowered_otherwise lowered_input lowered_reply lowered_branch lowered_answer lowered_handler lowered_block
-handler_meant m key body = fold-roll-Handler Proc Proc AnswerView Proc BranchView HandlerView Proc InputView ReplyView means.otherwise_level (means.process_level m) means.answer_level means.block_level means.branch_level (means.handler_level m) means.if_level (means.input_level m) means.reply_level (record { key = key; body = body })
+handler_lowered m key body = fold-roll-Handler Proc Proc AnswerView Proc BranchView HandlerView Proc InputView ReplyView means.otherwise_level (means.process_level m) means.answer_level means.block_level means.branch_level (means.handler_level m) means.if_level (means.input_level m) means.reply_level (record { key = key; body = body })
 
-pub if_meant : (m : Numbering) (at : ℕ) (test : Expr) (body : Block) (rest : Otherwise) → lowered_conditional m (roll-If (record { at = at; test = test; body = body; otherwise = rest })) ≡ plain.choose (lowered_expr test) (lowered_block m body) (lowered_otherwise m rest)
+pub if_lowered : (m : Numbering) (at : ℕ) (test : Expr) (body : Block) (rest : Otherwise) → lowered_conditional m (roll-If (record { at = at; test = test; body = body; otherwise = rest })) ≡ plain.choose (lowered_expr test) (lowered_block m body) (lowered_otherwise m rest)
 unfolding lowered_process lowered_conditional lowered_otherwise lowered_input lowered_reply lowered_branch lowered_answer lowered_handler lowered_block
-if_meant m at test body rest = fold-roll-If Proc Proc AnswerView Proc BranchView HandlerView Proc InputView ReplyView means.otherwise_level (means.process_level m) means.answer_level means.block_level means.branch_level (means.handler_level m) means.if_level (means.input_level m) means.reply_level (record { at = at; test = test; body = body; otherwise = rest })
+if_lowered m at test body rest = fold-roll-If Proc Proc AnswerView Proc BranchView HandlerView Proc InputView ReplyView means.otherwise_level (means.process_level m) means.answer_level means.block_level means.branch_level (means.handler_level m) means.if_level (means.input_level m) means.reply_level (record { at = at; test = test; body = body; otherwise = rest })
 
 -- ---- what is named
 

@@ -29,7 +29,7 @@ use Rattle.port_checks.specs.SetRules.{is_once, field_named, behind_names, is_va
 use Rattle.type_lowering.specs.LoweredTypes.{natural, least_of, most_of, lowered_kind, lowered_body, lowered_field, lowered_definition}
 use Rattle.service_check.specs.Programs.{lowered_alias}
 use Rattle.service_check.proofs.Emptied.{holds}
-use Rattle.type_lowering.proofs.LoweredTypes.{root_meant, named_meant, undefined_meant, field_is}
+use Rattle.type_lowering.proofs.LoweredTypes.{root_lowered, named_lowered, undefined_lowered, field_is}
 use Rattle.service_check.proofs.WellTypes.{lowered_types, type_is_there}
 
 -- ---- fields that stand once
@@ -90,12 +90,12 @@ behind_there types n (Some ty) same = same (body_of ty.body)
 shape_at_end : (types : List TypeDefinition) (x : TypeBody) (b : TypeBody-F TypeBody Field) → out-TypeBody x ≡ b → shape (lowered_types types) zero (lowered_body (type_names types) x) ≡ option_map (lowered_body (type_names types)) (if_no_name x b)
 shape_at_end types x (TypeBody-F.Root at kind fields) form =
     let means : lowered_body (type_names types) x ≡ plain.plain (lowered_kind kind) (type_fields_of (map (lowered_field (type_names types)) (unwrap_or fields []))) =
-    lowered_by_form (type_names types) x (body.Root at kind fields) (TypeBody-F.Root at kind fields) form (body.rolls-Root at kind fields) ∙ root_meant (type_names types) at kind fields in
+    lowered_by_form (type_names types) x (body.Root at kind fields) (TypeBody-F.Root at kind fields) form (body.rolls-Root at kind fields) ∙ root_lowered (type_names types) at kind fields in
     ap (shape (lowered_types types) zero) means ∙ ap Some (sym means)
 shape_at_end types x (TypeBody-F.Named n) form =
-    ap (shape (lowered_types types) zero) (lowered_by_form (type_names types) x (body.Named n) (TypeBody-F.Named n) form (body.rolls-Named n) ∙ named_meant (type_names types) n)
+    ap (shape (lowered_types types) zero) (lowered_by_form (type_names types) x (body.Named n) (TypeBody-F.Named n) form (body.rolls-Named n) ∙ named_lowered (type_names types) n)
 shape_at_end types x (TypeBody-F.Undefined at) form =
-    let means : lowered_body (type_names types) x ≡ plain.undefined = lowered_by_form (type_names types) x (body.Undefined at) (TypeBody-F.Undefined at) form (body.rolls-Undefined at) ∙ undefined_meant (type_names types) at in
+    let means : lowered_body (type_names types) x ≡ plain.undefined = lowered_by_form (type_names types) x (body.Undefined at) (TypeBody-F.Undefined at) form (body.rolls-Undefined at) ∙ undefined_lowered (type_names types) at in
     ap (shape (lowered_types types) zero) means ∙ ap Some (sym means)
 
 shape_further : (types : List TypeDefinition) (n : ℕ) (x : TypeBody) (b : TypeBody-F TypeBody Field) → out-TypeBody x ≡ b
@@ -103,14 +103,14 @@ shape_further : (types : List TypeDefinition) (n : ℕ) (x : TypeBody) (b : Type
     → shape (lowered_types types) (suc n) (lowered_body (type_names types) x) ≡ option_map (lowered_body (type_names types)) (behind_form types n x b)
 shape_further types n x (TypeBody-F.Root at kind fields) form same =
     let means : lowered_body (type_names types) x ≡ plain.plain (lowered_kind kind) (type_fields_of (map (lowered_field (type_names types)) (unwrap_or fields []))) =
-    lowered_by_form (type_names types) x (body.Root at kind fields) (TypeBody-F.Root at kind fields) form (body.rolls-Root at kind fields) ∙ root_meant (type_names types) at kind fields in
+    lowered_by_form (type_names types) x (body.Root at kind fields) (TypeBody-F.Root at kind fields) form (body.rolls-Root at kind fields) ∙ root_lowered (type_names types) at kind fields in
     ap (shape (lowered_types types) (suc n)) means ∙ ap Some (sym means)
 shape_further types n x (TypeBody-F.Named m) form same =
-    ap (shape (lowered_types types) (suc n)) (lowered_by_form (type_names types) x (body.Named m) (TypeBody-F.Named m) form (body.rolls-Named m) ∙ named_meant (type_names types) m)
+    ap (shape (lowered_types types) (suc n)) (lowered_by_form (type_names types) x (body.Named m) (TypeBody-F.Named m) form (body.rolls-Named m) ∙ named_lowered (type_names types) m)
     ∙ ap (option_and_then (shape (lowered_types types) n)) (type_at_place (lowered_definition (type_names types)) types m.text)
     ∙ behind_there types n (type_named types m.text) same
 shape_further types n x (TypeBody-F.Undefined at) form same =
-    let means : lowered_body (type_names types) x ≡ plain.undefined = lowered_by_form (type_names types) x (body.Undefined at) (TypeBody-F.Undefined at) form (body.rolls-Undefined at) ∙ undefined_meant (type_names types) at in
+    let means : lowered_body (type_names types) x ≡ plain.undefined = lowered_by_form (type_names types) x (body.Undefined at) (TypeBody-F.Undefined at) form (body.rolls-Undefined at) ∙ undefined_lowered (type_names types) at in
     ap (shape (lowered_types types) (suc n)) means ∙ ap Some (sym means)
 
 -- the type behind the numbers of a body is that behind its names
@@ -121,13 +121,13 @@ shape_is types (suc n) x = shape_further types n x (out-TypeBody x) refl (shape_
 -- ---- chains of fields
 
 -- the fields of a body, by its form
-fields_meant : (types : List (List ℕ)) (x : TypeBody) (b : TypeBody-F TypeBody Field) → out-TypeBody x ≡ b → fields_of (lowered_body types x) ≡ type_fields_of (map (lowered_field types) (fields_in b))
-fields_meant types x (TypeBody-F.Root at kind None) form =
-    ap fields_of (lowered_by_form types x (body.Root at kind None) (TypeBody-F.Root at kind None) form (body.rolls-Root at kind None) ∙ root_meant types at kind None)
-fields_meant types x (TypeBody-F.Root at kind (Some fields)) form =
-    ap fields_of (lowered_by_form types x (body.Root at kind (Some fields)) (TypeBody-F.Root at kind (Some fields)) form (body.rolls-Root at kind (Some fields)) ∙ root_meant types at kind (Some fields))
-fields_meant types x (TypeBody-F.Named n) form = ap fields_of (lowered_by_form types x (body.Named n) (TypeBody-F.Named n) form (body.rolls-Named n) ∙ named_meant types n)
-fields_meant types x (TypeBody-F.Undefined at) form = ap fields_of (lowered_by_form types x (body.Undefined at) (TypeBody-F.Undefined at) form (body.rolls-Undefined at) ∙ undefined_meant types at)
+fields_lowered : (types : List (List ℕ)) (x : TypeBody) (b : TypeBody-F TypeBody Field) → out-TypeBody x ≡ b → fields_of (lowered_body types x) ≡ type_fields_of (map (lowered_field types) (fields_in b))
+fields_lowered types x (TypeBody-F.Root at kind None) form =
+    ap fields_of (lowered_by_form types x (body.Root at kind None) (TypeBody-F.Root at kind None) form (body.rolls-Root at kind None) ∙ root_lowered types at kind None)
+fields_lowered types x (TypeBody-F.Root at kind (Some fields)) form =
+    ap fields_of (lowered_by_form types x (body.Root at kind (Some fields)) (TypeBody-F.Root at kind (Some fields)) form (body.rolls-Root at kind (Some fields)) ∙ root_lowered types at kind (Some fields))
+fields_lowered types x (TypeBody-F.Named n) form = ap fields_of (lowered_by_form types x (body.Named n) (TypeBody-F.Named n) form (body.rolls-Named n) ∙ named_lowered types n)
+fields_lowered types x (TypeBody-F.Undefined at) form = ap fields_of (lowered_by_form types x (body.Undefined at) (TypeBody-F.Undefined at) form (body.rolls-Undefined at) ∙ undefined_lowered types at)
 
 value_kind : (k : RootKind) → formed_sets.is_value_kind (lowered_kind k) ≡ is_value_kind k
 value_kind written.Void = refl
@@ -138,11 +138,11 @@ value_kind written.Str = refl
 value_kind written.Any = refl
 
 -- whether a body is a value, by its form
-value_meant : (types : List (List ℕ)) (x : TypeBody) (b : TypeBody-F TypeBody Field) → out-TypeBody x ≡ b → formed_sets.is_value (lowered_body types x) ≡ is_value b
-value_meant types x (TypeBody-F.Root at kind fields) form =
-    ap formed_sets.is_value (lowered_by_form types x (body.Root at kind fields) (TypeBody-F.Root at kind fields) form (body.rolls-Root at kind fields) ∙ root_meant types at kind fields) ∙ value_kind kind
-value_meant types x (TypeBody-F.Named n) form = ap formed_sets.is_value (lowered_by_form types x (body.Named n) (TypeBody-F.Named n) form (body.rolls-Named n) ∙ named_meant types n)
-value_meant types x (TypeBody-F.Undefined at) form = ap formed_sets.is_value (lowered_by_form types x (body.Undefined at) (TypeBody-F.Undefined at) form (body.rolls-Undefined at) ∙ undefined_meant types at)
+value_lowered : (types : List (List ℕ)) (x : TypeBody) (b : TypeBody-F TypeBody Field) → out-TypeBody x ≡ b → formed_sets.is_value (lowered_body types x) ≡ is_value b
+value_lowered types x (TypeBody-F.Root at kind fields) form =
+    ap formed_sets.is_value (lowered_by_form types x (body.Root at kind fields) (TypeBody-F.Root at kind fields) form (body.rolls-Root at kind fields) ∙ root_lowered types at kind fields) ∙ value_kind kind
+value_lowered types x (TypeBody-F.Named n) form = ap formed_sets.is_value (lowered_by_form types x (body.Named n) (TypeBody-F.Named n) form (body.rolls-Named n) ∙ named_lowered types n)
+value_lowered types x (TypeBody-F.Undefined at) form = ap formed_sets.is_value (lowered_by_form types x (body.Undefined at) (TypeBody-F.Undefined at) form (body.rolls-Undefined at) ∙ undefined_lowered types at)
 
 -- the type of a field, where it stands once
 abbrev pub if_once : List (List ℕ) → Field → Option TypeTree
@@ -179,7 +179,7 @@ once_there types n (Some f) = behind_if types n (is_once (out-Field f).cardinali
 pub once_alike : (types : List TypeDefinition) (x : TypeBody) (n : Name) → once_at (lowered_types types) (lowered_body (type_names types) x) n.text ≡ option_map (lowered_body (type_names types)) (once_in types x n)
 once_alike types x n =
     ap (λ k. option_and_then (shape (lowered_types types) k) (formed_sets.once_in (fields_of (lowered_body (type_names types) x)) n.text)) (length-map types (lowered_definition (type_names types)))
-    ∙ ap (λ fs. option_and_then (shape (lowered_types types) (length types)) (formed_sets.once_in fs n.text)) (fields_meant (type_names types) x (out-TypeBody x) refl)
+    ∙ ap (λ fs. option_and_then (shape (lowered_types types) (length types)) (formed_sets.once_in fs n.text)) (fields_lowered (type_names types) x (out-TypeBody x) refl)
     ∙ ap (option_and_then (shape (lowered_types types) (length types))) (field_found (type_names types) (fields_in (out-TypeBody x)) n.text)
     ∙ once_there types (length types) (field_named (fields_in (out-TypeBody x)) n.text)
 
@@ -187,7 +187,7 @@ once_alike types x n =
 pub leads_alike : (types : List TypeDefinition) (o : Option TypeBody) (path : List Name)
     → formed_sets.leads_to_value (lowered_types types) (option_map (lowered_body (type_names types)) o) (map (λ (n : Name). n.text) path) ≡ leads_to_value types o path
 leads_alike types None path = refl
-leads_alike types (Some x) [] = value_meant (type_names types) x (out-TypeBody x) refl
+leads_alike types (Some x) [] = value_lowered (type_names types) x (out-TypeBody x) refl
 leads_alike types (Some x) (n ∷ path) =
     ap (λ o. formed_sets.leads_to_value (lowered_types types) o (map (λ (m : Name). m.text) path)) (once_alike types x n) ∙ leads_alike types (once_in types x n) path
 

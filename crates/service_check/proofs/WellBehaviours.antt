@@ -271,85 +271,85 @@ by_form e m r f x p rs ts rolls lowered found named well h none all shape =
 
 process_known : (e : Surroundings) (m : Numbering) (r : Reach) → Meets e m r → (y : Part-F e m r) → ProcessWell e m r (roll-Process (form_of e m r y))
 process_known e m r w (Process-F.«Process::Nothing» at) =
-    by_form e m r (Process-F.«Process::Nothing» at) (process.Nothing at) plain.nothing (λ h. []) [] (process.rolls-Nothing at) (means.nothing_meant m at) (forms.nothing_refused e at) (mentions.nothing_mentions at) (λ h none all shape. refl)
+    by_form e m r (Process-F.«Process::Nothing» at) (process.Nothing at) plain.nothing (λ h. []) [] (process.rolls-Nothing at) (means.nothing_lowered m at) (forms.nothing_refused e at) (mentions.nothing_mentions at) (λ h none all shape. refl)
 process_known e m r w (Process-F.Assign path a) =
-    by_form e m r (Process-F.Assign path a) (process.Assign path a) (lowered_assignment (lowered_path path) a) (λ h. []) [] (process.rolls-Assign path a) (means.assign_meant m path a) (forms.assign_refused e path a) (mentions.assign_mentions path a)
+    by_form e m r (Process-F.Assign path a) (process.Assign path a) (lowered_assignment (lowered_path path) a) (λ h. []) [] (process.rolls-Assign path a) (means.assign_lowered m path a) (forms.assign_refused e path a) (mentions.assign_mentions path a)
     (λ h none all shape. let parts : (path_formed path ≡ true) × (assignment_formed a ≡ true) = and_parts (path_formed path) (assignment_formed a) shape in assignment_well r h (lowered_path path) a (path_well path parts.0) parts.1)
 process_known e m r w (Process-F.Undef at path) =
-    by_form e m r (Process-F.Undef at path) (process.Undef at path) (plain.undef (lowered_path path)) (λ h. []) [] (process.rolls-Undef at path) (means.undef_meant m at path) (forms.undef_refused e at path) (mentions.undef_mentions at path) (λ h none all shape. path_well path shape)
+    by_form e m r (Process-F.Undef at path) (process.Undef at path) (plain.undef (lowered_path path)) (λ h. []) [] (process.rolls-Undef at path) (means.undef_lowered m at path) (forms.undef_refused e at path) (mentions.undef_mentions at path) (λ h none all shape. path_well path shape)
 process_known e m r w (Process-F.Correlate at variable value) =
     by_form e m r (Process-F.Correlate at variable value) (process.Correlate at variable value) (plain.bind (place_in m.variables variable.text) (lowered_expr value)) (λ h. lacks_variable e at variable) []
-    (process.rolls-Correlate at variable value) (means.correlate_meant m at variable value) (forms.correlate_refused e at variable value) (mentions.correlate_mentions at variable value)
+    (process.rolls-Correlate at variable value) (means.correlate_lowered m at variable value) (forms.correlate_refused e at variable value) (mentions.correlate_mentions at variable value)
     (λ h none all shape. and_from (nat_lt (place_in m.variables variable.text) r.variables) (is_exp (lowered_expr value)) (w.variables at variable none) (expr_well value shape))
 process_known e m r w (Process-F.If (i, k)) =
-    by_form e m r (Process-F.If i) (process.If i) (lowered_conditional m i) (conditional_refused e i) (conditional_texts i) (process.rolls-If i) (means.conditional_meant m i) (forms.if_refused e i) (mentions.conditional_mentions i) k
+    by_form e m r (Process-F.If i) (process.If i) (lowered_conditional m i) (conditional_refused e i) (conditional_texts i) (process.rolls-If i) (means.conditional_lowered m i) (forms.if_refused e i) (mentions.conditional_mentions i) k
 process_known e m r w (Process-F.While at test (body, k)) =
     by_form e m r (Process-F.While at test body) (process.While at test body) (plain.repeat (lowered_expr test) (lowered_block m body)) (block_refused e body) (block_texts body)
-    (process.rolls-While at test body) (means.while_meant m at test body) (forms.while_refused e at test body) (mentions.while_mentions at test body)
+    (process.rolls-While at test body) (means.while_lowered m at test body) (forms.while_refused e at test body) (mentions.while_mentions at test body)
     (λ h none all shape. let parts : (expr_formed test ≡ true) × (block_formed body ≡ true) = and_parts (expr_formed test) (block_formed body) shape in
     and_from (is_exp (lowered_expr test)) (is_behaviour r h (lowered_block m body)) (expr_well test parts.0) (k h none all parts.1))
 process_known e m r w (Process-F.For at path first test stepped step (body, k)) =
     by_form e m r (Process-F.For at path first test stepped step body) (process.For at path first test stepped step body) (lowered_for (plain.assign (lowered_path path) (lowered_expr first)) (lowered_expr test) (lowered_block m body) (lowered_step (lowered_path stepped) step))
-    (block_refused e body) (block_texts body) (process.rolls-For at path first test stepped step body) (means.for_meant m at path first test stepped step body) (forms.for_refused e at path first test stepped step body) (mentions.for_mentions at path first test stepped step body)
+    (block_refused e body) (block_texts body) (process.rolls-For at path first test stepped step body) (means.for_lowered m at path first test stepped step body) (forms.for_refused e at path first test stepped step body) (mentions.for_mentions at path first test stepped step body)
     (λ h none all shape. for_well e m r path first test stepped step body k h none all shape)
 process_known e m r w (Process-F.Input (i, k)) =
-    by_form e m r (Process-F.Input i) (process.Input i) (alone (lowered_input m i)) (input_refused e i) (input_texts i) (process.rolls-Input i) (means.input_form_meant m i) (forms.input_alone_refused e i) (mentions.input_form_mentions i)
+    by_form e m r (Process-F.Input i) (process.Input i) (alone (lowered_input m i)) (input_refused e i) (input_texts i) (process.rolls-Input i) (means.input_form_lowered m i) (forms.input_alone_refused e i) (mentions.input_form_mentions i)
     (λ h none all shape. alone_well r h (lowered_input m i) (k h none all shape plain.nothing plain.no_branches refl refl))
 process_known e m r w (Process-F.Choice at branches) =
     let bs : List Branch = bare branches in
     by_form e m r (Process-F.Choice at bs) (process.Choice at bs) (plain.choice (branches_of (map (lowered_branch m) bs))) (choice_refused e bs) (flat_map branch_texts bs)
-    (process.rolls-Choice at bs) (means.choice_meant m at bs) (forms.choice_is_refused e at bs) (mentions.choice_mentions at bs)
+    (process.rolls-Choice at bs) (means.choice_lowered m at bs) (forms.choice_is_refused e at bs) (mentions.choice_mentions at bs)
     (λ h none all shape. choice_well e m r w branches h none all shape)
 process_known e m r w (Process-F.Output operation port value None) =
     by_form e m r (Process-F.Output operation port value None) (process.Output operation port value None) (sent (lowered_port m port.text).number (place_in (lowered_port m port.text).operations operation.text) (lowered_if_written value) None)
-    (λ h. sends e operation port false) [] (process.rolls-Output operation port value None) (means.output_meant m operation port value None) (forms.output_is_refused e operation port value None) (mentions.output_mentions operation port value None)
+    (λ h. sends e operation port false) [] (process.rolls-Output operation port value None) (means.output_lowered m operation port value None) (forms.output_is_refused e operation port value None) (mentions.output_mentions operation port value None)
     (λ h none all shape. and_from (has_operation (outputs_at r (lowered_port m port.text).number) (place_in (lowered_port m port.text).operations operation.text) false) (is_exp (lowered_if_written value))
     (w.outputs operation port false none) (written_well value (and_parts (option_all expr_formed value) true shape).0))
 process_known e m r w (Process-F.Output operation port value (Some (a, k))) =
     by_form e m r (Process-F.Output operation port value (Some a)) (process.Output operation port value (Some a)) (sent (lowered_port m port.text).number (place_in (lowered_port m port.text).operations operation.text) (lowered_if_written value) (Some (lowered_answer m a)))
-    (λ h. sends e operation port true ++ answer_refused e a) (answer_texts a) (process.rolls-Output operation port value (Some a)) (means.output_meant m operation port value (Some a)) (forms.output_is_refused e operation port value (Some a)) (mentions.output_mentions operation port value (Some a))
+    (λ h. sends e operation port true ++ answer_refused e a) (answer_texts a) (process.rolls-Output operation port value (Some a)) (means.output_lowered m operation port value (Some a)) (forms.output_is_refused e operation port value (Some a)) (mentions.output_mentions operation port value (Some a))
     (λ h none all shape. solicit_well e m r w operation port value a k none all shape)
 process_known e m r w (Process-F.Scope at name (body, k)) =
     by_form e m r (Process-F.Scope at name body) (process.Scope at name body) (plain.scope (place_in m.names name.text) (lowered_block m body)) (block_refused e body) (name.text ∷ block_texts body)
-    (process.rolls-Scope at name body) (means.scope_meant m at name body) (forms.scope_refused e at name body) (mentions.scope_mentions at name body)
+    (process.rolls-Scope at name body) (means.scope_lowered m at name body) (forms.scope_refused e at name body) (mentions.scope_mentions at name body)
     (λ h none all shape. let parts : (is_in name.text m.names ≡ true) × (all_in m.names (block_texts body) ≡ true) = and_parts (is_in name.text m.names) (all_in m.names (block_texts body)) all in
     and_from (nat_lt (place_in m.names name.text) r.names) (is_behaviour r h (lowered_block m body)) (named_below e m r w name.text parts.0) (k h none parts.1 shape))
 process_known e m r w (Process-F.Install at handlers) =
     let fs : List Handler = bare handlers in
     by_form e m r (Process-F.Install at fs) (process.Install at fs) (plain.install (handlers_of (map (lowered_handler m) fs))) (λ h. handlers_refused e fs) (flat_map handler_texts fs)
-    (process.rolls-Install at fs) (means.install_meant m at fs) (forms.install_refused e at fs) (mentions.install_mentions at fs) (λ h none all shape. all_handlers e m r handlers none all shape)
+    (process.rolls-Install at fs) (means.install_lowered m at fs) (forms.install_refused e at fs) (mentions.install_mentions at fs) (λ h none all shape. all_handlers e m r handlers none all shape)
 process_known e m r w (Process-F.Throw at fault value) =
     by_form e m r (Process-F.Throw at fault value) (process.Throw at fault value) (plain.throw (place_in m.names fault.text) (lowered_if_written value)) (λ h. []) (fault.text ∷ [])
-    (process.rolls-Throw at fault value) (means.throw_meant m at fault value) (forms.throw_refused e at fault value) (mentions.throw_mentions at fault value)
+    (process.rolls-Throw at fault value) (means.throw_lowered m at fault value) (forms.throw_refused e at fault value) (mentions.throw_mentions at fault value)
     (λ h none all shape. and_from (nat_lt (place_in m.names fault.text) r.names) (is_exp (lowered_if_written value)) (named_below e m r w fault.text (and_parts (is_in fault.text m.names) true all).0) (written_well value shape))
 process_known e m r w (Process-F.Compensate at scope) =
     by_form e m r (Process-F.Compensate at scope) (process.Compensate at scope) (plain.comp (place_in m.names scope.text)) (λ h. refused_if (not h) CompOutsideHandler at) (scope.text ∷ [])
-    (process.rolls-Compensate at scope) (means.compensate_meant m at scope) (forms.compensate_refused e at scope) (mentions.compensate_mentions at scope)
+    (process.rolls-Compensate at scope) (means.compensate_lowered m at scope) (forms.compensate_refused e at scope) (mentions.compensate_mentions at scope)
     (λ h none all shape. and_from h (nat_lt (place_in m.names scope.text) r.names) (holds h CompOutsideHandler at none) (named_below e m r w scope.text (and_parts (is_in scope.text m.names) true all).0))
 process_known e m r w (Process-F.InnerHandler at) =
-    by_form e m r (Process-F.InnerHandler at) (process.InnerHandler at) plain.inner_handler (λ h. refused_if (not h) ChOutsideHandler at) [] (process.rolls-InnerHandler at) (means.inner_handler_meant m at) (forms.inner_handler_refused e at) (mentions.inner_handler_mentions at)
+    by_form e m r (Process-F.InnerHandler at) (process.InnerHandler at) plain.inner_handler (λ h. refused_if (not h) ChOutsideHandler at) [] (process.rolls-InnerHandler at) (means.inner_handler_lowered m at) (forms.inner_handler_refused e at) (mentions.inner_handler_mentions at)
     (λ h none all shape. holds h ChOutsideHandler at none)
 process_known e m r w (Process-F.Block (b, k)) =
-    by_form e m r (Process-F.Block b) (process.Block b) (plain.block (lowered_block m b)) (block_refused e b) (block_texts b) (process.rolls-Block b) (means.block_form_meant m b) (forms.block_alone_refused e b) (mentions.block_form_mentions b) k
+    by_form e m r (Process-F.Block b) (process.Block b) (plain.block (lowered_block m b)) (block_refused e b) (block_texts b) (process.rolls-Block b) (means.block_form_lowered m b) (forms.block_alone_refused e b) (mentions.block_form_mentions b) k
 process_known e m r w (Process-F.Sequence statements) =
     let ps : List Process = bare statements in
     by_form e m r (Process-F.Sequence ps) (process.Sequence ps) (plain.sequence (procs_of (map (lowered_process m) ps))) (processes_refused e ps) (flat_map process_texts ps)
-    (process.rolls-Sequence ps) (means.sequence_meant m ps) (forms.sequence_refused e ps) (mentions.sequence_mentions ps) (λ h none all shape. two_known e m r statements h none all shape)
+    (process.rolls-Sequence ps) (means.sequence_lowered m ps) (forms.sequence_refused e ps) (mentions.sequence_mentions ps) (λ h none all shape. two_known e m r statements h none all shape)
 process_known e m r w (Process-F.Parallel members) =
     let ps : List Process = bare members in
     by_form e m r (Process-F.Parallel ps) (process.Parallel ps) (plain.parallel (procs_of (map (lowered_process m) ps))) (processes_refused e ps) (flat_map process_texts ps)
-    (process.rolls-Parallel ps) (means.parallel_meant m ps) (forms.parallel_refused e ps) (mentions.parallel_mentions ps) (λ h none all shape. two_known e m r members h none all shape)
+    (process.rolls-Parallel ps) (means.parallel_lowered m ps) (forms.parallel_refused e ps) (mentions.parallel_mentions ps) (λ h none all shape. two_known e m r members h none all shape)
 
 -- ---- the other parts
 
 otherwise_known : (e : Surroundings) (m : Numbering) (r : Reach) (y : Otherwise-F (Known Otherwise (OtherwiseWell e m r)) (Known Process (ProcessWell e m r)) (Known Answer (AnswerWell e m r)) (Known Block (BlockWell e m r)) (Known Branch (BranchWell e m r)) (Known Handler (HandlerWell e m r)) (Known If (IfWell e m r)) (Known Input (InputWell e m r)) (Known Reply (ReplyWell e m r))) → OtherwiseWell e m r (roll-Otherwise (map-Otherwise (Known Otherwise (OtherwiseWell e m r)) (Known Process (ProcessWell e m r)) (Known Answer (AnswerWell e m r)) (Known Block (BlockWell e m r)) (Known Branch (BranchWell e m r)) (Known Handler (HandlerWell e m r)) (Known If (IfWell e m r)) (Known Input (InputWell e m r)) (Known Reply (ReplyWell e m r)) Otherwise Process Answer Block Branch Handler If Input Reply (λ x. x.0) (λ x. x.0) (λ x. x.0) (λ x. x.0) (λ x. x.0) (λ x. x.0) (λ x. x.0) (λ x. x.0) (λ x. x.0) y))
-otherwise_known e m r Otherwise-F.«Otherwise::Nothing» = subst (OtherwiseWell e m r) (sym otherwise.rolls-Nothing) (λ h none all shape. ap (is_behaviour r h) (means.no_else_meant m))
+otherwise_known e m r Otherwise-F.«Otherwise::Nothing» = subst (OtherwiseWell e m r) (sym otherwise.rolls-Nothing) (λ h none all shape. ap (is_behaviour r h) (means.no_else_lowered m))
 otherwise_known e m r (Otherwise-F.ElseIf (i, k)) =
     subst (OtherwiseWell e m r) (sym (otherwise.rolls-ElseIf i))
-    (λ h none all shape. ap (is_behaviour r h) (means.else_if_meant m i) ∙ k h (sym (forms.else_if_refused e i h) ∙ none) (sym (ap (all_in m.names) (mentions.else_if_texts i)) ∙ all) (sym (shapes.else_if_forms i) ∙ shape))
+    (λ h none all shape. ap (is_behaviour r h) (means.else_if_lowered m i) ∙ k h (sym (forms.else_if_refused e i h) ∙ none) (sym (ap (all_in m.names) (mentions.else_if_texts i)) ∙ all) (sym (shapes.else_if_forms i) ∙ shape))
 otherwise_known e m r (Otherwise-F.Else (b, k)) =
     subst (OtherwiseWell e m r) (sym (otherwise.rolls-Else b))
-    (λ h none all shape. ap (is_behaviour r h) (means.else_meant m b) ∙ k h (sym (forms.else_refused e b h) ∙ none) (sym (ap (all_in m.names) (mentions.else_texts b)) ∙ all) (sym (shapes.else_forms b) ∙ shape))
+    (λ h none all shape. ap (is_behaviour r h) (means.else_lowered m b) ∙ k h (sym (forms.else_refused e b h) ∙ none) (sym (ap (all_in m.names) (mentions.else_texts b)) ∙ all) (sym (shapes.else_forms b) ∙ shape))
 
 abbrev block_by : (e : Surroundings) (m : Numbering) (r : Reach) → ℕ → Option (Known Process (ProcessWell e m r)) → Block
 block_by e m r at body = roll-Block (map-Block (Known Otherwise (OtherwiseWell e m r)) (Known Process (ProcessWell e m r)) (Known Answer (AnswerWell e m r)) (Known Block (BlockWell e m r)) (Known Branch (BranchWell e m r)) (Known Handler (HandlerWell e m r)) (Known If (IfWell e m r)) (Known Input (InputWell e m r)) (Known Reply (ReplyWell e m r)) Otherwise Process Answer Block Branch Handler If Input Reply (λ x. x.0) (λ x. x.0) (λ x. x.0) (λ x. x.0) (λ x. x.0) (λ x. x.0) (λ x. x.0) (λ x. x.0) (λ x. x.0) (record { at = at; body = body }))
@@ -366,7 +366,7 @@ if_known e m r at test (body, j) (rest, k) h none all shape =
     let named : all_in m.names (block_texts body ++ otherwise_texts rest) ≡ true = sym (ap (all_in m.names) (rolled.if_names at test body rest)) ∙ all in
     let one : (expr_formed test ≡ true) × ((block_formed body && otherwise_formed rest) ≡ true) = and_parts (expr_formed test) (block_formed body && otherwise_formed rest) (sym (shapes.if_forms at test body rest) ∙ shape) in
     let two : (block_formed body ≡ true) × (otherwise_formed rest ≡ true) = and_parts (block_formed body) (otherwise_formed rest) one.1 in
-    ap (is_behaviour r h) (rolled.if_meant m at test body rest)
+    ap (is_behaviour r h) (rolled.if_lowered m at test body rest)
     ∙ and_from (is_exp (lowered_expr test) && is_behaviour r h (lowered_block m body)) (is_behaviour r h (lowered_otherwise m rest))
     (and_from (is_exp (lowered_expr test)) (is_behaviour r h (lowered_block m body)) (expr_well test one.0) (j h (left_empty (block_refused e body h) (otherwise_refused e rest h) found) (front_in m.names (block_texts body) (otherwise_texts rest) named) two.0))
     (k h (right_empty (block_refused e body h) (otherwise_refused e rest h) found) (back_in m.names (block_texts body) (otherwise_texts rest) named) two.1)
@@ -425,7 +425,7 @@ reply_known : (e : Surroundings) (m : Numbering) (r : Reach) (path : Option Path
 reply_known e m r path (body, k) h none all shape =
     let found : wrong_if_written path ++ block_refused e body h ≡ [] = sym (rolled.reply_rolled e path body h) ∙ none in
     let parts : (option_all path_formed path ≡ true) × (block_formed body ≡ true) = and_parts (option_all path_formed path) (block_formed body) (sym (shapes.reply_forms path body) ∙ shape) in
-    ap (λ (v : ReplyView). is_target v.path && is_behaviour r h v.body) (rolled.reply_meant m path body)
+    ap (λ (v : ReplyView). is_target v.path && is_behaviour r h v.body) (rolled.reply_lowered m path body)
     ∙ and_from (is_target (option_map lowered_path path)) (is_behaviour r h (lowered_block m body))
     (written_target path (left_empty (wrong_if_written path) (block_refused e body h) found))
     (k h (right_empty (wrong_if_written path) (block_refused e body h) found) (sym (ap (all_in m.names) (rolled.reply_names path body)) ∙ all) parts.1)
@@ -435,7 +435,7 @@ branch_known e m r at (input, j) (after, k) h none all shape rest others =
     let found : input_refused e input h ++ block_refused e after h ≡ [] = sym (rolled.branch_rolled e at input after h) ∙ none in
     let named : all_in m.names (input_texts input ++ block_texts after) ≡ true = sym (ap (all_in m.names) (rolled.branch_names at input after)) ∙ all in
     let parts : (input_formed input ≡ true) × (block_formed after ≡ true) = and_parts (input_formed input) (block_formed after) (sym (shapes.branch_forms at input after) ∙ shape) in
-    ap (λ (v : BranchView). are_branches r h (branch_of v.op v.target v.reply v.after rest)) (rolled.branch_meant m at input after)
+    ap (λ (v : BranchView). are_branches r h (branch_of v.op v.target v.reply v.after rest)) (rolled.branch_lowered m at input after)
     ∙ j h (left_empty (input_refused e input h) (block_refused e after h) found) (front_in m.names (input_texts input) (block_texts after) named) parts.0 (lowered_block m after) rest
     (k h (right_empty (input_refused e input h) (block_refused e after h) found) (back_in m.names (input_texts input) (block_texts after) named) parts.1) others
 
@@ -446,7 +446,7 @@ key_well e m r w (key.Named n) all = named_below e m r w n.text (and_parts (is_i
 handler_known : (e : Surroundings) (m : Numbering) (r : Reach) → Meets e m r → (under : HandlerKey) (body : Known Process (ProcessWell e m r)) → HandlerWell e m r (roll-Handler (record { key = under; body = body.0 }))
 handler_known e m r w under (p, k) none all shape =
     let named : all_in m.names (key_texts under ++ process_texts p) ≡ true = sym (ap (all_in m.names) (rolled.handler_names under p)) ∙ all in
-    ap (λ (v : HandlerView). is_key r.names v.key && is_behaviour r true v.body) (rolled.handler_meant m under p)
+    ap (λ (v : HandlerView). is_key r.names v.key && is_behaviour r true v.body) (rolled.handler_lowered m under p)
     ∙ and_from (is_key r.names (key_of m.names under)) (is_behaviour r true (lowered_process m p))
     (key_well e m r w under (front_in m.names (key_texts under) (process_texts p) named))
     (k true (sym (rolled.handler_rolled e under p) ∙ none) (back_in m.names (key_texts under) (process_texts p) named) (sym (shapes.handler_forms under p) ∙ shape))

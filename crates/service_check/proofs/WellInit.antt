@@ -52,7 +52,7 @@ lowered_by_form m p q f form rolls = ap (lowered_process m) (sym (roll-out-Proce
 
 means_assignment : (m : Numbering) (p : Process) (f : Process-F Otherwise Process Answer Block Branch Handler If Input Reply) → out-Process p ≡ f → assigns_form f ≡ true → assigns_alone (lowered_process m p) ≡ true
 means_assignment m p (Process-F.Assign path a) form e =
-    ap assigns_alone (lowered_by_form m p (process.Assign path a) (Process-F.Assign path a) form (process.rolls-Assign path a) ∙ means.assign_meant m path a) ∙ assignment_is (lowered_path path) a
+    ap assigns_alone (lowered_by_form m p (process.Assign path a) (Process-F.Assign path a) form (process.rolls-Assign path a) ∙ means.assign_lowered m path a) ∙ assignment_is (lowered_path path) a
 means_assignment m p f form e = absurd (false≢true e)
 
 -- a process that assigns means an assignment
@@ -78,7 +78,7 @@ statements_by p f = elim f as (λ _. List Process) [ Process-F.Sequence statemen
 
 init_by_form : (m : Numbering) (p : Process) (f : Process-F Otherwise Process Answer Block Branch Handler If Input Reply) → out-Process p ≡ f → flat_map no_assignment (statements_by p f) ≡ [] → is_init (lowered_process m p) ≡ true
 init_by_form m p (Process-F.Sequence statements) form e =
-    ap is_init (lowered_by_form m p (process.Sequence statements) (Process-F.Sequence statements) form (process.rolls-Sequence statements) ∙ means.sequence_meant m statements) ∙ each_assigns m statements e
+    ap is_init (lowered_by_form m p (process.Sequence statements) (Process-F.Sequence statements) form (process.rolls-Sequence statements) ∙ means.sequence_lowered m statements) ∙ each_assigns m statements e
 init_by_form m p f form e = init_of_one (lowered_process m p) (assigning_means m p (holds (assigns p) InitNotAssignment (process_place p) (left_empty (no_assignment p) [] e)))
 
 init_there : (m : Numbering) (o : Option Process) → flat_map no_assignment (elim o as (λ _. List Process) [ None ↦ [] | Some p ↦ statements_of p ]) ≡ [] → is_init (unwrap_or (option_map (lowered_process m) o) plain.nothing) ≡ true

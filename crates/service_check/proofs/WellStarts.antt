@@ -132,51 +132,51 @@ members_begin m (p ∷ ps) =
     ∙ members_turn m (beginning p.0).installs (formed_services.first_input (lowered_process m p.0)) rest (beginning p.0).operations (of_sequence (map beginning (map (λ e. e.0) ps))) p.1.0 (members_begin m ps)
 
 process_known : (m : Numbering) (y : Known-F m) → ProcessBegins m (roll-Process (process_of m y))
-process_known m (Process-F.«Process::Nothing» at) = begins_by m (Process-F.«Process::Nothing» at) (process.Nothing at) plain.nothing None (process.rolls-Nothing at) (means.nothing_meant m at) (begins.nothing_begins at) refl refl
+process_known m (Process-F.«Process::Nothing» at) = begins_by m (Process-F.«Process::Nothing» at) (process.Nothing at) plain.nothing None (process.rolls-Nothing at) (means.nothing_lowered m at) (begins.nothing_begins at) refl refl
 process_known m (Process-F.Assign path a) =
-    begins_by m (Process-F.Assign path a) (process.Assign path a) (lowered_assignment (lowered_path path) a) None (process.rolls-Assign path a) (means.assign_meant m path a) (begins.assign_begins path a) (assignment_first (lowered_path path) a) (assignment_installs (lowered_path path) a)
-process_known m (Process-F.Undef at path) = begins_by m (Process-F.Undef at path) (process.Undef at path) (plain.undef (lowered_path path)) None (process.rolls-Undef at path) (means.undef_meant m at path) (begins.undef_begins at path) refl refl
+    begins_by m (Process-F.Assign path a) (process.Assign path a) (lowered_assignment (lowered_path path) a) None (process.rolls-Assign path a) (means.assign_lowered m path a) (begins.assign_begins path a) (assignment_first (lowered_path path) a) (assignment_installs (lowered_path path) a)
+process_known m (Process-F.Undef at path) = begins_by m (Process-F.Undef at path) (process.Undef at path) (plain.undef (lowered_path path)) None (process.rolls-Undef at path) (means.undef_lowered m at path) (begins.undef_begins at path) refl refl
 process_known m (Process-F.Correlate at variable value) =
-    begins_by m (Process-F.Correlate at variable value) (process.Correlate at variable value) (plain.bind (place_in m.variables variable.text) (lowered_expr value)) None (process.rolls-Correlate at variable value) (means.correlate_meant m at variable value) (begins.correlate_begins at variable value) refl refl
+    begins_by m (Process-F.Correlate at variable value) (process.Correlate at variable value) (plain.bind (place_in m.variables variable.text) (lowered_expr value)) None (process.rolls-Correlate at variable value) (means.correlate_lowered m at variable value) (begins.correlate_begins at variable value) refl refl
 process_known m (Process-F.If (i, k)) =
-    begins_by m (Process-F.If i) (process.If i) (lowered_conditional m i) None (process.rolls-If i) (means.conditional_meant m i) (begins.if_begins i) (ap formed_services.first_input (means.if_is m i)) (ap is_install (means.if_is m i))
+    begins_by m (Process-F.If i) (process.If i) (lowered_conditional m i) None (process.rolls-If i) (means.conditional_lowered m i) (begins.if_begins i) (ap formed_services.first_input (means.if_is m i)) (ap is_install (means.if_is m i))
 process_known m (Process-F.While at test (body, k)) =
-    begins_by m (Process-F.While at test body) (process.While at test body) (plain.repeat (lowered_expr test) (lowered_block m body)) None (process.rolls-While at test body) (means.while_meant m at test body) (begins.while_begins at test body) refl refl
+    begins_by m (Process-F.While at test body) (process.While at test body) (plain.repeat (lowered_expr test) (lowered_block m body)) None (process.rolls-While at test body) (means.while_lowered m at test body) (begins.while_begins at test body) refl refl
 process_known m (Process-F.For at path first test stepped step (body, k)) =
     begins_by m (Process-F.For at path first test stepped step body) (process.For at path first test stepped step body) (lowered_for (plain.assign (lowered_path path) (lowered_expr first)) (lowered_expr test) (lowered_block m body) (lowered_step (lowered_path stepped) step)) None
-    (process.rolls-For at path first test stepped step body) (means.for_meant m at path first test stepped step body) (begins.for_begins at path first test stepped step body) refl refl
+    (process.rolls-For at path first test stepped step body) (means.for_lowered m at path first test stepped step body) (begins.for_begins at path first test stepped step body) refl refl
 process_known m (Process-F.Input (i, k)) =
-    begins_by m (Process-F.Input i) (process.Input i) (alone (lowered_input m i)) (Some ((out-Input i).operation ∷ [])) (process.rolls-Input i) (means.input_form_meant m i) (begins.input_begins i)
+    begins_by m (Process-F.Input i) (process.Input i) (alone (lowered_input m i)) (Some ((out-Input i).operation ∷ [])) (process.rolls-Input i) (means.input_form_lowered m i) (begins.input_begins i)
     (ap Some (operations_of_branch (lowered_input m i).op (lowered_input m i).target (lowered_input m i).reply plain.nothing plain.no_branches ∙ ap (λ n. n ∷ []) (input_number m i))) refl
 process_known m (Process-F.Choice at branches) =
     let bs : List Branch = map (λ e. e.0) branches in
-    begins_by m (Process-F.Choice at bs) (process.Choice at bs) (plain.choice (branches_of (map (lowered_branch m) bs))) (Some (map branch_operation bs)) (process.rolls-Choice at bs) (means.choice_meant m at bs) (begins.choice_begins at bs)
+    begins_by m (Process-F.Choice at bs) (process.Choice at bs) (plain.choice (branches_of (map (lowered_branch m) bs))) (Some (map branch_operation bs)) (process.rolls-Choice at bs) (means.choice_lowered m at bs) (begins.choice_begins at bs)
     (ap Some (branch_numbers m bs)) refl
 process_known m (Process-F.Output operation port value None) =
     begins_by m (Process-F.Output operation port value None) (process.Output operation port value None) (sent (lowered_port m port.text).number (place_in (lowered_port m port.text).operations operation.text) (lowered_if_written value) None) None
-    (process.rolls-Output operation port value None) (means.output_meant m operation port value None) (begins.output_begins operation port value None) refl refl
+    (process.rolls-Output operation port value None) (means.output_lowered m operation port value None) (begins.output_begins operation port value None) refl refl
 process_known m (Process-F.Output operation port value (Some (a, k))) =
     begins_by m (Process-F.Output operation port value (Some a)) (process.Output operation port value (Some a)) (sent (lowered_port m port.text).number (place_in (lowered_port m port.text).operations operation.text) (lowered_if_written value) (Some (lowered_answer m a))) None
-    (process.rolls-Output operation port value (Some a)) (means.output_meant m operation port value (Some a)) (begins.output_begins operation port value (Some a)) refl refl
+    (process.rolls-Output operation port value (Some a)) (means.output_lowered m operation port value (Some a)) (begins.output_begins operation port value (Some a)) refl refl
 process_known m (Process-F.Scope at name (body, k)) =
-    begins_by m (Process-F.Scope at name body) (process.Scope at name body) (plain.scope (place_in m.names name.text) (lowered_block m body)) (first_input body) (process.rolls-Scope at name body) (means.scope_meant m at name body) (begins.scope_begins at name body) k refl
+    begins_by m (Process-F.Scope at name body) (process.Scope at name body) (plain.scope (place_in m.names name.text) (lowered_block m body)) (first_input body) (process.rolls-Scope at name body) (means.scope_lowered m at name body) (begins.scope_begins at name body) k refl
 process_known m (Process-F.Install at handlers) =
     let hs : List Handler = map (λ e. e.0) handlers in
-    begins_by m (Process-F.Install at hs) (process.Install at hs) (plain.install (handlers_of (map (lowered_handler m) hs))) None (process.rolls-Install at hs) (means.install_meant m at hs) (begins.install_begins at hs) refl refl
+    begins_by m (Process-F.Install at hs) (process.Install at hs) (plain.install (handlers_of (map (lowered_handler m) hs))) None (process.rolls-Install at hs) (means.install_lowered m at hs) (begins.install_begins at hs) refl refl
 process_known m (Process-F.Throw at fault value) =
-    begins_by m (Process-F.Throw at fault value) (process.Throw at fault value) (plain.throw (place_in m.names fault.text) (lowered_if_written value)) None (process.rolls-Throw at fault value) (means.throw_meant m at fault value) (begins.throw_begins at fault value) refl refl
+    begins_by m (Process-F.Throw at fault value) (process.Throw at fault value) (plain.throw (place_in m.names fault.text) (lowered_if_written value)) None (process.rolls-Throw at fault value) (means.throw_lowered m at fault value) (begins.throw_begins at fault value) refl refl
 process_known m (Process-F.Compensate at scope) =
-    begins_by m (Process-F.Compensate at scope) (process.Compensate at scope) (plain.comp (place_in m.names scope.text)) None (process.rolls-Compensate at scope) (means.compensate_meant m at scope) (begins.compensate_begins at scope) refl refl
+    begins_by m (Process-F.Compensate at scope) (process.Compensate at scope) (plain.comp (place_in m.names scope.text)) None (process.rolls-Compensate at scope) (means.compensate_lowered m at scope) (begins.compensate_begins at scope) refl refl
 process_known m (Process-F.InnerHandler at) =
-    begins_by m (Process-F.InnerHandler at) (process.InnerHandler at) plain.inner_handler None (process.rolls-InnerHandler at) (means.inner_handler_meant m at) (begins.inner_handler_begins at) refl refl
+    begins_by m (Process-F.InnerHandler at) (process.InnerHandler at) plain.inner_handler None (process.rolls-InnerHandler at) (means.inner_handler_lowered m at) (begins.inner_handler_begins at) refl refl
 process_known m (Process-F.Block (b, k)) =
-    begins_by m (Process-F.Block b) (process.Block b) (plain.block (lowered_block m b)) (first_input b) (process.rolls-Block b) (means.block_form_meant m b) (begins.block_form_begins b) k refl
+    begins_by m (Process-F.Block b) (process.Block b) (plain.block (lowered_block m b)) (first_input b) (process.rolls-Block b) (means.block_form_lowered m b) (begins.block_form_begins b) k refl
 process_known m (Process-F.Sequence statements) =
     let ps : List Process = map (λ e. e.0) statements in
-    begins_by m (Process-F.Sequence ps) (process.Sequence ps) (plain.sequence (procs_of (map (lowered_process m) ps))) (of_sequence (map beginning ps)) (process.rolls-Sequence ps) (means.sequence_meant m ps) (begins.sequence_begins ps) (members_begin m statements) refl
+    begins_by m (Process-F.Sequence ps) (process.Sequence ps) (plain.sequence (procs_of (map (lowered_process m) ps))) (of_sequence (map beginning ps)) (process.rolls-Sequence ps) (means.sequence_lowered m ps) (begins.sequence_begins ps) (members_begin m statements) refl
 process_known m (Process-F.Parallel members) =
     let ps : List Process = map (λ e. e.0) members in
-    begins_by m (Process-F.Parallel ps) (process.Parallel ps) (plain.parallel (procs_of (map (lowered_process m) ps))) None (process.rolls-Parallel ps) (means.parallel_meant m ps) (begins.parallel_begins ps) refl refl
+    begins_by m (Process-F.Parallel ps) (process.Parallel ps) (plain.parallel (procs_of (map (lowered_process m) ps))) None (process.rolls-Parallel ps) (means.parallel_lowered m ps) (begins.parallel_begins ps) refl refl
 
 abbrev block_of : (m : Numbering) → ℕ → Option (KnownProcess m) → Block
 block_of m at body =

@@ -19,14 +19,14 @@ use Rattle.check_base.specs.declared.refusal.Refusal.{Refusal}
 use Rattle.process_lowering.specs.Expressions.{lowered_expr, lowered_form, lowered_path, lowered_place}
 use Rattle.process_checks.specs.ProcessRules.{is_int_literal, wrong_if_written, wrong_index, wrong_path, wrong_step}
 use Rattle.service_check.proofs.Emptied.{holds, left_empty, right_empty}
-use Rattle.process_lowering.proofs.LoweredExpressions.{expr_is, int_meant, path_is, step_is}
+use Rattle.process_lowering.proofs.LoweredExpressions.{expr_is, int_lowered, path_is, step_is}
 
 -- whether a form is an int without a sign
 abbrev int_form : ExprForm-F ExprForm Expr Factor Member Path Step Term → Bool
 int_form f = elim f as (λ _. Bool) [ ExprForm-F.Int n ↦ int_le (pos 0) n | _ ↦ false ]
 
 literal_means : (x : ExprForm) (f : ExprForm-F ExprForm Expr Factor Member Path Step Term) → out-ExprForm x ≡ f → int_form f ≡ true → is_int (lowered_form x) ≡ true
-literal_means x (ExprForm-F.Int n) out e = ap (λ y. is_int (lowered_form y)) (sym (roll-out-ExprForm x) ∙ ap roll-ExprForm out ∙ form.rolls-Int n) ∙ ap is_int (int_meant n) ∙ e
+literal_means x (ExprForm-F.Int n) out e = ap (λ y. is_int (lowered_form y)) (sym (roll-out-ExprForm x) ∙ ap roll-ExprForm out ∙ form.rolls-Int n) ∙ ap is_int (int_lowered n) ∙ e
 literal_means x f out e = absurd (false≢true e)
 
 -- an index that is not refused is an int

@@ -30,7 +30,7 @@ use Rattle.type_lowering.specs.LoweredTypes.{body_level, field_level, lowered_bo
 use Rattle.type_checks.proofs.BodyRules as rules
 use Rattle.service_check.proofs.Emptied.{left_empty, right_empty, fails, holds, mapped_empty, place_empty, another_text, has_place, names_differ}
 use Rattle.type_checks.proofs.Leading.{leads_by_place}
-use Rattle.type_lowering.proofs.LoweredTypes.{root_meant, named_meant, undefined_meant, field_is}
+use Rattle.type_lowering.proofs.LoweredTypes.{root_lowered, named_lowered, undefined_lowered, field_is}
 use Rattle.type_checks.proofs.Steps.{back_to}
 
 -- ---- types by their names
@@ -89,20 +89,20 @@ root_formed : (types : List TypeDefinition) (at : ℕ) (kind : RootKind) (fields
 root_formed types at kind fields e =
     let fs : List Field = fields_by types fields in
     let none : field_names_refused fs ++ flat_map (field_refused types) fs ≡ [] = sym (rules.root_with_fields types at kind fs) ∙ e in
-    ap (is_type (length (type_names types))) (root_meant (type_names types) at kind (Some fs))
+    ap (is_type (length (type_names types))) (root_lowered (type_names types) at kind (Some fs))
     ∙ and_from (texts_differ (field_names (type_fields_of (map (lowered_field (type_names types)) fs)))) (are_fields (length (type_names types)) (type_fields_of (map (lowered_field (type_names types)) fs)))
     (ap texts_differ (field_texts (type_names types) fs) ∙ names_differ DuplicateName (map (λ (f : Field). (out-Field f).name) fs) (left_empty (field_names_refused fs) (flat_map (field_refused types) fs) none))
     (fields_known types fields (right_empty (field_names_refused fs) (flat_map (field_refused types) fs) none))
 
 body_known : (types : List TypeDefinition) (y : TypeBody-F (KnownBody types) (KnownField types)) → BodyFormed types (body_by types y)
 body_known types (TypeBody-F.Root at kind None) =
-    subst (BodyFormed types) (sym (body.rolls-Root at kind None)) (λ e. ap (is_type (length (type_names types))) (root_meant (type_names types) at kind None))
+    subst (BodyFormed types) (sym (body.rolls-Root at kind None)) (λ e. ap (is_type (length (type_names types))) (root_lowered (type_names types) at kind None))
 body_known types (TypeBody-F.Root at kind (Some fields)) = subst (BodyFormed types) (sym (body.rolls-Root at kind (Some (fields_by types fields)))) (root_formed types at kind fields)
 body_known types (TypeBody-F.Named n) =
     subst (BodyFormed types) (sym (body.rolls-Named n))
-    (λ e. ap (is_type (length (type_names types))) (named_meant (type_names types) n) ∙ has_place (type_names types) n.text (known_type types n (sym (rules.named_body types n) ∙ e)))
+    (λ e. ap (is_type (length (type_names types))) (named_lowered (type_names types) n) ∙ has_place (type_names types) n.text (known_type types n (sym (rules.named_body types n) ∙ e)))
 body_known types (TypeBody-F.Undefined at) =
-    subst (BodyFormed types) (sym (body.rolls-Undefined at)) (λ e. ap (is_type (length (type_names types))) (undefined_meant (type_names types) at))
+    subst (BodyFormed types) (sym (body.rolls-Undefined at)) (λ e. ap (is_type (length (type_names types))) (undefined_lowered (type_names types) at))
 
 -- what is refused of a field that is made of its parts
 field_made_refused : (types : List TypeDefinition) (name : Name) (count : Option Cardinality) (ty : TypeBody) → field_refused types (roll-Field (record { name = name; cardinality = count; body = ty })) ≡ body_refused types ty
@@ -112,12 +112,12 @@ field_made_refused types name count ty =
     ∙ ap (λ (f : FieldFound). f.below) (fold-roll-Field (List Refusal) FieldFound (rule.body_level types) rule.field_level (record { name = name; cardinality = count; body = ty }))
 
 -- what it means
-field_made_meant : (types : List (List ℕ)) (name : Name) (count : Option Cardinality) (ty : TypeBody) → (lowered_field types (roll-Field (record { name = name; cardinality = count; body = ty }))).ty ≡ lowered_body types ty
+field_made_lowered : (types : List (List ℕ)) (name : Name) (count : Option Cardinality) (ty : TypeBody) → (lowered_field types (roll-Field (record { name = name; cardinality = count; body = ty }))).ty ≡ lowered_body types ty
 unfolding lowered_body lowered_field
-field_made_meant types name count ty = ap (λ (v : FieldView). v.ty) (fold-roll-Field TypeTree FieldView (body_level types) field_level (record { name = name; cardinality = count; body = ty }))
+field_made_lowered types name count ty = ap (λ (v : FieldView). v.ty) (fold-roll-Field TypeTree FieldView (body_level types) field_level (record { name = name; cardinality = count; body = ty }))
 
 field_known : (types : List TypeDefinition) (name : Name) (count : Option Cardinality) (ty : KnownBody types) → FieldFormed types (roll-Field (record { name = name; cardinality = count; body = ty.0 }))
-field_known types name count (ty, k) e = ap (is_type (length (type_names types))) (field_made_meant (type_names types) name count ty) ∙ k (sym (field_made_refused types name count ty) ∙ e)
+field_known types name count (ty, k) e = ap (is_type (length (type_names types))) (field_made_lowered (type_names types) name count ty) ∙ k (sym (field_made_refused types name count ty) ∙ e)
 
 -- ---- by induction
 
@@ -160,13 +160,13 @@ own_place (s ∷ ts) (suc j) t differ e =
 -- the number that a body is has the place of its name
 number_of_form : (types : List TypeDefinition) (b : TypeBody-F TypeBody Field) → body_refused types (roll-TypeBody b) ≡ [] → number_in (lowered_body (type_names types) (roll-TypeBody b)) ≡ option_and_then (place_of (type_names types)) (name_in b)
 number_of_form types (TypeBody-F.Root at kind fields) e =
-    ap (λ x. number_in (lowered_body (type_names types) x)) (body.rolls-Root at kind fields) ∙ ap number_in (root_meant (type_names types) at kind fields)
+    ap (λ x. number_in (lowered_body (type_names types) x)) (body.rolls-Root at kind fields) ∙ ap number_in (root_lowered (type_names types) at kind fields)
 number_of_form types (TypeBody-F.Named n) e =
     ap (λ x. number_in (lowered_body (type_names types) x)) (body.rolls-Named n)
-    ∙ ap number_in (named_meant (type_names types) n)
+    ∙ ap number_in (named_lowered (type_names types) n)
     ∙ sym (place_is_found (type_names types) n.text (known_type types n (sym (rules.named_body types n) ∙ sym (ap (body_refused types) (body.rolls-Named n)) ∙ e)))
 number_of_form types (TypeBody-F.Undefined at) e =
-    ap (λ x. number_in (lowered_body (type_names types) x)) (body.rolls-Undefined at) ∙ ap number_in (undefined_meant (type_names types) at)
+    ap (λ x. number_in (lowered_body (type_names types) x)) (body.rolls-Undefined at) ∙ ap number_in (undefined_lowered (type_names types) at)
 
 number_of_body : (types : List TypeDefinition) (x : TypeBody) → body_refused types x ≡ [] → number_in (lowered_body (type_names types) x) ≡ option_and_then (place_of (type_names types)) (name_in (out-TypeBody x))
 number_of_body types x e =

@@ -16,24 +16,24 @@ use Rattle.behaviour_tree.specs.View.{FieldView, type_fields_of}
 use Rattle.check_base.specs.Files.{place_in}
 use Rattle.type_lowering.specs.LoweredTypes.{lowered_kind, least_of, most_of, body_level, field_level, lowered_body, lowered_field}
 
-pub root_meant : (types : List (List ℕ)) (at : ℕ) (k : RootKind) (fields : Option (List Field)) → lowered_body types (body.Root at k fields) ≡ plain.plain (lowered_kind k) (type_fields_of (map (lowered_field types) (unwrap_or fields [])))
+pub root_lowered : (types : List (List ℕ)) (at : ℕ) (k : RootKind) (fields : Option (List Field)) → lowered_body types (body.Root at k fields) ≡ plain.plain (lowered_kind k) (type_fields_of (map (lowered_field types) (unwrap_or fields [])))
 unfolding lowered_body lowered_field
-root_meant types at k None =
+root_lowered types at k None =
     ap (lowered_body types) (sym (body.rolls-Root at k None))
     ∙ fold-roll-TypeBody TypeTree FieldView (body_level types) field_level (TypeBody-F.Root at k None)
-root_meant types at k (Some fields) =
+root_lowered types at k (Some fields) =
     ap (lowered_body types) (sym (body.rolls-Root at k (Some fields)))
     ∙ fold-roll-TypeBody TypeTree FieldView (body_level types) field_level (TypeBody-F.Root at k (Some fields))
 
-pub named_meant : (types : List (List ℕ)) (n : Name) → lowered_body types (body.Named n) ≡ plain.named (place_in types n.text)
+pub named_lowered : (types : List (List ℕ)) (n : Name) → lowered_body types (body.Named n) ≡ plain.named (place_in types n.text)
 unfolding lowered_body lowered_field
-named_meant types n =
+named_lowered types n =
     ap (lowered_body types) (sym (body.rolls-Named n))
     ∙ fold-roll-TypeBody TypeTree FieldView (body_level types) field_level (TypeBody-F.Named n)
 
-pub undefined_meant : (types : List (List ℕ)) (at : ℕ) → lowered_body types (body.Undefined at) ≡ plain.undefined
+pub undefined_lowered : (types : List (List ℕ)) (at : ℕ) → lowered_body types (body.Undefined at) ≡ plain.undefined
 unfolding lowered_body lowered_field
-undefined_meant types at =
+undefined_lowered types at =
     ap (lowered_body types) (sym (body.rolls-Undefined at))
     ∙ fold-roll-TypeBody TypeTree FieldView (body_level types) field_level (TypeBody-F.Undefined at)
 

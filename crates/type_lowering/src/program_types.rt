@@ -62,7 +62,7 @@ fn lowered_definition(
 }
 
 #[cycle(types)]
-#[tactic(auto, using(crate::proofs::LoweredTypes::root_meant, crate::proofs::LoweredTypes::named_meant, crate::proofs::LoweredTypes::undefined_meant, crate::proofs::SeenTypes::plain_seen, crate::proofs::SeenTypes::named_seen, crate::proofs::SeenTypes::undefined_seen))]
+#[tactic(auto, using(crate::proofs::LoweredTypes::root_lowered, crate::proofs::LoweredTypes::named_lowered, crate::proofs::LoweredTypes::undefined_lowered, crate::proofs::SeenTypes::plain_seen, crate::proofs::SeenTypes::named_seen, crate::proofs::SeenTypes::undefined_seen))]
 fn lowered_body(alloc: Global, body: &TypeBody, types: &Names<'_>) -> Result<TypeDef, AllocError>
     ensures { IfOk result (λ t. type_view t ≡ lowered_body types.now body.now) }
 {

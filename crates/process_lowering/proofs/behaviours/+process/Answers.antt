@@ -12,63 +12,63 @@ use Rattle.process_lowering.specs.Behaviours.{Numbering, branch_after, lowered_h
 use Rattle.process_lowering.specs.Expressions.{lowered_path}
 use Rattle.check_base.specs.Files.{place_in}
 use Rattle.process_lowering.specs.Numbers.{numbering_of}
-use Rattle.process_lowering.proofs.LoweredProcesses.{answer_target, assign_meant, bare_answer, block_form_meant, branch_is, choice_meant, compensate_meant, conditional_meant, correlate_meant, else_if_meant, else_meant, empty_block, for_meant, full_block, handled_answer, handler_is, if_is, inner_handler_meant, input_before, input_form_meant, install_meant, no_else_meant, nothing_meant, output_meant, parallel_meant, reply_is, scope_meant, sequence_meant, throw_meant, undef_meant, while_meant}
+use Rattle.process_lowering.proofs.LoweredProcesses.{answer_target, assign_lowered, bare_answer, block_form_lowered, branch_is, choice_lowered, compensate_lowered, conditional_lowered, correlate_lowered, else_if_lowered, else_lowered, empty_block, for_lowered, full_block, handled_answer, handler_is, if_is, inner_handler_lowered, input_before, input_form_lowered, install_lowered, no_else_lowered, nothing_lowered, output_lowered, parallel_lowered, reply_is, scope_lowered, sequence_lowered, throw_lowered, undef_lowered, while_lowered}
 use Rattle.process_lowering.proofs.SeenBehaviours.{block_seen, branch_seen, choice_seen, comp_seen, handler_seen, handlers_seen, if_seen, inner_handler_seen, install_seen, nothing_seen, notify_seen, parallel_seen, reply_seen, scope_seen, sequence_seen, solicit_seen, undef_seen, while_seen}
 use Rattle.process_lowering.proofs.behaviours.+process.Goals as goal
 
 pub lowered_process-returns-in-Nothing : goal.lowered_process-returns-in-Nothing
-lowered_process-returns-in-Nothing t c = grind (arith, nothing_seen, nothing_meant)
+lowered_process-returns-in-Nothing t c = grind (arith, nothing_seen, nothing_lowered)
 
 pub lowered_process-returns-in-Assign : goal.lowered_process-returns-in-Assign
-lowered_process-returns-in-Assign t c = grind (arith, assign_meant)
+lowered_process-returns-in-Assign t c = grind (arith, assign_lowered)
 
 pub lowered_process-returns-in_ok-lowered_path-in-Undef : goal.lowered_process-returns-in_ok-lowered_path-in-Undef
-lowered_process-returns-in_ok-lowered_path-in-Undef t c = grind (arith, undef_seen, undef_meant)
+lowered_process-returns-in_ok-lowered_path-in-Undef t c = grind (arith, undef_seen, undef_lowered)
 
 pub lowered_process-returns-in-Correlate : goal.lowered_process-returns-in-Correlate
-lowered_process-returns-in-Correlate t c = grind (arith, correlate_meant)
+lowered_process-returns-in-Correlate t c = grind (arith, correlate_lowered)
 
 pub lowered_process-returns-in-If : goal.lowered_process-returns-in-If
-lowered_process-returns-in-If t c = grind (arith, conditional_meant)
+lowered_process-returns-in-If t c = grind (arith, conditional_lowered)
 
 pub lowered_process-returns-in_ok-lowered_expr-in-While : goal.lowered_process-returns-in_ok-lowered_expr-in-While
-lowered_process-returns-in_ok-lowered_expr-in-While t c = grind (arith, while_seen, while_meant)
+lowered_process-returns-in_ok-lowered_expr-in-While t c = grind (arith, while_seen, while_lowered)
 
-pub lowered_process-returns-in_ok-repeated-in-For : goal.lowered_process-returns-in_ok-repeated-in-For
-lowered_process-returns-in_ok-repeated-in-For t c = grind (arith, for_meant)
+pub lowered_process-returns-in_ok-turn-in-For : goal.lowered_process-returns-in_ok-turn-in-For
+lowered_process-returns-in_ok-turn-in-For t c = grind (arith, for_lowered)
 
 pub lowered_process-returns-in-Input : goal.lowered_process-returns-in-Input
-lowered_process-returns-in-Input t c = grind (arith, input_form_meant)
+lowered_process-returns-in-Input t c = grind (arith, input_form_lowered)
 
 pub lowered_process-returns-in_ok-lowered_branches-in-Choice : goal.lowered_process-returns-in_ok-lowered_branches-in-Choice
-lowered_process-returns-in_ok-lowered_branches-in-Choice t c = grind (arith, choice_seen, choice_meant)
+lowered_process-returns-in_ok-lowered_branches-in-Choice t c = grind (arith, choice_seen, choice_lowered)
 
-pub lowered_process-returns-in_ok-value-in-Output : goal.lowered_process-returns-in_ok-value-in-Output
-lowered_process-returns-in_ok-value-in-Output t c = grind (arith, output_meant)
+pub lowered_process-returns-in_ok-numbered-in-Output : goal.lowered_process-returns-in_ok-numbered-in-Output
+lowered_process-returns-in_ok-numbered-in-Output t c = grind (arith, output_lowered)
 
 pub lowered_process-returns-in_ok-boxed_block-in-Scope : goal.lowered_process-returns-in_ok-boxed_block-in-Scope
-lowered_process-returns-in_ok-boxed_block-in-Scope t c = grind (arith, scope_seen, scope_meant)
+lowered_process-returns-in_ok-boxed_block-in-Scope t c = grind (arith, scope_seen, scope_lowered)
 
 pub lowered_process-returns-in_ok-lowered_handlers-in-Install : goal.lowered_process-returns-in_ok-lowered_handlers-in-Install
-lowered_process-returns-in_ok-lowered_handlers-in-Install t c = grind (arith, install_seen, install_meant)
+lowered_process-returns-in_ok-lowered_handlers-in-Install t c = grind (arith, install_seen, install_lowered)
 
 pub lowered_process-returns-in-Throw : goal.lowered_process-returns-in-Throw
-lowered_process-returns-in-Throw t c = grind (arith, throw_meant)
+lowered_process-returns-in-Throw t c = grind (arith, throw_lowered)
 
 pub lowered_process-returns-in_ok-number-in-Compensate : goal.lowered_process-returns-in_ok-number-in-Compensate
-lowered_process-returns-in_ok-number-in-Compensate t c = grind (arith, comp_seen, compensate_meant)
+lowered_process-returns-in_ok-number-in-Compensate t c = grind (arith, comp_seen, compensate_lowered)
 
 pub lowered_process-returns-in-InnerHandler : goal.lowered_process-returns-in-InnerHandler
-lowered_process-returns-in-InnerHandler t c = grind (arith, inner_handler_seen, inner_handler_meant)
+lowered_process-returns-in-InnerHandler t c = grind (arith, inner_handler_seen, inner_handler_lowered)
 
 pub lowered_process-returns-in_ok-boxed_block-in-Block : goal.lowered_process-returns-in_ok-boxed_block-in-Block
-lowered_process-returns-in_ok-boxed_block-in-Block t c = grind (arith, block_seen, block_form_meant)
+lowered_process-returns-in_ok-boxed_block-in-Block t c = grind (arith, block_seen, block_form_lowered)
 
 pub lowered_process-returns-in_ok-lowered_processes-in-Sequence : goal.lowered_process-returns-in_ok-lowered_processes-in-Sequence
-lowered_process-returns-in_ok-lowered_processes-in-Sequence t c = grind (arith, sequence_seen, sequence_meant)
+lowered_process-returns-in_ok-lowered_processes-in-Sequence t c = grind (arith, sequence_seen, sequence_lowered)
 
 pub lowered_process-returns-in_ok-lowered_processes-in-Parallel : goal.lowered_process-returns-in_ok-lowered_processes-in-Parallel
-lowered_process-returns-in_ok-lowered_processes-in-Parallel t c = grind (arith, parallel_seen, parallel_meant)
+lowered_process-returns-in_ok-lowered_processes-in-Parallel t c = grind (arith, parallel_seen, parallel_lowered)
 
 pub lowered_block-returns-in-None : goal.lowered_block-returns-in-None
 lowered_block-returns-in-None t c = grind (arith, nothing_seen, empty_block (numbering_of c.args.numbers.now c.args.names.now) c.args.block.now c.in-None.is)
@@ -80,13 +80,13 @@ pub lowered_conditional-returns : goal.lowered_conditional-returns
 lowered_conditional-returns t c = grind (arith, if_seen, if_is)
 
 pub lowered_otherwise-returns-in_ok-new-in-Nothing : goal.lowered_otherwise-returns-in_ok-new-in-Nothing
-lowered_otherwise-returns-in_ok-new-in-Nothing t c = grind (arith, nothing_seen, no_else_meant)
+lowered_otherwise-returns-in_ok-new-in-Nothing t c = grind (arith, nothing_seen, no_else_lowered)
 
 pub lowered_otherwise-returns-in_ok-new-in-ElseIf : goal.lowered_otherwise-returns-in_ok-new-in-ElseIf
-lowered_otherwise-returns-in_ok-new-in-ElseIf t c = grind (arith, else_if_meant)
+lowered_otherwise-returns-in_ok-new-in-ElseIf t c = grind (arith, else_if_lowered)
 
 pub lowered_otherwise-returns-in-Else : goal.lowered_otherwise-returns-in-Else
-lowered_otherwise-returns-in-Else t c = grind (arith, else_meant)
+lowered_otherwise-returns-in-Else t c = grind (arith, else_lowered)
 
 pub lowered_alone-returns : goal.lowered_alone-returns
 lowered_alone-returns t c = grind (arith, choice_seen, nothing_seen)
@@ -111,17 +111,17 @@ branch_made e i op target reply after same_op same_target same_reply =
 
 pub lowered_input-returns : goal.lowered_input-returns
 lowered_input-returns t c =
-    branch_made (numbering_of c.args.numbers.now c.args.names.now) c.args.input.now c.in_ok-op.op c.in_ok-target.target c.in_ok-lowered_optional_reply.field-0 c.args.after
-    (c.in_ok-op.ensures ∙ ap (place_in c.args.numbers.now.inputs) c.as_str.ensures) c.in_ok-target.ensures c.in_ok-lowered_optional_reply.ensures
+    branch_made (numbering_of c.args.numbers.now c.args.names.now) c.args.input.now c.in_ok-op.op c.in_ok-target.target c.in_ok-reply.reply c.args.after.value
+    (c.in_ok-op.ensures ∙ ap (place_in c.args.numbers.now.inputs) c.as_str.ensures) c.in_ok-target.ensures c.in_ok-reply.ensures
 
 pub lowered_reply-returns : goal.lowered_reply-returns
 lowered_reply-returns t c = grind (arith, reply_seen, reply_is)
 
-pub lowered_output-returns-in-None : goal.lowered_output-returns-in-None
-lowered_output-returns-in-None t c = grind (arith, notify_seen)
+pub lowered_output-returns-in_ok-lowered_if_written-in-None : goal.lowered_output-returns-in_ok-lowered_if_written-in-None
+lowered_output-returns-in_ok-lowered_if_written-in-None t c = grind (arith, notify_seen)
 
-pub lowered_output-returns-in_ok-answer_handlers-in-Some : goal.lowered_output-returns-in_ok-answer_handlers-in-Some
-lowered_output-returns-in_ok-answer_handlers-in-Some t c = grind (arith, solicit_seen, answer_target)
+pub lowered_output-returns-in_ok-lowered_if_written-in-Some : goal.lowered_output-returns-in_ok-lowered_if_written-in-Some
+lowered_output-returns-in_ok-lowered_if_written-in-Some t c = grind (arith, solicit_seen, answer_target)
 
 pub answer_handlers-returns-in-None : goal.answer_handlers-returns-in-None
 answer_handlers-returns-in-None t c = grind (arith, handlers_seen, bare_answer (numbering_of c.args.numbers.now c.args.names.now) c.args.answer.now c.in-None.is)
