@@ -102,6 +102,8 @@ pub struct Interfaces<'a> {
 }
 
 impl<'a> Model for Interfaces<'a> {
+    ghost use Rattle.std.specs.Prelude.{◌≡◌, List, map};
+    ghost use Rattle.std.specs.Coded.{codes};
     ghost use Rattle.jolie_ast.specs.contracts.interface.Interface as definition;
     ghost use Rattle.jolie_ast.specs.declared.interface.Interface.{Interface};
 

@@ -25,7 +25,7 @@ impl<'a> Model for Declared<'a> {
     ghost use Rattle.jolie_ast.specs.contracts.interface.Fault as fault;
     ghost use Rattle.jolie_ast.specs.contracts.interface.TypeName as type_name;
     ghost use Rattle.jolie_ast.specs.contracts.name.Name as name;
-    ghost use Rattle.check_base.specs.Files.{Operation, texts_of};
+    ghost use Rattle.check_base.specs.Files.{Operation};
 
     ghost Value = { Operation };
 
@@ -90,9 +90,11 @@ pub struct Operations<'a> {
 
 impl<'a> Model for Operations<'a> {
     ghost use Rattle.std.specs.Prelude.{◌≡◌, List};
+    ghost use Rattle.std.specs.Coded.{codes};
     ghost use Rattle.jolie_ast.specs.contracts.interface.Fault as fault;
     ghost use Rattle.jolie_ast.specs.contracts.interface.TypeName as type_name;
     ghost use Rattle.jolie_ast.specs.contracts.name.Name as name;
+    ghost use Rattle.check_base.specs.Files.{Operation, texts_of};
 
     ghost Value = { List Operation };
 

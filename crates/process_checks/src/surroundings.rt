@@ -23,7 +23,7 @@ impl<'a> Model for Outlet<'a> {
     ghost use Rattle.jolie_ast.specs.contracts.interface.Fault as fault;
     ghost use Rattle.jolie_ast.specs.contracts.interface.TypeName as type_name;
     ghost use Rattle.jolie_ast.specs.contracts.name.Name as word;
-    ghost use Rattle.process_checks.specs.Surroundings.{Outlet, Surroundings};
+    ghost use Rattle.process_checks.specs.Surroundings.{Outlet};
 
     ghost Value = { Outlet };
 
@@ -69,9 +69,11 @@ pub struct Outlets<'a> {
 
 impl<'a> Model for Outlets<'a> {
     ghost use Rattle.std.specs.Prelude.{◌≡◌, List, map};
+    ghost use Rattle.std.specs.Coded.{codes};
     ghost use Rattle.jolie_ast.specs.contracts.interface.Fault as fault;
     ghost use Rattle.jolie_ast.specs.contracts.interface.TypeName as type_name;
     ghost use Rattle.jolie_ast.specs.contracts.name.Name as word;
+    ghost use Rattle.process_checks.specs.Surroundings.{Outlet};
 
     ghost Value = { List Outlet };
 
@@ -161,9 +163,11 @@ pub struct Surroundings<'a> {
 }
 
 impl<'a> Model for Surroundings<'a> {
+    ghost use Rattle.std.specs.Coded.{codes};
     ghost use Rattle.jolie_ast.specs.contracts.interface.Fault as fault;
     ghost use Rattle.jolie_ast.specs.contracts.interface.TypeName as type_name;
     ghost use Rattle.jolie_ast.specs.contracts.name.Name as word;
+    ghost use Rattle.process_checks.specs.Surroundings.{Surroundings};
 
     ghost Value = { Surroundings };
 
