@@ -8,7 +8,7 @@ ghost use Rattle.port_checks.specs.PortRules.{input_locations, output_port_refus
 use crate::brought::{input_ports_refused, output_port_refused};
 use crate::locations::{begins_local, is_local, is_socket};
 use check_base::{
-    CheckName, Interfaces, Least, Mention, Names, input_port_in, output_port_in, port_in,
+    CONSOLE, CheckName, Interfaces, Least, Mention, Names, input_port_in, output_port_in, port_in,
     repeated_refused, service_in,
 };
 use jolie_ast::{Clause, Definition, Name, Port, Service};
