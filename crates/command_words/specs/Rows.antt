@@ -1,0 +1,21 @@
+-- These definitions serve the proofs alone: no promise speaks of them.
+-- The rows of the code's table, as the definitions have them.
+use Rattle.std.specs.Prelude.{ℕ, List, map}
+use Rattle.command_words.specs.declared.table.OperandRow.{OperandRow}
+use Rattle.command_words.specs.declared.table.OptionRow.{OptionRow}
+use Rattle.command_words.specs.declared.table.CommandRow.{CommandRow}
+use Rattle.command_words.specs.Table.{CommandWords, OptionWords}
+
+abbrev pub operand_words : OperandRow → List ℕ
+operand_words row = row.name.now
+
+abbrev pub option_words : OptionRow → OptionWords
+option_words row = record { name = row.name.now; least = row.least; most = row.most }
+
+abbrev pub command_words : CommandRow → CommandWords
+command_words row = record {
+  action = row.action;
+  name = row.name.now;
+  operands = map operand_words row.operands.now;
+  options = map option_words row.options.now;
+}

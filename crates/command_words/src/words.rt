@@ -1,0 +1,78 @@
+//! What is understood of the words of the command line.
+
+ghost use Rattle.std.specs.Prelude.{◌≡◌, ◌≢◌, IfOk, [], true};
+ghost use Rattle.clap.specs.Words.{FailsBy, fault_of, kind_of, subcommand_of, subcommand_rows_of};
+ghost use Rattle.command_words.specs.Grammar.{program};
+ghost use Rattle.command_words.specs.Usage.{IsFound, IsToldOf, IsUnderstood, command_entered, spelled};
+
+use crate::found::command_found;
+use crate::program::program;
+use crate::table::Action;
+use clap::error::ErrorKind;
+use clap::{ArgMatches, Error};
+use jolie_trees::Text;
+use std::alloc::{AllocError, Global};
+
+/// A command and its FILE.
+#[derive(Debug, Drop, PartialEq, Eq)]
+pub struct Command {
+    pub action: Action,
+    pub file: Text,
+}
+
+/// What the words of the command line say.
+#[derive(Debug, Drop, PartialEq, Eq)]
+pub enum Words {
+    Command(Command),
+    /// A text of help, or of the version.
+    Help(Text),
+    /// What is wrong with the words.
+    UsageError(Text),
+}
+
+/// What the words after the program's name say.
+#[tactic(auto, using(crate::proofs::WordsUnderstood::understood_entered, crate::proofs::WordsUnderstood::understood_told))]
+pub fn understood(alloc: Global, words: &[String]) -> Result<Words, AllocError>
+    ensures { IfOk result (λ said. IsUnderstood (spelled words.now) said) }
+{
+    match parsed(alloc, words) {
+        Ok(matches) => entered(alloc, &matches),
+        Err(error) => told(alloc, &error),
+    }
+}
+
+fn parsed<'a>(alloc: Global, words: &'a [String]) -> Result<ArgMatches<'a>, Error>
+    ensures entered { IfOk result (λ matches. subcommand_rows_of matches ≡ subcommand_of program (spelled words.now)) }
+    ensures kinds { FailsBy (fault_of program (spelled words.now)) result }
+{
+    let program = program(alloc)?;
+    program.try_get_matches_from(words)
+}
+
+/// What is said of matches.
+fn entered(alloc: Global, matches: &ArgMatches<'_>) -> Result<Words, AllocError>
+    ensures { IfOk result (IsFound (command_entered (subcommand_rows_of matches.now))) }
+{
+    match command_found(alloc, matches)? {
+        Some(command) => Ok(Words::Command(command)),
+        // The parser finds a fault where a command or its FILE is missing, but no clause of its own says so.
+        None => Ok(Words::UsageError(Text::new(alloc, "error: no command\n")?)),
+    }
+}
+
+/// What is said of an error of the parser.
+fn told(alloc: Global, error: &Error) -> Result<Words, AllocError>
+    ensures { IfOk result (IsToldOf (kind_of error.now)) }
+{
+    match error.kind() {
+        ErrorKind::OutOfMemory => Err(AllocError),
+        ErrorKind::DisplayHelp => Ok(Words::Help(text_of(alloc, error)?)),
+        ErrorKind::DisplayVersion => Ok(Words::Help(text_of(alloc, error)?)),
+        _ => Ok(Words::UsageError(text_of(alloc, error)?)),
+    }
+}
+
+/// The text of an error, as the parser has it.
+fn text_of(alloc: Global, error: &Error) -> Result<Text, AllocError> {
+    Ok(Text::from_string(error.to_string(alloc)?))
+}
