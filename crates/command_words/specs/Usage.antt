@@ -62,17 +62,14 @@ plain (name ∷ file ∷ more ∷ rest) = None
 
 -- ---- what was understood
 
--- Why that is said of the words, by the kinds of fault that `clap` finds in them: a command where it finds none, help where
--- help or the version is asked for, and a usage error where it finds another kind. Where it finds none, and yet no command of
--- the table with its FILE, that is a usage error too. The texts are those of `clap`.
+-- Why that is said of the words, by the kinds of fault that `clap` finds in them: the command that they enter where it finds
+-- none, help where help or the version is asked for, and a usage error where it finds another kind. The texts are `clap`'s.
 pub data IsCaused (line : List (List ℕ)) : Words → Type 0 where
   command : (c : Command) → fault_of program line ≡ [] → command_entered (subcommand_of program line) ≡ Some c
       → IsCaused line (words.Command c)
   help : (text : List ℕ) → IsAmong kind.DisplayHelp (fault_of program line) → IsCaused line (words.Help text)
   version : (text : List ℕ) → IsAmong kind.DisplayVersion (fault_of program line) → IsCaused line (words.Help text)
   fault : (text : List ℕ) (k : ErrorKind) → IsAmong k (fault_of program line) → k ≢ kind.DisplayHelp → k ≢ kind.DisplayVersion
-      → IsCaused line (words.UsageError text)
-  no_command : (text : List ℕ) → fault_of program line ≡ [] → command_entered (subcommand_of program line) ≡ None
       → IsCaused line (words.UsageError text)
 
 -- What was understood of the words: what is said has its cause, plain words ask for their command, and a command has its name
@@ -96,7 +93,7 @@ IsToldOf k (words.Command c) = ⊥
 IsToldOf k (words.Help text) = (k ≢ kind.OutOfMemory) × ((k ≡ kind.DisplayHelp) ⊎ (k ≡ kind.DisplayVersion))
 IsToldOf k (words.UsageError text) = (k ≢ kind.OutOfMemory) × (k ≢ kind.DisplayHelp) × (k ≢ kind.DisplayVersion)
 
--- what is said of matches
+-- what is said of a command that was found
 abbrev pub IsFound : Option Command → Words → Type 0
-IsFound None said = (text : List ℕ) × (said ≡ words.UsageError text)
+IsFound None said = ⊥
 IsFound (Some c) said = said ≡ words.Command c
