@@ -11,7 +11,8 @@ use Rattle.clap.specs.declared.error.Error.{Error}
 use Rattle.clap.specs.declared.error.kind.ErrorKind.{ErrorKind}
 use Rattle.clap.specs.declared.error.kind.ErrorKind.TheVariants as kind
 use Rattle.command_words.specs.Grammar.{program}
-use Rattle.command_words.specs.Usage.{IsCaused, IsFound, IsToldOf, IsUnderstood, action_of, command_entered, file_in, name_of, with_file}
+use Rattle.command_words.specs.Said.{IsFound, IsToldOf, command_in}
+use Rattle.command_words.specs.Usage.{IsCaused, IsUnderstood, action_of, command_entered, file_in, name_of, with_file}
 use Rattle.command_words.specs.Usage as usage
 use Rattle.command_words.specs.declared.table.Action.{Action}
 use Rattle.command_words.specs.declared.words.Command.{Command}
@@ -63,7 +64,7 @@ line_has_command line c e = line_comes (Contains line) line c (recursion_from_Al
 -- ---- what was understood
 
 same_command : (c d : Command) → words.Command c ≡ words.Command d → c ≡ d
-same_command c d e = same_Some c d (ap usage.command_in e)
+same_command c d e = same_Some c d (ap command_in e)
 
 -- a command
 abbrev pub IsEntered : List (List ℕ) → Command → Type 0
@@ -78,13 +79,13 @@ said_command line c none is = record {
 }
 
 -- something else, of words that are no plain ones
-said_otherwise : (line : List (List ℕ)) (said : Words) → usage.command_in said ≡ None → IsCaused line said → ((c : Command) → usage.plain line ≡ Some c → ⊥)
+said_otherwise : (line : List (List ℕ)) (said : Words) → command_in said ≡ None → IsCaused line said → ((c : Command) → usage.plain line ≡ Some c → ⊥)
     → IsUnderstood line said
 said_otherwise line said none why not_plain = record {
   cause = why;
   plainly = λ c plain. absurd (not_plain c plain);
-  by_name = λ c is. absurd (none-some c (sym none ∙ ap usage.command_in is));
-  of_file = λ c is. absurd (none-some c (sym none ∙ ap usage.command_in is));
+  by_name = λ c is. absurd (none-some c (sym none ∙ ap command_in is));
+  of_file = λ c is. absurd (none-some c (sym none ∙ ap command_in is));
 }
 
 by_matches : (line : List (List ℕ)) (said : Words) (found : Option Command) → command_entered (subcommand_of program line) ≡ found → fault_of program line ≡ []

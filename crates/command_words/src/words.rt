@@ -3,7 +3,8 @@
 ghost use Rattle.std.specs.Prelude.{◌≡◌, ◌≢◌, IfOk, IsSome, []};
 ghost use Rattle.clap.specs.Words.{FailsBy, fault_of, kind_of, subcommand_of, subcommand_rows_of};
 ghost use Rattle.command_words.specs.Grammar.{program};
-ghost use Rattle.command_words.specs.Usage.{IsFound, IsToldOf, IsUnderstood, command_entered, spelled};
+ghost use Rattle.command_words.specs.Said.{IsFound, IsToldOf};
+ghost use Rattle.command_words.specs.Usage.{IsUnderstood, command_entered, spelled};
 
 use crate::found::command_found;
 use crate::program::program;
