@@ -1,0 +1,62 @@
+//! What the calls of a row gave.
+
+use std::alloc::{AllocError, Global};
+use test_rows::{Row, TableError};
+
+/// The counts that calls gave, the numbers of those that failed, and the bytes that came or went.
+#[derive(Drop)]
+pub struct Calls {
+    alloc: Global,
+    counts: String,
+    failed: String,
+    bytes: String,
+}
+
+impl Calls {
+    pub fn new(alloc: Global) -> Calls {
+        Calls {
+            alloc,
+            counts: String::new(alloc),
+            failed: String::new(alloc),
+            bytes: String::new(alloc),
+        }
+    }
+
+    /// A call gave a count.
+    pub fn gave(&mut self, count: usize) -> Result<(), AllocError> {
+        let digits = count.to_string(self.alloc)?;
+        add_word(&mut self.counts, digits.as_str())
+    }
+
+    /// The call of this number failed.
+    pub fn failed(&mut self, call: u32) -> Result<(), AllocError> {
+        let digits = call.to_string(self.alloc)?;
+        add_word(&mut self.failed, digits.as_str())
+    }
+
+    /// Bytes came or went.
+    pub fn moved(&mut self, bytes: &[u8]) -> Result<(), AllocError> {
+        let text = String::from_utf8_lossy(self.alloc, bytes)?;
+        self.bytes.push_str(text.as_str())
+    }
+
+    pub fn aspect(&self, name: &str) -> &str {
+        match name {
+            "bytes" => self.bytes.as_str(),
+            "counts" => self.counts.as_str(),
+            _ => self.failed.as_str(),
+        }
+    }
+}
+
+fn add_word(words: &mut String, word: &str) -> Result<(), AllocError> {
+    if !words.as_str().is_empty() {
+        words.push(' ')?;
+    }
+    words.push_str(word)
+}
+
+/// How many calls a row makes.
+pub fn call_count(alloc: Global, row: &Row<'_>) -> Result<u32, TableError> {
+    row.number(alloc, "calls")
+}
