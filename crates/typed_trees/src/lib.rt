@@ -1,5 +1,0 @@
-//! Tables of trees and types.
-#![tactic(auto)]
-
-#[cfg(test)]
-mod tests;

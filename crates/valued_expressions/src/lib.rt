@@ -1,5 +1,0 @@
-//! Tables of expressions with their values or faults.
-#![tactic(auto)]
-
-#[cfg(test)]
-mod tests;
