@@ -41,7 +41,7 @@ fn shown_sum(alloc: Global, form: &ExprForm, from: usize) -> Result<String, Allo
 
 /// What an expression is.
 fn form(value: &Expr) -> &ExprForm {
-    &value.form
+    value.form.get()
 }
 
 /// What the first statement of the main of the first service assigns.
