@@ -12,7 +12,8 @@ use Rattle.jolie_main.specs.declared.refusal.Refusal.{Refusal}
 use Rattle.jolie_main.specs.declared.verdict.Verdict.{Verdict}
 use Rattle.jolie_main.specs.declared.verdict.Verdict.TheVariants as verdict
 use Rattle.jolie_main.specs.BuiltPrograms.{is_built_program}
-use Rattle.jolie_main.specs.Verdicts.{check_line, refusal_line, IsVerdict}
+use Rattle.jolie_main.specs.Verdicts.{check_line}
+use Rattle.jolie_main.specs.RefusalLines.{refusal_line, IsVerdict}
 use Rattle.jolie_main.specs.Programs.{IsChecked, IsUncheckedBy, no_file, no_program, IsProgram, form_line, IsNotRunBy}
 use Rattle.jolie_main.specs.Programs as program
 
