@@ -1,6 +1,10 @@
+ghost use Rattle.std.specs.Prelude.{◌≡◌, IfOk};
+ghost use Rattle.jolie_ast.specs.declared.expression.Expr.{roll-Expr};
+
 use crate::name::Name;
 use jolie_trees::Text;
 use sqlite_items::{Boxed, Items};
+use std::alloc::{AllocError, Global};
 
 #[derive(Clone, Copy, Debug, PartialEq, Eq)]
 pub enum Additive {
@@ -34,11 +38,24 @@ pub enum CastTarget {
 }
 
 /// An expression and the place of its first token, be it a parenthesis that left no node.
+///
+/// Its form stands in a box, so that an expression is small where it is owned.
 #[cycle(expression)]
 #[derive(Drop)]
 pub struct Expr {
     pub at: u32,
-    pub form: ExprForm,
+    pub form: Boxed<ExprForm>,
+}
+
+impl Expr {
+    pub fn new(alloc: Global, at: u32, form: ExprForm) -> Result<Expr, AllocError>
+        ensures { IfOk result (λ e. e ≡ roll-Expr (record { at = at; form = form })) }
+    {
+        Ok(Expr {
+            at,
+            form: Boxed::new(alloc, form)?,
+        })
+    }
 }
 
 /// The forms of an expression.

@@ -17,8 +17,6 @@ mod print_type;
 mod printer;
 mod process;
 mod service;
-#[cfg(test)]
-mod tests;
 mod tree;
 mod types;
 

@@ -58,7 +58,7 @@ impl Printer {
     pub fn expr(&mut self, expr: &Expr) -> Result<(), AllocError>
         ensures { OnOk result (self.new ≡ after self.old (expr_tokens expr.now)) }
     {
-        self.form(&expr.form)
+        self.form(expr.form.get())
     }
 
     #[cycle(expression)]
@@ -124,7 +124,7 @@ impl Printer {
     fn operand(&mut self, operand: &Expr) -> Result<(), AllocError>
         ensures { OnOk result (self.new ≡ after self.old (operand_tokens operand.now)) }
     {
-        if is_operation(&operand.form) {
+        if is_operation(operand.form.get()) {
             self.in_parens(operand)
         } else {
             self.expr(operand)

@@ -2,7 +2,8 @@
 use Rattle.std.proofs.Common.{◌≡◌, ℕ, zero, suc, ◌≤◌, inl, inr, Bool, true, false, ◌&&◌, not, List, [], ◌∷◌, ◌++◌, length, refl, sym, ap, ◌∙◌, arith, append_assoc, if◌then◌else◌, length-append}
 use Rattle.jolie_parse.specs.declared.class.Class.{Class}
 use Rattle.jolie_parse.specs.Classes.{same, Spelled, has, begins, class}
-use Rattle.jolie_parse.specs.Syntax.{disjoint, Syn, token, give, both, either, many, means, inside, prefix, later, covers, Part, Meant, Lang, Derives, Many, nullable, first, further}
+use Rattle.jolie_parse.specs.Syntax.{Syn, token, give, both, either, many, means, inside, prefix, Part, Meant, Lang, Derives, Many}
+use Rattle.jolie_parse.specs.Deciding.{disjoint, later, covers, nullable, first, further}
 use Rattle.jolie_parse.specs.Factored.{rule, Within, Nests, decided, usable}
 use Rattle.jolie_parse.specs.Reading.{Outcome, got, take_token, repeat, enclosed, inner, read}
 use Rattle.jolie_parse.proofs.Numbered.{eq_same}

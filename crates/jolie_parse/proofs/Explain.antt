@@ -2,7 +2,8 @@
 use Rattle.std.proofs.Common.{◌≡◌, ℕ, zero, suc, ◌≤◌, ◌+◌, inl, inr, Bool, true, false, ◌&&◌, not, List, [], ◌∷◌, ◌++◌, length, refl, sym, ap, subst, ◌∙◌, arith, append_assoc, append-nil, if◌then◌else◌}
 use Rattle.jolie_parse.specs.declared.class.Class.{Class}
 use Rattle.jolie_parse.specs.Classes.{Spelled, has, class, begins, same, open_brackets}
-use Rattle.jolie_parse.specs.Syntax.{disjoint, Syn, token, give, both, either, many, means, inside, prefix, later, covers, Part, Meant, Lang, nullable, first, further}
+use Rattle.jolie_parse.specs.Syntax.{Syn, token, give, both, either, many, means, inside, prefix, Part, Meant, Lang}
+use Rattle.jolie_parse.specs.Deciding.{disjoint, later, covers, nullable, first, further}
 use Rattle.jolie_parse.specs.Factored.{rule, Within, Nests, decided, usable}
 use Rattle.jolie_parse.specs.Reading.{Outcome, got, refused, too_deep, and_then, SameHead, take_token, repeat, deepen, enclosed, prefixed, inner, read}
 use Rattle.jolie_parse.proofs.Numbered.{same_eq, eq_same}

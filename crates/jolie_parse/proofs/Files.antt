@@ -5,7 +5,7 @@ use Rattle.jolie_parse.specs.Classes.{Spelled}
 use Rattle.jolie_parse.specs.Grammar.{file, IsFile}
 use Rattle.jolie_parse.specs.Reading.{Outcome, got, refused, too_deep, read}
 use Rattle.jolie_parse.specs.Levels.{OpensNext, NoneOpens, IsRefused, IsTooDeep}
-use Rattle.jolie_parse.specs.Answers.{whole, read_file, IsAnswer}
+use Rattle.jolie_parse.specs.WholeFiles.{whole, read_file, IsAnswer}
 use Rattle.jolie_parse.specs.Laws.{HaveAnAnswer}
 use Rattle.jolie_parse.proofs.OneToken.{file_decided}
 use Rattle.jolie_parse.proofs.Equal.{file_factored, file_spread}

@@ -6,7 +6,8 @@ use Rattle.jolie_parse.specs.declared.class.Class.{Class}
 use Rattle.jolie_parse.specs.declared.stop.Stop.{Stop}
 use Rattle.jolie_parse.specs.declared.stop.Stop.TheVariants.{Syntax, TooDeep, Memory}
 use Rattle.jolie_parse.specs.Classes.{Spelled, class, has, begins}
-use Rattle.jolie_parse.specs.Syntax.{Syn, token, both, either, many, means, first, further, nullable, disjoint, optional}
+use Rattle.jolie_parse.specs.Syntax.{Syn, token, both, either, many, means, optional}
+use Rattle.jolie_parse.specs.Deciding.{first, further, nullable, disjoint}
 use Rattle.jolie_parse.specs.Grammar.{list_of}
 use Rattle.jolie_parse.specs.Factored.{Within, Nests, decided}
 use Rattle.jolie_parse.specs.Reading.{Outcome, got, refused, too_deep, and_then, repeat, read}

@@ -3,7 +3,8 @@ use Rattle.std.proofs.Common.{◌≡◌, ℕ, zero, suc, ◌≤◌, ◌⊎◌, i
 use Rattle.std.proofs.lemmas.List.{append_cancel_right}
 use Rattle.jolie_parse.specs.declared.class.Class.{Class}
 use Rattle.jolie_parse.specs.Classes.{Spelled, class, has, same, begins, open_brackets}
-use Rattle.jolie_parse.specs.Syntax.{Part, Meant, Syn, token, give, both, either, many, means, inside, prefix, disjoint, nullable, first, further}
+use Rattle.jolie_parse.specs.Syntax.{Part, Meant, Syn, token, give, both, either, many, means, inside, prefix}
+use Rattle.jolie_parse.specs.Deciding.{disjoint, nullable, first, further}
 use Rattle.jolie_parse.specs.Factored.{rule, Within, Nests, decided}
 use Rattle.jolie_parse.specs.Reading.{Outcome, got, refused, too_deep, and_then, take_token, repeat, deepen, inner, read}
 use Rattle.jolie_parse.specs.Levels.{Opener, bracket, before, opening}

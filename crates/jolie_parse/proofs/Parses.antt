@@ -15,7 +15,8 @@ use Rattle.jolie_parse.specs.Grammar.{file, file_part, IsFile}
 use Rattle.jolie_parse.specs.Reading.{Outcome, got, refused, too_deep, read}
 use Rattle.jolie_parse.specs.Reads.{Stops, more}
 use Rattle.jolie_parse.specs.Levels.{IsRefused, IsTooDeep, OpensNext, NoneOpens, rest_place}
-use Rattle.jolie_parse.specs.Answers.{whole, read_file, IsAnswer, error_at, Gives, IsRefusedAt, IsTooDeepAt, UnlessMemory}
+use Rattle.jolie_parse.specs.Answers.{IsRefusedAt, IsTooDeepAt, UnlessMemory}
+use Rattle.jolie_parse.specs.WholeFiles.{whole, read_file, IsAnswer, error_at, Gives}
 use Rattle.jolie_parse.proofs.Files.{answers, complete_file, none_opens_in}
 use Rattle.jolie_parse.proofs.Steps.{none_read}
 use Rattle.jolie_parse.proofs.Stops.{compare, stop_at_one_place}

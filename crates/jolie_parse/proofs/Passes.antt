@@ -2,7 +2,8 @@
 use Rattle.std.proofs.Common.{◌≡◌, ℕ, zero, suc, Bool, true, false, ◌&&◌, not, List, [], ◌∷◌, ◌++◌, length, refl, sym, ap, ◌∙◌, append_assoc, if◌then◌else◌}
 use Rattle.jolie_parse.specs.declared.class.Class.{Class}
 use Rattle.jolie_parse.specs.Classes.{Spelled, class, has, begins, open_brackets}
-use Rattle.jolie_parse.specs.Syntax.{Part, an_expression, an_operand, a_path, maybe_path, maybe_expression, a_body, some_handlers, a_name, an_input, an_else_if, for_parts, throw_parts, some_members, a_type_name, some_bounds, some_fields, some_operations, port_parts, some_variables, some_clauses, Syn, token, give, both, either, many, means, inside, prefix, first, disjoint}
+use Rattle.jolie_parse.specs.Syntax.{Part, an_expression, an_operand, a_path, maybe_path, maybe_expression, a_body, some_handlers, a_name, an_input, an_else_if, for_parts, throw_parts, some_members, a_type_name, some_bounds, some_fields, some_operations, port_parts, some_variables, some_clauses, Syn, token, give, both, either, many, means, inside, prefix}
+use Rattle.jolie_parse.specs.Deciding.{first, disjoint}
 use Rattle.jolie_parse.specs.Grammar.{id, word, index, step, path_parts, path, whole_number, long_number, quoted_text, truth, path_value, size, defined_test, cast, grouped, literal, primary, prefixed_operand, unary, factor, product, term, sum, comparand, comparison, conjunction, expr, member, members, block, reply, input_parts, input, branch, choice, answer, output_parts, output, count, change, assign, correlate, last_change, loop_parts, undefine, repetition, counted_loop, scope, install, throw, compensate, inner_handler, block_statement, nothing, handler_key, thrown, name, root_type, type_body, bounds, cardinal, field, defined_type, type_definition, type_named, fault, throws, request_response, one_way, request_responses, one_ways, operation_group, interface, alias, variable, execution_clause, port_body, port, correlation_set, init_clause, main_clause, clauses, service, file_part, file}
 use Rattle.jolie_parse.specs.Factored.{named_parts, one_else, one_statement, rule}
 use Rattle.jolie_parse.specs.Reading.{Outcome, got, refused, too_deep, and_then, take_token, repeat, no_level, read}

@@ -1,6 +1,7 @@
 -- Each part of the factored grammar has a phrase.
 use Rattle.std.proofs.Common.{◌≡◌, inl, inr, Bool, true, false, ◌&&◌, ◌||◌, not, [], ◌∷◌, ◌++◌, refl}
-use Rattle.jolie_parse.specs.Syntax.{Part, an_input, an_else_if, an_expression, an_operand, a_path, maybe_path, maybe_expression, a_body, some_handlers, a_name, for_parts, throw_parts, some_members, a_type_name, some_bounds, some_fields, some_operations, port_parts, some_variables, some_clauses, Syn, token, give, both, either, many, means, inside, prefix, disjoint, covers, later, nullable, first, further}
+use Rattle.jolie_parse.specs.Syntax.{Part, an_input, an_else_if, an_expression, an_operand, a_path, maybe_path, maybe_expression, a_body, some_handlers, a_name, for_parts, throw_parts, some_members, a_type_name, some_bounds, some_fields, some_operations, port_parts, some_variables, some_clauses, Syn, token, give, both, either, many, means, inside, prefix}
+use Rattle.jolie_parse.specs.Deciding.{disjoint, covers, later, nullable, first, further}
 use Rattle.jolie_parse.specs.Grammar.{id, word, index, step, path_parts, path, whole_number, long_number, quoted_text, truth, path_value, size, defined_test, cast, grouped, literal, primary, prefixed_operand, unary, product, sum, comparand, comparison, conjunction, expr, member, members, block, reply, input_parts, input, branch, choice, answer, output_parts, output, count, change, assign, correlate, last_change, loop_parts, undefine, repetition, counted_loop, scope, install, throw, compensate, inner_handler, block_statement, nothing, handler_key, thrown, name, root_type, type_body, bounds, cardinal, field, defined_type, type_definition, type_named, fault, throws, request_response, one_way, request_responses, one_ways, operation_group, interface, alias, variable, execution_clause, port_body, port, correlation_set, init_clause, main_clause, clauses, service}
 use Rattle.jolie_parse.specs.Factored.{named_parts, one_else, one_statement, rule, decided, usable}
 use Rattle.jolie_parse.proofs.Sets.{and_left, and_right, or_cases}

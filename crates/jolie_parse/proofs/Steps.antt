@@ -4,7 +4,8 @@ use Rattle.jolie_parse.specs.declared.class.Class.{Class}
 use Rattle.jolie_parse.specs.declared.stop.Stop.{Stop}
 use Rattle.jolie_parse.specs.declared.stop.Stop.TheVariants.{Syntax, TooDeep, Memory}
 use Rattle.jolie_parse.specs.Classes.{Spelled, class, has, begins}
-use Rattle.jolie_parse.specs.Syntax.{Syn, token, many, means, first}
+use Rattle.jolie_parse.specs.Syntax.{Syn, token, many, means}
+use Rattle.jolie_parse.specs.Deciding.{first}
 use Rattle.jolie_parse.specs.Reading.{Outcome, got, refused, too_deep, and_then, take_token, repeat, read}
 use Rattle.jolie_parse.specs.Reads.{Stops, tail, after, more}
 

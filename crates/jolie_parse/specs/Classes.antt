@@ -356,7 +356,7 @@ class_of (kind.Sign s) spelling = classed.Sign s
 abbrev pub class : Spelled → Class
 class t = class_of t.token.kind t.spelling
 
--- signs by number, which tells them apart
+-- a number for each sign; it only tells one sign from another
 abbrev pub sign_number : Sign → ℕ
 sign_number sign.Arrow = 0
 sign_number sign.Equal = 1
@@ -392,7 +392,7 @@ sign_number sign.Hash = 30
 sign_number sign.At = 31
 sign_number sign.Question = 32
 
--- classes by number, which tells them apart
+-- a number for each class; it only tells one class from another
 abbrev pub number : Class → ℕ
 number (classed.Word w) = word_number w
 number classed.Int = 41
@@ -410,11 +410,22 @@ ids = plain_name ∷ the_location ∷ the_protocol ∷ the_interfaces ∷ the_co
 
 -- the classes of `word`: all words
 abbrev pub words : List Class
-words = plain_name ∷ the_location ∷ the_protocol ∷ the_interfaces ∷ the_concurrent ∷ the_single ∷ the_type ∷ the_interface ∷ the_service ∷ the_input_port ∷ the_output_port ∷ the_execution ∷ the_cset ∷ the_csets ∷ the_init ∷ the_main ∷ the_scope ∷ the_install ∷ the_throw ∷ the_comp ∷ the_inner_handler ∷ the_this ∷ the_null_process ∷ the_if ∷ the_else ∷ the_while ∷ the_for ∷ the_undef ∷ the_is_defined ∷ the_true ∷ the_false ∷ the_void ∷ the_bool ∷ the_int ∷ the_long ∷ the_string ∷ the_any ∷ the_undefined ∷ the_throws ∷ the_request_response ∷ the_one_way ∷ []
+words =
+    plain_name ∷ the_location ∷ the_protocol ∷ the_interfaces ∷ the_concurrent ∷ the_single ∷ the_type ∷
+    the_interface ∷ the_service ∷ the_input_port ∷ the_output_port ∷ the_execution ∷ the_cset ∷ the_csets ∷
+    the_init ∷ the_main ∷ the_scope ∷ the_install ∷ the_throw ∷ the_comp ∷ the_inner_handler ∷ the_this ∷
+    the_null_process ∷ the_if ∷ the_else ∷ the_while ∷ the_for ∷ the_undef ∷ the_is_defined ∷ the_true ∷ the_false ∷
+    the_void ∷ the_bool ∷ the_int ∷ the_long ∷ the_string ∷ the_any ∷ the_undefined ∷ the_throws ∷
+    the_request_response ∷ the_one_way ∷ []
 
 -- all classes
 abbrev pub classes : List Class
-classes = words ++ int_number ∷ long_number ∷ quoted_text ∷ sign_arrow ∷ sign_equal ∷ sign_not_equal ∷ sign_at_most ∷ sign_at_least ∷ sign_deep_assign ∷ sign_increment ∷ sign_decrement ∷ sign_and ∷ sign_or ∷ sign_open_brace ∷ sign_close_brace ∷ sign_open_paren ∷ sign_close_paren ∷ sign_open_bracket ∷ sign_close_bracket ∷ sign_comma ∷ sign_semicolon ∷ sign_colon ∷ sign_dot ∷ sign_bar ∷ sign_assign ∷ sign_less ∷ sign_greater ∷ sign_plus ∷ sign_minus ∷ sign_star ∷ sign_slash ∷ sign_percent ∷ sign_not ∷ sign_hash ∷ sign_at ∷ sign_question ∷ []
+classes =
+    words ++ int_number ∷ long_number ∷ quoted_text ∷ sign_arrow ∷ sign_equal ∷ sign_not_equal ∷ sign_at_most ∷
+    sign_at_least ∷ sign_deep_assign ∷ sign_increment ∷ sign_decrement ∷ sign_and ∷ sign_or ∷ sign_open_brace ∷
+    sign_close_brace ∷ sign_open_paren ∷ sign_close_paren ∷ sign_open_bracket ∷ sign_close_bracket ∷ sign_comma ∷
+    sign_semicolon ∷ sign_colon ∷ sign_dot ∷ sign_bar ∷ sign_assign ∷ sign_less ∷ sign_greater ∷ sign_plus ∷
+    sign_minus ∷ sign_star ∷ sign_slash ∷ sign_percent ∷ sign_not ∷ sign_hash ∷ sign_at ∷ sign_question ∷ []
 
 -- the brackets that open
 abbrev pub open_brackets : List Class

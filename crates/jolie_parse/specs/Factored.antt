@@ -1,3 +1,4 @@
+-- These definitions serve the proofs alone: no promise speaks of them.
 -- The same grammar with common fronts taken out of its choices, so that one token decides each.
 use Rattle.std.specs.Prelude.{ℕ, zero, suc, Bool, true, false, ◌&&◌, not, List, [], ◌∷◌}
 use Rattle.jolie_ast.specs.declared.process.Process.{Process}
@@ -8,7 +9,8 @@ use Rattle.jolie_parse.specs.declared.class.Class.{Class}
 use Rattle.jolie_parse.specs.Classes as c
 use Rattle.jolie_parse.specs.Classes.{Spelled, has}
 use Rattle.jolie_parse.specs.Meanings as means_as
-use Rattle.jolie_parse.specs.Syntax.{Part, an_else_if, Meant, Syn, token, give, both, either, many, means, inside, prefix, Lang, Derives, nullable, first, further, later, disjoint, covers, behind}
+use Rattle.jolie_parse.specs.Syntax.{Part, an_else_if, Meant, Syn, token, give, both, either, many, means, inside, prefix, Lang, Derives, behind}
+use Rattle.jolie_parse.specs.Deciding.{nullable, first, further, later, disjoint, covers}
 use Rattle.jolie_parse.specs.Grammar.{id, path_parts, input_parts, output_parts, change, block, nothing, marked_statement, part_rules}
 
 -- an input behind its operation, as what it is for that name

@@ -1,11 +1,13 @@
 pub mod Words
 pub mod Classes
 pub mod Syntax
+pub mod Deciding
 pub mod Meanings
 pub mod Grammar
 pub mod Factored
 pub mod Reading
 pub mod Levels
+pub mod WholeFiles
 pub mod Answers
 pub mod Laws
 pub mod Reads

@@ -1,8 +1,10 @@
+-- These definitions serve the proofs alone: no promise speaks of them.
 -- Reading a grammar from the left, one token deciding each choice.
 use Rattle.std.specs.Prelude.{◌≡◌, ℕ, zero, suc, List, [], ◌∷◌, length, if◌then◌else◌}
 use Rattle.jolie_parse.specs.declared.class.Class.{Class}
 use Rattle.jolie_parse.specs.Classes.{Spelled, class, has, begins, open_brackets}
-use Rattle.jolie_parse.specs.Syntax.{Part, Meant, Syn, token, give, both, either, many, means, inside, prefix, first}
+use Rattle.jolie_parse.specs.Syntax.{Part, Meant, Syn, token, give, both, either, many, means, inside, prefix}
+use Rattle.jolie_parse.specs.Deciding.{first}
 use Rattle.jolie_parse.specs.Factored.{rule}
 
 -- what comes of reading a phrase

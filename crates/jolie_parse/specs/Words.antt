@@ -52,11 +52,12 @@ spelling word.OneWay = codes "OneWay"
 -- the words that count: all but the plain one
 abbrev pub counted_words : List Word
 counted_words =
-    word.Location ∷ word.Protocol ∷ word.Interfaces ∷ word.Concurrent ∷ word.Single ∷ word.Type ∷ word.Interface ∷ word.Service ∷ word.InputPort ∷
-    word.OutputPort ∷ word.Execution ∷ word.Cset ∷ word.Csets ∷ word.Init ∷ word.Main ∷ word.Scope ∷ word.Install ∷ word.Throw ∷ word.Comp ∷
-    word.InnerHandler ∷ word.This ∷ word.NullProcess ∷ word.If ∷ word.Else ∷ word.While ∷ word.For ∷ word.Undef ∷ word.IsDefined ∷ word.True ∷
-    word.False ∷ word.Void ∷ word.Bool ∷ word.Int ∷ word.Long ∷ word.Str ∷ word.Any ∷ word.Undefined ∷ word.Throws ∷ word.RequestResponse ∷
-    word.OneWay ∷ []
+    word.Location ∷ word.Protocol ∷ word.Interfaces ∷ word.Concurrent ∷ word.Single ∷ word.Type ∷ word.Interface ∷
+    word.Service ∷ word.InputPort ∷ word.OutputPort ∷ word.Execution ∷ word.Cset ∷ word.Csets ∷ word.Init ∷
+    word.Main ∷ word.Scope ∷ word.Install ∷ word.Throw ∷ word.Comp ∷ word.InnerHandler ∷ word.This ∷
+    word.NullProcess ∷ word.If ∷ word.Else ∷ word.While ∷ word.For ∷ word.Undef ∷ word.IsDefined ∷ word.True ∷
+    word.False ∷ word.Void ∷ word.Bool ∷ word.Int ∷ word.Long ∷ word.Str ∷ word.Any ∷ word.Undefined ∷ word.Throws ∷
+    word.RequestResponse ∷ word.OneWay ∷ []
 
 -- the word that counts and is written in these bytes
 unfoldable pub counted : List ℕ → Option Word
@@ -66,7 +67,7 @@ counted bytes = find (λ w. bytes_eq (spelling w) bytes) counted_words
 unfoldable pub word_of : List ℕ → Word
 word_of bytes = elim (counted bytes) [ Some w ↦ w | None ↦ word.Plain ]
 
--- words by number, which tells them apart
+-- a number for each word; it only tells one word from another
 abbrev pub word_number : Word → ℕ
 word_number word.Plain = 0
 word_number word.Location = 1

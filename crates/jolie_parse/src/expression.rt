@@ -76,29 +76,23 @@ fn start_of(operands: &Items<Expr>) -> u32
 }
 
 /// Operands with `||`; one alone is itself.
-fn or_of(mut operands: Items<Expr>) -> Expr
-    ensures { result ≡ means_as.or_of operands }
+fn or_of(alloc: Global, mut operands: Items<Expr>) -> Result<Expr, AllocError>
+    ensures { IfOk result (λ e. e ≡ means_as.or_of operands) }
 {
     if operands.len() == 1 {
-        return operands.remove(0);
+        return Ok(operands.remove(0));
     }
-    Expr {
-        at: start_of(&operands),
-        form: ExprForm::Or(operands),
-    }
+    Expr::new(alloc, start_of(&operands), ExprForm::Or(operands))
 }
 
 /// Operands with `&&`; one alone is itself.
-fn and_of(mut operands: Items<Expr>) -> Expr
-    ensures { result ≡ means_as.and_of operands }
+fn and_of(alloc: Global, mut operands: Items<Expr>) -> Result<Expr, AllocError>
+    ensures { IfOk result (λ e. e ≡ means_as.and_of operands) }
 {
     if operands.len() == 1 {
-        return operands.remove(0);
+        return Ok(operands.remove(0));
     }
-    Expr {
-        at: start_of(&operands),
-        form: ExprForm::And(operands),
-    }
+    Expr::new(alloc, start_of(&operands), ExprForm::And(operands))
 }
 
 /// Operands with `+` and `-`; one alone is itself.
@@ -108,13 +102,9 @@ fn sum_of(alloc: Global, first: Expr, rest: Items<Term>) -> Result<Expr, AllocEr
     if rest.is_empty() {
         return Ok(first);
     }
-    Ok(Expr {
-        at: first.at,
-        form: ExprForm::Sum {
-            first: Boxed::new(alloc, first)?,
-            rest,
-        },
-    })
+    let at = first.at;
+    let first = Boxed::new(alloc, first)?;
+    Expr::new(alloc, at, ExprForm::Sum { first, rest })
 }
 
 /// Operands with `*`, `/` and `%`; one alone is itself.
@@ -124,27 +114,28 @@ fn product_of(alloc: Global, first: Expr, rest: Items<Factor>) -> Result<Expr, A
     if rest.is_empty() {
         return Ok(first);
     }
-    Ok(Expr {
-        at: first.at,
-        form: ExprForm::Product {
-            first: Boxed::new(alloc, first)?,
-            rest,
-        },
-    })
+    let at = first.at;
+    let first = Boxed::new(alloc, first)?;
+    Expr::new(alloc, at, ExprForm::Product { first, rest })
 }
 
 /// Two operands and the sign that compares them.
 fn compared(alloc: Global, left: Expr, sign: &Taken, right: Expr) -> Result<Expr, AllocError>
     ensures { IfOk result (λ e. e ≡ means_as.comparison_made (left, Some (sign.now, right))) }
 {
-    Ok(Expr {
-        at: left.at,
-        form: ExprForm::Compare {
-            left: Boxed::new(alloc, left)?,
-            comparison: comparison_of(sign.class()),
-            right: Boxed::new(alloc, right)?,
+    let at = left.at;
+    let left = Boxed::new(alloc, left)?;
+    let right = Boxed::new(alloc, right)?;
+    let comparison = comparison_of(sign.class());
+    Expr::new(
+        alloc,
+        at,
+        ExprForm::Compare {
+            left,
+            comparison,
+            right,
         },
-    })
+    )
 }
 
 /// `-` or `!` and its operand.
@@ -153,16 +144,10 @@ fn prefixed_of(alloc: Global, prefix: &Taken, operand: Expr) -> Result<Expr, All
 {
     let at = prefix.at();
     let operand = Boxed::new(alloc, operand)?;
-    Ok(match prefix.class() {
-        Class::Sign(Sign::Minus) => Expr {
-            at,
-            form: ExprForm::Minus(operand),
-        },
-        _ => Expr {
-            at,
-            form: ExprForm::Not(operand),
-        },
-    })
+    match prefix.class() {
+        Class::Sign(Sign::Minus) => Expr::new(alloc, at, ExprForm::Minus(operand)),
+        _ => Expr::new(alloc, at, ExprForm::Not(operand)),
+    }
 }
 
 impl<'a> Cursor<'a> {
@@ -171,10 +156,8 @@ impl<'a> Cursor<'a> {
         ensures { Reads (read 0 spec.whole_number self.old) result self.new }
     {
         let token = self.take(&[Class::Int])?;
-        Ok(Expr {
-            at: token.at(),
-            form: ExprForm::Int(token.int()),
-        })
+        let form = ExprForm::Int(token.int());
+        Ok(Expr::new(self.alloc, token.at(), form)?)
     }
 
     #[tactic(auto, using(crate::proofs::Lists::passes, crate::proofs::Lists::stops_then), unfolding(crate::specs::Grammar::long_number))]
@@ -182,10 +165,8 @@ impl<'a> Cursor<'a> {
         ensures { Reads (read 0 spec.long_number self.old) result self.new }
     {
         let token = self.take(&[Class::Long])?;
-        Ok(Expr {
-            at: token.at(),
-            form: ExprForm::Long(token.long()),
-        })
+        let form = ExprForm::Long(token.long());
+        Ok(Expr::new(self.alloc, token.at(), form)?)
     }
 
     #[tactic(auto, using(crate::proofs::Lists::passes, crate::proofs::Lists::stops_then), unfolding(crate::specs::Grammar::quoted_text))]
@@ -193,10 +174,8 @@ impl<'a> Cursor<'a> {
         ensures { Reads (read 0 spec.quoted_text self.old) result self.new }
     {
         let token = self.take(&[Class::Str])?;
-        Ok(Expr {
-            at: token.at(),
-            form: ExprForm::Str(token.text(self.alloc)?),
-        })
+        let text = token.text(self.alloc)?;
+        Ok(Expr::new(self.alloc, token.at(), ExprForm::Str(text))?)
     }
 
     #[tactic(auto, using(crate::proofs::Lists::passes, crate::proofs::Lists::stops_then), unfolding(crate::specs::Grammar::truth))]
@@ -204,10 +183,8 @@ impl<'a> Cursor<'a> {
         ensures { Reads (read 0 spec.truth self.old) result self.new }
     {
         let token = self.take(&TRUTHS)?;
-        Ok(Expr {
-            at: token.at(),
-            form: ExprForm::Bool(token.is(Word::True)),
-        })
+        let form = ExprForm::Bool(token.is(Word::True));
+        Ok(Expr::new(self.alloc, token.at(), form)?)
     }
 
     #[tactic(auto, using(crate::proofs::Lists::passes, crate::proofs::Lists::stops_then), unfolding(crate::specs::Grammar::path_value))]
@@ -216,10 +193,8 @@ impl<'a> Cursor<'a> {
         ensures { Reads (read levels spec.path_value self.old) result self.new }
     {
         let path = self.path(levels)?;
-        Ok(Expr {
-            at: path.first.name.at,
-            form: ExprForm::Path(path),
-        })
+        let at = path.first.name.at;
+        Ok(Expr::new(self.alloc, at, ExprForm::Path(path))?)
     }
 
     /// `#` and a path.
@@ -230,10 +205,7 @@ impl<'a> Cursor<'a> {
     {
         let hash = self.sign(Sign::Hash)?;
         let path = self.path(levels)?;
-        Ok(Expr {
-            at: hash.at(),
-            form: ExprForm::Size(path),
-        })
+        Ok(Expr::new(self.alloc, hash.at(), ExprForm::Size(path))?)
     }
 
     #[tactic(auto, using(crate::proofs::Lists::passes, crate::proofs::Lists::stops_then), unfolding(crate::specs::Grammar::defined_test))]
@@ -243,10 +215,7 @@ impl<'a> Cursor<'a> {
     {
         let word = self.word(Word::IsDefined)?;
         let path = self.path_in_parens(levels)?;
-        Ok(Expr {
-            at: word.at(),
-            form: ExprForm::IsDefined(path),
-        })
+        Ok(Expr::new(self.alloc, word.at(), ExprForm::IsDefined(path))?)
     }
 
     #[tactic(auto, using(crate::proofs::Lists::passes, crate::proofs::Lists::stops_then), unfolding(crate::specs::Grammar::cast))]
@@ -255,14 +224,10 @@ impl<'a> Cursor<'a> {
         ensures { Reads (read levels spec.cast self.old) result self.new }
     {
         let word = self.take(&CASTS)?;
+        let target = cast_target(word.class());
         let operand = self.expression_in_parens(levels)?;
-        Ok(Expr {
-            at: word.at(),
-            form: ExprForm::Cast {
-                target: cast_target(word.class()),
-                operand: Boxed::new(self.alloc, operand)?,
-            },
-        })
+        let operand = Boxed::new(self.alloc, operand)?;
+        Ok(Expr::new(self.alloc, word.at(), ExprForm::Cast { target, operand })?)
     }
 
     /// An expression in parentheses, which leave nothing but their place, and that is its place then.
@@ -288,10 +253,7 @@ impl<'a> Cursor<'a> {
         let open = self.open(&[Class::Sign(Sign::OpenBrace)], levels)?;
         let part = self.members(levels - 1);
         let members = self.closed(part, Sign::CloseBrace, levels - 1)?;
-        Ok(Expr {
-            at: open.at(),
-            form: ExprForm::Literal(members),
-        })
+        Ok(Expr::new(self.alloc, open.at(), ExprForm::Literal(members))?)
     }
 
     /// An operand without a prefix.
@@ -462,7 +424,7 @@ impl<'a> Cursor<'a> {
     {
         let first = self.comparison(levels)?;
         let operands = self.more_comparisons(levels, one(self.alloc, first)?)?;
-        Ok(and_of(operands))
+        Ok(and_of(self.alloc, operands)?)
     }
 
     /// `||` and a conjunction.
@@ -495,7 +457,7 @@ impl<'a> Cursor<'a> {
     {
         let first = self.conjunction(levels)?;
         let operands = self.more_conjunctions(levels, one(self.alloc, first)?)?;
-        Ok(or_of(operands))
+        Ok(or_of(self.alloc, operands)?)
     }
 
     #[cycle(expression)]
@@ -516,11 +478,9 @@ impl<'a> Cursor<'a> {
     {
         self.sign(Sign::Dot)?;
         let word = self.take(&WORDS)?;
+        let name = word.name(self.alloc)?;
         let index = self.index(levels)?;
-        Ok(Step {
-            name: word.name(self.alloc)?,
-            index,
-        })
+        Ok(Step { name, index })
     }
 
     #[cycle(expression)]
@@ -551,8 +511,8 @@ impl<'a> Cursor<'a> {
         ensures { Reads (read levels spec.path self.old) result self.new }
     {
         let word = self.take(&IDS)?;
-        let (index, rest) = self.path_parts(levels)?;
         let name = word.name(self.alloc)?;
+        let (index, rest) = self.path_parts(levels)?;
         Ok(Path {
             first: Step { name, index },
             rest,
@@ -595,12 +555,10 @@ impl<'a> Cursor<'a> {
     {
         self.eat(Sign::Dot);
         let word = self.take(&WORDS)?;
+        let name = word.name(self.alloc)?;
         self.sign(Sign::Assign)?;
         let value = self.expression(levels)?;
-        Ok(Member {
-            name: word.name(self.alloc)?,
-            value,
-        })
+        Ok(Member { name, value })
     }
 
     /// A comma and a member.

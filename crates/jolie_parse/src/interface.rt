@@ -68,11 +68,9 @@ impl<'a> Cursor<'a> {
         ensures { Reads (read levels spec.fault self.old) result self.new }
     {
         let word = self.take(&IDS)?;
+        let name = word.name(self.alloc)?;
         let ty = self.fault_type(levels)?;
-        Ok(Fault {
-            name: word.name(self.alloc)?,
-            ty,
-        })
+        Ok(Fault { name, ty })
     }
 
     fn more_faults(&mut self, levels: u32, mut faults: Items<Fault>) -> Result<Items<Fault>, Stop>
@@ -107,15 +105,25 @@ impl<'a> Cursor<'a> {
         ensures { Reads (read levels spec.request_response self.old) result self.new }
     {
         let word = self.take(&IDS)?;
+        let name = word.name(self.alloc)?;
         let request = self.type_in_parens(levels)?;
-        let response = self.type_in_parens(levels)?;
-        let throws = self.throws(levels)?;
+        let (response, throws) = self.response_parts(levels)?;
         Ok(RequestResponse {
-            name: word.name(self.alloc)?,
+            name,
             request,
             response,
             throws: faults_of(self.alloc, throws),
         })
+    }
+
+    /// The type of a response, and the faults behind it.
+    #[tactic(auto, using(crate::proofs::Lists::passes, crate::proofs::Lists::stops_then))]
+    fn response_parts(&mut self, levels: u32) -> Result<(TypeName, Option<Items<Fault>>), Stop>
+        ensures { Reads (read levels (syntax.both (spec.parens syntax.a_type_name) spec.throws) self.old) result self.new }
+    {
+        let response = self.type_in_parens(levels)?;
+        let throws = self.throws(levels)?;
+        Ok((response, throws))
     }
 
     /// A comma and a request-response operation.
@@ -166,11 +174,9 @@ impl<'a> Cursor<'a> {
         ensures { Reads (read levels spec.one_way self.old) result self.new }
     {
         let word = self.take(&IDS)?;
+        let name = word.name(self.alloc)?;
         let request = self.type_in_parens(levels)?;
-        Ok(OneWay {
-            name: word.name(self.alloc)?,
-            request,
-        })
+        Ok(OneWay { name, request })
     }
 
     /// A comma and a one-way operation.
@@ -251,10 +257,11 @@ impl<'a> Cursor<'a> {
     {
         let word = self.word(Word::Interface)?;
         let name = self.take(&IDS)?;
+        let name = name.name(self.alloc)?;
         let groups = self.operations_in_braces(levels)?;
         Ok(Interface {
             at: word.at(),
-            name: name.name(self.alloc)?,
+            name,
             groups,
         })
     }

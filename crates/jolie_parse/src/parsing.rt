@@ -6,7 +6,8 @@ ghost use Rattle.jolie_parse.specs.Grammar as spec;
 ghost use Rattle.jolie_parse.specs.Reading.{read};
 ghost use Rattle.jolie_parse.specs.Reads.{Reads, more};
 ghost use Rattle.jolie_parse.specs.Levels.{rest_place};
-ghost use Rattle.jolie_parse.specs.Answers.{read_file, error_at, Gives, IsRefusedAt, IsTooDeepAt, UnlessMemory};
+ghost use Rattle.jolie_parse.specs.Answers.{IsRefusedAt, IsTooDeepAt, UnlessMemory};
+ghost use Rattle.jolie_parse.specs.WholeFiles.{read_file, error_at, Gives};
 
 use crate::class::FILE_PART_FIRSTS;
 use crate::cursor::Cursor;

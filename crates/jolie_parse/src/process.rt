@@ -264,9 +264,10 @@ impl<'a> Cursor<'a> {
     fn named_input(&mut self, levels: u32, operation: &Taken) -> Result<Process, Stop>
         ensures { Reads (read levels (factored.of_name operation.now factored.named_input) self.old) result self.new }
     {
+        let operation = operation.name(self.alloc)?;
         let (request, reply) = self.input_parts(levels)?;
         Ok(Process::Input(Input {
-            operation: operation.name(self.alloc)?,
+            operation,
             request,
             reply,
         }))
@@ -279,14 +280,26 @@ impl<'a> Cursor<'a> {
     {
         self.sign(Sign::At)?;
         let port = self.take(&IDS)?;
-        let value = self.maybe_expression_in_parens(levels)?;
-        let answer = self.maybe_answer(levels)?;
+        let operation = operation.name(self.alloc)?;
+        let port = port.name(self.alloc)?;
+        let (value, answer) = self.message(levels)?;
         Ok(Process::Output {
-            operation: operation.name(self.alloc)?,
-            port: port.name(self.alloc)?,
+            operation,
+            port,
             value,
             answer,
         })
+    }
+
+    /// What an output sends and awaits.
+    #[tactic(auto, using(crate::proofs::Lists::passes, crate::proofs::Lists::stops_then))]
+    #[cycle(process)]
+    fn message(&mut self, levels: u32) -> Result<(Option<Expr>, Option<Answer>), Stop>
+        ensures { Reads (read levels (syntax.both (spec.parens syntax.maybe_expression) (syntax.optional spec.answer)) self.old) result self.new }
+    {
+        let value = self.maybe_expression_in_parens(levels)?;
+        let answer = self.maybe_answer(levels)?;
+        Ok((value, answer))
     }
 
     /// An assignment to the path that begins with the word.
@@ -294,9 +307,9 @@ impl<'a> Cursor<'a> {
     fn named_assignment(&mut self, levels: u32, word: &Taken) -> Result<Process, Stop>
         ensures { Reads (read levels (factored.of_name word.now factored.named_assignment) self.old) result self.new }
     {
+        let name = word.name(self.alloc)?;
         let (index, rest) = self.path_parts(levels)?;
         let assignment = self.change(levels)?;
-        let name = word.name(self.alloc)?;
         Ok(Process::Assign {
             path: Path {
                 first: Step { name, index },
@@ -311,10 +324,11 @@ impl<'a> Cursor<'a> {
     fn input(&mut self, levels: u32) -> Result<Input, Stop>
         ensures { Reads (read levels spec.input self.old) result self.new }
     {
-        let operation = self.take(&IDS)?;
+        let word = self.take(&IDS)?;
+        let operation = word.name(self.alloc)?;
         let (request, reply) = self.input_parts(levels)?;
         Ok(Input {
-            operation: operation.name(self.alloc)?,
+            operation,
             request,
             reply,
         })

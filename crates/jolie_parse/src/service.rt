@@ -91,12 +91,10 @@ impl<'a> Cursor<'a> {
         ensures { Reads (read 0 spec.variable self.old) result self.new }
     {
         let word = self.take(&IDS)?;
+        let name = word.name(self.alloc)?;
         self.sign(Sign::Colon)?;
         let aliases = self.aliases()?;
-        Ok(CorrelationVariable {
-            name: word.name(self.alloc)?,
-            aliases,
-        })
+        Ok(CorrelationVariable { name, aliases })
     }
 
     /// A comma and a correlation variable.
@@ -231,10 +229,11 @@ impl<'a> Cursor<'a> {
     {
         let word = self.take(&PORT_KINDS)?;
         let name = self.take(&IDS)?;
+        let name = name.name(self.alloc)?;
         let (location, protocol, interfaces) = self.port_body_in_braces(levels)?;
         let port = Port {
             at: word.at(),
-            name: name.name(self.alloc)?,
+            name,
             location,
             protocol,
             interfaces,
@@ -322,10 +321,11 @@ impl<'a> Cursor<'a> {
     {
         let word = self.word(Word::Service)?;
         let name = self.take(&IDS)?;
+        let name = name.name(self.alloc)?;
         let clauses = self.clauses_in_braces(levels)?;
         Ok(Service {
             at: word.at(),
-            name: name.name(self.alloc)?,
+            name,
             clauses,
         })
     }

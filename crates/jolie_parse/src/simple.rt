@@ -156,11 +156,12 @@ impl<'a> Cursor<'a> {
     {
         let word = self.word(Word::Csets)?;
         self.sign(Sign::Dot)?;
-        let variable = self.take(&IDS)?;
+        let name = self.take(&IDS)?;
+        let variable = name.name(self.alloc)?;
         let value = self.assigned(levels)?;
         Ok(Process::Correlate {
             at: word.at(),
-            variable: variable.name(self.alloc)?,
+            variable,
             value,
         })
     }
@@ -182,9 +183,7 @@ impl<'a> Cursor<'a> {
     {
         let path = self.path(levels)?;
         let first = self.assigned(levels)?;
-        let test = self.next_expression(levels)?;
-        let stepped = self.next_path(levels)?;
-        let step = self.last_change(levels)?;
+        let (test, (stepped, step)) = self.turn_parts(levels)?;
         Ok(ForParts {
             path,
             first,
@@ -192,6 +191,17 @@ impl<'a> Cursor<'a> {
             stepped,
             step,
         })
+    }
+
+    /// The test of a `for` and what it does after each turn.
+    #[tactic(auto, using(crate::proofs::Lists::passes, crate::proofs::Lists::stops_then))]
+    fn turn_parts(&mut self, levels: u32) -> Result<(Expr, (Path, ForStep)), Stop>
+        ensures { Reads (read levels (syntax.both (syntax.behind c.sign_comma spec.expr) (syntax.both (syntax.behind c.sign_comma spec.path) spec.last_change)) self.old) result self.new }
+    {
+        let test = self.next_expression(levels)?;
+        let stepped = self.next_path(levels)?;
+        let step = self.last_change(levels)?;
+        Ok((test, (stepped, step)))
     }
 
     #[tactic(auto, using(crate::proofs::Lists::passes, crate::proofs::Inside::between_unopened, crate::proofs::Inside::between_reads))]
@@ -230,9 +240,10 @@ impl<'a> Cursor<'a> {
     fn thrown(&mut self, levels: u32) -> Result<(Name, Option<Expr>), Stop>
         ensures { Reads (read levels spec.thrown self.old) result self.new }
     {
-        let fault = self.take(&IDS)?;
+        let word = self.take(&IDS)?;
+        let fault = word.name(self.alloc)?;
         let value = self.thrown_value(levels)?;
-        Ok((fault.name(self.alloc)?, value))
+        Ok((fault, value))
     }
 
     #[tactic(auto, using(crate::proofs::Lists::passes, crate::proofs::Inside::between_unopened, crate::proofs::Inside::between_reads))]

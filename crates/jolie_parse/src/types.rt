@@ -87,12 +87,13 @@ impl<'a> Cursor<'a> {
     {
         self.eat(Sign::Dot);
         let word = self.take(&WORDS)?;
+        let name = word.name(self.alloc)?;
         let cardinality = self.cardinality(levels)?;
         self.sign(Sign::Colon)?;
         let body = self.type_body(levels)?;
         self.eat(Sign::Comma);
         Ok(Field {
-            name: word.name(self.alloc)?,
+            name,
             cardinality,
             body,
         })
@@ -174,10 +175,11 @@ impl<'a> Cursor<'a> {
     {
         let word = self.word(Word::Type)?;
         let name = self.take(&IDS)?;
+        let name = name.name(self.alloc)?;
         let body = self.defined_type(levels)?;
         Ok(TypeDefinition {
             at: word.at(),
-            name: name.name(self.alloc)?,
+            name,
             body,
         })
     }

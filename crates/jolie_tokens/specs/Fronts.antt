@@ -1,3 +1,4 @@
+-- These definitions serve the proofs alone: no promise speaks of them.
 -- What the functions of this crate compute of the bytes at the front of a text. No promise of `lex` speaks of these: they
 -- are proved to find the pieces and the refusals that the other files of definitions have.
 use Rattle.std.specs.Prelude.{◌≡◌, ℕ, ◌+◌, ◌-◌, min, Bool, true, false, ◌&&◌, not, ◌==◌, List, [], ◌∷◌, map, length, take, drop, if◌then◌else◌, Option, None, Some, Result, Ok, Err, MatchResult}

@@ -2,7 +2,7 @@ use Rattle.std.proofs.Common.{sym, ap, subst, ◌∙◌}
 use Rattle.std.specs.List.{All}
 use Rattle.jolie_parse.specs.Reads.{StandsIn}
 use Rattle.jolie_parse.specs.Classes.{spelled}
-use Rattle.jolie_parse.specs.Answers.{read_file}
+use Rattle.jolie_parse.specs.WholeFiles.{read_file}
 use Rattle.jolie_parse.proofs.Parses.{members_fit, members_formed}
 use Rattle.jolie_parse.proofs.Spellings.{tokens_stand}
 use Rattle.jolie_parse.proofs.parsing.parse_within.Goals as goal

@@ -9,10 +9,10 @@ use Rattle.jolie_ast.proofs.PrintedExpressions.{operand_several, operand_alone, 
 use Rattle.jolie_ast.proofs.printer.Printer.+expression.Goals as goal
 
 pub operand-returns-then-is_operation : goal.operand-returns-then-is_operation
-operand-returns-then-is_operation t c = rw (operand_several c.args.operand.now (sym c.is_operation.ensures ∙ c.if-is_operation.true)) c.in_parens.ensures
+operand-returns-then-is_operation t c = rw (operand_several c.args.operand.now (ap (λ f. (form_shown f).several) (sym c.get.ensures) ∙ sym c.is_operation.ensures ∙ c.if-is_operation.true)) c.in_parens.ensures
 
 pub operand-returns-else-is_operation : goal.operand-returns-else-is_operation
-operand-returns-else-is_operation t c = rw (operand_alone c.args.operand.now (sym c.is_operation.ensures ∙ c.if-is_operation.false)) c.expr.ensures
+operand-returns-else-is_operation t c = rw (operand_alone c.args.operand.now (ap (λ f. (form_shown f).several) (sym c.get.ensures) ∙ sym c.is_operation.ensures ∙ c.if-is_operation.false)) c.expr.ensures
 
 pub form-returns-in_ok-token-in-IsDefined : goal.form-returns-in_ok-token-in-IsDefined
 form-returns-in_ok-token-in-IsDefined t c =

@@ -134,7 +134,7 @@ pub conjunction-returns : goal.conjunction-returns
 unfolding conjunction
 conjunction-returns t c =
     let e = list_read c.args.levels comparison (behind classes.sign_and comparison) c.args.self.now _ _ _ _ _ c.in_ok-first.ensures c.in_ok-one.ensures c.in_ok-operands.ensures in
-    rw (e, c.and_of.ensures) refl
+    rw (e, c.in_ok-and_of.ensures) refl
 
 pub expression-returns-in_err-first : goal.expression-returns-in_err-first
 unfolding expr
@@ -153,7 +153,7 @@ pub expression-returns : goal.expression-returns
 unfolding expr
 expression-returns t c =
     let e = list_read c.args.levels conjunction (behind classes.sign_or conjunction) c.args.self.now _ _ _ _ _ c.in_ok-first.ensures c.in_ok-one.ensures c.in_ok-operands.ensures in
-    rw (e, c.or_of.ensures) refl
+    rw (e, c.in_ok-or_of.ensures) refl
 
 pub primary-returns-then-sees : goal.primary-returns-then-sees
 unfolding primary whole_number long_number quoted_text truth path_value path id size defined_test cast grouped
@@ -318,7 +318,7 @@ pub literal-returns : goal.literal-returns
 unfolding literal
 literal-returns t c =
     let e = inside_read classes.sign_open_brace syntax.some_members classes.sign_close_brace c.args.levels (c.args.levels - 1) c.args.self.now _ _ _ _ c.members-part.result _ c.in_ok-open.ensures.opened refl c.in_ok-open.ensures.reads c.members-part.ensures c.in_ok-members.ensures in
-    rw (e, c.at.ensures) refl
+    rw (e, c.in_ok-new.ensures, c.at.ensures) refl
 
 pub prefixed_operand-returns : goal.prefixed_operand-returns
 unfolding prefixed_operand

@@ -75,6 +75,9 @@ decreases-maybe_handlers l = l.levels * 20 + 2
 abbrev pub decreases-maybe_reply : goal.decreases-maybe_reply
 decreases-maybe_reply l = l.levels * 20 + 3
 
+abbrev pub decreases-message : goal.decreases-message
+decreases-message l = l.levels * 20 + 5
+
 abbrev pub decreases-more_branches : goal.decreases-more_branches
 decreases-more_branches l = l.levels * 20 + 3
 
@@ -112,16 +115,16 @@ abbrev pub decreases-more_statements-loop-statements : goal.decreases-more_state
 decreases-more_statements-loop-statements l = length l.self
 
 abbrev pub decreases-named : goal.decreases-named
-decreases-named l = l.levels * 20 + 7
+decreases-named l = l.levels * 20 + 8
 
 abbrev pub decreases-named_input : goal.decreases-named_input
 decreases-named_input l = l.levels * 20 + 5
 
 abbrev pub decreases-named_output : goal.decreases-named_output
-decreases-named_output l = l.levels * 20 + 5
+decreases-named_output l = l.levels * 20 + 6
 
 abbrev pub decreases-named_parts : goal.decreases-named_parts
-decreases-named_parts l = l.levels * 20 + 6
+decreases-named_parts l = l.levels * 20 + 7
 
 abbrev pub decreases-next_handler : goal.decreases-next_handler
 decreases-next_handler l = l.levels * 20 + 17
