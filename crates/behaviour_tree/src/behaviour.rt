@@ -129,15 +129,22 @@ impl Behaviour {
             }),
             Behaviour::Sequence(list) => Ok(Behaviour::Sequence(copied_behaviours(list)?)),
             Behaviour::Parallel(list) => Ok(Behaviour::Parallel(copied_behaviours(list)?)),
-            Behaviour::If { test, then, other } => Ok(Behaviour::If {
-                test: test.copied()?,
-                then: boxed(then, then.copied()?)?,
-                other: boxed(other, other.copied()?)?,
-            }),
-            Behaviour::While { test, body } => Ok(Behaviour::While {
-                test: test.copied()?,
-                body: boxed(body, body.copied()?)?,
-            }),
+            Behaviour::If { test, then, other } => {
+                let then = boxed(then, then.copied()?)?;
+                let other = boxed(other, other.copied()?)?;
+                Ok(Behaviour::If {
+                    test: test.copied()?,
+                    then,
+                    other,
+                })
+            }
+            Behaviour::While { test, body } => {
+                let body = boxed(body, body.copied()?)?;
+                Ok(Behaviour::While {
+                    test: test.copied()?,
+                    body,
+                })
+            }
             Behaviour::Choice(list) => Ok(Behaviour::Choice(copied_branches(list)?)),
             Behaviour::Notify { port, op, value } => Ok(Behaviour::Notify {
                 port: *port,
@@ -150,13 +157,17 @@ impl Behaviour {
                 value,
                 target,
                 handlers,
-            } => Ok(Behaviour::Solicit {
-                port: *port,
-                op: *op,
-                value: value.copied()?,
-                target: copied_target(target)?,
-                handlers: handlers.copied()?,
-            }),
+            } => {
+                let handlers = handlers.copied()?;
+                let target = copied_target(target)?;
+                Ok(Behaviour::Solicit {
+                    port: *port,
+                    op: *op,
+                    value: value.copied()?,
+                    target,
+                    handlers,
+                })
+            }
             Behaviour::Install(handlers) => Ok(Behaviour::Install(handlers.copied()?)),
             Behaviour::Throw { fault, value } => Ok(Behaviour::Throw {
                 fault: *fault,
@@ -180,20 +191,28 @@ impl Branch {
     {
         let target = copied_target(&self.target)?;
         let after = self.after.copied()?;
-        match &self.reply {
-            None => Ok(Branch {
+        match copied_reply(&self.reply) {
+            Ok(reply) => Ok(Branch {
                 op: self.op,
                 target,
-                reply: None,
+                reply,
                 after,
             }),
-            Some(part) => Ok(Branch {
-                op: self.op,
-                target,
-                reply: Some(part.copied()?),
-                after,
-            }),
+            Err(error) => {
+                drop(after);
+                Err(error)
+            }
         }
+    }
+}
+
+#[cycle(copied)]
+fn copied_reply(reply: &Option<ReplyPart>) -> Result<Option<ReplyPart>, AllocError>
+    ensures { IfOk result (λ copy. option_map reply_view copy ≡ option_map reply_view reply.now) }
+{
+    match reply {
+        None => Ok(None),
+        Some(part) => Ok(Some(part.copied()?)),
     }
 }
 

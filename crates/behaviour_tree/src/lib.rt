@@ -6,6 +6,7 @@ mod expr;
 mod operations;
 mod program;
 mod shape;
+pub mod standard;
 mod types;
 mod words;
 

@@ -9,11 +9,11 @@ use Rattle.std.proofs.lemmas.Option.{same_Some}
 use Rattle.std.proofs.lemmas.Slice.Eq.{bytes_eq-Decides}
 use Rattle.jolie_ast.specs.declared.name.Name.{Name}
 use Rattle.behaviour_tree.specs.Distinct.{texts_differ, is_in}
-use Rattle.service_check.specs.declared.refusal.CheckName.{CheckName}
-use Rattle.service_check.specs.declared.refusal.Refusal.{Refusal}
-use Rattle.service_check.specs.Least.{least, refused, refused_if}
-use Rattle.service_check.specs.Repeated.{repeated, repeated_after}
-use Rattle.service_check.specs.Files.{place_in}
+use Rattle.check_base.specs.declared.refusal.CheckName.{CheckName}
+use Rattle.check_base.specs.declared.refusal.Refusal.{Refusal}
+use Rattle.check_base.specs.Least.{least, refused, refused_if}
+use Rattle.check_base.specs.Repeated.{repeated, repeated_after}
+use Rattle.check_base.specs.Files.{place_in}
 
 -- ---- nothing is refused
 

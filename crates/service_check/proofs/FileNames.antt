@@ -4,9 +4,9 @@ use Rattle.std.specs.Prelude.{not, ◌||◌, is_some}
 use Rattle.std.specs.List.{list_any, cons_option}
 use Rattle.jolie_ast.specs.declared.tree.Definition.{Definition}
 use Rattle.jolie_ast.specs.declared.service.Service.{Service}
-use Rattle.service_check.specs.declared.refusal.CheckName.TheVariants.{NoStart}
-use Rattle.service_check.specs.Least.{refused_if}
-use Rattle.service_check.specs.Files.{service_in, services_of}
+use Rattle.check_base.specs.declared.refusal.CheckName.TheVariants.{NoStart}
+use Rattle.check_base.specs.Least.{refused_if}
+use Rattle.check_base.specs.Files.{service_in, services_of}
 use Rattle.service_check.specs.Refusals.{no_service}
 
 -- a service may stand before the others

@@ -3,17 +3,17 @@ use Rattle.std.proofs.Common.{◌≡◌, ℕ, List, ◌++◌, Option, None, ap, 
 use Rattle.jolie_ast.specs.declared.tree.Definition.{Definition}
 use Rattle.jolie_ast.specs.declared.types.TypeDefinition.{TypeDefinition}
 use Rattle.jolie_ast.specs.declared.interface.Interface.{Interface}
-use Rattle.service_check.specs.declared.refusal.Refusal.{Refusal}
-use Rattle.service_check.specs.Least.{joined}
-use Rattle.service_check.specs.Files.{types_of, interfaces_of, service_in, services_of}
-use Rattle.service_check.specs.TypeRules.{type_refused}
-use Rattle.service_check.specs.InterfaceRules.{interface_refused}
-use Rattle.service_check.specs.PortRules.{input_locations}
+use Rattle.check_base.specs.declared.refusal.Refusal.{Refusal}
+use Rattle.check_base.specs.Least.{joined}
+use Rattle.check_base.specs.Files.{types_of, interfaces_of, service_in, services_of}
+use Rattle.type_checks.specs.TypeRules.{type_refused}
+use Rattle.type_checks.specs.InterfaceRules.{interface_refused}
+use Rattle.port_checks.specs.PortRules.{input_locations}
 use Rattle.service_check.specs.ServiceRules.{service_refused}
 use Rattle.service_check.specs.Clauses.{definition_refused}
 use Rattle.service_check.specs.Refusals.{no_service, names_refused, refusals, refusal_of}
-use Rattle.service_check.proofs.Joined.{joined_append, joined_least}
-use Rattle.service_check.proofs.Loops.{each_there}
+use Rattle.check_base.proofs.Joined.{joined_append, joined_least}
+use Rattle.check_base.proofs.Loops.{each_there}
 
 -- what is refused of the services of a file, definition by definition
 pub services_found : (types : List TypeDefinition) (interfaces : List Interface) (locations : List (List ℕ)) (file : List Definition) → flat_map (definition_refused types interfaces locations) file ≡ flat_map (service_refused types interfaces locations) (services_of file)

@@ -9,17 +9,16 @@ use Rattle.jolie_ast.specs.declared.interface.Interface.{Interface}
 use Rattle.jolie_ast.specs.declared.service.Clause.{Clause}
 use Rattle.jolie_ast.specs.declared.service.Port.{Port}
 use Rattle.jolie_ast.specs.declared.service.Service.{Service}
-use Rattle.service_check.specs.declared.numbers.NumberedPort as kept
+use Rattle.process_lowering.specs.declared.numbers.NumberedPort as kept
 use Rattle.service_check.specs.declared.sides.SidedPort.{SidedPort}
-use Rattle.service_check.specs.Behaviours.{NumberedPort, Numbering}
-use Rattle.service_check.specs.Files.{Operation, Sided, each_once, input_operations, input_port_in, operations_among, port_in, port_operations, texts_of}
-use Rattle.service_check.specs.Mentioned.{with_texts}
-use Rattle.service_check.specs.Numbers.{named_ports}
+use Rattle.process_lowering.specs.Behaviours.{NumberedPort, Numbering}
+use Rattle.check_base.specs.Files.{Operation, Sided, each_once, input_operations, input_port_in, operations_among, port_in, port_operations, texts_of, variables_of}
+use Rattle.check_base.specs.Repeated.{with_texts}
+use Rattle.process_lowering.specs.Numbers.{named_ports}
 use Rattle.service_check.specs.KeptPorts.{sided, kept_names, kept_ports, kept_from, input_operations_among, port_texts}
 use Rattle.service_check.specs.Programs.{numbered_from, numbering}
-use Rattle.service_check.specs.SetRules.{variables_of}
-use Rattle.service_check.proofs.Firsts.{once_taken}
-use Rattle.service_check.proofs.Loops.{all_of_found, mapped_each}
+use Rattle.check_base.proofs.Firsts.{once_taken}
+use Rattle.check_base.proofs.Loops.{all_of_found, mapped_each}
 
 -- ---- ports
 

@@ -21,14 +21,17 @@ use Rattle.jolie_ast.specs.Formed.{each, option_all, path_formed, process_formed
 use Rattle.behaviour_tree.specs.Data as plain
 use Rattle.behaviour_tree.specs.Data.{Proc}
 use Rattle.behaviour_tree.specs.View.{HandlerView, BranchView, ReplyView}
-use Rattle.service_check.specs.Behaviours as means
-use Rattle.service_check.specs.Behaviours.{Numbering, AnswerView, InputView, branch_after, key_of, meant_process, meant_conditional, meant_otherwise, meant_input, meant_reply, meant_branch, meant_answer, meant_handler, meant_block}
-use Rattle.service_check.specs.Expressions.{meant_expr, meant_path}
+use Rattle.process_lowering.specs.Behaviours as means
+use Rattle.process_lowering.specs.Behaviours.{Numbering, AnswerView, InputView, branch_after, key_of, lowered_process, lowered_conditional, lowered_otherwise, lowered_input, lowered_reply, lowered_branch, lowered_answer, lowered_handler, lowered_block}
+use Rattle.process_lowering.specs.Expressions.{lowered_expr, lowered_path}
 use Rattle.service_check.specs.Mentioned as named
-use Rattle.service_check.specs.Mentioned.{Texts, key_texts, process_texts, conditional_texts, otherwise_texts, input_texts, reply_texts, branch_texts, answer_texts, handler_texts, block_texts}
-use Rattle.service_check.specs.ProcessRules as rules
-use Rattle.service_check.specs.ProcessRules.{Surroundings, Found, InputFound, HandlerFound, used, wrong_if_written, answer_handlers_refused, answer_refused, process_refused, block_refused, branch_refused, conditional_refused, handler_refused, input_refused, otherwise_refused, reply_if_written, reply_refused}
-use Rattle.service_check.proofs.ProcessForms as forms
+use Rattle.check_base.specs.Repeated.{Texts}
+use Rattle.service_check.specs.Mentioned.{key_texts, process_texts, conditional_texts, otherwise_texts, input_texts, reply_texts, branch_texts, answer_texts, handler_texts, block_texts}
+use Rattle.process_checks.specs.ProcessRules as rules
+use Rattle.process_checks.specs.Surroundings.{Surroundings}
+use Rattle.process_checks.specs.ProcessRules.{Found, InputFound, HandlerFound, used, wrong_if_written, process_refused, block_refused}
+use Rattle.process_checks.specs.ProcessParts.{answer_handlers_refused, answer_refused, branch_refused, conditional_refused, handler_refused, input_refused, otherwise_refused, reply_if_written, reply_refused}
+use Rattle.process_checks.proofs.ProcessForms as forms
 
 -- ---- what is refused
 
@@ -62,21 +65,21 @@ if_rolled e at test body rest h = ap (λ (f : Found). f h) (fold-roll-If Found F
 
 -- ---- what is meant
 
-pub reply_meant : (m : Numbering) (path : Option Path) (body : Block) → meant_reply m (roll-Reply (record { path = path; body = body })) ≡ record { path = option_map meant_path path; body = meant_block m body }
-unfolding meant_process meant_conditional meant_otherwise meant_input meant_reply meant_branch meant_answer meant_handler meant_block
-reply_meant m path body = fold-roll-Reply Proc Proc AnswerView Proc BranchView HandlerView Proc InputView ReplyView means.otherwise_level (means.process_level m) means.answer_level means.block_level means.branch_level (means.handler_level m) means.if_level (means.input_level m) means.reply_level (record { path = path; body = body })
+pub reply_lowered : (m : Numbering) (path : Option Path) (body : Block) → lowered_reply m (roll-Reply (record { path = path; body = body })) ≡ record { path = option_map lowered_path path; body = lowered_block m body }
+unfolding lowered_process lowered_conditional lowered_otherwise lowered_input lowered_reply lowered_branch lowered_answer lowered_handler lowered_block
+reply_lowered m path body = fold-roll-Reply Proc Proc AnswerView Proc BranchView HandlerView Proc InputView ReplyView means.otherwise_level (means.process_level m) means.answer_level means.block_level means.branch_level (means.handler_level m) means.if_level (means.input_level m) means.reply_level (record { path = path; body = body })
 
-pub branch_meant : (m : Numbering) (at : ℕ) (input : Input) (after : Block) → meant_branch m (roll-Branch (record { at = at; input = input; after = after })) ≡ branch_after (meant_input m input) (meant_block m after)
-unfolding meant_process meant_conditional meant_otherwise meant_input meant_reply meant_branch meant_answer meant_handler meant_block
-branch_meant m at input after = fold-roll-Branch Proc Proc AnswerView Proc BranchView HandlerView Proc InputView ReplyView means.otherwise_level (means.process_level m) means.answer_level means.block_level means.branch_level (means.handler_level m) means.if_level (means.input_level m) means.reply_level (record { at = at; input = input; after = after })
+pub branch_lowered : (m : Numbering) (at : ℕ) (input : Input) (after : Block) → lowered_branch m (roll-Branch (record { at = at; input = input; after = after })) ≡ branch_after (lowered_input m input) (lowered_block m after)
+unfolding lowered_process lowered_conditional lowered_otherwise lowered_input lowered_reply lowered_branch lowered_answer lowered_handler lowered_block
+branch_lowered m at input after = fold-roll-Branch Proc Proc AnswerView Proc BranchView HandlerView Proc InputView ReplyView means.otherwise_level (means.process_level m) means.answer_level means.block_level means.branch_level (means.handler_level m) means.if_level (means.input_level m) means.reply_level (record { at = at; input = input; after = after })
 
-pub handler_meant : (m : Numbering) (key : HandlerKey) (body : Process) → meant_handler m (roll-Handler (record { key = key; body = body })) ≡ record { key = key_of m.names key; body = meant_process m body }
-unfolding meant_process meant_conditional meant_otherwise meant_input meant_reply meant_branch meant_answer meant_handler meant_block
-handler_meant m key body = fold-roll-Handler Proc Proc AnswerView Proc BranchView HandlerView Proc InputView ReplyView means.otherwise_level (means.process_level m) means.answer_level means.block_level means.branch_level (means.handler_level m) means.if_level (means.input_level m) means.reply_level (record { key = key; body = body })
+pub handler_lowered : (m : Numbering) (key : HandlerKey) (body : Process) → lowered_handler m (roll-Handler (record { key = key; body = body })) ≡ record { key = key_of m.names key; body = lowered_process m body }
+unfolding lowered_process lowered_conditional lowered_otherwise lowered_input lowered_reply lowered_branch lowered_answer lowered_handler lowered_block
+handler_lowered m key body = fold-roll-Handler Proc Proc AnswerView Proc BranchView HandlerView Proc InputView ReplyView means.otherwise_level (means.process_level m) means.answer_level means.block_level means.branch_level (means.handler_level m) means.if_level (means.input_level m) means.reply_level (record { key = key; body = body })
 
-pub if_meant : (m : Numbering) (at : ℕ) (test : Expr) (body : Block) (rest : Otherwise) → meant_conditional m (roll-If (record { at = at; test = test; body = body; otherwise = rest })) ≡ plain.choose (meant_expr test) (meant_block m body) (meant_otherwise m rest)
-unfolding meant_process meant_conditional meant_otherwise meant_input meant_reply meant_branch meant_answer meant_handler meant_block
-if_meant m at test body rest = fold-roll-If Proc Proc AnswerView Proc BranchView HandlerView Proc InputView ReplyView means.otherwise_level (means.process_level m) means.answer_level means.block_level means.branch_level (means.handler_level m) means.if_level (means.input_level m) means.reply_level (record { at = at; test = test; body = body; otherwise = rest })
+pub if_lowered : (m : Numbering) (at : ℕ) (test : Expr) (body : Block) (rest : Otherwise) → lowered_conditional m (roll-If (record { at = at; test = test; body = body; otherwise = rest })) ≡ plain.choose (lowered_expr test) (lowered_block m body) (lowered_otherwise m rest)
+unfolding lowered_process lowered_conditional lowered_otherwise lowered_input lowered_reply lowered_branch lowered_answer lowered_handler lowered_block
+if_lowered m at test body rest = fold-roll-If Proc Proc AnswerView Proc BranchView HandlerView Proc InputView ReplyView means.otherwise_level (means.process_level m) means.answer_level means.block_level means.branch_level (means.handler_level m) means.if_level (means.input_level m) means.reply_level (record { at = at; test = test; body = body; otherwise = rest })
 
 -- ---- what is named
 

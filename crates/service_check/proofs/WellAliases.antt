@@ -23,14 +23,14 @@ use Rattle.behaviour_tree.specs.View.{FieldView, type_fields_of}
 use Rattle.behaviour_tree.specs.FormedSets as formed_sets
 use Rattle.behaviour_tree.specs.FormedSets.{fields_of, once_at, is_alias}
 use Rattle.behaviour_tree.specs.Distinct.{is_in}
-use Rattle.service_check.specs.declared.refusal.CheckName.TheVariants.{UnknownType}
-use Rattle.service_check.specs.Files.{place_in, type_named, type_names}
-use Rattle.service_check.specs.TypeRules.{body_of, name_in}
-use Rattle.service_check.specs.SetRules.{is_once, field_named, behind_names, is_value_kind, fields_in, is_value, once_in, leads_to_value, alias_type, wrong_alias}
-use Rattle.service_check.specs.Programs.{natural, least_of, most_of, meant_kind, meant_body, meant_field, meant_definition, meant_alias}
+use Rattle.check_base.specs.declared.refusal.CheckName.TheVariants.{UnknownType}
+use Rattle.check_base.specs.Files.{place_in, type_named, type_names, body_of, name_in}
+use Rattle.port_checks.specs.SetRules.{is_once, field_named, behind_names, is_value_kind, fields_in, is_value, once_in, leads_to_value, alias_type, wrong_alias}
+use Rattle.type_lowering.specs.LoweredTypes.{natural, least_of, most_of, lowered_kind, lowered_body, lowered_field, lowered_definition}
+use Rattle.service_check.specs.Programs.{lowered_alias}
 use Rattle.service_check.proofs.Emptied.{holds}
-use Rattle.service_check.proofs.MeantTypes.{root_meant, named_meant, undefined_meant, field_is}
-use Rattle.service_check.proofs.WellTypes.{meant_types, type_is_there}
+use Rattle.type_lowering.proofs.LoweredTypes.{root_lowered, named_lowered, undefined_lowered, field_is}
+use Rattle.service_check.proofs.WellTypes.{lowered_types, type_is_there}
 
 -- ---- fields that stand once
 
@@ -69,8 +69,8 @@ type_at_place m [] t = refl
 type_at_place m (ty ∷ types) t = type_turn m (bytes_eq ty.name.text t) ty types (place_in (type_names types) t) (type_named types t) (type_at_place m types t)
 
 -- what a body means, by its form
-meant_by_form : (types : List (List ℕ)) (x y : TypeBody) (b : TypeBody-F TypeBody Field) → out-TypeBody x ≡ b → roll-TypeBody b ≡ y → meant_body types x ≡ meant_body types y
-meant_by_form types x y b form rolls = ap (meant_body types) (sym (roll-out-TypeBody x) ∙ ap roll-TypeBody form ∙ rolls)
+lowered_by_form : (types : List (List ℕ)) (x y : TypeBody) (b : TypeBody-F TypeBody Field) → out-TypeBody x ≡ b → roll-TypeBody b ≡ y → lowered_body types x ≡ lowered_body types y
+lowered_by_form types x y b form rolls = ap (lowered_body types) (sym (roll-out-TypeBody x) ∙ ap roll-TypeBody form ∙ rolls)
 
 -- a body behind no names, by its form
 abbrev pub if_no_name : TypeBody → TypeBody-F TypeBody Field → Option TypeBody
@@ -81,55 +81,55 @@ abbrev pub behind_form : List TypeDefinition → ℕ → TypeBody → TypeBody-F
 behind_form types n x b = elim (name_in b) as (λ _. Option TypeBody) [ None ↦ Some x | Some name ↦ elim (type_named types name) as (λ _. Option TypeBody) [ None ↦ None | Some ty ↦ behind_names types n (body_of ty.body) ] ]
 
 behind_there : (types : List TypeDefinition) (n : ℕ) (o : Option TypeDefinition)
-    → ((x : TypeBody) → shape (meant_types types) n (meant_body (type_names types) x) ≡ option_map (meant_body (type_names types)) (behind_names types n x))
-    → option_and_then (shape (meant_types types) n) (option_map (meant_definition (type_names types)) o)
-    ≡ option_map (meant_body (type_names types)) (elim o as (λ _. Option TypeBody) [ None ↦ None | Some ty ↦ behind_names types n (body_of ty.body) ])
+    → ((x : TypeBody) → shape (lowered_types types) n (lowered_body (type_names types) x) ≡ option_map (lowered_body (type_names types)) (behind_names types n x))
+    → option_and_then (shape (lowered_types types) n) (option_map (lowered_definition (type_names types)) o)
+    ≡ option_map (lowered_body (type_names types)) (elim o as (λ _. Option TypeBody) [ None ↦ None | Some ty ↦ behind_names types n (body_of ty.body) ])
 behind_there types n None same = refl
 behind_there types n (Some ty) same = same (body_of ty.body)
 
-shape_at_end : (types : List TypeDefinition) (x : TypeBody) (b : TypeBody-F TypeBody Field) → out-TypeBody x ≡ b → shape (meant_types types) zero (meant_body (type_names types) x) ≡ option_map (meant_body (type_names types)) (if_no_name x b)
+shape_at_end : (types : List TypeDefinition) (x : TypeBody) (b : TypeBody-F TypeBody Field) → out-TypeBody x ≡ b → shape (lowered_types types) zero (lowered_body (type_names types) x) ≡ option_map (lowered_body (type_names types)) (if_no_name x b)
 shape_at_end types x (TypeBody-F.Root at kind fields) form =
-    let means : meant_body (type_names types) x ≡ plain.plain (meant_kind kind) (type_fields_of (map (meant_field (type_names types)) (unwrap_or fields []))) =
-    meant_by_form (type_names types) x (body.Root at kind fields) (TypeBody-F.Root at kind fields) form (body.rolls-Root at kind fields) ∙ root_meant (type_names types) at kind fields in
-    ap (shape (meant_types types) zero) means ∙ ap Some (sym means)
+    let means : lowered_body (type_names types) x ≡ plain.plain (lowered_kind kind) (type_fields_of (map (lowered_field (type_names types)) (unwrap_or fields []))) =
+    lowered_by_form (type_names types) x (body.Root at kind fields) (TypeBody-F.Root at kind fields) form (body.rolls-Root at kind fields) ∙ root_lowered (type_names types) at kind fields in
+    ap (shape (lowered_types types) zero) means ∙ ap Some (sym means)
 shape_at_end types x (TypeBody-F.Named n) form =
-    ap (shape (meant_types types) zero) (meant_by_form (type_names types) x (body.Named n) (TypeBody-F.Named n) form (body.rolls-Named n) ∙ named_meant (type_names types) n)
+    ap (shape (lowered_types types) zero) (lowered_by_form (type_names types) x (body.Named n) (TypeBody-F.Named n) form (body.rolls-Named n) ∙ named_lowered (type_names types) n)
 shape_at_end types x (TypeBody-F.Undefined at) form =
-    let means : meant_body (type_names types) x ≡ plain.undefined = meant_by_form (type_names types) x (body.Undefined at) (TypeBody-F.Undefined at) form (body.rolls-Undefined at) ∙ undefined_meant (type_names types) at in
-    ap (shape (meant_types types) zero) means ∙ ap Some (sym means)
+    let means : lowered_body (type_names types) x ≡ plain.undefined = lowered_by_form (type_names types) x (body.Undefined at) (TypeBody-F.Undefined at) form (body.rolls-Undefined at) ∙ undefined_lowered (type_names types) at in
+    ap (shape (lowered_types types) zero) means ∙ ap Some (sym means)
 
 shape_further : (types : List TypeDefinition) (n : ℕ) (x : TypeBody) (b : TypeBody-F TypeBody Field) → out-TypeBody x ≡ b
-    → ((y : TypeBody) → shape (meant_types types) n (meant_body (type_names types) y) ≡ option_map (meant_body (type_names types)) (behind_names types n y))
-    → shape (meant_types types) (suc n) (meant_body (type_names types) x) ≡ option_map (meant_body (type_names types)) (behind_form types n x b)
+    → ((y : TypeBody) → shape (lowered_types types) n (lowered_body (type_names types) y) ≡ option_map (lowered_body (type_names types)) (behind_names types n y))
+    → shape (lowered_types types) (suc n) (lowered_body (type_names types) x) ≡ option_map (lowered_body (type_names types)) (behind_form types n x b)
 shape_further types n x (TypeBody-F.Root at kind fields) form same =
-    let means : meant_body (type_names types) x ≡ plain.plain (meant_kind kind) (type_fields_of (map (meant_field (type_names types)) (unwrap_or fields []))) =
-    meant_by_form (type_names types) x (body.Root at kind fields) (TypeBody-F.Root at kind fields) form (body.rolls-Root at kind fields) ∙ root_meant (type_names types) at kind fields in
-    ap (shape (meant_types types) (suc n)) means ∙ ap Some (sym means)
+    let means : lowered_body (type_names types) x ≡ plain.plain (lowered_kind kind) (type_fields_of (map (lowered_field (type_names types)) (unwrap_or fields []))) =
+    lowered_by_form (type_names types) x (body.Root at kind fields) (TypeBody-F.Root at kind fields) form (body.rolls-Root at kind fields) ∙ root_lowered (type_names types) at kind fields in
+    ap (shape (lowered_types types) (suc n)) means ∙ ap Some (sym means)
 shape_further types n x (TypeBody-F.Named m) form same =
-    ap (shape (meant_types types) (suc n)) (meant_by_form (type_names types) x (body.Named m) (TypeBody-F.Named m) form (body.rolls-Named m) ∙ named_meant (type_names types) m)
-    ∙ ap (option_and_then (shape (meant_types types) n)) (type_at_place (meant_definition (type_names types)) types m.text)
+    ap (shape (lowered_types types) (suc n)) (lowered_by_form (type_names types) x (body.Named m) (TypeBody-F.Named m) form (body.rolls-Named m) ∙ named_lowered (type_names types) m)
+    ∙ ap (option_and_then (shape (lowered_types types) n)) (type_at_place (lowered_definition (type_names types)) types m.text)
     ∙ behind_there types n (type_named types m.text) same
 shape_further types n x (TypeBody-F.Undefined at) form same =
-    let means : meant_body (type_names types) x ≡ plain.undefined = meant_by_form (type_names types) x (body.Undefined at) (TypeBody-F.Undefined at) form (body.rolls-Undefined at) ∙ undefined_meant (type_names types) at in
-    ap (shape (meant_types types) (suc n)) means ∙ ap Some (sym means)
+    let means : lowered_body (type_names types) x ≡ plain.undefined = lowered_by_form (type_names types) x (body.Undefined at) (TypeBody-F.Undefined at) form (body.rolls-Undefined at) ∙ undefined_lowered (type_names types) at in
+    ap (shape (lowered_types types) (suc n)) means ∙ ap Some (sym means)
 
 -- the type behind the numbers of a body is that behind its names
-pub shape_is : (types : List TypeDefinition) (n : ℕ) (x : TypeBody) → shape (meant_types types) n (meant_body (type_names types) x) ≡ option_map (meant_body (type_names types)) (behind_names types n x)
+pub shape_is : (types : List TypeDefinition) (n : ℕ) (x : TypeBody) → shape (lowered_types types) n (lowered_body (type_names types) x) ≡ option_map (lowered_body (type_names types)) (behind_names types n x)
 shape_is types zero x = shape_at_end types x (out-TypeBody x) refl
 shape_is types (suc n) x = shape_further types n x (out-TypeBody x) refl (shape_is types n)
 
 -- ---- chains of fields
 
 -- the fields of a body, by its form
-fields_meant : (types : List (List ℕ)) (x : TypeBody) (b : TypeBody-F TypeBody Field) → out-TypeBody x ≡ b → fields_of (meant_body types x) ≡ type_fields_of (map (meant_field types) (fields_in b))
-fields_meant types x (TypeBody-F.Root at kind None) form =
-    ap fields_of (meant_by_form types x (body.Root at kind None) (TypeBody-F.Root at kind None) form (body.rolls-Root at kind None) ∙ root_meant types at kind None)
-fields_meant types x (TypeBody-F.Root at kind (Some fields)) form =
-    ap fields_of (meant_by_form types x (body.Root at kind (Some fields)) (TypeBody-F.Root at kind (Some fields)) form (body.rolls-Root at kind (Some fields)) ∙ root_meant types at kind (Some fields))
-fields_meant types x (TypeBody-F.Named n) form = ap fields_of (meant_by_form types x (body.Named n) (TypeBody-F.Named n) form (body.rolls-Named n) ∙ named_meant types n)
-fields_meant types x (TypeBody-F.Undefined at) form = ap fields_of (meant_by_form types x (body.Undefined at) (TypeBody-F.Undefined at) form (body.rolls-Undefined at) ∙ undefined_meant types at)
+fields_lowered : (types : List (List ℕ)) (x : TypeBody) (b : TypeBody-F TypeBody Field) → out-TypeBody x ≡ b → fields_of (lowered_body types x) ≡ type_fields_of (map (lowered_field types) (fields_in b))
+fields_lowered types x (TypeBody-F.Root at kind None) form =
+    ap fields_of (lowered_by_form types x (body.Root at kind None) (TypeBody-F.Root at kind None) form (body.rolls-Root at kind None) ∙ root_lowered types at kind None)
+fields_lowered types x (TypeBody-F.Root at kind (Some fields)) form =
+    ap fields_of (lowered_by_form types x (body.Root at kind (Some fields)) (TypeBody-F.Root at kind (Some fields)) form (body.rolls-Root at kind (Some fields)) ∙ root_lowered types at kind (Some fields))
+fields_lowered types x (TypeBody-F.Named n) form = ap fields_of (lowered_by_form types x (body.Named n) (TypeBody-F.Named n) form (body.rolls-Named n) ∙ named_lowered types n)
+fields_lowered types x (TypeBody-F.Undefined at) form = ap fields_of (lowered_by_form types x (body.Undefined at) (TypeBody-F.Undefined at) form (body.rolls-Undefined at) ∙ undefined_lowered types at)
 
-value_kind : (k : RootKind) → formed_sets.is_value_kind (meant_kind k) ≡ is_value_kind k
+value_kind : (k : RootKind) → formed_sets.is_value_kind (lowered_kind k) ≡ is_value_kind k
 value_kind written.Void = refl
 value_kind written.Bool = refl
 value_kind written.Int = refl
@@ -138,15 +138,15 @@ value_kind written.Str = refl
 value_kind written.Any = refl
 
 -- whether a body is a value, by its form
-value_meant : (types : List (List ℕ)) (x : TypeBody) (b : TypeBody-F TypeBody Field) → out-TypeBody x ≡ b → formed_sets.is_value (meant_body types x) ≡ is_value b
-value_meant types x (TypeBody-F.Root at kind fields) form =
-    ap formed_sets.is_value (meant_by_form types x (body.Root at kind fields) (TypeBody-F.Root at kind fields) form (body.rolls-Root at kind fields) ∙ root_meant types at kind fields) ∙ value_kind kind
-value_meant types x (TypeBody-F.Named n) form = ap formed_sets.is_value (meant_by_form types x (body.Named n) (TypeBody-F.Named n) form (body.rolls-Named n) ∙ named_meant types n)
-value_meant types x (TypeBody-F.Undefined at) form = ap formed_sets.is_value (meant_by_form types x (body.Undefined at) (TypeBody-F.Undefined at) form (body.rolls-Undefined at) ∙ undefined_meant types at)
+value_lowered : (types : List (List ℕ)) (x : TypeBody) (b : TypeBody-F TypeBody Field) → out-TypeBody x ≡ b → formed_sets.is_value (lowered_body types x) ≡ is_value b
+value_lowered types x (TypeBody-F.Root at kind fields) form =
+    ap formed_sets.is_value (lowered_by_form types x (body.Root at kind fields) (TypeBody-F.Root at kind fields) form (body.rolls-Root at kind fields) ∙ root_lowered types at kind fields) ∙ value_kind kind
+value_lowered types x (TypeBody-F.Named n) form = ap formed_sets.is_value (lowered_by_form types x (body.Named n) (TypeBody-F.Named n) form (body.rolls-Named n) ∙ named_lowered types n)
+value_lowered types x (TypeBody-F.Undefined at) form = ap formed_sets.is_value (lowered_by_form types x (body.Undefined at) (TypeBody-F.Undefined at) form (body.rolls-Undefined at) ∙ undefined_lowered types at)
 
 -- the type of a field, where it stands once
 abbrev pub if_once : List (List ℕ) → Field → Option TypeTree
-if_once types f = if is_once (out-Field f).cardinality then Some (meant_body types (out-Field f).body) else None
+if_once types f = if is_once (out-Field f).cardinality then Some (lowered_body types (out-Field f).body) else None
 
 -- a view that is found, or one behind it
 abbrev found_or : List ℕ → Option TypeTree → FieldView → Option TypeTree
@@ -158,52 +158,52 @@ found_turn types true f o rest e = refl
 found_turn types false f o rest e = e
 
 -- the field of a name
-pub field_found : (types : List (List ℕ)) (fields : List Field) (name : List ℕ) → formed_sets.once_in (type_fields_of (map (meant_field types) fields)) name ≡ option_and_then (if_once types) (field_named fields name)
+pub field_found : (types : List (List ℕ)) (fields : List Field) (name : List ℕ) → formed_sets.once_in (type_fields_of (map (lowered_field types) fields)) name ≡ option_and_then (if_once types) (field_named fields name)
 field_found types [] name = refl
 field_found types (f ∷ fields) name =
-    let rest : Option TypeTree = formed_sets.once_in (type_fields_of (map (meant_field types) fields)) name in
+    let rest : Option TypeTree = formed_sets.once_in (type_fields_of (map (lowered_field types) fields)) name in
     ap (found_or name rest) (field_is types f)
-    ∙ ap (λ b. if bytes_eq (out-Field f).name.text name then (if b then Some (meant_body types (out-Field f).body) else None) else rest) (stands_once (out-Field f).cardinality)
+    ∙ ap (λ b. if bytes_eq (out-Field f).name.text name then (if b then Some (lowered_body types (out-Field f).body) else None) else rest) (stands_once (out-Field f).cardinality)
     ∙ found_turn types (bytes_eq (out-Field f).name.text name) f (field_named fields name) rest (field_found types fields name)
 
-behind_if : (types : List TypeDefinition) (n : ℕ) (b : Bool) (x : TypeBody) → option_and_then (shape (meant_types types) n) (if b then Some (meant_body (type_names types) x) else None) ≡ option_map (meant_body (type_names types)) (if b then behind_names types n x else None)
+behind_if : (types : List TypeDefinition) (n : ℕ) (b : Bool) (x : TypeBody) → option_and_then (shape (lowered_types types) n) (if b then Some (lowered_body (type_names types) x) else None) ≡ option_map (lowered_body (type_names types)) (if b then behind_names types n x else None)
 behind_if types n true x = shape_is types n x
 behind_if types n false x = refl
 
-once_there : (types : List TypeDefinition) (n : ℕ) (o : Option Field) → option_and_then (shape (meant_types types) n) (option_and_then (if_once (type_names types)) o)
-    ≡ option_map (meant_body (type_names types)) (option_and_then (λ (f : Field). if is_once (out-Field f).cardinality then behind_names types n (out-Field f).body else None) o)
+once_there : (types : List TypeDefinition) (n : ℕ) (o : Option Field) → option_and_then (shape (lowered_types types) n) (option_and_then (if_once (type_names types)) o)
+    ≡ option_map (lowered_body (type_names types)) (option_and_then (λ (f : Field). if is_once (out-Field f).cardinality then behind_names types n (out-Field f).body else None) o)
 once_there types n None = refl
 once_there types n (Some f) = behind_if types n (is_once (out-Field f).cardinality) (out-Field f).body
 
 -- a field that stands once leads to the same type
-pub once_alike : (types : List TypeDefinition) (x : TypeBody) (n : Name) → once_at (meant_types types) (meant_body (type_names types) x) n.text ≡ option_map (meant_body (type_names types)) (once_in types x n)
+pub once_alike : (types : List TypeDefinition) (x : TypeBody) (n : Name) → once_at (lowered_types types) (lowered_body (type_names types) x) n.text ≡ option_map (lowered_body (type_names types)) (once_in types x n)
 once_alike types x n =
-    ap (λ k. option_and_then (shape (meant_types types) k) (formed_sets.once_in (fields_of (meant_body (type_names types) x)) n.text)) (length-map types (meant_definition (type_names types)))
-    ∙ ap (λ fs. option_and_then (shape (meant_types types) (length types)) (formed_sets.once_in fs n.text)) (fields_meant (type_names types) x (out-TypeBody x) refl)
-    ∙ ap (option_and_then (shape (meant_types types) (length types))) (field_found (type_names types) (fields_in (out-TypeBody x)) n.text)
+    ap (λ k. option_and_then (shape (lowered_types types) k) (formed_sets.once_in (fields_of (lowered_body (type_names types) x)) n.text)) (length-map types (lowered_definition (type_names types)))
+    ∙ ap (λ fs. option_and_then (shape (lowered_types types) (length types)) (formed_sets.once_in fs n.text)) (fields_lowered (type_names types) x (out-TypeBody x) refl)
+    ∙ ap (option_and_then (shape (lowered_types types) (length types))) (field_found (type_names types) (fields_in (out-TypeBody x)) n.text)
     ∙ once_there types (length types) (field_named (fields_in (out-TypeBody x)) n.text)
 
 -- a chain leads to a value by numbers as by names
 pub leads_alike : (types : List TypeDefinition) (o : Option TypeBody) (path : List Name)
-    → formed_sets.leads_to_value (meant_types types) (option_map (meant_body (type_names types)) o) (map (λ (n : Name). n.text) path) ≡ leads_to_value types o path
+    → formed_sets.leads_to_value (lowered_types types) (option_map (lowered_body (type_names types)) o) (map (λ (n : Name). n.text) path) ≡ leads_to_value types o path
 leads_alike types None path = refl
-leads_alike types (Some x) [] = value_meant (type_names types) x (out-TypeBody x) refl
+leads_alike types (Some x) [] = value_lowered (type_names types) x (out-TypeBody x) refl
 leads_alike types (Some x) (n ∷ path) =
-    ap (λ o. formed_sets.leads_to_value (meant_types types) o (map (λ (m : Name). m.text) path)) (once_alike types x n) ∙ leads_alike types (once_in types x n) path
+    ap (λ o. formed_sets.leads_to_value (lowered_types types) o (map (λ (m : Name). m.text) path)) (once_alike types x n) ∙ leads_alike types (once_in types x n) path
 
 -- ---- aliases
 
-alias_there : (types : List TypeDefinition) (n : ℕ) (o : Option TypeDefinition) → option_and_then (shape (meant_types types) n) (option_map (meant_definition (type_names types)) o)
-    ≡ option_map (meant_body (type_names types)) (option_and_then (λ (ty : TypeDefinition). behind_names types n (body_of ty.body)) o)
+alias_there : (types : List TypeDefinition) (n : ℕ) (o : Option TypeDefinition) → option_and_then (shape (lowered_types types) n) (option_map (lowered_definition (type_names types)) o)
+    ≡ option_map (lowered_body (type_names types)) (option_and_then (λ (ty : TypeDefinition). behind_names types n (body_of ty.body)) o)
 alias_there types n None = refl
 alias_there types n (Some ty) = shape_is types n (body_of ty.body)
 
 -- an alias that is not refused
-pub alias_formed : (types : List TypeDefinition) (a : Alias) → wrong_alias types a ≡ [] → is_alias (meant_types types) (meant_alias (type_names types) a) ≡ true
+pub alias_formed : (types : List TypeDefinition) (a : Alias) → wrong_alias types a ≡ [] → is_alias (lowered_types types) (lowered_alias (type_names types) a) ≡ true
 alias_formed types a e =
-    ap (λ k. formed_sets.leads_to_value (meant_types types) (option_and_then (shape (meant_types types) k) (slice_get (meant_types types) (place_in (type_names types) a.ty.text))) (map (λ (n : Name). n.text) (a.first ∷ a.rest))) (length-map types (meant_definition (type_names types)))
-    ∙ ap (λ o. formed_sets.leads_to_value (meant_types types) (option_and_then (shape (meant_types types) (length types)) o) (map (λ (n : Name). n.text) (a.first ∷ a.rest))) (type_at_place (meant_definition (type_names types)) types a.ty.text)
-    ∙ ap (λ o. formed_sets.leads_to_value (meant_types types) o (map (λ (n : Name). n.text) (a.first ∷ a.rest))) (alias_there types (length types) (type_named types a.ty.text))
+    ap (λ k. formed_sets.leads_to_value (lowered_types types) (option_and_then (shape (lowered_types types) k) (slice_get (lowered_types types) (place_in (type_names types) a.ty.text))) (map (λ (n : Name). n.text) (a.first ∷ a.rest))) (length-map types (lowered_definition (type_names types)))
+    ∙ ap (λ o. formed_sets.leads_to_value (lowered_types types) (option_and_then (shape (lowered_types types) (length types)) o) (map (λ (n : Name). n.text) (a.first ∷ a.rest))) (type_at_place (lowered_definition (type_names types)) types a.ty.text)
+    ∙ ap (λ o. formed_sets.leads_to_value (lowered_types types) o (map (λ (n : Name). n.text) (a.first ∷ a.rest))) (alias_there types (length types) (type_named types a.ty.text))
     ∙ leads_alike types (alias_type types a) (a.first ∷ a.rest)
     ∙ holds (leads_to_value types (alias_type types a) (a.first ∷ a.rest)) UnknownType a.ty.at e
 

@@ -24,14 +24,16 @@ use Rattle.behaviour_tree.specs.FormedSets.{are_sets}
 use Rattle.behaviour_tree.specs.FormedBehaviours.{is_behaviour, parallel_members}
 use Rattle.behaviour_tree.specs.FormedServices.{are_ports, has_few_members, has_start, is_init, is_service, runs_well}
 use Rattle.behaviour_tree.specs.WellFormed.{are_interfaces, are_names, are_services, is_well_formed}
-use Rattle.service_check.specs.declared.refusal.Refusal.{Refusal}
-use Rattle.service_check.specs.Behaviours.{Numbering, meant_if_there}
-use Rattle.service_check.specs.Files.{first_there, init_in, input_operations, interfaces_of, main_in, services_of, types_of, type_names, interface_names}
+use Rattle.check_base.specs.declared.refusal.Refusal.{Refusal}
+use Rattle.process_lowering.specs.Behaviours.{Numbering, lowered_if_there}
+use Rattle.check_base.specs.Files.{first_there, init_in, input_operations, interfaces_of, main_in, services_of, types_of, type_names, interface_names}
 use Rattle.service_check.specs.Mentioned.{clause_texts, definition_texts, names_of}
-use Rattle.service_check.specs.PortRules.{input_locations}
-use Rattle.service_check.specs.Programs.{meant_interface, meant_operation, meant_service, numbering, program_of}
+use Rattle.port_checks.specs.PortRules.{input_locations}
+use Rattle.type_lowering.specs.LoweredInterfaces.{lowered_interface, lowered_operation}
+use Rattle.service_check.specs.Programs.{lowered_service, numbering, program_of}
 use Rattle.service_check.specs.Refusals.{no_service, refusal_of}
-use Rattle.service_check.specs.ServiceRules.{service_refused, surroundings}
+use Rattle.service_check.specs.ServiceRules.{service_refused}
+use Rattle.process_checks.specs.Surroundings.{surroundings}
 use Rattle.service_check.proofs.Emptied.{left_empty, right_empty}
 use Rattle.service_check.proofs.WellBehaviours.{Meets}
 use Rattle.service_check.proofs.WellParts.{NothingRefused, part_by_part, program_interfaces, program_names, program_types}
@@ -43,7 +45,7 @@ use Rattle.service_check.proofs.WellPorts.{all_known, ports_of, service_operatio
 use Rattle.service_check.proofs.WellRuns.{init_well, main_well, reach_by, service_meets}
 use Rattle.service_check.proofs.WellServices.{NothingOf, NothingOfPorts, locations_are, locations_differ, ports_by_part, ports_formed, service_by_part, service_sets, services_differ}
 use Rattle.service_check.proofs.WellSessions.{start_formed}
-use Rattle.service_check.proofs.WellTypes.{meant_types}
+use Rattle.service_check.proofs.WellTypes.{lowered_types}
 
 -- ---- members
 
@@ -51,7 +53,7 @@ use Rattle.service_check.proofs.WellTypes.{meant_types}
 abbrev members_there : Option Block → ℕ
 members_there o = optional_count (option_map block_members o)
 
-there_counts : (m : Numbering) (o : Option Block) → parallel_members (meant_if_there m o) ≡ members_there o
+there_counts : (m : Numbering) (o : Option Block) → parallel_members (lowered_if_there m o) ≡ members_there o
 there_counts m None = refl
 there_counts m (Some b) = block_counts m b
 
@@ -97,10 +99,10 @@ is_at_most m n le = grind (arith, nat_tests)
 
 -- the parallels of init and main have few enough members
 few_members : (m : Numbering) (clauses : List Clause) → sum_by clause_members clauses ≤ most_members
-    → nat_le (parallel_members (meant_if_there m (first_there (filter_map init_in clauses))) + parallel_members (meant_if_there m (first_there (filter_map main_in clauses)))) 1048576 ≡ true
+    → nat_le (parallel_members (lowered_if_there m (first_there (filter_map init_in clauses))) + parallel_members (lowered_if_there m (first_there (filter_map main_in clauses)))) 1048576 ≡ true
 few_members m clauses bound =
-    is_at_most (parallel_members (meant_if_there m (first_there (filter_map init_in clauses))) + parallel_members (meant_if_there m (first_there (filter_map main_in clauses)))) 1048576
-    (few (parallel_members (meant_if_there m (first_there (filter_map init_in clauses)))) (parallel_members (meant_if_there m (first_there (filter_map main_in clauses))))
+    is_at_most (parallel_members (lowered_if_there m (first_there (filter_map init_in clauses))) + parallel_members (lowered_if_there m (first_there (filter_map main_in clauses)))) 1048576
+    (few (parallel_members (lowered_if_there m (first_there (filter_map init_in clauses)))) (parallel_members (lowered_if_there m (first_there (filter_map main_in clauses))))
     (members_there (first_there (filter_map init_in clauses))) (members_there (first_there (filter_map main_in clauses))) (sum_by clause_members clauses) 1048576
     (there_counts m (first_there (filter_map init_in clauses))) (there_counts m (first_there (filter_map main_in clauses))) (two_counts clauses) bound)
 
@@ -108,7 +110,7 @@ few_members m clauses bound =
 
 -- a service of a file as plain data
 abbrev service_of : List Definition → Service → ServicePart
-service_of file s = meant_service (interfaces_of file) (type_names (types_of file)) (names_of file) s
+service_of file s = lowered_service (interfaces_of file) (type_names (types_of file)) (names_of file) s
 
 -- a service of which nothing is refused
 service_formed : (file : List Definition) (s : Service) → NothingOf (types_of file) (interfaces_of file) (input_locations (services_of file)) s → all_in (names_of file) (flat_map clause_texts s.clauses) ≡ true
@@ -122,13 +124,13 @@ service_formed file s none all shape bound =
     let part : ServicePart = service_of file s in
     let m : Numbering = numbering is names s in
     let ports : NothingOfPorts is locations s = ports_by_part is locations s none.ports in
-    let inputs : List OperationPart = operations_of (map (meant_interface tn names) is) (input_interfaces (ports_of (interface_names is) s.clauses)) in
-    let same : inputs ≡ map (meant_operation tn names) (input_operations is s) = service_operations_are tn names is s.clauses (all_known is s.clauses ports.each) ports.interfaces ports.operations in
+    let inputs : List OperationPart = operations_of (map (lowered_interface tn names) is) (input_interfaces (ports_of (interface_names is) s.clauses)) in
+    let same : inputs ≡ map (lowered_operation tn names) (input_operations is s) = service_operations_are tn names is s.clauses (all_known is s.clauses ports.each) ports.interfaces ports.operations in
     let meets : Meets (surroundings is s) m (reach_by tn names is s inputs) = service_meets tn names is s inputs same ports.outputs in
-    and_from (are_ports (program_of file) locations part && are_sets (meant_types (types_of file)) part && runs_well (program_of file) part && has_start inputs part) (has_few_members part)
-    (and_from (are_ports (program_of file) locations part && are_sets (meant_types (types_of file)) part && runs_well (program_of file) part) (has_start inputs part)
-    (and_from (are_ports (program_of file) locations part && are_sets (meant_types (types_of file)) part) (runs_well (program_of file) part)
-    (and_from (are_ports (program_of file) locations part) (are_sets (meant_types (types_of file)) part)
+    and_from (are_ports (program_of file) locations part && are_sets (lowered_types (types_of file)) part && runs_well (program_of file) part && has_start inputs part) (has_few_members part)
+    (and_from (are_ports (program_of file) locations part && are_sets (lowered_types (types_of file)) part && runs_well (program_of file) part) (has_start inputs part)
+    (and_from (are_ports (program_of file) locations part && are_sets (lowered_types (types_of file)) part) (runs_well (program_of file) part)
+    (and_from (are_ports (program_of file) locations part) (are_sets (lowered_types (types_of file)) part)
     (ports_formed tn names is locations s ports)
     (service_sets is (types_of file) names s none.sets))
     (and_from (is_init part.init && is_behaviour (reach_by tn names is s inputs) false part.init) (is_behaviour (reach_by tn names is s inputs) false part.main)

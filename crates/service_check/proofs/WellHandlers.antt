@@ -11,17 +11,18 @@ use Rattle.behaviour_tree.specs.Data.{HandlerList, Proc}
 use Rattle.behaviour_tree.specs.View.{HandlerView, handlers_of}
 use Rattle.behaviour_tree.specs.Distinct.{numbers_differ, texts_differ, is_in}
 use Rattle.behaviour_tree.specs.FormedBehaviours.{handler_faults, handlers_of_this, keys_differ}
-use Rattle.service_check.specs.declared.refusal.CheckName.TheVariants.{DuplicateName}
-use Rattle.service_check.specs.Least.{refused}
-use Rattle.service_check.specs.Repeated.{repeated}
-use Rattle.service_check.specs.Files.{place_in}
-use Rattle.service_check.specs.Behaviours.{Numbering, key_of, meant_handler, meant_process}
+use Rattle.check_base.specs.declared.refusal.CheckName.TheVariants.{DuplicateName}
+use Rattle.check_base.specs.Least.{refused}
+use Rattle.check_base.specs.Repeated.{repeated}
+use Rattle.check_base.specs.Files.{place_in}
+use Rattle.process_lowering.specs.Behaviours.{Numbering, key_of, lowered_handler, lowered_process}
 use Rattle.service_check.specs.Mentioned.{key_texts}
-use Rattle.service_check.specs.ProcessRules.{handler_name, key_name}
+use Rattle.process_checks.specs.ProcessParts.{handler_name}
+use Rattle.process_checks.specs.ProcessRules.{key_name}
 use Rattle.service_check.proofs.Emptied.{names_differ}
-use Rattle.service_check.proofs.MeantProcesses as means
+use Rattle.process_lowering.proofs.LoweredProcesses as means
 use Rattle.service_check.proofs.WellInterfaces.{all_in, places_differ}
-use Rattle.service_check.proofs.Loops.{mapped_twice}
+use Rattle.check_base.proofs.Loops.{mapped_twice}
 
 -- ---- keys
 
@@ -38,8 +39,8 @@ abbrev pub fault_texts : List HandlerKey → List (List ℕ)
 fault_texts ks = flat_map key_texts ks
 
 -- what the body of a handler means
-abbrev meant_body : Numbering → Handler → Proc
-meant_body m f = meant_process m (out-Handler f).body
+abbrev lowered_body : Numbering → Handler → Proc
+lowered_body m f = lowered_process m (out-Handler f).body
 
 -- how many keys are the scope's own
 abbrev these : List HandlerKey → ℕ
@@ -52,22 +53,22 @@ fault_turn names (key.This at) body rest ts e = e
 fault_turn names (key.Named n) body rest ts e = ap (λ ns. place_in names n.text ∷ ns) e
 
 -- the faults of handlers
-pub faults_are : (m : Numbering) (fs : List Handler) → handler_faults (handlers_of (map (meant_handler m) fs)) ≡ map (place_in m.names) (fault_texts (map handler_key fs))
+pub faults_are : (m : Numbering) (fs : List Handler) → handler_faults (handlers_of (map (lowered_handler m) fs)) ≡ map (place_in m.names) (fault_texts (map handler_key fs))
 faults_are m [] = refl
 faults_are m (f ∷ fs) =
-    ap (λ (v : HandlerView). handler_faults (plain.handler v.key v.body (handlers_of (map (meant_handler m) fs)))) (means.handler_is m f)
-    ∙ fault_turn m.names (handler_key f) (meant_body m f) (handlers_of (map (meant_handler m) fs)) (fault_texts (map handler_key fs)) (faults_are m fs)
+    ap (λ (v : HandlerView). handler_faults (plain.handler v.key v.body (handlers_of (map (lowered_handler m) fs)))) (means.handler_is m f)
+    ∙ fault_turn m.names (handler_key f) (lowered_body m f) (handlers_of (map (lowered_handler m) fs)) (fault_texts (map handler_key fs)) (faults_are m fs)
 
 this_turn : (names : List (List ℕ)) (k : HandlerKey) (body : Proc) (rest : HandlerList) (ks : List HandlerKey) → handlers_of_this rest ≡ these ks → handlers_of_this (plain.handler (key_of names k) body rest) ≡ these (k ∷ ks)
 this_turn names (key.This at) body rest ks e = ap suc e
 this_turn names (key.Named n) body rest ks e = e
 
 -- those for the scope itself
-these_are : (m : Numbering) (fs : List Handler) → handlers_of_this (handlers_of (map (meant_handler m) fs)) ≡ these (map handler_key fs)
+these_are : (m : Numbering) (fs : List Handler) → handlers_of_this (handlers_of (map (lowered_handler m) fs)) ≡ these (map handler_key fs)
 these_are m [] = refl
 these_are m (f ∷ fs) =
-    ap (λ (v : HandlerView). handlers_of_this (plain.handler v.key v.body (handlers_of (map (meant_handler m) fs)))) (means.handler_is m f)
-    ∙ this_turn m.names (handler_key f) (meant_body m f) (handlers_of (map (meant_handler m) fs)) (map handler_key fs) (these_are m fs)
+    ap (λ (v : HandlerView). handlers_of_this (plain.handler v.key v.body (handlers_of (map (lowered_handler m) fs)))) (means.handler_is m f)
+    ∙ this_turn m.names (handler_key f) (lowered_body m f) (handlers_of (map (lowered_handler m) fs)) (map handler_key fs) (these_are m fs)
 
 -- ---- keys that differ
 
@@ -100,11 +101,11 @@ one_of_these (key.This at ∷ ks) e =
 one_of_these (key.Named n ∷ ks) e = one_of_these ks (and_parts (not (is_in n.text (key_names ks))) (texts_differ (key_names ks)) e).1
 
 -- the keys of handlers of which none is refused, and whose faults are among the names
-pub handler_keys : (m : Numbering) (fs : List Handler) → refused DuplicateName (repeated (map handler_name fs)) ≡ [] → all_in m.names (fault_texts (map handler_key fs)) ≡ true → keys_differ (handlers_of (map (meant_handler m) fs)) ≡ true
+pub handler_keys : (m : Numbering) (fs : List Handler) → refused DuplicateName (repeated (map handler_name fs)) ≡ [] → all_in m.names (fault_texts (map handler_key fs)) ≡ true → keys_differ (handlers_of (map (lowered_handler m) fs)) ≡ true
 handler_keys m fs none all =
     let ks : List HandlerKey = map handler_key fs in
     let differ : texts_differ (key_names ks) ≡ true =
     ap texts_differ (mapped_twice (λ (k : HandlerKey). (key_name k).text) handler_key fs ∙ sym (mapped_twice (λ (n : Name). n.text) handler_name fs)) ∙ names_differ DuplicateName (map handler_name fs) none in
-    and_from (numbers_differ (handler_faults (handlers_of (map (meant_handler m) fs)))) (nat_le (handlers_of_this (handlers_of (map (meant_handler m) fs))) 1)
+    and_from (numbers_differ (handler_faults (handlers_of (map (lowered_handler m) fs)))) (nat_le (handlers_of_this (handlers_of (map (lowered_handler m) fs))) 1)
     (ap numbers_differ (faults_are m fs) ∙ places_differ m.names (fault_texts ks) (faults_differ ks differ) all)
     (ap (λ n. nat_le n 1) (these_are m fs) ∙ one_of_these ks differ)

@@ -23,15 +23,17 @@ use Rattle.behaviour_tree.specs.Data as plain
 use Rattle.behaviour_tree.specs.Data.{PathTree, Proc}
 use Rattle.behaviour_tree.specs.View.{procs_of}
 use Rattle.behaviour_tree.specs.FormedServices.{all_assign_alone, assigns_alone, is_init}
-use Rattle.service_check.specs.declared.refusal.CheckName.TheVariants.{InitNotAssignment}
-use Rattle.service_check.specs.Files.{first_there, init_in, main_in}
-use Rattle.service_check.specs.Behaviours.{Numbering, meant_assignment, meant_block, meant_if_there, meant_process}
-use Rattle.service_check.specs.Expressions.{meant_path}
-use Rattle.service_check.specs.ProcessRules.{Surroundings, block_refused}
-use Rattle.service_check.specs.Clauses.{no_assignment}
-use Rattle.service_check.specs.ServiceRules.{assigns, clause_refused, init_refused, process_place, statements_of}
+use Rattle.check_base.specs.declared.refusal.CheckName.TheVariants.{InitNotAssignment}
+use Rattle.check_base.specs.Files.{first_there, init_in, main_in}
+use Rattle.process_lowering.specs.Behaviours.{Numbering, lowered_assignment, lowered_block, lowered_if_there, lowered_process}
+use Rattle.process_lowering.specs.Expressions.{lowered_path}
+use Rattle.process_checks.specs.Surroundings.{Surroundings}
+use Rattle.process_checks.specs.ProcessRules.{block_refused}
+use Rattle.process_checks.specs.InitParts.{no_assignment}
+use Rattle.process_checks.specs.InitRules.{assigns, init_refused, process_place, statements_of}
+use Rattle.service_check.specs.ServiceRules.{clause_refused}
 use Rattle.service_check.proofs.Emptied.{holds, left_empty, right_empty}
-use Rattle.service_check.proofs.MeantProcesses as means
+use Rattle.process_lowering.proofs.LoweredProcesses as means
 
 -- ---- assignments
 
@@ -39,22 +41,22 @@ use Rattle.service_check.proofs.MeantProcesses as means
 abbrev assigns_form : Process-F Otherwise Process Answer Block Branch Handler If Input Reply → Bool
 assigns_form f = elim f as (λ _. Bool) [ Process-F.Assign path assignment ↦ true | _ ↦ false ]
 
-assignment_is : (p : PathTree) (a : Assignment) → assigns_alone (meant_assignment p a) ≡ true
+assignment_is : (p : PathTree) (a : Assignment) → assigns_alone (lowered_assignment p a) ≡ true
 assignment_is p (assignment.Root e) = refl
 assignment_is p (assignment.Copy e) = refl
 assignment_is p (assignment.Count c) = refl
 
 -- what a process means, by its form
-meant_by_form : (m : Numbering) (p q : Process) (f : Process-F Otherwise Process Answer Block Branch Handler If Input Reply) → out-Process p ≡ f → roll-Process f ≡ q → meant_process m p ≡ meant_process m q
-meant_by_form m p q f form rolls = ap (meant_process m) (sym (roll-out-Process p) ∙ ap roll-Process form ∙ rolls)
+lowered_by_form : (m : Numbering) (p q : Process) (f : Process-F Otherwise Process Answer Block Branch Handler If Input Reply) → out-Process p ≡ f → roll-Process f ≡ q → lowered_process m p ≡ lowered_process m q
+lowered_by_form m p q f form rolls = ap (lowered_process m) (sym (roll-out-Process p) ∙ ap roll-Process form ∙ rolls)
 
-means_assignment : (m : Numbering) (p : Process) (f : Process-F Otherwise Process Answer Block Branch Handler If Input Reply) → out-Process p ≡ f → assigns_form f ≡ true → assigns_alone (meant_process m p) ≡ true
+means_assignment : (m : Numbering) (p : Process) (f : Process-F Otherwise Process Answer Block Branch Handler If Input Reply) → out-Process p ≡ f → assigns_form f ≡ true → assigns_alone (lowered_process m p) ≡ true
 means_assignment m p (Process-F.Assign path a) form e =
-    ap assigns_alone (meant_by_form m p (process.Assign path a) (Process-F.Assign path a) form (process.rolls-Assign path a) ∙ means.assign_meant m path a) ∙ assignment_is (meant_path path) a
+    ap assigns_alone (lowered_by_form m p (process.Assign path a) (Process-F.Assign path a) form (process.rolls-Assign path a) ∙ means.assign_lowered m path a) ∙ assignment_is (lowered_path path) a
 means_assignment m p f form e = absurd (false≢true e)
 
 -- a process that assigns means an assignment
-pub assigning_means : (m : Numbering) (p : Process) → assigns p ≡ true → assigns_alone (meant_process m p) ≡ true
+pub assigning_means : (m : Numbering) (p : Process) → assigns p ≡ true → assigns_alone (lowered_process m p) ≡ true
 assigning_means m p e = means_assignment m p (out-Process p) refl e
 
 init_of_one : (q : Proc) → assigns_alone q ≡ true → is_init q ≡ true
@@ -63,10 +65,10 @@ init_of_one q h = h
 
 -- ---- statements
 
-each_assigns : (m : Numbering) (ps : List Process) → flat_map no_assignment ps ≡ [] → all_assign_alone (procs_of (map (meant_process m) ps)) ≡ true
+each_assigns : (m : Numbering) (ps : List Process) → flat_map no_assignment ps ≡ [] → all_assign_alone (procs_of (map (lowered_process m) ps)) ≡ true
 each_assigns m [] e = refl
 each_assigns m (p ∷ ps) e =
-    and_from (assigns_alone (meant_process m p)) (all_assign_alone (procs_of (map (meant_process m) ps)))
+    and_from (assigns_alone (lowered_process m p)) (all_assign_alone (procs_of (map (lowered_process m) ps)))
     (assigning_means m p (holds (assigns p) InitNotAssignment (process_place p) (left_empty (no_assignment p) (flat_map no_assignment ps) e)))
     (each_assigns m ps (right_empty (no_assignment p) (flat_map no_assignment ps) e))
 
@@ -74,17 +76,17 @@ each_assigns m (p ∷ ps) e =
 abbrev statements_by : Process → Process-F Otherwise Process Answer Block Branch Handler If Input Reply → List Process
 statements_by p f = elim f as (λ _. List Process) [ Process-F.Sequence statements ↦ statements | _ ↦ p ∷ [] ]
 
-init_by_form : (m : Numbering) (p : Process) (f : Process-F Otherwise Process Answer Block Branch Handler If Input Reply) → out-Process p ≡ f → flat_map no_assignment (statements_by p f) ≡ [] → is_init (meant_process m p) ≡ true
+init_by_form : (m : Numbering) (p : Process) (f : Process-F Otherwise Process Answer Block Branch Handler If Input Reply) → out-Process p ≡ f → flat_map no_assignment (statements_by p f) ≡ [] → is_init (lowered_process m p) ≡ true
 init_by_form m p (Process-F.Sequence statements) form e =
-    ap is_init (meant_by_form m p (process.Sequence statements) (Process-F.Sequence statements) form (process.rolls-Sequence statements) ∙ means.sequence_meant m statements) ∙ each_assigns m statements e
-init_by_form m p f form e = init_of_one (meant_process m p) (assigning_means m p (holds (assigns p) InitNotAssignment (process_place p) (left_empty (no_assignment p) [] e)))
+    ap is_init (lowered_by_form m p (process.Sequence statements) (Process-F.Sequence statements) form (process.rolls-Sequence statements) ∙ means.sequence_lowered m statements) ∙ each_assigns m statements e
+init_by_form m p f form e = init_of_one (lowered_process m p) (assigning_means m p (holds (assigns p) InitNotAssignment (process_place p) (left_empty (no_assignment p) [] e)))
 
-init_there : (m : Numbering) (o : Option Process) → flat_map no_assignment (elim o as (λ _. List Process) [ None ↦ [] | Some p ↦ statements_of p ]) ≡ [] → is_init (unwrap_or (option_map (meant_process m) o) plain.nothing) ≡ true
+init_there : (m : Numbering) (o : Option Process) → flat_map no_assignment (elim o as (λ _. List Process) [ None ↦ [] | Some p ↦ statements_of p ]) ≡ [] → is_init (unwrap_or (option_map (lowered_process m) o) plain.nothing) ≡ true
 init_there m None e = refl
 init_there m (Some p) e = init_by_form m p (out-Process p) refl e
 
 -- an init of which nothing is refused
-pub init_formed : (m : Numbering) (b : Block) → init_refused b ≡ [] → is_init (meant_block m b) ≡ true
+pub init_formed : (m : Numbering) (b : Block) → init_refused b ≡ [] → is_init (lowered_block m b) ≡ true
 init_formed m b e = ap is_init (means.block_is m b) ∙ init_there m (out-Block b).body e
 
 -- ---- clauses
@@ -110,10 +112,10 @@ main_clear e (clause.OutputPort p ∷ clauses) b none there = main_clear e claus
 main_clear e (clause.Execution at execution ∷ clauses) b none there = main_clear e clauses b none there
 main_clear e (clause.CorrelationSet at variables ∷ clauses) b none there = main_clear e clauses b none there
 
-init_of : (e : Surroundings) (m : Numbering) (o : Option Block) → ((b : Block) → o ≡ Some b → block_refused e b false ++ init_refused b ≡ []) → is_init (meant_if_there m o) ≡ true
+init_of : (e : Surroundings) (m : Numbering) (o : Option Block) → ((b : Block) → o ≡ Some b → block_refused e b false ++ init_refused b ≡ []) → is_init (lowered_if_there m o) ≡ true
 init_of e m None clear = refl
 init_of e m (Some b) clear = init_formed m b (right_empty (block_refused e b false) (init_refused b) (clear b refl))
 
 -- the init of a service of which nothing is refused
-pub service_init : (e : Surroundings) (m : Numbering) (clauses : List Clause) → flat_map (clause_refused e) clauses ≡ [] → is_init (meant_if_there m (first_there (filter_map init_in clauses))) ≡ true
+pub service_init : (e : Surroundings) (m : Numbering) (clauses : List Clause) → flat_map (clause_refused e) clauses ≡ [] → is_init (lowered_if_there m (first_there (filter_map init_in clauses))) ≡ true
 service_init e m clauses none = init_of e m (first_there (filter_map init_in clauses)) (λ b there. init_clear e clauses b none there)

@@ -16,19 +16,21 @@ use Rattle.behaviour_tree.specs.FormedPorts as formed_ports
 use Rattle.behaviour_tree.specs.Distinct.{texts_differ}
 use Rattle.behaviour_tree.specs.FormedBehaviours.{has_operation}
 use Rattle.behaviour_tree.specs.FormedServices.{sent_to}
-use Rattle.service_check.specs.declared.refusal.CheckName.TheVariants.{DuplicateName, UnknownOperation, UnknownPort, WrongKind}
-use Rattle.service_check.specs.declared.refusal.Refusal.{Refusal}
-use Rattle.service_check.specs.Least.{refused, refused_if}
-use Rattle.service_check.specs.Behaviours.{NumberedPort, port_among}
-use Rattle.service_check.specs.Files.{Operation, each_once, operation_named, operations_named, output_port_in, place_in, port_in, port_operations, texts_of, interface_names}
-use Rattle.service_check.specs.PortRules.{brought, output_port_refused}
-use Rattle.service_check.specs.ProcessRules.{agree, outlet_named, used}
-use Rattle.service_check.specs.Programs.{meant_interface, meant_operation, meant_type, numbered_from}
-use Rattle.service_check.specs.ServiceRules.{outlet}
+use Rattle.check_base.specs.declared.refusal.CheckName.TheVariants.{DuplicateName, UnknownOperation, UnknownPort, WrongKind}
+use Rattle.check_base.specs.declared.refusal.Refusal.{Refusal}
+use Rattle.check_base.specs.Least.{refused, refused_if}
+use Rattle.process_lowering.specs.Behaviours.{NumberedPort, port_among}
+use Rattle.check_base.specs.Files.{Operation, each_once, operation_named, operations_named, output_port_in, place_in, port_in, port_operations, texts_of, interface_names}
+use Rattle.port_checks.specs.PortRules.{brought, output_port_refused}
+use Rattle.process_checks.specs.ProcessRules.{agree, outlet_named, used}
+use Rattle.type_lowering.specs.LoweredInterfaces.{lowered_interface, lowered_operation}
+use Rattle.type_lowering.specs.LoweredTypes.{lowered_type}
+use Rattle.service_check.specs.Programs.{numbered_from}
+use Rattle.process_checks.specs.Surroundings.{outlet}
 use Rattle.service_check.proofs.Emptied.{holds, left_empty, names_differ, right_empty}
 use Rattle.service_check.proofs.OnceEach.{new_taken}
 use Rattle.service_check.proofs.WellPorts.{brought_texts, operations_behind, port_names, ports_of}
-use Rattle.service_check.proofs.Loops.{mapped_each, mapped_twice}
+use Rattle.check_base.proofs.Loops.{mapped_each, mapped_twice}
 
 -- ---- operations by their names
 
@@ -48,7 +50,7 @@ as_used true false e = absurd (false≢true e)
 as_used false true e = absurd (false≢true e)
 as_used false false e = refl
 
-answer_kept : (types : List (List ℕ)) (t : Option TypeName) → is_some (option_map (meant_type types) t) ≡ is_some t
+answer_kept : (types : List (List ℕ)) (t : Option TypeName) → is_some (option_map (lowered_type types) t) ≡ is_some t
 answer_kept types None = refl
 answer_kept types (Some t) = refl
 
@@ -60,15 +62,15 @@ use_of o n answers = elim o as (λ _. List Refusal) [ None ↦ refused UnknownOp
 abbrev has_answer : Bool → Option OperationPart → Bool
 has_answer answers o = elim o as (λ _. Bool) [ None ↦ false | Some o ↦ if answers then is_some o.response else not (is_some o.response) ]
 
-used_there : (types names : List (List ℕ)) (o : Option Operation) (n : Name) (answers : Bool) → use_of o n answers ≡ [] → has_answer answers (option_map (meant_operation types names) o) ≡ true
+used_there : (types names : List (List ℕ)) (o : Option Operation) (n : Name) (answers : Bool) → use_of o n answers ≡ [] → has_answer answers (option_map (lowered_operation types names) o) ≡ true
 used_there types names None n answers e = cc
 used_there types names (Some o) n answers e =
     ap (λ b. if answers then b else not b) (answer_kept types o.response) ∙ as_used (is_some o.response) answers (holds (agree (is_some o.response) answers) WrongKind n.at e)
 
 -- an operation that is used without a refusal is there
-pub operation_used : (types names : List (List ℕ)) (os : List Operation) (n : Name) (answers : Bool) → used os n answers ≡ [] → has_operation (map (meant_operation types names) os) (place_in (texts_of os) n.text) answers ≡ true
+pub operation_used : (types names : List (List ℕ)) (os : List Operation) (n : Name) (answers : Bool) → used os n answers ≡ [] → has_operation (map (lowered_operation types names) os) (place_in (texts_of os) n.text) answers ≡ true
 operation_used types names os n answers e =
-    ap (has_answer answers) (operation_at_place (meant_operation types names) os n.text) ∙ used_there types names (operation_named os n.text) n answers e
+    ap (has_answer answers) (operation_at_place (lowered_operation types names) os n.text) ∙ used_there types names (operation_named os n.text) n answers e
 
 -- ---- output ports
 
@@ -78,18 +80,18 @@ once_is os differ = ap each_once (sym (append-nil os)) ∙ new_taken [] os [] di
 
 -- the operations that are sent to an output port are its own
 pub sent_operations : (types names : List (List ℕ)) (is : List Interface) (p : Port) → output_port_refused is p ≡ []
-    → formed_ports.port_operations (map (meant_interface types names) is) (record { name = p.name.text; input = false; location = p.location.text; interfaces = map (λ (n : Name). place_in (interface_names is) n.text) p.interfaces }) ≡ map (meant_operation types names) (port_operations is p)
+    → formed_ports.port_operations (map (lowered_interface types names) is) (record { name = p.name.text; input = false; location = p.location.text; interfaces = map (λ (n : Name). place_in (interface_names is) n.text) p.interfaces }) ≡ map (lowered_operation types names) (port_operations is p)
 sent_operations types names is p e =
     let os : List Operation = flat_map (operations_named is) (port_names p) in
     let differ : texts_differ (texts_of os) ≡ true =
     ap texts_differ (mapped_each (λ (o : Operation). o.name.text) (operations_named is) (port_names p) ∙ sym (brought_texts is [] p.interfaces)) ∙ names_differ DuplicateName (brought is [] p.interfaces) e in
-    ap (operations_of (map (meant_interface types names) is)) (sym (mapped_twice (place_in (interface_names is)) (λ (n : Name). n.text) p.interfaces))
+    ap (operations_of (map (lowered_interface types names) is)) (sym (mapped_twice (place_in (interface_names is)) (λ (n : Name). n.text) p.interfaces))
     ∙ operations_behind types names is (port_names p)
-    ∙ ap (map (meant_operation types names)) (sym (once_is os differ) ∙ ap each_once (flat_map-map (operations_named is) (λ (n : Name). n.text) p.interfaces))
+    ∙ ap (map (lowered_operation types names)) (sym (once_is os differ) ∙ ap each_once (flat_map-map (operations_named is) (λ (n : Name). n.text) p.interfaces))
 
 -- the operations of the ports of clauses are among others from a number on
 abbrev pub StandFrom : List (List ℕ) → List (List ℕ) → List Interface → List Clause → ℕ → List (List OperationPart) → Type 0
-StandFrom types names is clauses n all = (j : ℕ) (os : List OperationPart) → slice_get (map (sent_to (map (meant_interface types names) is)) (ports_of (interface_names is) clauses)) j ≡ Some os → slice_get all (n + j) ≡ Some os
+StandFrom types names is clauses n all = (j : ℕ) (os : List OperationPart) → slice_get (map (sent_to (map (lowered_interface types names) is)) (ports_of (interface_names is) clauses)) j ≡ Some os → slice_get all (n + j) ≡ Some os
 
 -- they are so one port further
 stand_further : (first : List OperationPart) (rest : List (List OperationPart)) (n : ℕ) (all : List (List OperationPart)) → ((j : ℕ) (os : List OperationPart) → slice_get (first ∷ rest) j ≡ Some os → slice_get all (n + j) ≡ Some os)
@@ -105,7 +107,7 @@ abbrev pub reaches : List (List OperationPart) → Name → Bool → NumberedPor
 reaches all operation answers p = has_operation (unwrap_or (slice_get all p.number) []) (place_in p.operations operation.text) answers
 
 output_turn : (types names : List (List ℕ)) (is : List Interface) (b : Bool) (p : Port) (all : List (List OperationPart)) (n : ℕ) (operation port : Name) (answers : Bool) (found : Option (List Operation)) (rest : NumberedPort)
-    → slice_get all n ≡ Some (map (meant_operation types names) (port_operations is p)) → output_of (if b then Some (port_operations is p) else found) operation port answers ≡ []
+    → slice_get all n ≡ Some (map (lowered_operation types names) (port_operations is p)) → output_of (if b then Some (port_operations is p) else found) operation port answers ≡ []
     → (output_of found operation port answers ≡ [] → reaches all operation answers rest ≡ true)
     → reaches all operation answers (if b then record { name = p.name.text; number = n; operations = texts_of (port_operations is p) } else rest) ≡ true
 output_turn types names is true p all n operation port answers found rest there e further =
@@ -122,13 +124,13 @@ output_reaches types names is (clause.OutputPort p ∷ clauses) n all none opera
     let here : n + 0 ≡ n = omega arith in
     let mine : output_port_refused is p ≡ [] = left_empty (output_port_refused is p) (flat_map (output_port_refused is) (filter_map output_port_in clauses)) once in
     let rest : List PortPart = ports_of (interface_names is) clauses in
-    let first : List OperationPart = formed_ports.port_operations (map (meant_interface types names) is) (record { name = p.name.text; input = false; location = p.location.text; interfaces = map (λ (n : Name). place_in (interface_names is) n.text) p.interfaces }) in
+    let first : List OperationPart = formed_ports.port_operations (map (lowered_interface types names) is) (record { name = p.name.text; input = false; location = p.location.text; interfaces = map (λ (n : Name). place_in (interface_names is) n.text) p.interfaces }) in
     output_turn types names is (bytes_eq p.name.text port.text) p all n operation port answers (outlet_named (map (outlet is) (filter_map output_port_in clauses)) port.text) (port_among (numbered_from is (suc n) (filter_map port_in clauses)) none port.text)
     (subst (λ k. slice_get all k ≡ Some first) here (stand 0 first refl) ∙ ap Some (sent_operations types names is p mine)) e
     (λ h. output_reaches types names is clauses (suc n) all none operation port answers (right_empty (output_port_refused is p) (flat_map (output_port_refused is) (filter_map output_port_in clauses)) once)
-    (stand_further first (map (sent_to (map (meant_interface types names) is)) rest) n all stand) h)
+    (stand_further first (map (sent_to (map (lowered_interface types names) is)) rest) n all stand) h)
 output_reaches types names is (clause.InputPort p ∷ clauses) n all none operation port answers once stand e =
-    output_reaches types names is clauses (suc n) all none operation port answers once (stand_further [] (map (sent_to (map (meant_interface types names) is)) (ports_of (interface_names is) clauses)) n all stand) e
+    output_reaches types names is clauses (suc n) all none operation port answers once (stand_further [] (map (sent_to (map (lowered_interface types names) is)) (ports_of (interface_names is) clauses)) n all stand) e
 output_reaches types names is (clause.Execution at execution ∷ clauses) n all none operation port answers once stand e = output_reaches types names is clauses n all none operation port answers once stand e
 output_reaches types names is (clause.CorrelationSet at variables ∷ clauses) n all none operation port answers once stand e = output_reaches types names is clauses n all none operation port answers once stand e
 output_reaches types names is (clause.Init at body ∷ clauses) n all none operation port answers once stand e = output_reaches types names is clauses n all none operation port answers once stand e

@@ -10,23 +10,24 @@ use Rattle.jolie_ast.specs.declared.service.Service.{Service}
 use Rattle.behaviour_tree.specs.Distinct.{texts_differ}
 use Rattle.behaviour_tree.specs.FormedTypes.{are_types}
 use Rattle.behaviour_tree.specs.WellFormed.{are_names, are_interfaces}
-use Rattle.service_check.specs.declared.refusal.CheckName.TheVariants.{DuplicateName}
-use Rattle.service_check.specs.declared.refusal.Refusal.{Refusal}
-use Rattle.service_check.specs.Least.{refused}
-use Rattle.service_check.specs.Repeated.{as_name, repeated}
-use Rattle.service_check.specs.Files.{types_of, interfaces_of, services_of, input_ports, type_names}
-use Rattle.service_check.specs.InterfaceRules.{interface_refused}
+use Rattle.check_base.specs.declared.refusal.CheckName.TheVariants.{DuplicateName}
+use Rattle.check_base.specs.declared.refusal.Refusal.{Refusal}
+use Rattle.check_base.specs.Least.{refused}
+use Rattle.check_base.specs.Repeated.{as_name, repeated}
+use Rattle.check_base.specs.Files.{types_of, interfaces_of, services_of, input_ports, type_names}
+use Rattle.type_checks.specs.InterfaceRules.{interface_refused}
 use Rattle.service_check.specs.Mentioned.{names_of}
-use Rattle.service_check.specs.PortRules.{input_locations}
-use Rattle.service_check.specs.Programs.{meant_definition, program_of}
+use Rattle.port_checks.specs.PortRules.{input_locations}
+use Rattle.type_lowering.specs.LoweredTypes.{lowered_definition}
+use Rattle.service_check.specs.Programs.{program_of}
 use Rattle.service_check.specs.Refusals.{no_service, names_refused, refusals, refusal_of}
 use Rattle.service_check.specs.ServiceRules.{service_refused}
-use Rattle.service_check.specs.TypeRules.{type_refused}
+use Rattle.type_checks.specs.TypeRules.{type_refused}
 use Rattle.service_check.proofs.Emptied.{least_empty, left_empty, right_empty, names_differ}
 use Rattle.service_check.proofs.WellInterfaces.{all_thrown, interfaces_formed}
 use Rattle.service_check.proofs.WellNames.{names_formed, all_named}
-use Rattle.service_check.proofs.WellTypes.{meant_types, types_formed}
-use Rattle.service_check.proofs.Loops.{mapped_twice}
+use Rattle.service_check.proofs.WellTypes.{lowered_types, types_formed}
+use Rattle.check_base.proofs.Loops.{mapped_twice}
 
 -- ---- what is refused of a file
 
@@ -113,6 +114,6 @@ program_types file none = types_formed (types_of file) (type_names_differ file n
 pub program_interfaces : (file : List Definition) → NothingRefused file → are_interfaces (program_of file) ≡ true
 unfolding program_of
 program_interfaces file none =
-    interfaces_formed (types_of file) (names_of file) (interfaces_of file) (length (meant_types (types_of file)))
-    (length-map (types_of file) (meant_definition (type_names (types_of file))) ∙ sym (length-map (types_of file) (λ (t : TypeDefinition). t.name.text)))
+    interfaces_formed (types_of file) (names_of file) (interfaces_of file) (length (lowered_types (types_of file)))
+    (length-map (types_of file) (lowered_definition (type_names (types_of file))) ∙ sym (length-map (types_of file) (λ (t : TypeDefinition). t.name.text)))
     none.interfaces_once none.interfaces (all_thrown (names_of file) file (all_named file))

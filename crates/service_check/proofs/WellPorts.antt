@@ -18,17 +18,19 @@ use Rattle.behaviour_tree.specs.Operations.{mentions, input_interfaces, operatio
 use Rattle.behaviour_tree.specs.FormedPorts as formed_ports
 use Rattle.behaviour_tree.specs.Distinct.{texts_differ, numbers_differ, is_in}
 use Rattle.behaviour_tree.specs.FormedPorts.{operation_names, is_port, names_once, has_once, is_met}
-use Rattle.service_check.specs.declared.refusal.CheckName.TheVariants.{DuplicateName, UnknownType, UnknownPort, WrongKind}
-use Rattle.service_check.specs.declared.refusal.Refusal.{Refusal}
-use Rattle.service_check.specs.Least.{refused, refused_if}
-use Rattle.service_check.specs.Repeated.{firsts_after, repeated}
-use Rattle.service_check.specs.Files.{Operation, each_once, interface_named, operations_in, operations_named, place_in, port_in, input_port_in, output_port_in, texts_of, interface_names}
-use Rattle.service_check.specs.PortRules.{unknown_interface, operation_at, brought_by, brought_unless, brought, brought_in, interfaces_repeated, output_port_refused, wrong_location, wrong_protocol, console, port_refused, sided_refused, unmet}
-use Rattle.service_check.specs.Programs.{meant_operation, meant_interface, meant_port_part}
+use Rattle.check_base.specs.declared.refusal.CheckName.TheVariants.{DuplicateName, UnknownType, UnknownPort, WrongKind}
+use Rattle.check_base.specs.declared.refusal.Refusal.{Refusal}
+use Rattle.check_base.specs.Least.{refused, refused_if}
+use Rattle.check_base.specs.Repeated.{firsts_after, repeated}
+use Rattle.check_base.specs.Files.{Operation, each_once, interface_named, operations_in, operations_named, place_in, port_in, input_port_in, output_port_in, texts_of, interface_names}
+use Rattle.port_checks.specs.PortRules.{unknown_interface, operation_at, brought_by, brought_unless, brought, brought_in, interfaces_repeated, output_port_refused, wrong_location, wrong_protocol, port_refused, sided_refused, unmet}
+use Rattle.check_base.specs.Console.{console}
+use Rattle.type_lowering.specs.LoweredInterfaces.{lowered_operation, lowered_interface}
+use Rattle.service_check.specs.Programs.{lowered_port_part}
 use Rattle.service_check.proofs.Emptied.{all_four, left_empty, right_empty, fails, holds, mapped_empty, has_place, another_text, in_first, names_differ}
 use Rattle.service_check.proofs.OnceEach.{passed, among_passed, firsts_of_two, first_places, texts_under, taken_by_interface}
 use Rattle.service_check.proofs.WellInterfaces.{all_in, places_differ}
-use Rattle.service_check.proofs.Loops.{mapped_each, mapped_twice}
+use Rattle.check_base.proofs.Loops.{mapped_each, mapped_twice}
 
 -- ---- interfaces by their names
 
@@ -58,13 +60,13 @@ operations_there m f same (Some i) = same i
 
 -- the operations behind the places of interfaces
 pub operations_behind : (types names : List (List ℕ)) (is : List Interface) (ts : List (List ℕ))
-    → operations_of (map (meant_interface types names) is) (map (place_in (interface_names is)) ts) ≡ map (meant_operation types names) (flat_map (operations_named is) ts)
+    → operations_of (map (lowered_interface types names) is) (map (place_in (interface_names is)) ts) ≡ map (lowered_operation types names) (flat_map (operations_named is) ts)
 operations_behind types names is [] = refl
 operations_behind types names is (t ∷ ts) =
-    ap (λ o. plain.operations_in o ++ operations_of (map (meant_interface types names) is) (map (place_in (interface_names is)) ts)) (interface_at_place (meant_interface types names) is t)
-    ∙ ap (λ os. os ++ operations_of (map (meant_interface types names) is) (map (place_in (interface_names is)) ts)) (operations_there (meant_operation types names) (meant_interface types names) (λ i. refl) (interface_named is t))
-    ∙ ap (λ os. map (meant_operation types names) (operations_named is t) ++ os) (operations_behind types names is ts)
-    ∙ sym (map-append (meant_operation types names) (operations_named is t) (flat_map (operations_named is) ts))
+    ap (λ o. plain.operations_in o ++ operations_of (map (lowered_interface types names) is) (map (place_in (interface_names is)) ts)) (interface_at_place (lowered_interface types names) is t)
+    ∙ ap (λ os. os ++ operations_of (map (lowered_interface types names) is) (map (place_in (interface_names is)) ts)) (operations_there (lowered_operation types names) (lowered_interface types names) (λ i. refl) (interface_named is t))
+    ∙ ap (λ os. map (lowered_operation types names) (operations_named is t) ++ os) (operations_behind types names is ts)
+    ∙ sym (map-append (lowered_operation types names) (operations_named is t) (flat_map (operations_named is) ts))
 
 -- ---- what input ports bring
 
@@ -126,7 +128,7 @@ all_brought is earlier before (p ∷ ports) once same =
 
 -- the ports of clauses as plain data
 abbrev pub ports_of : List (List ℕ) → List Clause → List PortPart
-ports_of interfaces clauses = map (meant_port_part interfaces) (filter_map port_in clauses)
+ports_of interfaces clauses = map (lowered_port_part interfaces) (filter_map port_in clauses)
 
 -- the interfaces that the input ports among clauses name
 abbrev pub names_taken : List Clause → List (List ℕ)
@@ -165,31 +167,31 @@ taken_names_differ is ports once none =
 -- the operations of a service are its input operations in order
 pub service_operations_are : (types names : List (List ℕ)) (is : List Interface) (clauses : List Clause) → all_in (interface_names is) (names_taken clauses) ≡ true
     → flat_map interfaces_repeated (filter_map input_port_in clauses) ≡ [] → refused DuplicateName (repeated (brought_in is [] (filter_map input_port_in clauses))) ≡ []
-    → operations_of (map (meant_interface types names) is) (input_interfaces (ports_of (interface_names is) clauses)) ≡ map (meant_operation types names) (each_once (operations_listed is (filter_map input_port_in clauses)))
+    → operations_of (map (lowered_interface types names) is) (input_interfaces (ports_of (interface_names is) clauses)) ≡ map (lowered_operation types names) (each_once (operations_listed is (filter_map input_port_in clauses)))
 service_operations_are types names is clauses known once none =
     let ts : List (List ℕ) = names_taken clauses in
-    let pis : List InterfacePart = map (meant_interface types names) is in
+    let pis : List InterfacePart = map (lowered_interface types names) is in
     ap (λ ns. operations_of pis (plain.first_mentions [] ns)) (mentions_are (interface_names is) clauses)
     ∙ ap (operations_of pis) (first_places (interface_names is) [] [] ts known (λ x h. refl))
     ∙ operations_behind types names is (firsts_after [] ts)
-    ∙ ap (map (meant_operation types names))
+    ∙ ap (map (lowered_operation types names))
     (sym (taken_by_interface (operations_named is) [] [] ts (λ t x h there. absurd (false≢true h)) (taken_names_differ is (filter_map input_port_in clauses) once none) (λ x h. refl)))
-    ∙ ap (λ os. map (meant_operation types names) (each_once os)) (sym (listed_by_name is (filter_map input_port_in clauses)))
+    ∙ ap (λ os. map (lowered_operation types names) (each_once os)) (sym (listed_by_name is (filter_map input_port_in clauses)))
 
 -- the names of operations that are found by interface
-pub names_by_interface : (types names : List (List ℕ)) (is : List Interface) (ts : List (List ℕ)) → operation_names (operations_of (map (meant_interface types names) is) (map (place_in (interface_names is)) ts)) ≡ texts_under (operations_named is) ts
+pub names_by_interface : (types names : List (List ℕ)) (is : List Interface) (ts : List (List ℕ)) → operation_names (operations_of (map (lowered_interface types names) is) (map (place_in (interface_names is)) ts)) ≡ texts_under (operations_named is) ts
 names_by_interface types names is ts =
     ap operation_names (operations_behind types names is ts)
-    ∙ mapped_twice (λ (o : OperationPart). o.name) (meant_operation types names) (flat_map (operations_named is) ts)
+    ∙ mapped_twice (λ (o : OperationPart). o.name) (lowered_operation types names) (flat_map (operations_named is) ts)
     ∙ mapped_each (λ (o : Operation). o.name.text) (operations_named is) ts
 
 -- the names of the operations of a service differ
 pub service_operations_differ : (types names : List (List ℕ)) (is : List Interface) (clauses : List Clause) → all_in (interface_names is) (names_taken clauses) ≡ true
     → flat_map interfaces_repeated (filter_map input_port_in clauses) ≡ [] → refused DuplicateName (repeated (brought_in is [] (filter_map input_port_in clauses))) ≡ []
-    → texts_differ (operation_names (operations_of (map (meant_interface types names) is) (input_interfaces (ports_of (interface_names is) clauses)))) ≡ true
+    → texts_differ (operation_names (operations_of (map (lowered_interface types names) is) (input_interfaces (ports_of (interface_names is) clauses)))) ≡ true
 service_operations_differ types names is clauses known once none =
     let ts : List (List ℕ) = names_taken clauses in
-    let pis : List InterfacePart = map (meant_interface types names) is in
+    let pis : List InterfacePart = map (lowered_interface types names) is in
     ap (λ ns. texts_differ (operation_names (operations_of pis (plain.first_mentions [] ns)))) (mentions_are (interface_names is) clauses)
     ∙ ap (λ ns. texts_differ (operation_names (operations_of pis ns))) (first_places (interface_names is) [] [] ts known (λ x h. refl))
     ∙ ap texts_differ (names_by_interface types names is (firsts_after [] ts))
@@ -231,11 +233,11 @@ port_by_itself is p m size e =
 
 -- an input port
 input_port_formed : (types names : List (List ℕ)) (is : List Interface) (locations : List (List ℕ)) (p : Port) → port_refused is p ≡ [] → interfaces_repeated p ≡ []
-    → is_port (map (meant_interface types names) is) locations (meant_port_part (interface_names is) (record { input = true; port = p })) ≡ true
+    → is_port (map (lowered_interface types names) is) locations (lowered_port_part (interface_names is) (record { input = true; port = p })) ≡ true
 input_port_formed types names is locations p e once =
-    let pis : List InterfacePart = map (meant_interface types names) is in
-    let part : PortPart = meant_port_part (interface_names is) (record { input = true; port = p }) in
-    let size : length pis ≡ length (interface_names is) = length-map is (meant_interface types names) ∙ sym (length-map is (λ (i : Interface). i.name.text)) in
+    let pis : List InterfacePart = map (lowered_interface types names) is in
+    let part : PortPart = lowered_port_part (interface_names is) (record { input = true; port = p }) in
+    let size : length pis ≡ length (interface_names is) = length-map is (lowered_interface types names) ∙ sym (length-map is (λ (i : Interface). i.name.text)) in
     all_four (not (bytes_eq p.name.text formed_ports.console) && (is_local p.location.text || is_socket p.location.text) && list_all (λ n. nat_lt n (length pis)) part.interfaces) (names_once part) (has_once pis part) (is_met locations part)
     (port_by_itself is p (length pis) size e)
     (ap numbers_differ (sym (mapped_twice (place_in (interface_names is)) (λ (n : Name). n.text) p.interfaces)) ∙ places_differ (interface_names is) (port_names p) (names_differ DuplicateName p.interfaces once) (port_known is p e))
@@ -248,11 +250,11 @@ met false b e = refl
 
 -- an output port
 output_port_formed : (types names : List (List ℕ)) (is : List Interface) (locations : List (List ℕ)) (p : Port) → port_refused is p ≡ [] → output_port_refused is p ≡ [] → unmet locations p ≡ []
-    → is_port (map (meant_interface types names) is) locations (meant_port_part (interface_names is) (record { input = false; port = p })) ≡ true
+    → is_port (map (lowered_interface types names) is) locations (lowered_port_part (interface_names is) (record { input = false; port = p })) ≡ true
 output_port_formed types names is locations p e once near =
-    let pis : List InterfacePart = map (meant_interface types names) is in
-    let part : PortPart = meant_port_part (interface_names is) (record { input = false; port = p }) in
-    let size : length pis ≡ length (interface_names is) = length-map is (meant_interface types names) ∙ sym (length-map is (λ (i : Interface). i.name.text)) in
+    let pis : List InterfacePart = map (lowered_interface types names) is in
+    let part : PortPart = lowered_port_part (interface_names is) (record { input = false; port = p }) in
+    let size : length pis ≡ length (interface_names is) = length-map is (lowered_interface types names) ∙ sym (length-map is (λ (i : Interface). i.name.text)) in
     all_four (not (bytes_eq p.name.text formed_ports.console) && (is_local p.location.text || is_socket p.location.text) && list_all (λ n. nat_lt n (length pis)) part.interfaces) (names_once part) (has_once pis part) (is_met locations part)
     (port_by_itself is p (length pis) size e)
     refl
@@ -265,14 +267,14 @@ output_port_formed types names is locations p e once near =
 pub each_port_formed : (types names : List (List ℕ)) (is : List Interface) (locations : List (List ℕ)) (clauses : List Clause)
     → flat_map (sided_refused is) (filter_map port_in clauses) ≡ [] → flat_map interfaces_repeated (filter_map input_port_in clauses) ≡ []
     → flat_map (output_port_refused is) (filter_map output_port_in clauses) ≡ [] → flat_map (unmet locations) (filter_map output_port_in clauses) ≡ []
-    → list_all (is_port (map (meant_interface types names) is) locations) (ports_of (interface_names is) clauses) ≡ true
+    → list_all (is_port (map (lowered_interface types names) is) locations) (ports_of (interface_names is) clauses) ≡ true
 each_port_formed types names is locations [] e once out near = refl
 each_port_formed types names is locations (clause.InputPort p ∷ clauses) e once out near =
-    and_from (is_port (map (meant_interface types names) is) locations (meant_port_part (interface_names is) (record { input = true; port = p }))) (list_all (is_port (map (meant_interface types names) is) locations) (ports_of (interface_names is) clauses))
+    and_from (is_port (map (lowered_interface types names) is) locations (lowered_port_part (interface_names is) (record { input = true; port = p }))) (list_all (is_port (map (lowered_interface types names) is) locations) (ports_of (interface_names is) clauses))
     (input_port_formed types names is locations p (left_empty (port_refused is p) (flat_map (sided_refused is) (filter_map port_in clauses)) e) (left_empty (interfaces_repeated p) (flat_map interfaces_repeated (filter_map input_port_in clauses)) once))
     (each_port_formed types names is locations clauses (right_empty (port_refused is p) (flat_map (sided_refused is) (filter_map port_in clauses)) e) (right_empty (interfaces_repeated p) (flat_map interfaces_repeated (filter_map input_port_in clauses)) once) out near)
 each_port_formed types names is locations (clause.OutputPort p ∷ clauses) e once out near =
-    and_from (is_port (map (meant_interface types names) is) locations (meant_port_part (interface_names is) (record { input = false; port = p }))) (list_all (is_port (map (meant_interface types names) is) locations) (ports_of (interface_names is) clauses))
+    and_from (is_port (map (lowered_interface types names) is) locations (lowered_port_part (interface_names is) (record { input = false; port = p }))) (list_all (is_port (map (lowered_interface types names) is) locations) (ports_of (interface_names is) clauses))
     (output_port_formed types names is locations p (left_empty (port_refused is p) (flat_map (sided_refused is) (filter_map port_in clauses)) e) (left_empty (output_port_refused is p) (flat_map (output_port_refused is) (filter_map output_port_in clauses)) out) (left_empty (unmet locations p) (flat_map (unmet locations) (filter_map output_port_in clauses)) near))
     (each_port_formed types names is locations clauses (right_empty (port_refused is p) (flat_map (sided_refused is) (filter_map port_in clauses)) e) once (right_empty (output_port_refused is p) (flat_map (output_port_refused is) (filter_map output_port_in clauses)) out) (right_empty (unmet locations p) (flat_map (unmet locations) (filter_map output_port_in clauses)) near))
 each_port_formed types names is locations (clause.Execution at execution ∷ clauses) e once out near = each_port_formed types names is locations clauses e once out near

@@ -18,17 +18,21 @@ use Rattle.behaviour_tree.specs.FormedServices as formed_services
 use Rattle.behaviour_tree.specs.FormedBehaviours.{Reach, has_operation, is_behaviour}
 use Rattle.behaviour_tree.specs.FormedServices.{sent_to}
 use Rattle.behaviour_tree.specs.Distinct.{is_in}
-use Rattle.service_check.specs.declared.refusal.CheckName.TheVariants.{UnknownOperation, WrongKind, Uncorrelated}
-use Rattle.service_check.specs.declared.refusal.Refusal.{Refusal}
-use Rattle.service_check.specs.Least.{refused, refused_if}
-use Rattle.service_check.specs.Files.{Operation, first_there, init_in, input_operations, main_in, operation_named, output_ports, place_in, port_in, sets_of, texts_of, interface_names}
-use Rattle.service_check.specs.Behaviours.{Numbering, console_port, meant_if_there, port_among}
-use Rattle.service_check.specs.Mentioned.{Texts, block_texts, clause_texts}
-use Rattle.service_check.specs.PortRules.{console, output_port_refused}
-use Rattle.service_check.specs.ProcessRules.{Surroundings, agree, block_refused, outlet_named, println, used}
-use Rattle.service_check.specs.Programs.{meant_interface, meant_operation, meant_port_part, meant_set, numbered_from, numbering}
-use Rattle.service_check.specs.ServiceRules.{clause_refused, init_refused, outlet, surroundings}
-use Rattle.service_check.specs.SetRules.{variables_of}
+use Rattle.check_base.specs.declared.refusal.CheckName.TheVariants.{UnknownOperation, WrongKind, Uncorrelated}
+use Rattle.check_base.specs.declared.refusal.Refusal.{Refusal}
+use Rattle.check_base.specs.Least.{refused, refused_if}
+use Rattle.check_base.specs.Files.{Operation, first_there, init_in, input_operations, main_in, operation_named, output_ports, place_in, port_in, sets_of, texts_of, interface_names, variables_of}
+use Rattle.process_lowering.specs.Behaviours.{Numbering, console_port, lowered_if_there, port_among}
+use Rattle.check_base.specs.Repeated.{Texts}
+use Rattle.service_check.specs.Mentioned.{block_texts, clause_texts}
+use Rattle.check_base.specs.Console.{console, println}
+use Rattle.port_checks.specs.PortRules.{output_port_refused}
+use Rattle.process_checks.specs.Surroundings.{Surroundings, outlet, surroundings}
+use Rattle.process_checks.specs.ProcessRules.{agree, block_refused, outlet_named, used}
+use Rattle.type_lowering.specs.LoweredInterfaces.{lowered_interface, lowered_operation}
+use Rattle.service_check.specs.Programs.{lowered_port_part, lowered_set, numbered_from, numbering}
+use Rattle.service_check.specs.ServiceRules.{clause_refused}
+use Rattle.process_checks.specs.InitRules.{init_refused}
 use Rattle.service_check.proofs.Emptied.{has_place, holds, left_empty}
 use Rattle.service_check.proofs.WellBehaviours.{Meets, block_well}
 use Rattle.service_check.proofs.WellInit.{init_clear, main_clear}
@@ -74,16 +78,16 @@ all_outputs interfaces names clauses = map (sent_to interfaces) (ports_of names 
 sent_there : (types names : List (List ℕ)) (is : List Interface) (s : Service) (b : Bool) (operation port : Name) (answers : Bool)
     → flat_map (output_port_refused is) (output_ports s) ≡ []
     → output_of (if b then Some (println ∷ []) else outlet_named (map (outlet is) (output_ports s)) port.text) operation port answers ≡ []
-    → reaches (all_outputs (map (meant_interface types names) is) (interface_names is) s.clauses) operation answers (if b then console_port (numbering is names s) else port_among (numbered_from is zero (filter_map port_in s.clauses)) (console_port (numbering is names s)) port.text) ≡ true
+    → reaches (all_outputs (map (lowered_interface types names) is) (interface_names is) s.clauses) operation answers (if b then console_port (numbering is names s) else port_among (numbered_from is zero (filter_map port_in s.clauses)) (console_port (numbering is names s)) port.text) ≡ true
 sent_there types names is s true operation port answers once e =
-    let pis : List InterfacePart = map (meant_interface types names) is in
+    let pis : List InterfacePart = map (lowered_interface types names) is in
     let outs : List (List OperationPart) = map (sent_to pis) (ports_of (interface_names is) s.clauses) in
-    let size : length outs ≡ length (filter_map port_in s.clauses) = length-map (ports_of (interface_names is) s.clauses) (sent_to pis) ∙ length-map (filter_map port_in s.clauses) (meant_port_part (interface_names is)) in
+    let size : length outs ≡ length (filter_map port_in s.clauses) = length-map (ports_of (interface_names is) s.clauses) (sent_to pis) ∙ length-map (filter_map port_in s.clauses) (lowered_port_part (interface_names is)) in
     ap (λ n. has_operation (unwrap_or (slice_get (outs ++ (formed_services.println ∷ []) ∷ []) n) []) (place_in (println.name.text ∷ []) operation.text) answers) (sym size)
     ∙ ap (λ o. has_operation (unwrap_or o []) (place_in (println.name.text ∷ []) operation.text) answers) (slice_end outs (formed_services.println ∷ []))
     ∙ operation_used types names (println ∷ []) operation answers e
 sent_there types names is s false operation port answers once e =
-    let pis : List InterfacePart = map (meant_interface types names) is in
+    let pis : List InterfacePart = map (lowered_interface types names) is in
     let outs : List (List OperationPart) = map (sent_to pis) (ports_of (interface_names is) s.clauses) in
     output_reaches types names is s.clauses zero (outs ++ (formed_services.println ∷ []) ∷ []) (console_port (numbering is names s)) operation port answers once
     (λ j os there. let same : j ≡ 0 + j = omega arith in subst (λ k. slice_get (outs ++ (formed_services.println ∷ []) ∷ []) k ≡ Some os) same (slice_front outs ((formed_services.println ∷ []) ∷ []) j os there)) e
@@ -94,17 +98,17 @@ sent_there types names is s false operation port answers once e =
 abbrev pub reach_by : List (List ℕ) → List (List ℕ) → List Interface → Service → List OperationPart → Reach
 reach_by types names is s inputs = record {
   inputs = inputs;
-  outputs = all_outputs (map (meant_interface types names) is) (interface_names is) s.clauses;
-  variables = length (formed_sets.variables_of (map (meant_set types) (sets_of s)));
+  outputs = all_outputs (map (lowered_interface types names) is) (interface_names is) s.clauses;
+  variables = length (formed_sets.variables_of (map (lowered_set types) (sets_of s)));
   names = length names;
 }
 
 -- how many variables there are
-variables_size : (types : List (List ℕ)) (s : Service) → length (map (λ (n : Name). n.text) (variables_of s)) ≡ length (formed_sets.variables_of (map (meant_set types) (sets_of s)))
-variables_size types s = ap length (sym (variable_names types (sets_of s))) ∙ length-map (formed_sets.variables_of (map (meant_set types) (sets_of s))) (λ (v : VariablePart). v.name)
+variables_size : (types : List (List ℕ)) (s : Service) → length (map (λ (n : Name). n.text) (variables_of s)) ≡ length (formed_sets.variables_of (map (lowered_set types) (sets_of s)))
+variables_size types s = ap length (sym (variable_names types (sets_of s))) ∙ length-map (formed_sets.variables_of (map (lowered_set types) (sets_of s))) (λ (v : VariablePart). v.name)
 
 -- the numbers of a service meet what its processes may name
-pub service_meets : (types names : List (List ℕ)) (is : List Interface) (s : Service) (inputs : List OperationPart) → inputs ≡ map (meant_operation types names) (input_operations is s) → flat_map (output_port_refused is) (output_ports s) ≡ []
+pub service_meets : (types names : List (List ℕ)) (is : List Interface) (s : Service) (inputs : List OperationPart) → inputs ≡ map (lowered_operation types names) (input_operations is s) → flat_map (output_port_refused is) (output_ports s) ≡ []
     → Meets (surroundings is s) (numbering is names s) (reach_by types names is s inputs)
 service_meets types names is s inputs same once = record {
   inputs = λ n answers e. ap (λ os. has_operation os (place_in (texts_of (input_operations is s)) n.text) answers) same ∙ operation_used types names (input_operations is s) n answers e;
@@ -143,17 +147,17 @@ main_part names (clause.Execution at execution ∷ clauses) b all shape there = 
 main_part names (clause.CorrelationSet at variables ∷ clauses) b all shape there = main_part names clauses b all shape there
 
 body_well : (e : Surroundings) (m : Numbering) (r : Reach) → Meets e m r → (o : Option Block) → ((b : Block) → o ≡ Some b → block_refused e b false ≡ []) → ((b : Block) → o ≡ Some b → (all_in m.names (block_texts b) ≡ true) × (block_formed b ≡ true))
-    → is_behaviour r false (meant_if_there m o) ≡ true
+    → is_behaviour r false (lowered_if_there m o) ≡ true
 body_well e m r w None clear part = refl
 body_well e m r w (Some b) clear part = block_well e m r w b false (clear b refl) (part b refl).0 (part b refl).1
 
 -- the init of a service of which nothing is refused
 pub init_well : (e : Surroundings) (m : Numbering) (r : Reach) → Meets e m r → (clauses : List Clause) → flat_map (clause_refused e) clauses ≡ [] → all_in m.names (flat_map clause_texts clauses) ≡ true → list_all clause_formed clauses ≡ true
-    → is_behaviour r false (meant_if_there m (first_there (filter_map init_in clauses))) ≡ true
+    → is_behaviour r false (lowered_if_there m (first_there (filter_map init_in clauses))) ≡ true
 init_well e m r w clauses none all shape =
     body_well e m r w (first_there (filter_map init_in clauses)) (λ b there. left_empty (block_refused e b false) (init_refused b) (init_clear e clauses b none there)) (λ b there. init_part m.names clauses b all shape there)
 
 -- its main
 pub main_well : (e : Surroundings) (m : Numbering) (r : Reach) → Meets e m r → (clauses : List Clause) → flat_map (clause_refused e) clauses ≡ [] → all_in m.names (flat_map clause_texts clauses) ≡ true → list_all clause_formed clauses ≡ true
-    → is_behaviour r false (meant_if_there m (first_there (filter_map main_in clauses))) ≡ true
+    → is_behaviour r false (lowered_if_there m (first_there (filter_map main_in clauses))) ≡ true
 main_well e m r w clauses none all shape = body_well e m r w (first_there (filter_map main_in clauses)) (λ b there. main_clear e clauses b none there) (λ b there. main_part m.names clauses b all shape there)

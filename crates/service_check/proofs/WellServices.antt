@@ -17,20 +17,22 @@ use Rattle.behaviour_tree.specs.FormedPorts as formed_ports
 use Rattle.behaviour_tree.specs.Distinct.{texts_differ}
 use Rattle.behaviour_tree.specs.FormedPorts.{input_location, is_port, operation_names}
 use Rattle.behaviour_tree.specs.FormedSets.{are_sets}
-use Rattle.service_check.specs.declared.refusal.CheckName.TheVariants.{DuplicateName}
-use Rattle.service_check.specs.declared.refusal.Refusal.{Refusal}
-use Rattle.service_check.specs.Least.{refused}
-use Rattle.service_check.specs.Repeated.{as_name, repeated}
-use Rattle.service_check.specs.Files.{execution_of, input_port_in, input_ports, is_concurrent, output_ports, port_in, sets_of, type_names, interface_names}
-use Rattle.service_check.specs.PortRules.{brought_in, input_locations, input_ports_refused, interfaces_repeated, output_port_refused, port_name, ports_refused, service_locations, sided_refused, unmet}
-use Rattle.service_check.specs.Programs.{meant_interface, meant_port_part, meant_service}
-use Rattle.service_check.specs.ServiceRules.{clause_refused, execution_place, init_place, main_place, no_start, second, service_refused, surroundings, uncorrelated}
-use Rattle.service_check.specs.SetRules.{set_of_single, set_refused, sets_refused, two_sets, variables_of}
+use Rattle.check_base.specs.declared.refusal.CheckName.TheVariants.{DuplicateName}
+use Rattle.check_base.specs.declared.refusal.Refusal.{Refusal}
+use Rattle.check_base.specs.Least.{refused}
+use Rattle.check_base.specs.Repeated.{as_name, repeated}
+use Rattle.check_base.specs.Files.{execution_of, input_port_in, input_ports, is_concurrent, output_ports, port_in, sets_of, type_names, interface_names, variables_of}
+use Rattle.port_checks.specs.PortRules.{brought_in, input_locations, input_ports_refused, interfaces_repeated, output_port_refused, port_name, ports_refused, service_locations, sided_refused, unmet}
+use Rattle.type_lowering.specs.LoweredInterfaces.{lowered_interface}
+use Rattle.service_check.specs.Programs.{lowered_port_part, lowered_service}
+use Rattle.service_check.specs.ServiceRules.{clause_refused, execution_place, init_place, main_place, no_start, second, service_refused, uncorrelated}
+use Rattle.process_checks.specs.Surroundings.{surroundings}
+use Rattle.port_checks.specs.SetRules.{set_of_single, set_refused, sets_refused, two_sets}
 use Rattle.service_check.proofs.Emptied.{left_empty, right_empty, names_differ}
 use Rattle.service_check.proofs.WellPorts.{ports_of, all_known, each_port_formed, service_operations_differ}
 use Rattle.service_check.proofs.WellSets.{sets_formed}
-use Rattle.service_check.proofs.WellTypes.{meant_types}
-use Rattle.service_check.proofs.Loops.{mapped_twice}
+use Rattle.service_check.proofs.WellTypes.{lowered_types}
+use Rattle.check_base.proofs.Loops.{mapped_twice}
 
 -- ---- what is refused of a service
 
@@ -94,15 +96,15 @@ ports_by_part is locations s e =
 
 -- the ports of a service of which nothing is refused
 pub ports_formed : (types names : List (List ℕ)) (is : List Interface) (locations : List (List ℕ)) (s : Service) → NothingOfPorts is locations s
-    → (texts_differ (map (λ (p : PortPart). p.name) (ports_of (interface_names is) s.clauses)) && list_all (is_port (map (meant_interface types names) is) locations) (ports_of (interface_names is) s.clauses)
-    && texts_differ (operation_names (operations_of (map (meant_interface types names) is) (input_interfaces (ports_of (interface_names is) s.clauses))))) ≡ true
+    → (texts_differ (map (λ (p : PortPart). p.name) (ports_of (interface_names is) s.clauses)) && list_all (is_port (map (lowered_interface types names) is) locations) (ports_of (interface_names is) s.clauses)
+    && texts_differ (operation_names (operations_of (map (lowered_interface types names) is) (input_interfaces (ports_of (interface_names is) s.clauses))))) ≡ true
 ports_formed types names is locations s none =
     let ports : List PortPart = ports_of (interface_names is) s.clauses in
     let one : Bool = texts_differ (map (λ (p : PortPart). p.name) ports) in
-    let two : Bool = list_all (is_port (map (meant_interface types names) is) locations) ports in
-    and_from (one && two) (texts_differ (operation_names (operations_of (map (meant_interface types names) is) (input_interfaces ports))))
+    let two : Bool = list_all (is_port (map (lowered_interface types names) is) locations) ports in
+    and_from (one && two) (texts_differ (operation_names (operations_of (map (lowered_interface types names) is) (input_interfaces ports))))
     (and_from one two
-    (ap texts_differ (mapped_twice (λ (p : PortPart). p.name) (meant_port_part (interface_names is)) (filter_map port_in s.clauses) ∙ sym (mapped_twice (λ (n : Name). n.text) port_name (filter_map port_in s.clauses)))
+    (ap texts_differ (mapped_twice (λ (p : PortPart). p.name) (lowered_port_part (interface_names is)) (filter_map port_in s.clauses) ∙ sym (mapped_twice (λ (n : Name). n.text) port_name (filter_map port_in s.clauses)))
     ∙ names_differ DuplicateName (map port_name (filter_map port_in s.clauses)) none.names)
     (each_port_formed types names is locations s.clauses none.each none.interfaces none.outputs none.near))
     (service_operations_differ types names is s.clauses (all_known is s.clauses none.each) none.interfaces none.operations)
@@ -120,10 +122,10 @@ port_locations interfaces (clause.Init at body ∷ clauses) = port_locations int
 port_locations interfaces (clause.Main at body ∷ clauses) = port_locations interfaces clauses
 
 -- those of services
-pub locations_are : (is : List Interface) (types names : List (List ℕ)) (services : List Service) → formed_ports.input_locations (map (meant_service is types names) services) ≡ input_locations services
+pub locations_are : (is : List Interface) (types names : List (List ℕ)) (services : List Service) → formed_ports.input_locations (map (lowered_service is types names) services) ≡ input_locations services
 locations_are is types names [] = refl
 locations_are is types names (s ∷ services) =
-    ap (λ ts. ts ++ formed_ports.input_locations (map (meant_service is types names) services)) (port_locations (interface_names is) s.clauses)
+    ap (λ ts. ts ++ formed_ports.input_locations (map (lowered_service is types names) services)) (port_locations (interface_names is) s.clauses)
     ∙ ap (λ ts. service_locations s ++ ts) (locations_are is types names services)
 
 -- the locations as names with their places
@@ -139,21 +141,21 @@ location_texts (s ∷ services) =
 
 -- the locations of the input ports of services differ
 pub locations_differ : (is : List Interface) (types names : List (List ℕ)) (services : List Service) → refused DuplicateName (repeated (location_names services)) ≡ []
-    → texts_differ (formed_ports.input_locations (map (meant_service is types names) services)) ≡ true
+    → texts_differ (formed_ports.input_locations (map (lowered_service is types names) services)) ≡ true
 locations_differ is types names services none =
     ap texts_differ (locations_are is types names services ∙ sym (location_texts services)) ∙ names_differ DuplicateName (location_names services) none
 
 -- the names of services differ
 pub services_differ : (is : List Interface) (types names : List (List ℕ)) (services : List Service) → refused DuplicateName (repeated (map (λ (s : Service). s.name) services)) ≡ []
-    → texts_differ (map (λ (s : ServicePart). s.name) (map (meant_service is types names) services)) ≡ true
+    → texts_differ (map (λ (s : ServicePart). s.name) (map (lowered_service is types names) services)) ≡ true
 services_differ is types names services none =
-    ap texts_differ (mapped_twice (λ (s : ServicePart). s.name) (meant_service is types names) services ∙ sym (mapped_twice (λ (n : Name). n.text) (λ (s : Service). s.name) services))
+    ap texts_differ (mapped_twice (λ (s : ServicePart). s.name) (lowered_service is types names) services ∙ sym (mapped_twice (λ (n : Name). n.text) (λ (s : Service). s.name) services))
     ∙ names_differ DuplicateName (map (λ (s : Service). s.name) services) none
 
 -- ---- sets
 
 -- the sets of a service of which nothing is refused
-pub service_sets : (is : List Interface) (types : List TypeDefinition) (names : List (List ℕ)) (s : Service) → sets_refused types s ≡ [] → are_sets (meant_types types) (meant_service is (type_names types) names s) ≡ true
+pub service_sets : (is : List Interface) (types : List TypeDefinition) (names : List (List ℕ)) (s : Service) → sets_refused types s ≡ [] → are_sets (lowered_types types) (lowered_service is (type_names types) names s) ≡ true
 service_sets is types names s e =
     let twice : List Refusal = refused DuplicateName (repeated (variables_of s)) in
     let each : List Refusal = flat_map (set_refused types) (sets_of s) in

@@ -20,22 +20,25 @@ use Rattle.behaviour_tree.specs.FormedServices as formed_services
 use Rattle.behaviour_tree.specs.Operations.{is_among}
 use Rattle.behaviour_tree.specs.Distinct.{texts_differ, is_in}
 use Rattle.behaviour_tree.specs.FormedServices.{all_reach, has_start, is_correlated}
-use Rattle.service_check.specs.declared.refusal.CheckName.TheVariants.{NoStart, Uncorrelated}
-use Rattle.service_check.specs.Least.{refused_if}
-use Rattle.service_check.specs.Repeated.{firsts_after}
-use Rattle.service_check.specs.Files.{Operation, execution_of, input_operations, input_ports, is_concurrent, place_in, sets_of, texts_of}
-use Rattle.service_check.specs.Behaviours.{Numbering, meant_if_there}
-use Rattle.service_check.specs.Programs.{meant_execution, meant_operation, meant_service, meant_set, meant_type, numbering}
+use Rattle.check_base.specs.declared.refusal.CheckName.TheVariants.{NoStart, Uncorrelated}
+use Rattle.check_base.specs.Least.{refused_if}
+use Rattle.check_base.specs.Repeated.{firsts_after}
+use Rattle.check_base.specs.Files.{Operation, execution_of, input_operations, input_ports, is_concurrent, place_in, sets_of, texts_of}
+use Rattle.process_lowering.specs.Behaviours.{Numbering, lowered_if_there}
+use Rattle.service_check.specs.Programs.{lowered_execution, lowered_service, lowered_set, numbering}
+use Rattle.type_lowering.specs.LoweredInterfaces.{lowered_operation}
+use Rattle.type_lowering.specs.LoweredTypes.{lowered_type}
 use Rattle.service_check.specs.ServiceRules as rules
-use Rattle.service_check.specs.ServiceRules.{first_input, is_lost, main_of, names_if_there, no_start, starting, uncorrelated}
-use Rattle.service_check.specs.SetRules.{alias_names, set_texts, types_in_sets}
+use Rattle.process_checks.specs.FirstInputs.{first_input}
+use Rattle.service_check.specs.ServiceRules.{is_lost, main_of, names_if_there, no_start, starting, uncorrelated}
+use Rattle.port_checks.specs.SetRules.{alias_names, set_texts, types_in_sets}
 use Rattle.service_check.proofs.Emptied.{fails, right_empty}
-use Rattle.service_check.proofs.Firsts.{once_texts}
+use Rattle.check_base.proofs.Firsts.{once_texts}
 use Rattle.service_check.proofs.WellNames.{taken_differ}
 use Rattle.service_check.proofs.WellPorts.{operations_listed}
 use Rattle.service_check.proofs.WellSets.{all_texts, first_texts, sets_numbers, texts_in_all}
 use Rattle.service_check.proofs.WellTypes.{own_place, place_is_found, text_is_in}
-use Rattle.service_check.proofs.Loops.{mapped_each, mapped_twice}
+use Rattle.check_base.proofs.Loops.{mapped_each, mapped_twice}
 use Rattle.service_check.proofs.WellStarts.{block_starts, numbers_of, starts_at}
 
 -- ---- operations
@@ -76,7 +79,7 @@ in_all_texts x (set ∷ sets) there =
     (in_all_texts x sets) there
 
 -- a request of a type that sets name
-request_reaches : (types : List (List ℕ)) (sets : List (List CorrelationVariable)) (t : TypeName) → rules.is_among (types_in_sets sets) t ≡ true → is_correlated (map (meant_set types) sets) (meant_type types t) ≡ true
+request_reaches : (types : List (List ℕ)) (sets : List (List CorrelationVariable)) (t : TypeName) → rules.is_among (types_in_sets sets) t ≡ true → is_correlated (map (lowered_set types) sets) (lowered_type types t) ≡ true
 request_reaches types sets (type_name.Root at kind) e = absurd (false≢true e)
 request_reaches types sets (type_name.Named n) e =
     ap (λ ns. is_among ns (place_in types n.text)) (sets_numbers types sets) ∙ in_places (place_in types) (texts_in_all sets) n.text (in_all_texts n.text sets e)
@@ -90,15 +93,15 @@ one_reaches false false c d e f g = absurd (false≢true (sym e))
 -- operations of which none is lost, numbered from one on
 all_reach_by : (m : Numbering) (types names : List (List ℕ)) (sets : List (List CorrelationVariable)) (starts : List Name) (n : ℕ) (os : List Operation)
     → list_any (is_lost (map (λ (s : Name). s.text) starts) (types_in_sets sets)) os ≡ false → ((j : ℕ) (o : Operation) → slice_get os j ≡ Some o → place_in m.inputs o.name.text ≡ n + j)
-    → all_reach (map (meant_set types) sets) (numbers_of m starts) n (map (meant_operation types names) os) ≡ true
+    → all_reach (map (lowered_set types) sets) (numbers_of m starts) n (map (lowered_operation types names) os) ≡ true
 all_reach_by m types names sets starts n [] e at = refl
 all_reach_by m types names sets starts n (o ∷ os) e at =
     let texts : List (List ℕ) = map (λ (s : Name). s.text) starts in
     let parts : (is_lost texts (types_in_sets sets) o ≡ false) × (list_any (is_lost texts (types_in_sets sets)) os ≡ false) = or_parts (is_lost texts (types_in_sets sets) o) (list_any (is_lost texts (types_in_sets sets)) os) e in
     let here : n + 0 ≡ n = omega arith in
     let place : place_in m.inputs o.name.text ≡ n = at 0 o refl ∙ here in
-    and_from (is_among (numbers_of m starts) n || is_correlated (map (meant_set types) sets) (meant_type types o.request)) (all_reach (map (meant_set types) sets) (numbers_of m starts) (suc n) (map (meant_operation types names) os))
-    (one_reaches (is_in o.name.text texts) (rules.is_among (types_in_sets sets) o.request) (is_among (numbers_of m starts) n) (is_correlated (map (meant_set types) sets) (meant_type types o.request)) parts.0
+    and_from (is_among (numbers_of m starts) n || is_correlated (map (lowered_set types) sets) (lowered_type types o.request)) (all_reach (map (lowered_set types) sets) (numbers_of m starts) (suc n) (map (lowered_operation types names) os))
+    (one_reaches (is_in o.name.text texts) (rules.is_among (types_in_sets sets) o.request) (is_among (numbers_of m starts) n) (is_correlated (map (lowered_set types) sets) (lowered_type types o.request)) parts.0
     (λ h. ap (λ k. is_among (numbers_of m starts) k) (sym place)
     ∙ ap (λ ns. is_among ns (place_in m.inputs o.name.text)) (sym (mapped_twice (place_in m.inputs) (λ (s : Name). s.text) starts)) ∙ in_places (place_in m.inputs) texts o.name.text h)
     (request_reaches types sets o.request))
@@ -106,7 +109,7 @@ all_reach_by m types names sets starts n (o ∷ os) e at =
 
 -- ---- services
 
-main_begins : (m : Numbering) (o : Option Block) → formed_services.first_input (meant_if_there m o) ≡ starts_at m (option_and_then first_input o)
+main_begins : (m : Numbering) (o : Option Block) → formed_services.first_input (lowered_if_there m o) ≡ starts_at m (option_and_then first_input o)
 main_begins m None = refl
 main_begins m (Some b) = block_starts m b
 
@@ -137,26 +140,26 @@ input_places is s j o there =
 
 concurrent_start : (is : List Interface) (types names : List (List ℕ)) (s : Service) (m : Numbering) → m.inputs ≡ texts_of (input_operations is s) → (true && not (is_some (starting s))) ≡ false
     → (true && list_any (is_lost (names_if_there (starting s)) (types_in_sets (sets_of s))) (input_operations is s)) ≡ false
-    → (is_some (formed_services.first_input (meant_if_there m (main_of s))) && all_reach (map (meant_set types) (sets_of s)) (unwrap_or (formed_services.first_input (meant_if_there m (main_of s))) []) 0 (map (meant_operation types names) (input_operations is s))) ≡ true
+    → (is_some (formed_services.first_input (lowered_if_there m (main_of s))) && all_reach (map (lowered_set types) (sets_of s)) (unwrap_or (formed_services.first_input (lowered_if_there m (main_of s))) []) 0 (map (lowered_operation types names) (input_operations is s))) ≡ true
 concurrent_start is types names s m inputs some lost =
     let o : Option (List Name) = starting s in
     let os : List Operation = input_operations is s in
-    let first : formed_services.first_input (meant_if_there m (main_of s)) ≡ starts_at m o = main_begins m (main_of s) in
-    and_from (is_some (formed_services.first_input (meant_if_there m (main_of s)))) (all_reach (map (meant_set types) (sets_of s)) (unwrap_or (formed_services.first_input (meant_if_there m (main_of s))) []) 0 (map (meant_operation types names) os))
+    let first : formed_services.first_input (lowered_if_there m (main_of s)) ≡ starts_at m o = main_begins m (main_of s) in
+    and_from (is_some (formed_services.first_input (lowered_if_there m (main_of s)))) (all_reach (map (lowered_set types) (sets_of s)) (unwrap_or (formed_services.first_input (lowered_if_there m (main_of s))) []) 0 (map (lowered_operation types names) os))
     (ap is_some first ∙ some_starts m o ∙ first_is_there (is_some o) some)
-    (ap (λ f. all_reach (map (meant_set types) (sets_of s)) (unwrap_or f []) 0 (map (meant_operation types names) os)) first
-    ∙ ap (λ ns. all_reach (map (meant_set types) (sets_of s)) ns 0 (map (meant_operation types names) os)) (names_there m o)
+    (ap (λ f. all_reach (map (lowered_set types) (sets_of s)) (unwrap_or f []) 0 (map (lowered_operation types names) os)) first
+    ∙ ap (λ ns. all_reach (map (lowered_set types) (sets_of s)) ns 0 (map (lowered_operation types names) os)) (names_there m o)
     ∙ all_reach_by m types names (sets_of s) (unwrap_or o []) 0 os (ap (λ ts. list_any (is_lost ts (types_in_sets (sets_of s))) os) (sym (texts_there o)) ∙ lost)
     (λ j q there. ap (λ ts. place_in ts q.name.text) inputs ∙ input_places is s j q there))
 
 start_by : (e : Execution) (is : List Interface) (types names : List (List ℕ)) (s : Service) (m : Numbering) → m.inputs ≡ texts_of (input_operations is s) → (is_concurrent e && not (is_some (starting s))) ≡ false
     → (is_concurrent e && list_any (is_lost (names_if_there (starting s)) (types_in_sets (sets_of s))) (input_operations is s)) ≡ false
-    → (not (formed_sets.is_concurrent (meant_execution e)) || (is_some (formed_services.first_input (meant_if_there m (main_of s))) && all_reach (map (meant_set types) (sets_of s)) (unwrap_or (formed_services.first_input (meant_if_there m (main_of s))) []) 0 (map (meant_operation types names) (input_operations is s)))) ≡ true
+    → (not (formed_sets.is_concurrent (lowered_execution e)) || (is_some (formed_services.first_input (lowered_if_there m (main_of s))) && all_reach (map (lowered_set types) (sets_of s)) (unwrap_or (formed_services.first_input (lowered_if_there m (main_of s))) []) 0 (map (lowered_operation types names) (input_operations is s)))) ≡ true
 start_by said.Concurrent is types names s m inputs some lost = concurrent_start is types names s m inputs some lost
 start_by said.Single is types names s m inputs some lost = refl
 
 -- a service whose sessions start, with its operations in order
-pub start_formed : (is : List Interface) (types names : List (List ℕ)) (s : Service) → uncorrelated is s ≡ [] → no_start s ≡ [] → has_start (map (meant_operation types names) (input_operations is s)) (meant_service is types names s) ≡ true
+pub start_formed : (is : List Interface) (types names : List (List ℕ)) (s : Service) → uncorrelated is s ≡ [] → no_start s ≡ [] → has_start (map (lowered_operation types names) (input_operations is s)) (lowered_service is types names s) ≡ true
 start_formed is types names s lost none =
     start_by (execution_of s) is types names s (numbering is names s) refl
     (fails (is_concurrent (execution_of s) && not (is_some (starting s))) NoStart s.at (right_empty (refused_if (not (is_some (main_of s))) NoStart s.at) (refused_if (is_concurrent (execution_of s) && not (is_some (starting s))) NoStart s.at) none))

@@ -19,19 +19,19 @@ use Rattle.behaviour_tree.specs.Operations.{is_among}
 use Rattle.behaviour_tree.specs.FormedSets as formed_sets
 use Rattle.behaviour_tree.specs.Distinct.{texts_differ, numbers_differ, is_in}
 use Rattle.behaviour_tree.specs.FormedSets.{is_alias, alias_types, is_variable, types_are_apart}
-use Rattle.service_check.specs.declared.refusal.CheckName.TheVariants.{DuplicateName, Uncorrelated, TwoSets}
-use Rattle.service_check.specs.declared.refusal.Refusal.{Refusal}
-use Rattle.service_check.specs.Least.{refused}
-use Rattle.service_check.specs.Repeated.{firsts_after, first_names_after, repeated}
-use Rattle.service_check.specs.Files.{is_concurrent, place_in, set_in, type_names}
-use Rattle.service_check.specs.SetRules.{alias_names, alias_texts, set_types, set_texts, all_have, partly, wrong_alias, variable_refused, set_refused, in_earlier, two_sets, set_names, set_of_single}
-use Rattle.service_check.specs.Programs.{meant_alias, meant_variable, meant_set, meant_execution}
+use Rattle.check_base.specs.declared.refusal.CheckName.TheVariants.{DuplicateName, Uncorrelated, TwoSets}
+use Rattle.check_base.specs.declared.refusal.Refusal.{Refusal}
+use Rattle.check_base.specs.Least.{refused}
+use Rattle.check_base.specs.Repeated.{firsts_after, first_names_after, repeated}
+use Rattle.check_base.specs.Files.{is_concurrent, place_in, set_in, type_names, set_names}
+use Rattle.port_checks.specs.SetRules.{alias_names, alias_texts, set_types, set_texts, all_have, partly, wrong_alias, variable_refused, set_refused, in_earlier, two_sets, set_of_single}
+use Rattle.service_check.specs.Programs.{lowered_alias, lowered_variable, lowered_set, lowered_execution}
 use Rattle.service_check.proofs.Emptied.{left_empty, right_empty, fails, holds, mapped_empty, in_first, names_differ}
 use Rattle.service_check.proofs.WellAliases.{alias_formed, alias_known}
 use Rattle.service_check.proofs.WellInterfaces.{all_in, front_in, back_in, place_among, places_differ}
 use Rattle.service_check.proofs.WellNames.{is_taken}
-use Rattle.service_check.proofs.WellTypes.{meant_types}
-use Rattle.service_check.proofs.Loops.{mapped_each, mapped_twice}
+use Rattle.service_check.proofs.WellTypes.{lowered_types}
+use Rattle.check_base.proofs.Loops.{mapped_each, mapped_twice}
 
 -- ---- lists
 
@@ -86,17 +86,17 @@ set_complete set e x there =
 -- ---- variables
 
 -- the numbers of the types of a variable
-pub alias_numbers : (types : List (List ℕ)) (v : CorrelationVariable) → alias_types (meant_variable types v) ≡ map (place_in types) (alias_texts v)
+pub alias_numbers : (types : List (List ℕ)) (v : CorrelationVariable) → alias_types (lowered_variable types v) ≡ map (place_in types) (alias_texts v)
 alias_numbers types v =
-    mapped_twice (λ (a : AliasPart). a.ty) (meant_alias types) v.aliases
+    mapped_twice (λ (a : AliasPart). a.ty) (lowered_alias types) v.aliases
     ∙ sym (mapped_twice (λ (n : Name). place_in types n.text) (λ (a : Alias). a.ty) v.aliases)
     ∙ sym (mapped_twice (place_in types) (λ (n : Name). n.text) (alias_names v))
 
 -- those of a set
-pub set_numbers : (types : List (List ℕ)) (set : List CorrelationVariable) → flat_map alias_types (map (meant_variable types) set) ≡ map (place_in types) (all_texts set)
+pub set_numbers : (types : List (List ℕ)) (set : List CorrelationVariable) → flat_map alias_types (map (lowered_variable types) set) ≡ map (place_in types) (all_texts set)
 set_numbers types [] = refl
 set_numbers types (v ∷ set) =
-    ap (λ ns. ns ++ flat_map alias_types (map (meant_variable types) set)) (alias_numbers types v)
+    ap (λ ns. ns ++ flat_map alias_types (map (lowered_variable types) set)) (alias_numbers types v)
     ∙ ap (λ ns. map (place_in types) (alias_texts v) ++ ns) (set_numbers types set)
     ∙ sym (map-append (place_in types) (alias_texts v) (all_texts set))
 
@@ -120,17 +120,17 @@ set_known types (v ∷ set) e =
 -- a variable of a set each of whose types it has an alias of
 pub variable_formed : (types : List TypeDefinition) (set : List CorrelationVariable) (v : CorrelationVariable) → all_in (type_names types) (all_texts set) ≡ true → variable_refused types v ≡ []
     → ((x : List ℕ) → is_in x (all_texts set) ≡ true → is_in x (alias_texts v) ≡ true)
-    → is_variable (meant_types types) (meant_set (type_names types) set) (meant_variable (type_names types) v) ≡ true
+    → is_variable (lowered_types types) (lowered_set (type_names types) set) (lowered_variable (type_names types) v) ≡ true
 variable_formed types set v known e has =
     let tn : List (List ℕ) = type_names types in
     let first : List Refusal = flat_map (wrong_alias types) v.aliases in
     let twice : List Refusal = refused DuplicateName (repeated (alias_names v)) in
     let here : all_in tn (alias_texts v) ≡ true = variable_known types v (left_empty first twice e) in
-    let ns : List ℕ = alias_types (meant_variable tn v) in
-    let all : List ℕ = flat_map alias_types (map (meant_variable tn) set) in
-    and_from (list_all (is_alias (meant_types types)) (map (meant_alias tn) v.aliases) && numbers_differ ns) (list_all (λ t. is_among ns t) all)
-    (and_from (list_all (is_alias (meant_types types)) (map (meant_alias tn) v.aliases)) (numbers_differ ns)
-    (mapped_empty (wrong_alias types) (meant_alias tn) (is_alias (meant_types types)) v.aliases (alias_formed types) (left_empty first twice e))
+    let ns : List ℕ = alias_types (lowered_variable tn v) in
+    let all : List ℕ = flat_map alias_types (map (lowered_variable tn) set) in
+    and_from (list_all (is_alias (lowered_types types)) (map (lowered_alias tn) v.aliases) && numbers_differ ns) (list_all (λ t. is_among ns t) all)
+    (and_from (list_all (is_alias (lowered_types types)) (map (lowered_alias tn) v.aliases)) (numbers_differ ns)
+    (mapped_empty (wrong_alias types) (lowered_alias tn) (is_alias (lowered_types types)) v.aliases (alias_formed types) (left_empty first twice e))
     (ap numbers_differ (alias_numbers tn v) ∙ places_differ tn (alias_texts v) (names_differ DuplicateName (alias_names v) (right_empty first twice e)) here))
     (ap (λ ms. list_all (λ t. is_among ms t) all) (alias_numbers tn v)
     ∙ ap (list_all (λ t. is_among (map (place_in tn) (alias_texts v)) t)) (set_numbers tn set)
@@ -140,19 +140,19 @@ variable_formed types set v known e has =
 
 variables_formed : (types : List TypeDefinition) (set vs : List CorrelationVariable) → all_in (type_names types) (all_texts set) ≡ true → flat_map (variable_refused types) vs ≡ []
     → ((x : List ℕ) → is_in x (all_texts set) ≡ true → all_have x vs ≡ true)
-    → list_all (is_variable (meant_types types) (meant_set (type_names types) set)) (map (meant_variable (type_names types)) vs) ≡ true
+    → list_all (is_variable (lowered_types types) (lowered_set (type_names types) set)) (map (lowered_variable (type_names types)) vs) ≡ true
 variables_formed types set [] known e has = refl
 variables_formed types set (v ∷ vs) known e has =
-    and_from (is_variable (meant_types types) (meant_set (type_names types) set) (meant_variable (type_names types) v)) (list_all (is_variable (meant_types types) (meant_set (type_names types) set)) (map (meant_variable (type_names types)) vs))
+    and_from (is_variable (lowered_types types) (lowered_set (type_names types) set) (lowered_variable (type_names types) v)) (list_all (is_variable (lowered_types types) (lowered_set (type_names types) set)) (map (lowered_variable (type_names types)) vs))
     (variable_formed types set v known (left_empty (variable_refused types v) (flat_map (variable_refused types) vs) e) (λ x there. (and_parts (is_in x (alias_texts v)) (all_have x vs) (has x there)).0))
     (variables_formed types set vs known (right_empty (variable_refused types v) (flat_map (variable_refused types) vs) e) (λ x there. (and_parts (is_in x (alias_texts v)) (all_have x vs) (has x there)).1))
 
 -- a set whose variables are well formed
 abbrev pub has_variables : List TypeDefinition → SetPart → Bool
-has_variables types set = list_all (is_variable (meant_types types) set) set.variables
+has_variables types set = list_all (is_variable (lowered_types types) set) set.variables
 
 -- a set of which nothing is refused
-pub set_formed : (types : List TypeDefinition) (set : List CorrelationVariable) → set_refused types set ≡ [] → has_variables types (meant_set (type_names types) set) ≡ true
+pub set_formed : (types : List TypeDefinition) (set : List CorrelationVariable) → set_refused types set ≡ [] → has_variables types (lowered_set (type_names types) set) ≡ true
 set_formed types set e =
     let variables : flat_map (variable_refused types) set ≡ [] = left_empty (flat_map (variable_refused types) set) (flat_map (partly set) (set_types set)) e in
     variables_formed types set set (set_known types set variables) variables (set_complete set (right_empty (flat_map (variable_refused types) set) (flat_map (partly set) (set_types set)) e))
@@ -193,23 +193,23 @@ not_later x earlier (set ∷ sets) e before =
     (list_any-append (λ t. bytes_eq t x) (set_texts set) earlier ∙ or_right (is_in x (set_texts set)) (is_in x earlier) before))
 
 -- the numbers of the types of sets
-pub sets_numbers : (types : List (List ℕ)) (sets : List (List CorrelationVariable)) → flat_map formed_sets.set_types (map (meant_set types) sets) ≡ map (place_in types) (texts_in_all sets)
+pub sets_numbers : (types : List (List ℕ)) (sets : List (List CorrelationVariable)) → flat_map formed_sets.set_types (map (lowered_set types) sets) ≡ map (place_in types) (texts_in_all sets)
 sets_numbers types [] = refl
 sets_numbers types (set ∷ sets) =
-    ap (λ ns. ns ++ flat_map formed_sets.set_types (map (meant_set types) sets)) (set_numbers types set)
+    ap (λ ns. ns ++ flat_map formed_sets.set_types (map (lowered_set types) sets)) (set_numbers types set)
     ∙ ap (λ ns. map (place_in types) (all_texts set) ++ ns) (sets_numbers types sets)
     ∙ sym (map-append (place_in types) (all_texts set) (texts_in_all sets))
 
 -- no type is in two of the sets
-pub sets_apart : (types earlier : List (List ℕ)) (sets : List (List CorrelationVariable)) → all_in types (texts_in_all sets) ≡ true → two_sets earlier sets ≡ [] → types_are_apart (map (meant_set types) sets) ≡ true
+pub sets_apart : (types earlier : List (List ℕ)) (sets : List (List CorrelationVariable)) → all_in types (texts_in_all sets) ≡ true → two_sets earlier sets ≡ [] → types_are_apart (map (lowered_set types) sets) ≡ true
 sets_apart types earlier [] known e = refl
 sets_apart types earlier (set ∷ sets) known e =
-    let later : List ℕ = flat_map formed_sets.set_types (map (meant_set types) sets) in
+    let later : List ℕ = flat_map formed_sets.set_types (map (lowered_set types) sets) in
     let here : List Refusal = flat_map (in_earlier earlier) (set_types set) in
     let rest : two_sets (set_texts set ++ earlier) sets ≡ [] = right_empty here (two_sets (set_texts set ++ earlier) sets) e in
-    and_from (not (list_any (λ t. is_among later t) (formed_sets.set_types (meant_set types set)))) (types_are_apart (map (meant_set types) sets))
-    (not_from_false (list_any (λ t. is_among later t) (formed_sets.set_types (meant_set types set)))
-    (ap (λ ns. list_any (λ t. is_among ns t) (formed_sets.set_types (meant_set types set))) (sets_numbers types sets)
+    and_from (not (list_any (λ t. is_among later t) (formed_sets.set_types (lowered_set types set)))) (types_are_apart (map (lowered_set types) sets))
+    (not_from_false (list_any (λ t. is_among later t) (formed_sets.set_types (lowered_set types set)))
+    (ap (λ ns. list_any (λ t. is_among ns t) (formed_sets.set_types (lowered_set types set))) (sets_numbers types sets)
     ∙ ap (list_any (λ t. is_among (map (place_in types) (texts_in_all sets)) t)) (set_numbers types set)
     ∙ none_passes (λ t. is_among (map (place_in types) (texts_in_all sets)) t) (place_in types) (all_texts set)
     (λ x there.
@@ -218,12 +218,12 @@ sets_apart types earlier (set ∷ sets) known e =
     (sets_apart types (set_texts set ++ earlier) sets (back_in types (all_texts set) (texts_in_all sets) known) rest)
 
 -- the variables of sets keep their names
-pub variable_names : (types : List (List ℕ)) (sets : List (List CorrelationVariable)) → map (λ (v : VariablePart). v.name) (formed_sets.variables_of (map (meant_set types) sets)) ≡ map (λ (n : Name). n.text) (flat_map set_names sets)
+pub variable_names : (types : List (List ℕ)) (sets : List (List CorrelationVariable)) → map (λ (v : VariablePart). v.name) (formed_sets.variables_of (map (lowered_set types) sets)) ≡ map (λ (n : Name). n.text) (flat_map set_names sets)
 variable_names types [] = refl
 variable_names types (set ∷ sets) =
-    map-append (λ (v : VariablePart). v.name) (map (meant_variable types) set) (formed_sets.variables_of (map (meant_set types) sets))
-    ∙ ap (λ ts. ts ++ map (λ (v : VariablePart). v.name) (formed_sets.variables_of (map (meant_set types) sets)))
-    (mapped_twice (λ (v : VariablePart). v.name) (meant_variable types) set ∙ sym (mapped_twice (λ (n : Name). n.text) (λ (v : CorrelationVariable). v.name) set))
+    map-append (λ (v : VariablePart). v.name) (map (lowered_variable types) set) (formed_sets.variables_of (map (lowered_set types) sets))
+    ∙ ap (λ ts. ts ++ map (λ (v : VariablePart). v.name) (formed_sets.variables_of (map (lowered_set types) sets)))
+    (mapped_twice (λ (v : VariablePart). v.name) (lowered_variable types) set ∙ sym (mapped_twice (λ (n : Name). n.text) (λ (v : CorrelationVariable). v.name) set))
     ∙ ap (λ ts. map (λ (n : Name). n.text) (set_names set) ++ ts) (variable_names types sets)
     ∙ sym (map-append (λ (n : Name). n.text) (set_names set) (flat_map set_names sets))
 
@@ -239,24 +239,24 @@ single_has_none (clause.Main at body ∷ clauses) e = single_has_none clauses e
 
 -- sets are those of a service whose sessions run beside each other
 pub has_sets : (types : List (List ℕ)) (execution : Execution) (clauses : List Clause) → flat_map (set_of_single (is_concurrent execution)) clauses ≡ []
-    → (formed_sets.is_concurrent (meant_execution execution) || (length (map (meant_set types) (filter_map set_in clauses)) == 0)) ≡ true
+    → (formed_sets.is_concurrent (lowered_execution execution) || (length (map (lowered_set types) (filter_map set_in clauses)) == 0)) ≡ true
 has_sets types said.Concurrent clauses e = refl
-has_sets types said.Single clauses e = ap (λ sets. length (map (meant_set types) sets) == 0) (single_has_none clauses e)
+has_sets types said.Single clauses e = ap (λ sets. length (map (lowered_set types) sets) == 0) (single_has_none clauses e)
 
 -- the sets of clauses of which nothing is refused
 pub sets_formed : (types : List TypeDefinition) (execution : Execution) (clauses : List Clause) → refused DuplicateName (repeated (flat_map set_names (filter_map set_in clauses))) ≡ []
     → flat_map (set_refused types) (filter_map set_in clauses) ≡ [] → two_sets [] (filter_map set_in clauses) ≡ [] → flat_map (set_of_single (is_concurrent execution)) clauses ≡ []
-    → ((formed_sets.is_concurrent (meant_execution execution) || (length (map (meant_set (type_names types)) (filter_map set_in clauses)) == 0))
-    && texts_differ (map (λ (v : VariablePart). v.name) (formed_sets.variables_of (map (meant_set (type_names types)) (filter_map set_in clauses))))
-    && list_all (has_variables types) (map (meant_set (type_names types)) (filter_map set_in clauses))
-    && types_are_apart (map (meant_set (type_names types)) (filter_map set_in clauses))) ≡ true
+    → ((formed_sets.is_concurrent (lowered_execution execution) || (length (map (lowered_set (type_names types)) (filter_map set_in clauses)) == 0))
+    && texts_differ (map (λ (v : VariablePart). v.name) (formed_sets.variables_of (map (lowered_set (type_names types)) (filter_map set_in clauses))))
+    && list_all (has_variables types) (map (lowered_set (type_names types)) (filter_map set_in clauses))
+    && types_are_apart (map (lowered_set (type_names types)) (filter_map set_in clauses))) ≡ true
 sets_formed types execution clauses names each apart single =
-    let sets : List SetPart = map (meant_set (type_names types)) (filter_map set_in clauses) in
-    let one : Bool = formed_sets.is_concurrent (meant_execution execution) || (length sets == 0) in
+    let sets : List SetPart = map (lowered_set (type_names types)) (filter_map set_in clauses) in
+    let one : Bool = formed_sets.is_concurrent (lowered_execution execution) || (length sets == 0) in
     let two : Bool = texts_differ (map (λ (v : VariablePart). v.name) (formed_sets.variables_of sets)) in
     and_from (one && two && list_all (has_variables types) sets) (types_are_apart sets)
     (and_from (one && two) (list_all (has_variables types) sets)
     (and_from one two (has_sets (type_names types) execution clauses single)
     (ap texts_differ (variable_names (type_names types) (filter_map set_in clauses)) ∙ names_differ DuplicateName (flat_map set_names (filter_map set_in clauses)) names))
-    (mapped_empty (set_refused types) (meant_set (type_names types)) (has_variables types) (filter_map set_in clauses) (set_formed types) each))
+    (mapped_empty (set_refused types) (lowered_set (type_names types)) (has_variables types) (filter_map set_in clauses) (set_formed types) each))
     (sets_apart (type_names types) [] (filter_map set_in clauses) (sets_known types (filter_map set_in clauses) each) apart)

@@ -19,19 +19,19 @@ use Rattle.behaviour_tree.specs.Data.{TypeTree}
 use Rattle.behaviour_tree.specs.View.{FieldView, type_fields_of}
 use Rattle.behaviour_tree.specs.Distinct.{texts_differ, is_in}
 use Rattle.behaviour_tree.specs.FormedTypes.{field_names, is_type, are_fields, number_in, next_number, leads_to, none_leads_back, are_types}
-use Rattle.service_check.specs.declared.refusal.CheckName.TheVariants.{DuplicateName, UnknownType}
-use Rattle.service_check.specs.declared.refusal.Refusal.{Refusal}
-use Rattle.service_check.specs.Repeated.{place_of}
-use Rattle.service_check.specs.Files.{place_in, type_named, type_names}
-use Rattle.service_check.specs.TypeRules as rule
-use Rattle.service_check.specs.TypeRules.{FieldFound, body_of, unknown_type, body_refused, field_refused, field_names_refused, name_in, leads_back, circle, type_refused}
-use Rattle.service_check.specs.Circles.{name_of, next_place, place_leads_back}
-use Rattle.service_check.specs.Programs.{body_level, field_level, meant_body, meant_field, meant_definition}
-use Rattle.service_check.proofs.BodyRules as rules
+use Rattle.check_base.specs.declared.refusal.CheckName.TheVariants.{DuplicateName, UnknownType}
+use Rattle.check_base.specs.declared.refusal.Refusal.{Refusal}
+use Rattle.check_base.specs.Repeated.{place_of}
+use Rattle.check_base.specs.Files.{place_in, type_named, type_names, body_of, name_in}
+use Rattle.type_checks.specs.TypeRules as rule
+use Rattle.type_checks.specs.TypeRules.{FieldFound, unknown_type, body_refused, field_refused, field_names_refused, leads_back, circle, type_refused}
+use Rattle.type_checks.specs.Circles.{name_of, next_place, place_leads_back}
+use Rattle.type_lowering.specs.LoweredTypes.{body_level, field_level, lowered_body, lowered_field, lowered_definition}
+use Rattle.type_checks.proofs.BodyRules as rules
 use Rattle.service_check.proofs.Emptied.{left_empty, right_empty, fails, holds, mapped_empty, place_empty, another_text, has_place, names_differ}
-use Rattle.service_check.proofs.Leading.{leads_by_place}
-use Rattle.service_check.proofs.MeantTypes.{root_meant, named_meant, undefined_meant, field_is}
-use Rattle.service_check.proofs.Steps.{back_to}
+use Rattle.type_checks.proofs.Leading.{leads_by_place}
+use Rattle.type_lowering.proofs.LoweredTypes.{root_lowered, named_lowered, undefined_lowered, field_is}
+use Rattle.type_checks.proofs.Steps.{back_to}
 
 -- ---- types by their names
 
@@ -51,10 +51,10 @@ known_type types n e = sym (type_is_there types n.text) ∙ holds (is_some (type
 -- ---- the bodies of types
 
 abbrev pub BodyFormed : List TypeDefinition → TypeBody → Type 0
-BodyFormed types x = body_refused types x ≡ [] → is_type (length (type_names types)) (meant_body (type_names types) x) ≡ true
+BodyFormed types x = body_refused types x ≡ [] → is_type (length (type_names types)) (lowered_body (type_names types) x) ≡ true
 
 abbrev pub FieldFormed : List TypeDefinition → Field → Type 0
-FieldFormed types f = field_refused types f ≡ [] → is_type (length (type_names types)) (meant_field (type_names types) f).ty ≡ true
+FieldFormed types f = field_refused types f ≡ [] → is_type (length (type_names types)) (lowered_field (type_names types) f).ty ≡ true
 
 abbrev KnownBody : List TypeDefinition → Type 0
 KnownBody types = (x : TypeBody) × BodyFormed types x
@@ -67,19 +67,19 @@ abbrev fields_by : (types : List TypeDefinition) → List (KnownField types) →
 fields_by types fields = map (λ f. f.0) fields
 
 fields_known : (types : List TypeDefinition) (fields : List (KnownField types)) → flat_map (field_refused types) (fields_by types fields) ≡ []
-    → are_fields (length (type_names types)) (type_fields_of (map (meant_field (type_names types)) (fields_by types fields))) ≡ true
+    → are_fields (length (type_names types)) (type_fields_of (map (lowered_field (type_names types)) (fields_by types fields))) ≡ true
 fields_known types [] e = refl
 fields_known types (f ∷ fields) e =
-    and_from (is_type (length (type_names types)) (meant_field (type_names types) f.0).ty)
-    (are_fields (length (type_names types)) (type_fields_of (map (meant_field (type_names types)) (fields_by types fields))))
+    and_from (is_type (length (type_names types)) (lowered_field (type_names types) f.0).ty)
+    (are_fields (length (type_names types)) (type_fields_of (map (lowered_field (type_names types)) (fields_by types fields))))
     (f.1 (left_empty (field_refused types f.0) (flat_map (field_refused types) (fields_by types fields)) e))
     (fields_known types fields (right_empty (field_refused types f.0) (flat_map (field_refused types) (fields_by types fields)) e))
 
 -- the names of fields are kept
-pub field_texts : (types : List (List ℕ)) (fields : List Field) → field_names (type_fields_of (map (meant_field types) fields)) ≡ map (λ (n : Name). n.text) (map (λ (f : Field). (out-Field f).name) fields)
+pub field_texts : (types : List (List ℕ)) (fields : List Field) → field_names (type_fields_of (map (lowered_field types) fields)) ≡ map (λ (n : Name). n.text) (map (λ (f : Field). (out-Field f).name) fields)
 field_texts types [] = refl
 field_texts types (f ∷ fields) =
-    ap (λ (v : FieldView). v.name ∷ field_names (type_fields_of (map (meant_field types) fields))) (field_is types f)
+    ap (λ (v : FieldView). v.name ∷ field_names (type_fields_of (map (lowered_field types) fields))) (field_is types f)
     ∙ ap (λ ts. (out-Field f).name.text ∷ ts) (field_texts types fields)
 
 abbrev body_by : (types : List TypeDefinition) → TypeBody-F (KnownBody types) (KnownField types) → TypeBody
@@ -89,20 +89,20 @@ root_formed : (types : List TypeDefinition) (at : ℕ) (kind : RootKind) (fields
 root_formed types at kind fields e =
     let fs : List Field = fields_by types fields in
     let none : field_names_refused fs ++ flat_map (field_refused types) fs ≡ [] = sym (rules.root_with_fields types at kind fs) ∙ e in
-    ap (is_type (length (type_names types))) (root_meant (type_names types) at kind (Some fs))
-    ∙ and_from (texts_differ (field_names (type_fields_of (map (meant_field (type_names types)) fs)))) (are_fields (length (type_names types)) (type_fields_of (map (meant_field (type_names types)) fs)))
+    ap (is_type (length (type_names types))) (root_lowered (type_names types) at kind (Some fs))
+    ∙ and_from (texts_differ (field_names (type_fields_of (map (lowered_field (type_names types)) fs)))) (are_fields (length (type_names types)) (type_fields_of (map (lowered_field (type_names types)) fs)))
     (ap texts_differ (field_texts (type_names types) fs) ∙ names_differ DuplicateName (map (λ (f : Field). (out-Field f).name) fs) (left_empty (field_names_refused fs) (flat_map (field_refused types) fs) none))
     (fields_known types fields (right_empty (field_names_refused fs) (flat_map (field_refused types) fs) none))
 
 body_known : (types : List TypeDefinition) (y : TypeBody-F (KnownBody types) (KnownField types)) → BodyFormed types (body_by types y)
 body_known types (TypeBody-F.Root at kind None) =
-    subst (BodyFormed types) (sym (body.rolls-Root at kind None)) (λ e. ap (is_type (length (type_names types))) (root_meant (type_names types) at kind None))
+    subst (BodyFormed types) (sym (body.rolls-Root at kind None)) (λ e. ap (is_type (length (type_names types))) (root_lowered (type_names types) at kind None))
 body_known types (TypeBody-F.Root at kind (Some fields)) = subst (BodyFormed types) (sym (body.rolls-Root at kind (Some (fields_by types fields)))) (root_formed types at kind fields)
 body_known types (TypeBody-F.Named n) =
     subst (BodyFormed types) (sym (body.rolls-Named n))
-    (λ e. ap (is_type (length (type_names types))) (named_meant (type_names types) n) ∙ has_place (type_names types) n.text (known_type types n (sym (rules.named_body types n) ∙ e)))
+    (λ e. ap (is_type (length (type_names types))) (named_lowered (type_names types) n) ∙ has_place (type_names types) n.text (known_type types n (sym (rules.named_body types n) ∙ e)))
 body_known types (TypeBody-F.Undefined at) =
-    subst (BodyFormed types) (sym (body.rolls-Undefined at)) (λ e. ap (is_type (length (type_names types))) (undefined_meant (type_names types) at))
+    subst (BodyFormed types) (sym (body.rolls-Undefined at)) (λ e. ap (is_type (length (type_names types))) (undefined_lowered (type_names types) at))
 
 -- what is refused of a field that is made of its parts
 field_made_refused : (types : List TypeDefinition) (name : Name) (count : Option Cardinality) (ty : TypeBody) → field_refused types (roll-Field (record { name = name; cardinality = count; body = ty })) ≡ body_refused types ty
@@ -112,12 +112,12 @@ field_made_refused types name count ty =
     ∙ ap (λ (f : FieldFound). f.below) (fold-roll-Field (List Refusal) FieldFound (rule.body_level types) rule.field_level (record { name = name; cardinality = count; body = ty }))
 
 -- what it means
-field_made_meant : (types : List (List ℕ)) (name : Name) (count : Option Cardinality) (ty : TypeBody) → (meant_field types (roll-Field (record { name = name; cardinality = count; body = ty }))).ty ≡ meant_body types ty
-unfolding meant_body meant_field
-field_made_meant types name count ty = ap (λ (v : FieldView). v.ty) (fold-roll-Field TypeTree FieldView (body_level types) field_level (record { name = name; cardinality = count; body = ty }))
+field_made_lowered : (types : List (List ℕ)) (name : Name) (count : Option Cardinality) (ty : TypeBody) → (lowered_field types (roll-Field (record { name = name; cardinality = count; body = ty }))).ty ≡ lowered_body types ty
+unfolding lowered_body lowered_field
+field_made_lowered types name count ty = ap (λ (v : FieldView). v.ty) (fold-roll-Field TypeTree FieldView (body_level types) field_level (record { name = name; cardinality = count; body = ty }))
 
 field_known : (types : List TypeDefinition) (name : Name) (count : Option Cardinality) (ty : KnownBody types) → FieldFormed types (roll-Field (record { name = name; cardinality = count; body = ty.0 }))
-field_known types name count (ty, k) e = ap (is_type (length (type_names types))) (field_made_meant (type_names types) name count ty) ∙ k (sym (field_made_refused types name count ty) ∙ e)
+field_known types name count (ty, k) e = ap (is_type (length (type_names types))) (field_made_lowered (type_names types) name count ty) ∙ k (sym (field_made_refused types name count ty) ∙ e)
 
 -- ---- by induction
 
@@ -130,8 +130,8 @@ body_formed types = ind-TypeBody (BodyFormed types) (FieldFormed types)
 -- ---- types that lead to types
 
 -- the types of a file as plain data
-abbrev pub meant_types : List TypeDefinition → List TypeTree
-meant_types types = map (meant_definition (type_names types)) types
+abbrev pub lowered_types : List TypeDefinition → List TypeTree
+lowered_types types = map (lowered_definition (type_names types)) types
 
 place_turn : (b : Bool) (o : Option ℕ) (p : ℕ) → (b ≡ false → o ≡ Some p) → (if b then Some 0 else option_map suc o) ≡ Some (if b then zero else suc p)
 place_turn true o p h = refl
@@ -158,30 +158,30 @@ own_place (s ∷ ts) (suc j) t differ e =
     ∙ ap (option_map suc) (own_place ts j t parts.1 e)
 
 -- the number that a body is has the place of its name
-number_of_form : (types : List TypeDefinition) (b : TypeBody-F TypeBody Field) → body_refused types (roll-TypeBody b) ≡ [] → number_in (meant_body (type_names types) (roll-TypeBody b)) ≡ option_and_then (place_of (type_names types)) (name_in b)
+number_of_form : (types : List TypeDefinition) (b : TypeBody-F TypeBody Field) → body_refused types (roll-TypeBody b) ≡ [] → number_in (lowered_body (type_names types) (roll-TypeBody b)) ≡ option_and_then (place_of (type_names types)) (name_in b)
 number_of_form types (TypeBody-F.Root at kind fields) e =
-    ap (λ x. number_in (meant_body (type_names types) x)) (body.rolls-Root at kind fields) ∙ ap number_in (root_meant (type_names types) at kind fields)
+    ap (λ x. number_in (lowered_body (type_names types) x)) (body.rolls-Root at kind fields) ∙ ap number_in (root_lowered (type_names types) at kind fields)
 number_of_form types (TypeBody-F.Named n) e =
-    ap (λ x. number_in (meant_body (type_names types) x)) (body.rolls-Named n)
-    ∙ ap number_in (named_meant (type_names types) n)
+    ap (λ x. number_in (lowered_body (type_names types) x)) (body.rolls-Named n)
+    ∙ ap number_in (named_lowered (type_names types) n)
     ∙ sym (place_is_found (type_names types) n.text (known_type types n (sym (rules.named_body types n) ∙ sym (ap (body_refused types) (body.rolls-Named n)) ∙ e)))
 number_of_form types (TypeBody-F.Undefined at) e =
-    ap (λ x. number_in (meant_body (type_names types) x)) (body.rolls-Undefined at) ∙ ap number_in (undefined_meant (type_names types) at)
+    ap (λ x. number_in (lowered_body (type_names types) x)) (body.rolls-Undefined at) ∙ ap number_in (undefined_lowered (type_names types) at)
 
-number_of_body : (types : List TypeDefinition) (x : TypeBody) → body_refused types x ≡ [] → number_in (meant_body (type_names types) x) ≡ option_and_then (place_of (type_names types)) (name_in (out-TypeBody x))
+number_of_body : (types : List TypeDefinition) (x : TypeBody) → body_refused types x ≡ [] → number_in (lowered_body (type_names types) x) ≡ option_and_then (place_of (type_names types)) (name_in (out-TypeBody x))
 number_of_body types x e =
-    sym (ap (λ y. number_in (meant_body (type_names types) y)) (roll-out-TypeBody x))
+    sym (ap (λ y. number_in (lowered_body (type_names types) y)) (roll-out-TypeBody x))
     ∙ number_of_form types (out-TypeBody x) (ap (body_refused types) (roll-out-TypeBody x) ∙ e)
 
 number_there : (types : List TypeDefinition) (o : Option TypeDefinition) → ((ty : TypeDefinition) → o ≡ Some ty → body_refused types (body_of ty.body) ≡ [])
-    → option_and_then number_in (option_map (meant_definition (type_names types)) o) ≡ option_and_then (place_of (type_names types)) (option_and_then name_of o)
+    → option_and_then number_in (option_map (lowered_definition (type_names types)) o) ≡ option_and_then (place_of (type_names types)) (option_and_then name_of o)
 number_there types None e = refl
 number_there types (Some ty) e = number_of_body types (body_of ty.body) (e ty refl)
 
 -- numbers lead where names lead
-pub number_leads : (types : List TypeDefinition) → flat_map (type_refused types) types ≡ [] → (q : ℕ) → next_number (meant_types types) q ≡ next_place types q
+pub number_leads : (types : List TypeDefinition) → flat_map (type_refused types) types ≡ [] → (q : ℕ) → next_number (lowered_types types) q ≡ next_place types q
 number_leads types e q =
-    ap (option_and_then number_in) (slice_get-map (meant_definition (type_names types)) types q)
+    ap (option_and_then number_in) (slice_get-map (lowered_definition (type_names types)) types q)
     ∙ number_there types (slice_get types q) (λ ty there. left_empty (body_refused types (body_of ty.body)) (circle types ty) (place_empty (type_refused types) types q ty e there))
 
 -- whether what may follow is the start or leads to it
@@ -200,10 +200,10 @@ leads_alike f g same (suc n) start p = ap (to_from f n start) (same p) ∙ follo
 
 -- a type whose name does not lead back: its number does not
 no_way_back : (types : List TypeDefinition) (j : ℕ) (ty : TypeDefinition) → flat_map (type_refused types) types ≡ [] → texts_differ (type_names types) ≡ true → slice_get types j ≡ Some ty
-    → leads_to (next_number (meant_types types)) (length types) j j ≡ false
+    → leads_to (next_number (lowered_types types)) (length types) j j ≡ false
 no_way_back types j ty e differ there =
     let place : place_of (type_names types) ty.name.text ≡ Some j = own_place (type_names types) j ty.name.text differ (slice_get-map (λ (t : TypeDefinition). t.name.text) types j ∙ ap (option_map (λ (t : TypeDefinition). t.name.text)) there) in
-    leads_alike (next_number (meant_types types)) (next_place types) (number_leads types e) (length types) j j
+    leads_alike (next_number (lowered_types types)) (next_place types) (number_leads types e) (length types) j j
     ∙ sym (leads_by_place types (length types) j j ty.name.text ty.name.text place place)
     ∙ fails (leads_back types (length types) ty.name.text ty.name.text) UnknownType ty.name.at (right_empty (body_refused types (body_of ty.body)) (circle types ty) (place_empty (type_refused types) types j ty e there))
 
@@ -219,15 +219,15 @@ none_back all m n (ty ∷ rest) h =
 -- ---- the types of a file
 
 -- types of which nothing is refused and whose names differ
-pub types_formed : (types : List TypeDefinition) → texts_differ (type_names types) ≡ true → flat_map (type_refused types) types ≡ [] → are_types (meant_types types) ≡ true
+pub types_formed : (types : List TypeDefinition) → texts_differ (type_names types) ≡ true → flat_map (type_refused types) types ≡ [] → are_types (lowered_types types) ≡ true
 types_formed types differ e =
-    let size : length (meant_types types) ≡ length types = length-map types (meant_definition (type_names types)) in
+    let size : length (lowered_types types) ≡ length types = length-map types (lowered_definition (type_names types)) in
     let names : length (type_names types) ≡ length types = length-map types (λ (t : TypeDefinition). t.name.text) in
-    and_from (list_all (is_type (length (meant_types types))) (meant_types types)) (none_leads_back (meant_types types) 0 (meant_types types))
-    (ap (λ n. list_all (is_type n) (meant_types types)) (size ∙ sym names)
-    ∙ mapped_empty (type_refused types) (meant_definition (type_names types)) (is_type (length (type_names types))) types
+    and_from (list_all (is_type (length (lowered_types types))) (lowered_types types)) (none_leads_back (lowered_types types) 0 (lowered_types types))
+    (ap (λ n. list_all (is_type n) (lowered_types types)) (size ∙ sym names)
+    ∙ mapped_empty (type_refused types) (lowered_definition (type_names types)) (is_type (length (type_names types))) types
     (λ ty h. body_formed types (body_of ty.body) (left_empty (body_refused types (body_of ty.body)) (circle types ty) h)) e)
-    (none_back (meant_types types) (meant_definition (type_names types)) 0 types
+    (none_back (lowered_types types) (lowered_definition (type_names types)) 0 types
     (λ j ty there. let place : j ≡ 0 + j = omega arith in
-    subst (λ k. leads_to (next_number (meant_types types)) (length (meant_types types)) k k ≡ false) place
-    (ap (λ n. leads_to (next_number (meant_types types)) n j j) size ∙ no_way_back types j ty e differ there)))
+    subst (λ k. leads_to (next_number (lowered_types types)) (length (lowered_types types)) k k ≡ false) place
+    (ap (λ n. leads_to (next_number (lowered_types types)) n j j) size ∙ no_way_back types j ty e differ there)))

@@ -1,5 +1,5 @@
 -- The faults and scopes of a file, in the order of the text.
-use Rattle.std.specs.Prelude.{ℕ, List, [], ◌∷◌, ◌++◌, map, flat_map, if◌then◌else◌, Option, None, Some, unwrap_or}
+use Rattle.std.specs.Prelude.{ℕ, List, [], ◌∷◌, ◌++◌, map, flat_map, Option, None, Some, unwrap_or}
 use Rattle.jolie_ast.specs.declared.interface.Fault.{Fault}
 use Rattle.jolie_ast.specs.declared.service.Clause.{Clause}
 use Rattle.jolie_ast.specs.declared.service.Clause.TheVariants as clause
@@ -7,8 +7,11 @@ use Rattle.jolie_ast.specs.declared.tree.Definition.{Definition}
 use Rattle.jolie_ast.specs.declared.tree.Definition.TheVariants as definition
 use Rattle.jolie_ast.specs.declared.process.HandlerKey.{HandlerKey}
 use Rattle.jolie_ast.specs.declared.process.HandlerKey.TheVariants as key
-use Rattle.jolie_ast.specs.declared.process.Otherwise.TheOpen.{Answer-F, Block-F, Branch-F, Handler-F, If-F, Input-F, Otherwise-F, Process-F, Reply-F}
-use Rattle.jolie_ast.specs.declared.process.Otherwise.TheFolds.{fold-Answer, fold-Block, fold-Branch, fold-Handler, fold-If, fold-Input, fold-Otherwise, fold-Process, fold-Reply}
+use Rattle.jolie_ast.specs.declared.process.Otherwise.TheOpen.{Answer-F, Block-F, Branch-F, Handler-F, If-F, Input-F}
+use Rattle.jolie_ast.specs.declared.process.Otherwise.TheOpen.{Otherwise-F, Process-F, Reply-F}
+use Rattle.jolie_ast.specs.declared.process.Otherwise.TheFolds.{fold-Answer, fold-Block, fold-Branch, fold-Handler}
+use Rattle.jolie_ast.specs.declared.process.Otherwise.TheFolds.{fold-If, fold-Input, fold-Otherwise, fold-Process}
+use Rattle.jolie_ast.specs.declared.process.Otherwise.TheFolds.{fold-Reply}
 use Rattle.jolie_ast.specs.declared.process.Answer.{Answer}
 use Rattle.jolie_ast.specs.declared.process.Block.{Block}
 use Rattle.jolie_ast.specs.declared.process.Branch.{Branch}
@@ -18,14 +21,9 @@ use Rattle.jolie_ast.specs.declared.process.Input.{Input}
 use Rattle.jolie_ast.specs.declared.process.Otherwise.{Otherwise}
 use Rattle.jolie_ast.specs.declared.process.Process.{Process}
 use Rattle.jolie_ast.specs.declared.process.Reply.{Reply}
-use Rattle.behaviour_tree.specs.Distinct.{is_in}
 use Rattle.behaviour_tree.specs.WellFormed.{standard_names}
-use Rattle.service_check.specs.Repeated.{firsts}
-use Rattle.service_check.specs.Files.{Operation, operations_in}
-
--- texts
-abbrev pub Texts : Type 0
-Texts = List (List ℕ)
+use Rattle.check_base.specs.Repeated.{firsts, Texts}
+use Rattle.check_base.specs.Files.{Operation, operations_in}
 
 -- the texts of a part that may be there
 abbrev pub maybe : Option Texts → Texts
@@ -167,15 +165,6 @@ abbrev pub definition_texts : Definition → Texts
 definition_texts (definition.Type ty) = []
 definition_texts (definition.Interface i) = flat_map thrown_by (operations_in i)
 definition_texts (definition.Service s) = flat_map clause_texts s.clauses
-
--- texts and one more, where it is not among them
-unfoldable pub with_text : Texts → List ℕ → Texts
-with_text texts text = if is_in text texts then texts else texts ++ text ∷ []
-
--- texts and further ones, each where it is not among those before
-abbrev pub with_texts : Texts → Texts → Texts
-with_texts texts [] = texts
-with_texts texts (t ∷ ts) = with_texts (with_text texts t) ts
 
 -- the standard faults and main, by which the names begin
 unfoldable pub standard : Texts

@@ -6,14 +6,14 @@ use Rattle.jolie_ast.specs.declared.types.TypeDefinition.{TypeDefinition}
 use Rattle.jolie_ast.specs.declared.interface.Interface.{Interface}
 use Rattle.jolie_ast.specs.declared.service.Port.{Port}
 use Rattle.jolie_ast.specs.declared.service.Service.{Service}
-use Rattle.service_check.specs.declared.refusal.CheckName.TheVariants.{DuplicateName, NoStart}
-use Rattle.service_check.specs.declared.refusal.Refusal.{Refusal}
-use Rattle.service_check.specs.Repeated.{as_name, repeated}
-use Rattle.service_check.specs.Least.{refused, least}
-use Rattle.service_check.specs.Files.{types_of, interfaces_of, services_of, input_ports}
-use Rattle.service_check.specs.TypeRules.{type_refused}
-use Rattle.service_check.specs.InterfaceRules.{interface_refused}
-use Rattle.service_check.specs.PortRules.{input_locations}
+use Rattle.check_base.specs.declared.refusal.CheckName.TheVariants.{DuplicateName, NoStart}
+use Rattle.check_base.specs.declared.refusal.Refusal.{Refusal}
+use Rattle.check_base.specs.Repeated.{as_name, repeated}
+use Rattle.check_base.specs.Least.{refused, least}
+use Rattle.check_base.specs.Files.{types_of, interfaces_of, services_of, input_ports}
+use Rattle.type_checks.specs.TypeRules.{type_refused}
+use Rattle.type_checks.specs.InterfaceRules.{interface_refused}
+use Rattle.port_checks.specs.PortRules.{input_locations}
 use Rattle.service_check.specs.ServiceRules.{service_refused}
 
 -- a file without a service, at its beginning
@@ -31,7 +31,8 @@ names_refused file =
     refused DuplicateName (repeated (map (λ (t : TypeDefinition). t.name) (types_of file)))
     ++ refused DuplicateName (repeated (map (λ (i : Interface). i.name) (interfaces_of file)))
     ++ refused DuplicateName (repeated (map (λ (s : Service). s.name) (services_of file)))
-    ++ refused DuplicateName (repeated (flat_map (λ (s : Service). map (λ (p : Port). as_name p.location) (input_ports s)) (services_of file)))
+    ++ refused DuplicateName
+    (repeated (flat_map (λ (s : Service). map (λ (p : Port). as_name p.location) (input_ports s)) (services_of file)))
 
 -- everything that is refused of a file
 unfoldable pub refusals : List Definition → List Refusal
@@ -39,7 +40,8 @@ refusals file =
     no_service (services_of file) ++ names_refused file
     ++ flat_map (type_refused (types_of file)) (types_of file)
     ++ flat_map (interface_refused (types_of file)) (interfaces_of file)
-    ++ flat_map (service_refused (types_of file) (interfaces_of file) (input_locations (services_of file))) (services_of file)
+    ++ flat_map (service_refused (types_of file) (interfaces_of file) (input_locations (services_of file)))
+    (services_of file)
 
 -- the refusal of a file, where there is one
 abbrev pub refusal_of : List Definition → Option Refusal

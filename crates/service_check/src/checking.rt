@@ -1,9 +1,9 @@
 ghost use Rattle.service_check.specs.Answers.{Checks};
 
 use crate::program::parts_of_file;
-use crate::refusal::CheckError;
 use crate::refusals::first_refusal;
 use behaviour_tree::Program;
+use check_base::CheckError;
 use jolie_ast::Ast;
 use std::alloc::Global;
 

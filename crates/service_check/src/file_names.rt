@@ -3,15 +3,13 @@ ghost use Rattle.std.specs.List.{list_any};
 ghost use Rattle.jolie_ast.specs.declared.interface.Interface.{Interface};
 ghost use Rattle.jolie_ast.specs.declared.service.Service.{Service};
 ghost use Rattle.jolie_ast.specs.declared.types.TypeDefinition.{TypeDefinition};
-ghost use Rattle.service_check.specs.Files.{interfaces_of, service_in, services_of, types_of};
-ghost use Rattle.service_check.specs.Least.{joined};
+ghost use Rattle.check_base.specs.Files.{interfaces_of, service_in, services_of, types_of};
+ghost use Rattle.check_base.specs.Least.{joined};
 ghost use Rattle.service_check.specs.Refusals.{locations_in, names_refused, no_service};
 
-use crate::clauses::input_port_in;
-use crate::definitions::{interface_in, service_in, type_in};
-use crate::least::Least;
-use crate::refusal::CheckName;
-use crate::repeated::{Mention, repeated_refused};
+use check_base::{
+    CheckName, Least, Mention, input_port_in, interface_in, repeated_refused, service_in, type_in,
+};
 use jolie_ast::{Definition, Service};
 use std::alloc::{AllocError, Global};
 
@@ -37,7 +35,7 @@ fn is_service(definition: &Definition) -> bool
 }
 
 /// Names of types, interfaces and services that stand a second time, and locations of input ports that do.
-#[tactic(auto, using(crate::proofs::Joined::joined_append))]
+#[tactic(auto, using(check_base::proofs::Joined::joined_append))]
 pub fn names_refused(
     alloc: Global,
     file: &[Definition],

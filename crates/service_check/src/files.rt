@@ -1,9 +1,8 @@
 ghost use Rattle.std.specs.Prelude.{◌≡◌, ◌++◌, IfOk};
 ghost use Rattle.std.specs.Option.{option_to_list};
-ghost use Rattle.service_check.specs.Files.{interface_in, interfaces_of, type_in, types_of};
+ghost use Rattle.check_base.specs.Files.{interface_in, interfaces_of, type_in, types_of};
 
-use crate::definitions::{interface_in, type_in};
-use crate::tables::{Interfaces, Types};
+use check_base::{Interfaces, Types, interface_in, type_in};
 use jolie_ast::Definition;
 use std::alloc::{AllocError, Global};
 

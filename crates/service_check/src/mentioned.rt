@@ -1,8 +1,9 @@
 ghost use Rattle.std.specs.Prelude.{◌≡◌, flat_map, map, option_map, IfOk, OnOk};
-ghost use Rattle.service_check.specs.Files.{answering, group_operations, operations_in};
-ghost use Rattle.service_check.specs.Mentioned.{answer_texts, block_texts, branch_texts, clause_texts, conditional_texts, definition_texts, fault_text, handler_texts, input_texts, key_texts, maybe, names_of, otherwise_texts, process_texts, reply_texts, standard, thrown_by, with_text, with_texts};
+ghost use Rattle.check_base.specs.Files.{answering, group_operations, operations_in};
+ghost use Rattle.service_check.specs.Mentioned.{answer_texts, block_texts, branch_texts, clause_texts, conditional_texts, definition_texts, fault_text, handler_texts, input_texts, key_texts, maybe, names_of, otherwise_texts, process_texts, reply_texts, standard, thrown_by};
+ghost use Rattle.check_base.specs.Repeated.{with_text, with_texts};
 
-use crate::names::Names;
+use check_base::Names;
 use jolie_ast::{
     Answer, Block, Branch, Clause, Definition, Fault, Handler, HandlerKey, If, Input, Interface,
     OperationGroup, Otherwise, Process, Reply, RequestResponse,
@@ -21,7 +22,7 @@ pub fn names_of<'a>(alloc: Global, file: &'a [Definition]) -> Result<Names<'a>, 
 }
 
 /// A text among others, once.
-#[tactic(auto, using(crate::proofs::Firsts::known_text, crate::proofs::Firsts::new_text))]
+#[tactic(auto, using(check_base::proofs::Firsts::known_text, check_base::proofs::Firsts::new_text))]
 pub fn include<'a>(text: &'a str, names: &mut Names<'a>) -> Result<(), AllocError>
     ensures { OnOk result (names.new ≡ with_text names.old text.now) }
 {

@@ -4,13 +4,12 @@ ghost use Rattle.service_check.specs.Programs.{program_of};
 
 use crate::files::{interfaces_of, types_of};
 use crate::mentioned::names_of;
-use crate::program_interfaces::meant_interfaces;
-use crate::program_services::meant_services;
-use crate::program_types::meant_types;
+use crate::program_services::lowered_services;
 use behaviour_tree::Parts;
 use jolie_ast::Definition;
 use jolie_trees::Text;
 use std::alloc::{AllocError, Global};
+use type_lowering::{lowered_interfaces, lowered_types};
 
 /// What the program of a file consists of.
 #[tactic(auto, unfolding(crate::specs::Programs::program_of))]
@@ -21,9 +20,9 @@ pub fn parts_of_file(alloc: Global, file: &[Definition]) -> Result<Parts, AllocE
     let interfaces = interfaces_of(alloc, file)?;
     let names = names_of(alloc, file)?;
     Ok(Parts {
-        types: meant_types(alloc, file, types.names())?,
-        interfaces: meant_interfaces(alloc, file, types.names(), &names)?,
-        services: meant_services(alloc, file, &interfaces, types.names(), &names)?,
+        types: lowered_types(alloc, file, types.names())?,
+        interfaces: lowered_interfaces(alloc, file, types.names(), &names)?,
+        services: lowered_services(alloc, file, &interfaces, types.names(), &names)?,
         names: copied_texts(alloc, names.texts())?,
     })
 }

@@ -2,39 +2,35 @@ ghost use Rattle.std.specs.Prelude.{◌≡◌, ◌++◌, ◌∷◌, map, IfOk, O
 ghost use Rattle.std.specs.List.{filter_map};
 ghost use Rattle.std.specs.Option.{option_to_list};
 ghost use Rattle.behaviour_tree.specs.PartsView.{alias_view, port_view, service_view, set_view, variable_view};
-ghost use Rattle.service_check.specs.Files.{place_in, service_in, services_of, set_in};
+ghost use Rattle.check_base.specs.Files.{place_in, service_in, services_of, set_in};
 ghost use Rattle.service_check.specs.KeptPorts.{said_execution, sided, texts_in};
-ghost use Rattle.service_check.specs.Programs.{meant_alias, meant_execution, meant_port_part, meant_service, meant_set, meant_variable};
+ghost use Rattle.service_check.specs.Programs.{lowered_alias, lowered_execution, lowered_port_part, lowered_service, lowered_set, lowered_variable};
 
-use crate::behaviours::meant_if_there;
-use crate::clauses::{init_of, main_of, said_execution, set_in};
-use crate::definitions::service_in;
-use crate::names::Names;
-use crate::numbers::number;
 use crate::service_numbers::numbers_of;
 use crate::sides::{SidedPort, ports_of};
-use crate::tables::Interfaces;
 use behaviour_tree::{Alias, CorrelationSet, Execution, Port, Service, SetVariable};
+use check_base::{Interfaces, Names, init_of, main_of, number, said_execution, service_in, set_in};
 use jolie_ast::{Clause, CorrelationVariable, Definition, Name};
 use jolie_trees::Text;
+use process_lowering::lowered_if_there;
 use std::alloc::{AllocError, Global};
 
 /// The services of a file, in order.
-#[tactic(auto, using(crate::proofs::Loops::each_found))]
-pub fn meant_services<'a>(
+#[tactic(auto, using(check_base::proofs::Loops::each_found))]
+pub fn lowered_services<'a>(
     alloc: Global,
     file: &'a [Definition],
     interfaces: &Interfaces<'a>,
     types: &Names<'_>,
     names: &Names<'_>,
 ) -> Result<Vec<Service>, AllocError>
-    ensures { IfOk result (λ v. map service_view v.items ≡ map (meant_service interfaces.now types.now names.now) (services_of file.now)) }
+    ensures { IfOk result (λ v. map service_view v.items ≡ map (lowered_service interfaces.now types.now names.now) (services_of file.now)) }
 {
-    let mut meant = Vec::new(alloc);
+    let mut lowered = Vec::new(alloc);
     for definition in file {
-        add_service(alloc, definition, interfaces, types, names, &mut meant)?;
+        add_service(alloc, definition, interfaces, types, names, &mut lowered)?;
     }
-    Ok(meant)
+    Ok(lowered)
 }
 
 /// Adds the service that a definition is, if it is one.
@@ -44,38 +40,38 @@ fn add_service<'a>(
     interfaces: &Interfaces<'a>,
     types: &Names<'_>,
     names: &Names<'_>,
-    meant: &mut Vec<Service>,
+    lowered: &mut Vec<Service>,
 ) -> Result<(), AllocError>
-    ensures { OnOk result (map service_view meant.new.items ≡ map service_view meant.old.items ++ map (meant_service interfaces.now types.now names.now) (option_to_list (service_in definition.now))) }
+    ensures { OnOk result (map service_view lowered.new.items ≡ map service_view lowered.old.items ++ map (lowered_service interfaces.now types.now names.now) (option_to_list (service_in definition.now))) }
 {
     match service_in(definition) {
         Some(service) => {
-            meant.push(meant_service(alloc, service, interfaces, types, names)?)?;
+            lowered.push(lowered_service(alloc, service, interfaces, types, names)?)?;
             Ok(())
         }
         None => Ok(()),
     }
 }
 
-fn meant_service<'a>(
+fn lowered_service<'a>(
     alloc: Global,
     service: &'a jolie_ast::Service,
     interfaces: &Interfaces<'a>,
     types: &Names<'_>,
     names: &Names<'_>,
 ) -> Result<Service, AllocError>
-    ensures { IfOk result (λ s. service_view s ≡ meant_service interfaces.now types.now names.now service.now) }
+    ensures { IfOk result (λ s. service_view s ≡ lowered_service interfaces.now types.now names.now service.now) }
 {
     let clauses = service.clauses.as_slice();
     let sides = ports_of(alloc, clauses)?;
     let numbers = numbers_of(alloc, service, sides.as_slice(), interfaces)?;
-    let init = meant_if_there(alloc, init_of(clauses), &numbers, names)?;
-    let main = meant_if_there(alloc, main_of(clauses), &numbers, names)?;
+    let init = lowered_if_there(alloc, init_of(clauses), &numbers, names)?;
+    let main = lowered_if_there(alloc, main_of(clauses), &numbers, names)?;
     Ok(Service {
         name: service.name.text.copied()?,
         execution: execution_of(clauses),
-        ports: meant_ports(alloc, sides.as_slice(), interfaces.names())?,
-        sets: meant_sets(alloc, clauses, types)?,
+        ports: lowered_ports(alloc, sides.as_slice(), interfaces.names())?,
+        sets: lowered_sets(alloc, clauses, types)?,
         init,
         main,
     })
@@ -85,16 +81,16 @@ fn meant_service<'a>(
 
 /// How the sessions are run: one alone where nothing is said.
 fn execution_of(clauses: &[Clause]) -> Execution
-    ensures { result ≡ meant_execution (said_execution clauses.now) }
+    ensures { result ≡ lowered_execution (said_execution clauses.now) }
 {
     match said_execution(clauses) {
-        Some(execution) => meant_execution(execution),
+        Some(execution) => lowered_execution(execution),
         None => Execution::Single,
     }
 }
 
-fn meant_execution(execution: jolie_ast::Execution) -> Execution
-    ensures { result ≡ meant_execution execution }
+fn lowered_execution(execution: jolie_ast::Execution) -> Execution
+    ensures { result ≡ lowered_execution execution }
 {
     match execution {
         jolie_ast::Execution::Concurrent => Execution::Concurrent,
@@ -105,27 +101,27 @@ fn meant_execution(execution: jolie_ast::Execution) -> Execution
 // ---- ports
 
 /// The ports of a service, with their interfaces by number.
-#[tactic(auto, using(crate::proofs::Loops::mapped_twice))]
-fn meant_ports(
+#[tactic(auto, using(check_base::proofs::Loops::mapped_twice))]
+fn lowered_ports(
     alloc: Global,
     sides: &[SidedPort<'_>],
     interfaces: &Names<'_>,
 ) -> Result<Vec<Port>, AllocError>
-    ensures { IfOk result (λ v. map port_view v.items ≡ map (meant_port_part interfaces.now) (map sided sides.now)) }
+    ensures { IfOk result (λ v. map port_view v.items ≡ map (lowered_port_part interfaces.now) (map sided sides.now)) }
 {
-    let mut meant = Vec::new(alloc);
+    let mut lowered = Vec::new(alloc);
     for side in sides {
-        meant.push(meant_port(alloc, side, interfaces)?)?;
+        lowered.push(lowered_port(alloc, side, interfaces)?)?;
     }
-    Ok(meant)
+    Ok(lowered)
 }
 
-fn meant_port(
+fn lowered_port(
     alloc: Global,
     side: &SidedPort<'_>,
     interfaces: &Names<'_>,
 ) -> Result<Port, AllocError>
-    ensures { IfOk result (λ p. port_view p ≡ meant_port_part interfaces.now (sided side.now)) }
+    ensures { IfOk result (λ p. port_view p ≡ lowered_port_part interfaces.now (sided side.now)) }
 {
     let port = side.port;
     let name = port.name.text.copied()?;
@@ -152,19 +148,19 @@ fn places_in(alloc: Global, names: &[Name], among: &Names<'_>) -> Result<Vec<u32
 // ---- sets
 
 /// The correlation sets of a service.
-#[tactic(auto, using(crate::proofs::Loops::each_found))]
-fn meant_sets(
+#[tactic(auto, using(check_base::proofs::Loops::each_found))]
+fn lowered_sets(
     alloc: Global,
     clauses: &[Clause],
     types: &Names<'_>,
 ) -> Result<Vec<CorrelationSet>, AllocError>
-    ensures { IfOk result (λ v. map set_view v.items ≡ map (meant_set types.now) (filter_map set_in clauses.now)) }
+    ensures { IfOk result (λ v. map set_view v.items ≡ map (lowered_set types.now) (filter_map set_in clauses.now)) }
 {
-    let mut meant = Vec::new(alloc);
+    let mut lowered = Vec::new(alloc);
     for clause in clauses {
-        add_set(alloc, clause, types, &mut meant)?;
+        add_set(alloc, clause, types, &mut lowered)?;
     }
-    Ok(meant)
+    Ok(lowered)
 }
 
 /// Adds the correlation set that a clause is, if it is one.
@@ -172,68 +168,68 @@ fn add_set(
     alloc: Global,
     clause: &Clause,
     types: &Names<'_>,
-    meant: &mut Vec<CorrelationSet>,
+    lowered: &mut Vec<CorrelationSet>,
 ) -> Result<(), AllocError>
-    ensures { OnOk result (map set_view meant.new.items ≡ map set_view meant.old.items ++ map (meant_set types.now) (option_to_list (set_in clause.now))) }
+    ensures { OnOk result (map set_view lowered.new.items ≡ map set_view lowered.old.items ++ map (lowered_set types.now) (option_to_list (set_in clause.now))) }
 {
     match set_in(clause) {
         Some(set) => {
-            let variables = meant_variables(alloc, set, types)?;
-            meant.push(CorrelationSet { variables })?;
+            let variables = lowered_variables(alloc, set, types)?;
+            lowered.push(CorrelationSet { variables })?;
             Ok(())
         }
         None => Ok(()),
     }
 }
 
-fn meant_variables(
+fn lowered_variables(
     alloc: Global,
     variables: &[CorrelationVariable],
     types: &Names<'_>,
 ) -> Result<Vec<SetVariable>, AllocError>
-    ensures { IfOk result (λ v. map variable_view v.items ≡ map (meant_variable types.now) variables.now) }
+    ensures { IfOk result (λ v. map variable_view v.items ≡ map (lowered_variable types.now) variables.now) }
 {
-    let mut meant = Vec::new(alloc);
+    let mut lowered = Vec::new(alloc);
     for variable in variables {
-        meant.push(meant_variable(alloc, variable, types)?)?;
+        lowered.push(lowered_variable(alloc, variable, types)?)?;
     }
-    Ok(meant)
+    Ok(lowered)
 }
 
-fn meant_variable(
+fn lowered_variable(
     alloc: Global,
     variable: &CorrelationVariable,
     types: &Names<'_>,
 ) -> Result<SetVariable, AllocError>
-    ensures { IfOk result (λ v. variable_view v ≡ meant_variable types.now variable.now) }
+    ensures { IfOk result (λ v. variable_view v ≡ lowered_variable types.now variable.now) }
 {
     let name = variable.name.text.copied()?;
     Ok(SetVariable {
         name,
-        aliases: meant_aliases(alloc, variable.aliases.as_slice(), types)?,
+        aliases: lowered_aliases(alloc, variable.aliases.as_slice(), types)?,
     })
 }
 
-fn meant_aliases(
+fn lowered_aliases(
     alloc: Global,
     aliases: &[jolie_ast::Alias],
     types: &Names<'_>,
 ) -> Result<Vec<Alias>, AllocError>
-    ensures { IfOk result (λ v. map alias_view v.items ≡ map (meant_alias types.now) aliases.now) }
+    ensures { IfOk result (λ v. map alias_view v.items ≡ map (lowered_alias types.now) aliases.now) }
 {
-    let mut meant = Vec::new(alloc);
+    let mut lowered = Vec::new(alloc);
     for alias in aliases {
-        meant.push(meant_alias(alloc, alias, types)?)?;
+        lowered.push(lowered_alias(alloc, alias, types)?)?;
     }
-    Ok(meant)
+    Ok(lowered)
 }
 
-fn meant_alias(
+fn lowered_alias(
     alloc: Global,
     alias: &jolie_ast::Alias,
     types: &Names<'_>,
 ) -> Result<Alias, AllocError>
-    ensures { IfOk result (λ a. alias_view a ≡ meant_alias types.now alias.now) }
+    ensures { IfOk result (λ a. alias_view a ≡ lowered_alias types.now alias.now) }
 {
     let ty = number(types, alias.ty.text.as_str())?;
     Ok(Alias {

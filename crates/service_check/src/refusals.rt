@@ -1,22 +1,18 @@
 ghost use Rattle.std.specs.Prelude.{◌≡◌, IfOk, OnOk, flat_map};
 ghost use Rattle.service_check.specs.Clauses.{definition_refused};
-ghost use Rattle.service_check.specs.Files.{services_of};
-ghost use Rattle.service_check.specs.Least.{joined};
+ghost use Rattle.check_base.specs.Files.{services_of};
+ghost use Rattle.check_base.specs.Least.{joined};
 ghost use Rattle.service_check.specs.Refusals.{refusal_of};
 ghost use Rattle.service_check.specs.ServiceRules.{service_refused};
 
-use crate::definitions::service_in;
 use crate::file_names::{names_refused, no_service};
-use crate::file_rules::file_parts_refused;
 use crate::files::{interfaces_of, types_of};
-use crate::least::Least;
-use crate::names::Names;
-use crate::port_rules::input_locations;
-use crate::refusal::Refusal;
 use crate::service_rules::service_refused;
-use crate::tables::{Interfaces, Types};
+use check_base::{Interfaces, Least, Names, Refusal, Types, service_in};
 use jolie_ast::Definition;
+use port_checks::input_locations;
 use std::alloc::{AllocError, Global};
+use type_checks::file_parts_refused;
 
 /// The refusal of a file that comes first, if there is one.
 pub fn first_refusal(alloc: Global, file: &[Definition]) -> Result<Option<Refusal>, AllocError>

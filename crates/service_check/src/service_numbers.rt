@@ -1,20 +1,17 @@
 ghost use Rattle.std.specs.Prelude.{◌≡◌, ◌++◌, ℕ, List, flat_map, map, IfOk, OnOk};
 ghost use Rattle.std.specs.List.{filter_map};
 ghost use Rattle.std.specs.Option.{option_to_list};
-ghost use Rattle.service_check.specs.Files.{answering, each_once, group_operations, input_port_in, operations_among, operations_in, operations_named, port_in, silent, texts_of};
-ghost use Rattle.service_check.specs.Mentioned.{with_texts};
-ghost use Rattle.service_check.specs.Numbers.{named_ports, numbering_of};
+ghost use Rattle.check_base.specs.Files.{answering, each_once, group_operations, input_port_in, operations_among, operations_in, operations_named, port_in, silent, texts_of};
+ghost use Rattle.check_base.specs.Repeated.{with_texts};
+ghost use Rattle.process_lowering.specs.Numbers.{named_ports, numbering_of};
 ghost use Rattle.service_check.specs.KeptPorts.{input_operations_among, kept_names, kept_ports, port_texts, sided};
 ghost use Rattle.service_check.specs.Programs.{numbered_from, numbering};
 
-use crate::clauses::input_port_in;
 use crate::mentioned::include;
-use crate::names::Names;
-use crate::numbers::{NumberedPort, Numbers, Ports, fitting};
-use crate::set_rules::variables_of;
 use crate::sides::SidedPort;
-use crate::tables::Interfaces;
+use check_base::{Interfaces, Names, fitting, input_port_in, variables_of};
 use jolie_ast::{Clause, Interface, Name, OneWay, OperationGroup, RequestResponse, Service};
+use process_lowering::{NumberedPort, Numbers, Ports};
 use std::alloc::{AllocError, Global};
 
 /// What the processes of a service name by numbers.
@@ -85,7 +82,7 @@ fn add_port<'a>(
 // ---- operations
 
 /// The operations of interfaces, each once.
-#[tactic(auto, using(crate::proofs::Firsts::once_taken))]
+#[tactic(auto, using(check_base::proofs::Firsts::once_taken))]
 fn operation_texts<'a>(
     alloc: Global,
     interfaces_named: &'a [Name],
@@ -127,7 +124,7 @@ fn include_clause<'a>(
     }
 }
 
-#[tactic(auto, using(crate::proofs::Loops::mapped_each))]
+#[tactic(auto, using(check_base::proofs::Loops::mapped_each))]
 fn include_interfaces<'a>(
     names: &'a [Name],
     interfaces: &Interfaces<'a>,
@@ -154,7 +151,7 @@ fn include_named<'a>(
     }
 }
 
-#[tactic(auto, using(crate::proofs::Loops::mapped_each))]
+#[tactic(auto, using(check_base::proofs::Loops::mapped_each))]
 fn include_operations<'a>(interface: &'a Interface, texts: &mut Names<'a>) -> Result<(), AllocError>
     ensures { OnOk result (texts.new ≡ with_texts texts.old (texts_of (operations_in interface.now))) }
 {
@@ -175,7 +172,7 @@ fn include_group<'a>(group: &'a OperationGroup, texts: &mut Names<'a>) -> Result
     }
 }
 
-#[tactic(auto, using(crate::proofs::Loops::mapped_twice))]
+#[tactic(auto, using(check_base::proofs::Loops::mapped_twice))]
 fn include_answering<'a>(
     operations: &'a [RequestResponse],
     texts: &mut Names<'a>,
@@ -188,7 +185,7 @@ fn include_answering<'a>(
     Ok(())
 }
 
-#[tactic(auto, using(crate::proofs::Loops::mapped_twice))]
+#[tactic(auto, using(check_base::proofs::Loops::mapped_twice))]
 fn include_silent<'a>(operations: &'a [OneWay], texts: &mut Names<'a>) -> Result<(), AllocError>
     ensures { OnOk result (texts.new ≡ with_texts texts.old (texts_of (map silent operations.now))) }
 {

@@ -1,23 +1,16 @@
 ghost use Rattle.std.specs.Prelude.{◌≡◌, IfOk, OnOk, flat_map, option_map};
 ghost use Rattle.std.specs.List.{list_any};
 ghost use Rattle.service_check.specs.Clauses.{second_among, seconds_among, some_lost};
-ghost use Rattle.service_check.specs.FirstInputs.{operations_of};
-ghost use Rattle.service_check.specs.Least.{joined};
+ghost use Rattle.process_checks.specs.FirstInputParts.{operations_of};
+ghost use Rattle.check_base.specs.Least.{joined};
 ghost use Rattle.service_check.specs.ServiceRules.{clause_refused, execution_place, init_place, is_among, is_lost, main_place, names_if_there, no_start, service_refused, starting};
 
-use crate::clauses::{is_concurrent, main_of};
-use crate::first_inputs::{FirstInput, first_input};
-use crate::init_rules::init_refused;
-use crate::least::Least;
-use crate::names::Names;
-use crate::operation_tables::{Declared, Operations};
-use crate::port_rules::ports_refused;
-use crate::process_rules::block_refused;
-use crate::refusal::CheckName;
-use crate::set_rules::{sets_refused, types_in_sets};
-use crate::surroundings::Surroundings;
-use crate::tables::{Interfaces, Types};
+use check_base::{CheckName, Interfaces, Least, Names, Types, is_concurrent, main_of};
 use jolie_ast::{Clause, Service, TypeName};
+use port_checks::{ports_refused, sets_refused, types_in_sets};
+use process_checks::{
+    Declared, FirstInput, Operations, Surroundings, block_refused, first_input, init_refused,
+};
 use std::alloc::{AllocError, Global};
 
 /// What is refused of a service of a file with these types, interfaces and locations of input ports.
@@ -43,7 +36,7 @@ pub fn service_refused<'a>(
 }
 
 /// How sessions are run is said once at most, and there are one init and one main at most.
-#[tactic(auto, using(crate::proofs::Joined::joined_append))]
+#[tactic(auto, using(check_base::proofs::Joined::joined_append))]
 fn seconds_refused(clauses: &[Clause], least: &mut Least)
     ensures { least.new ≡ joined least.old (seconds_among clauses.now) }
 {
@@ -119,7 +112,7 @@ fn clauses_refused(
 }
 
 /// What is refused of the processes of a clause.
-#[tactic(auto, using(crate::proofs::Joined::joined_append))]
+#[tactic(auto, using(check_base::proofs::Joined::joined_append))]
 fn clause_refused(
     alloc: Global,
     surroundings: &Surroundings,
@@ -205,7 +198,7 @@ fn is_among(types: &Names, ty: &TypeName) -> bool
 }
 
 /// A service has a main, and one whose sessions run beside each other has a main with a first input.
-#[tactic(auto, using(crate::proofs::Joined::joined_append))]
+#[tactic(auto, using(check_base::proofs::Joined::joined_append))]
 fn no_start(service: &Service, least: &mut Least)
     ensures { least.new ≡ joined least.old (no_start service.now) }
 {

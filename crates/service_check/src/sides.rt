@@ -1,7 +1,7 @@
 ghost use Rattle.std.specs.Prelude.{◌≡◌, ◌++◌, map, IfOk, OnOk};
 ghost use Rattle.std.specs.List.{filter_map};
 ghost use Rattle.std.specs.Option.{option_to_list};
-ghost use Rattle.service_check.specs.Files.{port_in};
+ghost use Rattle.check_base.specs.Files.{port_in};
 ghost use Rattle.service_check.specs.KeptPorts.{sided};
 
 use jolie_ast::{Clause, Port};
@@ -15,7 +15,7 @@ pub struct SidedPort<'a> {
 }
 
 /// The ports of a service, in order.
-#[tactic(auto, using(crate::proofs::Loops::all_found))]
+#[tactic(auto, using(check_base::proofs::Loops::all_found))]
 pub fn ports_of(alloc: Global, clauses: &[Clause]) -> Result<Vec<SidedPort<'_>>, AllocError>
     ensures { IfOk result (λ ports. map sided ports.items ≡ filter_map port_in clauses.now) }
 {

@@ -1,8 +1,8 @@
 use Rattle.std.proofs.Common.{append-nil, refl, sym}
 use Rattle.jolie_ast.specs.declared.service.Port.{Port}
-use Rattle.service_check.specs.Repeated.{as_name}
-use Rattle.service_check.specs.Files.{input_port_in}
-use Rattle.service_check.proofs.Loops.{picked_maps}
+use Rattle.check_base.specs.Repeated.{as_name}
+use Rattle.check_base.specs.Files.{input_port_in}
+use Rattle.check_base.proofs.Loops.{picked_maps}
 use Rattle.service_check.proofs.file_names.add_locations.Goals as goal
 use Rattle.service_check.proofs.file_names.add_locations.Goals.{in-Some+in_ok-push, in_default}
 

@@ -1,8 +1,8 @@
 use Rattle.std.proofs.Common.{◌≡◌, ◌++◌, map, take}
 use Rattle.std.specs.List.{filter_map}
 use Rattle.jolie_ast.specs.declared.service.Port.{Port}
-use Rattle.service_check.specs.Repeated.{as_name}
-use Rattle.service_check.specs.Files.{input_port_in}
+use Rattle.check_base.specs.Repeated.{as_name}
+use Rattle.check_base.specs.Files.{input_port_in}
 use Rattle.service_check.proofs.file_names.add_locations.Given as goal
 
 abbrev pub invariant-loop-clause : goal.invariant-loop-clause

@@ -2,7 +2,7 @@ use Rattle.std.proofs.Common.{rules, tests}
 use Rattle.std.specs.Prelude.{is_some}
 use Rattle.std.proofs.lemmas.Iterator.{YieldsList-from_slice}
 use Rattle.std.proofs.lemmas.Iterator.Search.{any_from_yields_List}
-use Rattle.service_check.specs.Files.{service_in}
+use Rattle.check_base.specs.Files.{service_in}
 use Rattle.service_check.proofs.file_names.has_service.Goals as goal
 
 pub returns : goal.returns

@@ -1,7 +1,7 @@
 use Rattle.std.proofs.Common.{[], append-nil, sym}
-use Rattle.service_check.specs.Files.{service_in}
+use Rattle.check_base.specs.Files.{service_in}
 use Rattle.service_check.specs.Refusals.{locations_in}
-use Rattle.service_check.proofs.Loops.{picked_adds}
+use Rattle.check_base.proofs.Loops.{picked_adds}
 use Rattle.service_check.proofs.file_names.locations.Goals as goal
 use Rattle.service_check.proofs.file_names.locations.Goals.{in-Some+in_ok-add_locations, in_default}
 

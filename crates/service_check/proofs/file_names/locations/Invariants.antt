@@ -1,6 +1,6 @@
 use Rattle.std.proofs.Common.{◌≡◌, flat_map, take}
 use Rattle.std.specs.List.{filter_map}
-use Rattle.service_check.specs.Files.{service_in}
+use Rattle.check_base.specs.Files.{service_in}
 use Rattle.service_check.specs.Refusals.{locations_in}
 use Rattle.service_check.proofs.file_names.locations.Given as goal
 

@@ -1,7 +1,7 @@
 use Rattle.std.proofs.Common.{◌≡◌, map, take}
 use Rattle.std.specs.List.{filter_map}
 use Rattle.jolie_ast.specs.declared.service.Service.{Service}
-use Rattle.service_check.specs.Files.{service_in}
+use Rattle.check_base.specs.Files.{service_in}
 use Rattle.service_check.proofs.file_names.service_names.Given as goal
 
 abbrev pub invariant-loop-definition : goal.invariant-loop-definition

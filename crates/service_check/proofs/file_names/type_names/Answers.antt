@@ -1,7 +1,7 @@
 use Rattle.std.proofs.Common.{[], append-nil, refl, sym}
 use Rattle.jolie_ast.specs.declared.types.TypeDefinition.{TypeDefinition}
-use Rattle.service_check.specs.Files.{type_in}
-use Rattle.service_check.proofs.Loops.{picked_maps}
+use Rattle.check_base.specs.Files.{type_in}
+use Rattle.check_base.proofs.Loops.{picked_maps}
 use Rattle.service_check.proofs.file_names.type_names.Goals as goal
 use Rattle.service_check.proofs.file_names.type_names.Goals.{in-Some+in_ok-push, in_default}
 

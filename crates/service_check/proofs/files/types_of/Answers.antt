@@ -1,8 +1,8 @@
 use Rattle.std.proofs.Common.{[], ap, ◌∙◌, arith, flat_map}
 use Rattle.std.proofs.lemmas.List.{take_all}
 use Rattle.std.specs.Option.{option_to_list}
-use Rattle.service_check.specs.Files.{type_in}
-use Rattle.service_check.proofs.Loops.{adding_turn, all_found}
+use Rattle.check_base.specs.Files.{type_in}
+use Rattle.check_base.proofs.Loops.{adding_turn, all_found}
 use Rattle.service_check.proofs.files.types_of.Goals as goal
 
 pub loop-definition-preserved : goal.loop-definition-preserved

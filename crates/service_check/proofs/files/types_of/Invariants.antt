@@ -1,6 +1,6 @@
 use Rattle.std.proofs.Common.{◌≡◌, take, flat_map}
 use Rattle.std.specs.Option.{option_to_list}
-use Rattle.service_check.specs.Files.{type_in}
+use Rattle.check_base.specs.Files.{type_in}
 use Rattle.service_check.proofs.files.types_of.Given as goal
 
 abbrev pub invariant-loop-definition : goal.invariant-loop-definition

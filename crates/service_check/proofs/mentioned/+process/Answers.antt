@@ -1,5 +1,6 @@
 use Rattle.std.proofs.Common.{arith, ap, sym}
-use Rattle.service_check.specs.Mentioned.{branch_texts, handler_texts, process_texts, with_texts}
+use Rattle.service_check.specs.Mentioned.{branch_texts, handler_texts, process_texts}
+use Rattle.check_base.specs.Repeated.{with_texts}
 use Rattle.service_check.proofs.Mentions.{naming_turn, empty_block, full_block, bare_input, answered_input, bare_answer, handled_answer}
 use Rattle.service_check.proofs.mentioned.+process.Goals as goal
 

@@ -1,5 +1,6 @@
 use Rattle.std.proofs.Common.{◌≡◌, flat_map, take}
-use Rattle.service_check.specs.Mentioned.{branch_texts, handler_texts, process_texts, with_texts}
+use Rattle.service_check.specs.Mentioned.{branch_texts, handler_texts, process_texts}
+use Rattle.check_base.specs.Repeated.{with_texts}
 use Rattle.service_check.proofs.mentioned.+process.Given as goal
 
 abbrev pub invariant-processes_names-loop-process : goal.invariant-processes_names-loop-process

@@ -1,5 +1,6 @@
 use Rattle.std.proofs.Common.{◌≡◌, flat_map, take}
-use Rattle.service_check.specs.Mentioned.{clause_texts, with_texts}
+use Rattle.service_check.specs.Mentioned.{clause_texts}
+use Rattle.check_base.specs.Repeated.{with_texts}
 use Rattle.service_check.proofs.mentioned.clauses_names.Given as goal
 
 abbrev pub invariant-loop-clause : goal.invariant-loop-clause

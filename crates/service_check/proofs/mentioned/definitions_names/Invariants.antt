@@ -1,5 +1,6 @@
 use Rattle.std.proofs.Common.{◌≡◌, flat_map, take}
-use Rattle.service_check.specs.Mentioned.{definition_texts, with_texts}
+use Rattle.service_check.specs.Mentioned.{definition_texts}
+use Rattle.check_base.specs.Repeated.{with_texts}
 use Rattle.service_check.proofs.mentioned.definitions_names.Given as goal
 
 abbrev pub invariant-loop-definition : goal.invariant-loop-definition

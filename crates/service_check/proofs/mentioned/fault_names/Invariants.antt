@@ -1,5 +1,6 @@
 use Rattle.std.proofs.Common.{◌≡◌, map, take}
-use Rattle.service_check.specs.Mentioned.{fault_text, with_texts}
+use Rattle.service_check.specs.Mentioned.{fault_text}
+use Rattle.check_base.specs.Repeated.{with_texts}
 use Rattle.service_check.proofs.mentioned.fault_names.Given as goal
 
 abbrev pub invariant-loop-fault : goal.invariant-loop-fault

@@ -1,8 +1,9 @@
 use Rattle.std.proofs.Common.{rules, flat_map, ap, sym, ◌∙◌}
 use Rattle.std.proofs.lemmas.List.{take_all}
 use Rattle.jolie_ast.specs.declared.interface.OperationGroup.{OperationGroup}
-use Rattle.service_check.specs.Files.{group_operations}
-use Rattle.service_check.specs.Mentioned.{thrown_by, with_texts}
+use Rattle.check_base.specs.Files.{group_operations}
+use Rattle.service_check.specs.Mentioned.{thrown_by}
+use Rattle.check_base.specs.Repeated.{with_texts}
 use Rattle.service_check.proofs.Mentions.{naming_turn, groups_throw}
 use Rattle.service_check.proofs.mentioned.interface_names.Goals as goal
 

@@ -1,7 +1,8 @@
 use Rattle.std.proofs.Common.{◌≡◌, flat_map, take}
 use Rattle.jolie_ast.specs.declared.interface.OperationGroup.{OperationGroup}
-use Rattle.service_check.specs.Files.{group_operations}
-use Rattle.service_check.specs.Mentioned.{thrown_by, with_texts}
+use Rattle.check_base.specs.Files.{group_operations}
+use Rattle.service_check.specs.Mentioned.{thrown_by}
+use Rattle.check_base.specs.Repeated.{with_texts}
 use Rattle.service_check.proofs.mentioned.interface_names.Given as goal
 
 abbrev pub invariant-loop-group : goal.invariant-loop-group

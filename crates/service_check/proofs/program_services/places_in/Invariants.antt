@@ -1,5 +1,5 @@
 use Rattle.std.proofs.Common.{◌≡◌, map, take}
-use Rattle.service_check.specs.Files.{place_in}
+use Rattle.check_base.specs.Files.{place_in}
 use Rattle.service_check.specs.KeptPorts.{texts_in}
 use Rattle.service_check.proofs.program_services.places_in.Given as goal
 

@@ -1,9 +1,9 @@
 use Rattle.std.proofs.Common.{◌++◌, ap, ◌∙◌, flat_map}
-use Rattle.service_check.specs.Files.{interfaces_of, services_of, types_of}
-use Rattle.service_check.specs.InterfaceRules.{interface_refused}
-use Rattle.service_check.specs.Least.{joined}
+use Rattle.check_base.specs.Files.{interfaces_of, services_of, types_of}
+use Rattle.type_checks.specs.InterfaceRules.{interface_refused}
+use Rattle.check_base.specs.Least.{joined}
 use Rattle.service_check.specs.ServiceRules.{service_refused}
-use Rattle.service_check.specs.TypeRules.{type_refused}
+use Rattle.type_checks.specs.TypeRules.{type_refused}
 use Rattle.service_check.proofs.FileRefusals.{first_of_all}
 use Rattle.service_check.proofs.refusals.first_refusal.Goals as goal
 

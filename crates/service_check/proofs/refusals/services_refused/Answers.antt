@@ -1,9 +1,9 @@
 use Rattle.std.proofs.Common.{ap, ◌∙◌, arith, flat_map}
 use Rattle.std.proofs.lemmas.List.{take_all}
 use Rattle.service_check.specs.Clauses.{definition_refused}
-use Rattle.service_check.specs.Least.{joined}
+use Rattle.check_base.specs.Least.{joined}
 use Rattle.service_check.proofs.FileRefusals.{services_found}
-use Rattle.service_check.proofs.Joined.{turn_of}
+use Rattle.check_base.proofs.Joined.{turn_of}
 use Rattle.service_check.proofs.refusals.services_refused.Goals as goal
 
 pub loop-definition-preserved : goal.loop-definition-preserved

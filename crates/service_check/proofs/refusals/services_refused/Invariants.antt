@@ -1,6 +1,6 @@
 use Rattle.std.proofs.Common.{◌≡◌, take, flat_map}
 use Rattle.service_check.specs.Clauses.{definition_refused}
-use Rattle.service_check.specs.Least.{joined}
+use Rattle.check_base.specs.Least.{joined}
 use Rattle.service_check.proofs.refusals.services_refused.Given as goal
 
 abbrev pub invariant-loop-definition : goal.invariant-loop-definition

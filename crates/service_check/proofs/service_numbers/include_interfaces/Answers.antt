@@ -1,10 +1,10 @@
 use Rattle.std.proofs.Common.{rules, flat_map, ap, sym, ◌∙◌}
 use Rattle.std.proofs.lemmas.List.{take_all}
 use Rattle.jolie_ast.specs.declared.name.Name.{Name}
-use Rattle.service_check.specs.Files.{Operation, operations_named, texts_of}
-use Rattle.service_check.specs.Mentioned.{with_texts}
+use Rattle.check_base.specs.Files.{Operation, operations_named, texts_of}
+use Rattle.check_base.specs.Repeated.{with_texts}
 use Rattle.service_check.proofs.Mentions.{naming_turn}
-use Rattle.service_check.proofs.Loops.{mapped_each}
+use Rattle.check_base.proofs.Loops.{mapped_each}
 use Rattle.service_check.proofs.service_numbers.include_interfaces.Goals as goal
 
 pub loop-name-preserved : goal.loop-name-preserved

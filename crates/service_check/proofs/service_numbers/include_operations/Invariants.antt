@@ -1,6 +1,6 @@
 use Rattle.std.proofs.Common.{◌≡◌, flat_map, take}
-use Rattle.service_check.specs.Files.{group_operations, texts_of}
-use Rattle.service_check.specs.Mentioned.{with_texts}
+use Rattle.check_base.specs.Files.{group_operations, texts_of}
+use Rattle.check_base.specs.Repeated.{with_texts}
 use Rattle.service_check.proofs.service_numbers.include_operations.Given as goal
 
 abbrev pub invariant-loop-group : goal.invariant-loop-group

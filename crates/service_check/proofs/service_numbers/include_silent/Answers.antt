@@ -1,10 +1,10 @@
 use Rattle.std.proofs.Common.{rules, map, ap, sym, ◌∙◌}
 use Rattle.std.proofs.lemmas.List.{take_all}
 use Rattle.jolie_ast.specs.declared.interface.OneWay.{OneWay}
-use Rattle.service_check.specs.Files.{Operation, silent}
-use Rattle.service_check.specs.Mentioned.{with_text, with_texts}
+use Rattle.check_base.specs.Files.{Operation, silent}
+use Rattle.check_base.specs.Repeated.{with_text, with_texts}
 use Rattle.service_check.proofs.Mentions.{text_turn}
-use Rattle.service_check.proofs.Loops.{mapped_twice}
+use Rattle.check_base.proofs.Loops.{mapped_twice}
 use Rattle.service_check.proofs.service_numbers.include_silent.Goals as goal
 
 pub loop-operation-preserved : goal.loop-operation-preserved

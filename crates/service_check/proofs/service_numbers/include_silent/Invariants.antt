@@ -1,6 +1,6 @@
 use Rattle.std.proofs.Common.{◌≡◌, map, take}
 use Rattle.jolie_ast.specs.declared.interface.OneWay.{OneWay}
-use Rattle.service_check.specs.Mentioned.{with_texts}
+use Rattle.check_base.specs.Repeated.{with_texts}
 use Rattle.service_check.proofs.service_numbers.include_silent.Given as goal
 
 abbrev pub invariant-loop-operation : goal.invariant-loop-operation

@@ -1,9 +1,9 @@
 use Rattle.std.proofs.Common.{rules, flat_map, ap, ◌∙◌}
 use Rattle.std.proofs.lemmas.List.{take_all}
 use Rattle.std.specs.Option.{option_to_list}
-use Rattle.service_check.specs.Files.{input_port_in}
+use Rattle.check_base.specs.Files.{input_port_in}
 use Rattle.service_check.specs.KeptPorts.{port_texts}
-use Rattle.service_check.specs.Mentioned.{with_texts}
+use Rattle.check_base.specs.Repeated.{with_texts}
 use Rattle.service_check.proofs.Mentions.{naming_turn}
 use Rattle.service_check.proofs.Numbering.{inputs_taken}
 use Rattle.service_check.proofs.service_numbers.input_texts.Goals as goal

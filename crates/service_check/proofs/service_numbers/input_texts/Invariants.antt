@@ -1,8 +1,8 @@
 use Rattle.std.proofs.Common.{◌≡◌, flat_map, take}
 use Rattle.std.specs.Option.{option_to_list}
-use Rattle.service_check.specs.Files.{input_port_in}
+use Rattle.check_base.specs.Files.{input_port_in}
 use Rattle.service_check.specs.KeptPorts.{port_texts}
-use Rattle.service_check.specs.Mentioned.{with_texts}
+use Rattle.check_base.specs.Repeated.{with_texts}
 use Rattle.service_check.proofs.service_numbers.input_texts.Given as goal
 
 abbrev pub invariant-loop-clause : goal.invariant-loop-clause

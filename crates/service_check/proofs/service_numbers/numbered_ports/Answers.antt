@@ -1,9 +1,9 @@
 use Rattle.std.proofs.Common.{rules, [], map, flat_map, ap, ◌∙◌}
 use Rattle.std.proofs.lemmas.List.{take_all}
-use Rattle.service_check.specs.Numbers.{named_ports}
+use Rattle.process_lowering.specs.Numbers.{named_ports}
 use Rattle.service_check.specs.KeptPorts.{sided, kept_names, kept_from}
 use Rattle.service_check.proofs.Numbering.{kept_turn, ports_numbered}
-use Rattle.service_check.proofs.Loops.{adding_turn}
+use Rattle.check_base.proofs.Loops.{adding_turn}
 use Rattle.service_check.proofs.service_numbers.numbered_ports.Goals as goal
 
 pub loop-place-preserved : goal.loop-place-preserved

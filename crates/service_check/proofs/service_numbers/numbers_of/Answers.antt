@@ -1,6 +1,6 @@
 use Rattle.std.proofs.Common.{ap, sym, length, ◌∙◌}
 use Rattle.std.proofs.lemmas.List.{length-map}
-use Rattle.service_check.specs.Files.{each_once, texts_of}
+use Rattle.check_base.specs.Files.{each_once, texts_of}
 use Rattle.service_check.specs.KeptPorts.{input_operations_among, sided}
 use Rattle.service_check.specs.Programs.{numbered_from}
 use Rattle.service_check.proofs.Numbering.{numbering_made}

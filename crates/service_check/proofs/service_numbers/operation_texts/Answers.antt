@@ -1,7 +1,7 @@
 use Rattle.std.proofs.Common.{ap, ◌∙◌}
-use Rattle.service_check.specs.Mentioned.{with_texts}
-use Rattle.service_check.specs.Files.{texts_of, operations_among}
-use Rattle.service_check.proofs.Firsts.{once_taken}
+use Rattle.check_base.specs.Repeated.{with_texts}
+use Rattle.check_base.specs.Files.{texts_of, operations_among}
+use Rattle.check_base.proofs.Firsts.{once_taken}
 use Rattle.service_check.proofs.service_numbers.operation_texts.Goals as goal
 
 pub returns : goal.returns

@@ -1,5 +1,5 @@
 use Rattle.service_check.specs.ServiceRules.{clause_refused}
-use Rattle.service_check.proofs.Joined.{turn_of}
+use Rattle.check_base.proofs.Joined.{turn_of}
 use Rattle.service_check.proofs.service_rules.clauses_refused.Goals as goal
 
 pub loop-clause-preserved : goal.loop-clause-preserved

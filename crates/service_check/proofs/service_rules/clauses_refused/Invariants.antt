@@ -1,5 +1,5 @@
 use Rattle.std.proofs.Common.{◌≡◌, take, flat_map}
-use Rattle.service_check.specs.Least.{joined}
+use Rattle.check_base.specs.Least.{joined}
 use Rattle.service_check.specs.ServiceRules.{clause_refused}
 use Rattle.service_check.proofs.service_rules.clauses_refused.Given as goal
 

@@ -3,11 +3,11 @@ use Rattle.std.specs.List.{filter_map}
 use Rattle.std.proofs.lemmas.Iterator.{YieldsList-from_slice}
 use Rattle.std.proofs.lemmas.Iterator.Adapters.{YieldsList-from_skip}
 use Rattle.std.proofs.lemmas.Iterator.Consumers.{YieldsList-at, YieldsList-end, YieldsList-from_filter_map}
-use Rattle.service_check.specs.declared.refusal.CheckName.TheVariants.{DuplicateName}
-use Rattle.service_check.specs.Least.{joined, refused}
+use Rattle.check_base.specs.declared.refusal.CheckName.TheVariants.{DuplicateName}
+use Rattle.check_base.specs.Least.{joined, refused}
 use Rattle.service_check.specs.ServiceRules.{init_place}
-use Rattle.service_check.proofs.FirstFound.{gave_later}
-use Rattle.service_check.proofs.Joined.{refused_turn}
+use Rattle.service_check.proofs.Later.{gave_later}
+use Rattle.check_base.proofs.Joined.{refused_turn}
 use Rattle.service_check.proofs.service_rules.second_init.Goals as goal
 
 pub loop-at-preserved : goal.loop-at-preserved

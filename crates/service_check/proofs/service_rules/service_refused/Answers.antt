@@ -1,10 +1,10 @@
 use Rattle.std.proofs.Common.{ap, ◌∙◌, flat_map}
 use Rattle.service_check.specs.Clauses.{seconds_among, some_lost}
-use Rattle.service_check.specs.Least.{joined}
-use Rattle.service_check.specs.PortRules.{ports_refused}
-use Rattle.service_check.specs.ProcessRules.{Surroundings}
-use Rattle.service_check.specs.SetRules.{sets_refused}
-use Rattle.service_check.specs.ServiceRules.{clause_refused, no_start, surroundings, uncorrelated}
+use Rattle.check_base.specs.Least.{joined}
+use Rattle.port_checks.specs.PortRules.{ports_refused}
+use Rattle.process_checks.specs.Surroundings.{Surroundings, surroundings}
+use Rattle.port_checks.specs.SetRules.{sets_refused}
+use Rattle.service_check.specs.ServiceRules.{clause_refused, no_start, uncorrelated}
 use Rattle.service_check.proofs.FileRefusals.{joined_six}
 use Rattle.service_check.proofs.service_rules.service_refused.Goals as goal
 

@@ -1,9 +1,9 @@
 use Rattle.std.proofs.Common.{rules, [], map, flat_map, ap, ◌∙◌}
 use Rattle.std.specs.Option.{option_to_list}
 use Rattle.std.proofs.lemmas.List.{take_all}
-use Rattle.service_check.specs.Files.{port_in}
+use Rattle.check_base.specs.Files.{port_in}
 use Rattle.service_check.specs.KeptPorts.{sided}
-use Rattle.service_check.proofs.Loops.{adding_turn, all_found}
+use Rattle.check_base.proofs.Loops.{adding_turn, all_found}
 use Rattle.service_check.proofs.sides.ports_of.Goals as goal
 
 pub loop-clause-preserved : goal.loop-clause-preserved

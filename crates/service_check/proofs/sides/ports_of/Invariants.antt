@@ -1,6 +1,6 @@
 use Rattle.std.proofs.Common.{◌≡◌, map, flat_map, take}
 use Rattle.std.specs.Option.{option_to_list}
-use Rattle.service_check.specs.Files.{port_in}
+use Rattle.check_base.specs.Files.{port_in}
 use Rattle.service_check.specs.KeptPorts.{sided}
 use Rattle.service_check.proofs.sides.ports_of.Given as goal
 

@@ -1,0 +1,9 @@
+pub mod FirstFound
+pub mod Firsts
+pub mod Found
+pub mod Joined
+pub mod Lookups
+pub mod Loops
+pub mod PlaceCounts
+pub mod Repetitions
+pub mod Variables

@@ -1,0 +1,18 @@
+use Rattle.std.proofs.Common.{[], append-nil, sym}
+use Rattle.check_base.specs.Files.{set_in}
+use Rattle.check_base.proofs.Variables.{all_variable_texts, variable_texts}
+use Rattle.check_base.proofs.Loops.{picked_adds}
+use Rattle.check_base.proofs.clauses.variables_of.Goals as goal
+use Rattle.check_base.proofs.clauses.variables_of.Goals.{in-Some+in_ok-add_variables, in_default}
+
+pub loop-clause-preserved : goal.loop-clause-preserved
+loop-clause-preserved c =
+    picked_adds variable_texts set_in [] c.loop-clause.names c.match-set_in.names c.as_slice-clause-items.result.now c.loop-clause.clause-index c.clause-item.result c.loop-clause-test.true c.clause-item.is c.loop-clause.invariant
+    (elim c.match-set_in.branch [
+      | in-Some+in_ok-add_variables w ↦ rw (← c.set_in.ensures, w.in-Some.is, w.names-is) w.in_ok-add_variables.ensures
+      | in_default w ↦ rw (← c.set_in.ensures, w.in_default.is, w.names-is) (sym (append-nil c.loop-clause.names))
+    ])
+
+pub returns : goal.returns
+returns c =
+    rw (← c.as_slice-clause-items.ensures) (all_variable_texts c.loop-clause.names c.as_slice-clause-items.result.now c.loop-clause.clause-index c.loop-clause-test.false c.loop-clause.invariant)

@@ -1,0 +1,263 @@
+-- A file and its parts by name.
+use Rattle.std.specs.Prelude.{ℕ, zero, suc, Bool, true, false, List, [], ◌∷◌, ◌++◌, map, flat_map, bytes_eq}
+use Rattle.std.specs.Prelude.{if◌then◌else◌, Option, None, Some, option_map, unwrap_or}
+use Rattle.std.specs.List.{filter_map}
+use Rattle.jolie_ast.specs.declared.name.Name.{Name}
+use Rattle.jolie_ast.specs.declared.tree.Definition.{Definition}
+use Rattle.jolie_ast.specs.declared.tree.Definition.TheVariants as definition
+use Rattle.jolie_ast.specs.declared.types.TypeDefinition.{TypeDefinition}
+use Rattle.jolie_ast.specs.declared.interface.TypeName.{TypeName}
+use Rattle.jolie_ast.specs.declared.interface.Fault.{Fault}
+use Rattle.jolie_ast.specs.declared.interface.RequestResponse.{RequestResponse}
+use Rattle.jolie_ast.specs.declared.interface.OneWay.{OneWay}
+use Rattle.jolie_ast.specs.declared.interface.OperationGroup.{OperationGroup}
+use Rattle.jolie_ast.specs.declared.interface.OperationGroup.TheVariants as group
+use Rattle.jolie_ast.specs.declared.interface.Interface.{Interface}
+use Rattle.jolie_ast.specs.declared.service.Execution.{Execution}
+use Rattle.jolie_ast.specs.declared.service.Execution.TheVariants.{Concurrent, Single}
+use Rattle.jolie_ast.specs.declared.service.Port.{Port}
+use Rattle.jolie_ast.specs.declared.service.Clause.{Clause}
+use Rattle.jolie_ast.specs.declared.service.Clause.TheVariants as clause
+use Rattle.jolie_ast.specs.declared.service.CorrelationVariable.{CorrelationVariable}
+use Rattle.jolie_ast.specs.declared.service.Service.{Service}
+use Rattle.jolie_ast.specs.declared.process.Block.{Block}
+use Rattle.behaviour_tree.specs.Distinct.{is_in}
+use Rattle.jolie_ast.specs.declared.types.RootKind.TheVariants as root
+use Rattle.jolie_ast.specs.declared.types.TypeBody.{TypeBody, roll-TypeBody}
+use Rattle.jolie_ast.specs.declared.types.TypeBody.TheOpen.{TypeBody-F}
+use Rattle.jolie_ast.specs.declared.types.Field.{Field}
+use Rattle.jolie_ast.specs.declared.types.DefinedType.{DefinedType}
+use Rattle.jolie_ast.specs.declared.types.DefinedType.TheVariants as defined
+
+-- ---- definitions
+
+-- a definition, if it is a type
+abbrev pub type_in : Definition → Option TypeDefinition
+type_in (definition.Type ty) = Some ty
+type_in (definition.Interface i) = None
+type_in (definition.Service s) = None
+
+-- a definition, if it is an interface
+abbrev pub interface_in : Definition → Option Interface
+interface_in (definition.Type ty) = None
+interface_in (definition.Interface i) = Some i
+interface_in (definition.Service s) = None
+
+-- a definition, if it is a service
+abbrev pub service_in : Definition → Option Service
+service_in (definition.Type ty) = None
+service_in (definition.Interface i) = None
+service_in (definition.Service s) = Some s
+
+-- the types of a file in order
+abbrev pub types_of : List Definition → List TypeDefinition
+types_of file = filter_map type_in file
+
+-- the interfaces of a file in order
+abbrev pub interfaces_of : List Definition → List Interface
+interfaces_of file = filter_map interface_in file
+
+-- the services of a file in order
+abbrev pub services_of : List Definition → List Service
+services_of file = filter_map service_in file
+
+-- the names of types
+abbrev pub type_names : List TypeDefinition → List (List ℕ)
+type_names types = map (λ (t : TypeDefinition). t.name.text) types
+
+-- the names of interfaces
+abbrev pub interface_names : List Interface → List (List ℕ)
+interface_names interfaces = map (λ (i : Interface). i.name.text) interfaces
+
+-- the first type of a name
+abbrev pub type_named : List TypeDefinition → List ℕ → Option TypeDefinition
+type_named [] name = None
+type_named (ty ∷ types) name = if bytes_eq ty.name.text name then Some ty else type_named types name
+
+-- the first interface of a name
+abbrev pub interface_named : List Interface → List ℕ → Option Interface
+interface_named [] name = None
+interface_named (i ∷ interfaces) name = if bytes_eq i.name.text name then Some i else interface_named interfaces name
+
+-- how many texts stand before the first that is this one
+abbrev pub place_in : List (List ℕ) → List ℕ → ℕ
+place_in [] text = zero
+place_in (t ∷ ts) text = if bytes_eq t text then zero else suc (place_in ts text)
+
+-- ---- operations
+
+-- an operation: its name, its request, its response where it has one, and what it throws
+pub record Operation : Type 0 where
+  pub name : Name
+  pub request : TypeName
+  pub response : Option TypeName
+  pub throws : List Fault
+
+-- an operation that answers
+abbrev pub answering : RequestResponse → Operation
+answering o = record { name = o.name; request = o.request; response = Some o.response; throws = o.throws }
+
+-- an operation that does not
+abbrev pub silent : OneWay → Operation
+silent o = record { name = o.name; request = o.request; response = None; throws = [] }
+
+-- the operations behind one word
+abbrev pub group_operations : OperationGroup → List Operation
+group_operations (group.RequestResponse at operations) = map answering operations
+group_operations (group.OneWay at operations) = map silent operations
+
+-- the operations of an interface in order
+abbrev pub operations_in : Interface → List Operation
+operations_in i = flat_map group_operations i.groups
+
+-- the operations of the interface of a name, none where it is not there
+abbrev pub operations_named : List Interface → List ℕ → List Operation
+operations_named interfaces name = unwrap_or (option_map operations_in (interface_named interfaces name)) []
+
+-- the operations of the interfaces of some names, as they stand
+abbrev pub operations_among : List Interface → List Name → List Operation
+operations_among interfaces names = flat_map (λ (n : Name). operations_named interfaces n.text) names
+
+-- the names of operations
+abbrev pub texts_of : List Operation → List (List ℕ)
+texts_of operations = map (λ (o : Operation). o.name.text) operations
+
+-- each operation once by its name, where it first stands
+abbrev pub each_once_after : List (List ℕ) → List Operation → List Operation
+each_once_after before [] = []
+each_once_after before (o ∷ os) =
+    (if is_in o.name.text before then [] else o ∷ []) ++ each_once_after (o.name.text ∷ before) os
+
+-- each operation once by its name
+abbrev pub each_once : List Operation → List Operation
+each_once operations = each_once_after [] operations
+
+-- the operation of a name
+abbrev pub operation_named : List Operation → List ℕ → Option Operation
+operation_named [] name = None
+operation_named (o ∷ os) name = if bytes_eq o.name.text name then Some o else operation_named os name
+
+-- the operations of a port, each once, in the order of its interfaces
+abbrev pub port_operations : List Interface → Port → List Operation
+port_operations interfaces port = each_once (operations_among interfaces port.interfaces)
+
+-- ---- a service
+
+-- a port with its direction
+pub record Sided : Type 0 where
+  pub input : Bool
+  pub port : Port
+
+-- a clause, if it is a port
+abbrev pub port_in : Clause → Option Sided
+port_in (clause.InputPort port) = Some (record { input = true; port = port })
+port_in (clause.OutputPort port) = Some (record { input = false; port = port })
+port_in (clause.Execution at execution) = None
+port_in (clause.CorrelationSet at variables) = None
+port_in (clause.Init at body) = None
+port_in (clause.Main at body) = None
+
+-- a clause, if it is an input port
+abbrev pub input_port_in : Clause → Option Port
+input_port_in (clause.InputPort port) = Some port
+input_port_in (clause.OutputPort port) = None
+input_port_in (clause.Execution at execution) = None
+input_port_in (clause.CorrelationSet at variables) = None
+input_port_in (clause.Init at body) = None
+input_port_in (clause.Main at body) = None
+
+-- a clause, if it is an output port
+abbrev pub output_port_in : Clause → Option Port
+output_port_in (clause.InputPort port) = None
+output_port_in (clause.OutputPort port) = Some port
+output_port_in (clause.Execution at execution) = None
+output_port_in (clause.CorrelationSet at variables) = None
+output_port_in (clause.Init at body) = None
+output_port_in (clause.Main at body) = None
+
+-- a clause, if it is a correlation set
+abbrev pub set_in : Clause → Option (List CorrelationVariable)
+set_in (clause.InputPort port) = None
+set_in (clause.OutputPort port) = None
+set_in (clause.Execution at execution) = None
+set_in (clause.CorrelationSet at variables) = Some variables
+set_in (clause.Init at body) = None
+set_in (clause.Main at body) = None
+
+-- a clause, if it says how sessions are run
+abbrev pub execution_in : Clause → Option Execution
+execution_in (clause.InputPort port) = None
+execution_in (clause.OutputPort port) = None
+execution_in (clause.Execution at execution) = Some execution
+execution_in (clause.CorrelationSet at variables) = None
+execution_in (clause.Init at body) = None
+execution_in (clause.Main at body) = None
+
+-- a clause, if it is init
+abbrev pub init_in : Clause → Option Block
+init_in (clause.InputPort port) = None
+init_in (clause.OutputPort port) = None
+init_in (clause.Execution at execution) = None
+init_in (clause.CorrelationSet at variables) = None
+init_in (clause.Init at body) = Some body
+init_in (clause.Main at body) = None
+
+-- a clause, if it is main
+abbrev pub main_in : Clause → Option Block
+main_in (clause.InputPort port) = None
+main_in (clause.OutputPort port) = None
+main_in (clause.Execution at execution) = None
+main_in (clause.CorrelationSet at variables) = None
+main_in (clause.Init at body) = None
+main_in (clause.Main at body) = Some body
+
+-- the first of a list
+abbrev pub first_there : {A : Type 0} → List A → Option A
+first_there [] = None
+first_there (a ∷ rest) = Some a
+
+-- the input ports of a service in order
+abbrev pub input_ports : Service → List Port
+input_ports s = filter_map input_port_in s.clauses
+
+-- the output ports of a service in order
+abbrev pub output_ports : Service → List Port
+output_ports s = filter_map output_port_in s.clauses
+
+-- the correlation sets of a service in order
+abbrev pub sets_of : Service → List (List CorrelationVariable)
+sets_of s = filter_map set_in s.clauses
+
+-- how the sessions of a service are run: one alone where nothing is said
+abbrev pub execution_of : Service → Execution
+execution_of s = unwrap_or (first_there (filter_map execution_in s.clauses)) Single
+
+-- whether sessions run beside each other
+abbrev pub is_concurrent : Execution → Bool
+is_concurrent Concurrent = true
+is_concurrent Single = false
+
+-- the input operations of a service, each once, in the order of its ports and their interfaces
+abbrev pub input_operations : List Interface → Service → List Operation
+input_operations interfaces s = each_once (flat_map (λ p. operations_among interfaces p.interfaces) (input_ports s))
+
+-- the variables of a set in order
+abbrev pub set_names : List CorrelationVariable → List Name
+set_names set = map (λ (v : CorrelationVariable). v.name) set
+
+-- the variables of a service in order
+abbrev pub variables_of : Service → List Name
+variables_of s = flat_map set_names (sets_of s)
+
+-- ---- the body of a type
+
+-- the body of a type: fields alone have the root void
+abbrev pub body_of : DefinedType → TypeBody
+body_of (defined.Body body) = body
+body_of (defined.Fields fields) = roll-TypeBody (TypeBody-F.Root 0 root.Void (Some fields))
+
+-- the name that a type is, if it is one
+abbrev pub name_in : TypeBody-F TypeBody Field → Option (List ℕ)
+name_in (TypeBody-F.Root at kind fields) = None
+name_in (TypeBody-F.Named n) = Some n.text
+name_in (TypeBody-F.Undefined at) = None

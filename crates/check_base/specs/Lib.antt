@@ -1,0 +1,5 @@
+pub mod Console
+pub mod Files
+pub mod Least
+pub mod MaybeThere
+pub mod Repeated

@@ -1,0 +1,6 @@
+pub mod Addresses
+pub mod BroughtGroups
+pub mod BroughtIn
+pub mod Nows
+pub mod Sets
+pub mod Spared

@@ -1,0 +1,4 @@
+pub mod PortRules
+pub mod SetRules
+pub mod Spared
+pub mod WrittenBodies

@@ -1,0 +1,4 @@
+pub mod Beginnings
+pub mod OperationTables
+pub mod Places
+pub mod ProcessForms

@@ -1,0 +1,7 @@
+use Rattle.process_checks.specs.ProcessRules.{wrong_step}
+use Rattle.check_base.proofs.Joined.{turn_of}
+use Rattle.process_checks.proofs.process_part_rules.wrong_steps.Goals as goal
+
+pub loop-step-preserved : goal.loop-step-preserved
+loop-step-preserved c =
+    turn_of wrong_step c.args.least.now c.loop-step.least c.wrong_step.new.least c.args.steps.now c.loop-step.step-index c.step-item.result c.loop-step-test.true c.step-item.is c.loop-step.invariant c.wrong_step.ensures

@@ -1,0 +1,5 @@
+pub mod KeptPorts
+pub mod LoweredExpressions
+pub mod LoweredProcesses
+pub mod SeenBehaviours
+pub mod SeenExpressions

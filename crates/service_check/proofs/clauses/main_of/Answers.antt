@@ -1,8 +1,0 @@
-use Rattle.std.proofs.Common.{rules}
-use Rattle.service_check.specs.Files.{main_in}
-use Rattle.service_check.proofs.FirstFound.{found_later}
-use Rattle.service_check.proofs.clauses.main_of.Goals as goal
-
-pub loop-clause-preserved : goal.loop-clause-preserved
-loop-clause-preserved c =
-    found_later main_in c.args.clauses.now c.loop-clause.clause-index c.clause-item.result c.loop-clause-test.true c.clause-item.is (search rules) c.loop-clause.invariant

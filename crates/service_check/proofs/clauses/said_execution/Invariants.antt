@@ -1,7 +1,0 @@
-use Rattle.std.proofs.Common.{◌≡◌, drop}
-use Rattle.std.specs.List.{filter_map}
-use Rattle.service_check.specs.Files.{execution_in, first_there}
-use Rattle.service_check.proofs.clauses.said_execution.Given as goal
-
-abbrev pub invariant-loop-clause : goal.invariant-loop-clause
-invariant-loop-clause l = first_there (filter_map execution_in (drop l.clause-index l.clauses)) ≡ first_there (filter_map execution_in l.clauses)

@@ -1,7 +1,0 @@
-use Rattle.service_check.specs.Files.{group_operations}
-use Rattle.service_check.proofs.OperationTables.{with_new_turn}
-use Rattle.service_check.proofs.operation_tables.with_groups.Goals as goal
-
-pub loop-group-preserved : goal.loop-group-preserved
-loop-group-preserved c =
-    with_new_turn group_operations c.args.operations c.loop-group.operations c.in_ok-operations.operations c.args.groups.now c.loop-group.group-index c.group-item.result c.loop-group-test.true c.group-item.is c.loop-group.invariant c.in_ok-operations.ensures

@@ -1,6 +1,0 @@
-use Rattle.std.proofs.Common.{◌≡◌, take, map}
-use Rattle.service_check.specs.ProcessRules.{handler_name}
-use Rattle.service_check.proofs.process_part_rules.handler_names.Given as goal
-
-abbrev pub invariant-loop-handler : goal.invariant-loop-handler
-invariant-loop-handler l = l.names.items ≡ map handler_name (take l.handler-index l.handlers)

@@ -1,7 +1,0 @@
-use Rattle.std.proofs.Common.{◌≡◌, map, take}
-use Rattle.behaviour_tree.specs.PartsView.{alias_view}
-use Rattle.service_check.specs.Programs.{meant_alias}
-use Rattle.service_check.proofs.program_services.meant_aliases.Given as goal
-
-abbrev pub invariant-loop-alias : goal.invariant-loop-alias
-invariant-loop-alias l = map alias_view l.meant.items ≡ map (meant_alias l.types) (take l.alias-index l.aliases)

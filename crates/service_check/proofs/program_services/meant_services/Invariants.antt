@@ -1,9 +1,0 @@
-use Rattle.std.proofs.Common.{◌≡◌, map, flat_map, take}
-use Rattle.std.specs.Option.{option_to_list}
-use Rattle.behaviour_tree.specs.PartsView.{service_view}
-use Rattle.service_check.specs.Files.{service_in}
-use Rattle.service_check.specs.Programs.{meant_service}
-use Rattle.service_check.proofs.program_services.meant_services.Given as goal
-
-abbrev pub invariant-loop-definition : goal.invariant-loop-definition
-invariant-loop-definition l = map service_view l.meant.items ≡ flat_map (λ x. map (meant_service l.interfaces l.types l.names) (option_to_list (service_in x))) (take l.definition-index l.file)

@@ -1,9 +1,0 @@
-use Rattle.std.proofs.Common.{◌≡◌, flat_map, take}
-use Rattle.std.specs.List.{filter_map}
-use Rattle.service_check.specs.Files.{set_in}
-use Rattle.service_check.specs.Least.{joined}
-use Rattle.service_check.specs.SetRules.{set_refused}
-use Rattle.service_check.proofs.set_rules.each_set_refused.Given as goal
-
-abbrev pub invariant-loop-clause : goal.invariant-loop-clause
-invariant-loop-clause l = l.least ≡ joined l.initial.least (flat_map (set_refused l.types) (filter_map set_in (take l.clause-index l.clauses)))

@@ -1,8 +1,0 @@
-use Rattle.std.proofs.Common.{◌≡◌, take}
-use Rattle.std.specs.List.{filter_map}
-use Rattle.service_check.specs.Files.{set_in}
-use Rattle.service_check.specs.SetRules.{types_in_sets}
-use Rattle.service_check.proofs.set_rules.types_in_sets.Given as goal
-
-abbrev pub invariant-loop-clause : goal.invariant-loop-clause
-invariant-loop-clause l = l.names ≡ types_in_sets (filter_map set_in (take l.clause-index l.clause-items))

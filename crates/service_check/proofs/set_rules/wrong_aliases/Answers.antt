@@ -1,7 +1,0 @@
-use Rattle.service_check.specs.SetRules.{wrong_alias}
-use Rattle.service_check.proofs.Joined.{turn_of}
-use Rattle.service_check.proofs.set_rules.wrong_aliases.Goals as goal
-
-pub loop-alias-preserved : goal.loop-alias-preserved
-loop-alias-preserved c =
-    turn_of (wrong_alias c.args.types.now) c.args.least.now c.loop-alias.least c.wrong_alias.new.least c.args.aliases.now c.loop-alias.alias-index c.alias-item.result c.loop-alias-test.true c.alias-item.is c.loop-alias.invariant c.wrong_alias.ensures

@@ -1,0 +1,2 @@
+pub mod LoweredTypes
+pub mod SeenTypes

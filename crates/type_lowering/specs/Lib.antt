@@ -1,0 +1,2 @@
+pub mod LoweredInterfaces
+pub mod LoweredTypes
