@@ -11,8 +11,8 @@ use Rattle.jolie_parse.specs.declared.parse_error.ParseError.TheVariants as pars
 use Rattle.jolie_parse.specs.Classes.{spelled}
 use Rattle.jolie_parse.specs.Grammar.{IsFile}
 use Rattle.jolie_parse.specs.Answers.{IsRefusedAt, IsTooDeepAt}
-use Rattle.service_check.specs.declared.refusal.CheckName.{CheckName}
-use Rattle.service_check.specs.declared.refusal.CheckName.TheVariants as check
+use Rattle.check_base.specs.declared.refusal.CheckName.{CheckName}
+use Rattle.check_base.specs.declared.refusal.CheckName.TheVariants as check
 
 -- ---- the line of a refusal
 
