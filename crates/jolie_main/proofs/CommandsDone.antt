@@ -9,15 +9,15 @@ use Rattle.jolie_main.specs.declared.record.Ended.{Ended}
 use Rattle.jolie_main.specs.declared.refusal.Refusal.{Refusal}
 use Rattle.jolie_main.specs.declared.verdict.Verdict.{Verdict}
 use Rattle.jolie_main.specs.declared.verdict.Verdict.TheVariants as verdict
-use Rattle.jolie_main.specs.declared.words.Action.{Action}
-use Rattle.jolie_main.specs.declared.words.Action.TheVariants as action
-use Rattle.jolie_main.specs.declared.words.Command.{Command}
-use Rattle.jolie_main.specs.declared.words.Words.{Words}
-use Rattle.jolie_main.specs.declared.words.Words.TheVariants as words
-use Rattle.jolie_main.specs.Usage.{IsUnderstood}
+use Rattle.command_words.specs.declared.table.Action.{Action}
+use Rattle.command_words.specs.declared.table.Action.TheVariants as action
+use Rattle.command_words.specs.declared.words.Command.{Command}
+use Rattle.command_words.specs.declared.words.Words.{Words}
+use Rattle.command_words.specs.declared.words.Words.TheVariants as words
+use Rattle.command_words.specs.Usage.{IsUnderstood}
 use Rattle.jolie_ast.specs.Printed.{printed_text}
 use Rattle.jolie_main.specs.Programs.{IsChecked, IsUncheckedBy, IsProgram, IsNotRunBy}
-use Rattle.jolie_main.specs.Verdicts.{IsVerdict, refusal_line}
+use Rattle.jolie_main.specs.RefusalLines.{IsVerdict, refusal_line}
 use Rattle.jolie_main.specs.Outside.{Stream, Outside, outside, program_bytes, IsWritten}
 use Rattle.jolie_main.specs.Headline.{Says, Checks, Prints, Runs, IsEmptyRecord, Does, Obeys, Promises}
 use Rattle.jolie_main.specs.Headline as headline
@@ -55,7 +55,7 @@ not_passed text found refusal (Err e) before now right is status written = tt
 -- a text that is not run is refused
 pub run_refused : (text given : List ℕ) (found : Result Program Refusal) (refusal : Refusal) (r : Result Ended AllocError) (input output output_now : Stream)
     → MatchResult found (λ p. IsProgram given (parts_of p)) (λ why. IsNotRunBy given (refusal_line why)) → found ≡ Err refusal → given ≡ text
-    → IfOk r (λ ended. ended.status ≡ 3) → IfOk r (λ ended. IsWritten (refusal_line refusal) output output_now) → IfOk r (λ ended. IsEmptyRecord ended.record)
+    → IfOk r (λ ended. ended.status ≡ 3) → IfOk r (λ ended. IsWritten (refusal_line refusal) output output_now) → IfOk r (λ ended. IsEmptyRecord ended.report)
     → IfOk r (λ ended. Runs text ended input input output output_now)
 run_refused text given found refusal (Ok ended) input output output_now right is same status written empty =
     headline.refused (refusal_line refusal) (subst (λ t. IsNotRunBy t (refusal_line refusal)) same (subst (λ x. MatchResult x (λ p. IsProgram given (parts_of p)) (λ why. IsNotRunBy given (refusal_line why))) is right)) status empty refl written
@@ -68,7 +68,7 @@ module _ (given : Action) (held : List ℕ → Option (List ℕ)) (file name tex
       headline.read text (subst (λ n. IfSome (held n) (λ all. text ≡ program_bytes all)) named read) calm (subst (λ a. Does a text ended before now) (sym is) does)
 
   pub obeys_check : (shown : List ℕ) (faults faults_now : ℕ) (input output output_now : Stream) (r : Result Ended AllocError) → given ≡ action.Check → faults_now ≡ faults → shown ≡ text
-      → IfOk r (λ ended. Checks shown ended.status output output_now) → IfOk r (λ ended. IsEmptyRecord ended.record)
+      → IfOk r (λ ended. Checks shown ended.status output output_now) → IfOk r (λ ended. IsEmptyRecord ended.report)
       → IfOk r (λ ended. (notes : Stream) → Obeys given (held file) ended (outside faults input output notes) (outside faults_now input output_now notes))
   obeys_check shown faults faults_now input output output_now (Ok ended) is calm same shows empty =
       λ notes. obeys action.Check ended (outside faults input output notes) (outside faults_now input output_now notes) is calm
@@ -76,7 +76,7 @@ module _ (given : Action) (held : List ℕ → Option (List ℕ)) (file name tex
   obeys_check shown faults faults_now input output output_now (Err e) is calm same shows empty = tt
 
   pub obeys_print : (shown : List ℕ) (faults faults_now : ℕ) (input output output_now : Stream) (r : Result Ended AllocError) → given ≡ action.Print → faults_now ≡ faults → shown ≡ text
-      → IfOk r (λ ended. Prints shown ended.status output output_now) → IfOk r (λ ended. IsEmptyRecord ended.record)
+      → IfOk r (λ ended. Prints shown ended.status output output_now) → IfOk r (λ ended. IsEmptyRecord ended.report)
       → IfOk r (λ ended. (notes : Stream) → Obeys given (held file) ended (outside faults input output notes) (outside faults_now input output_now notes))
   obeys_print shown faults faults_now input output output_now (Ok ended) is calm same shows empty =
       λ notes. obeys action.Print ended (outside faults input output notes) (outside faults_now input output_now notes) is calm

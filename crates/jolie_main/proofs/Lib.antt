@@ -7,8 +7,6 @@ pub mod BuiltForms
 pub mod CallsMade
 pub mod CommandsDone
 pub mod DidLaws
-pub mod Entered
-pub mod Found
 pub mod GivenAndTaken
 pub mod GrowingHistories
 pub mod InwardForms
@@ -16,9 +14,7 @@ pub mod LineByLine
 pub mod LinesAcrossPieces
 pub mod Moments
 pub mod NeedsTold
-pub mod Origins
 pub mod Outgoing
-pub mod Plain
 pub mod PostedByTurns
 pub mod PostedCalls
 pub mod QuietHistories
@@ -39,5 +35,4 @@ pub mod TextsAsPrograms
 pub mod Waiting
 pub mod WaitingMails
 pub mod WholeSessions
-pub mod WordsUnderstood
 pub mod WrittenLines

@@ -13,7 +13,8 @@ use Rattle.jolie_parse.specs.Classes.{spelled}
 use Rattle.jolie_parse.specs.Grammar.{IsFile}
 use Rattle.jolie_parse.specs.Answers.{IsRefusedAt, IsTooDeepAt}
 use Rattle.jolie_main.specs.declared.refusal.Refusal.{Refusal}
-use Rattle.jolie_main.specs.Verdicts.{IsAccepted, IsRefusedBy, too_long, no_tokens, no_file, too_deep, refusal_line, IsLexRefusal, IsParseRefusal}
+use Rattle.jolie_main.specs.Verdicts.{IsAccepted, IsRefusedBy, too_long, no_tokens, no_file, too_deep}
+use Rattle.jolie_main.specs.RefusalLines.{refusal_line, IsLexRefusal, IsParseRefusal}
 
 -- a text that has tokens is not too long
 pub fits : (r : Result (List Token) LexError) (tokens : List Token) (n : ℕ) → r ≡ Ok tokens → (IsErrOf r lex.TooLong ↔ longest < n) → n ≤ longest

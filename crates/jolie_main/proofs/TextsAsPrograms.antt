@@ -4,15 +4,16 @@ use Rattle.std.specs.Prelude.{MatchResult}
 use Rattle.behaviour_tree.specs.PartsView.{parts_of}
 use Rattle.behaviour_tree.specs.declared.program.Program.{Program}
 use Rattle.jolie_ast.specs.declared.tree.Definition.{Definition}
-use Rattle.service_check.specs.declared.refusal.CheckName.{CheckName}
-use Rattle.service_check.specs.declared.refusal.CheckError.{CheckError}
-use Rattle.service_check.specs.declared.refusal.CheckError.TheVariants as error
+use Rattle.check_base.specs.declared.refusal.CheckName.{CheckName}
+use Rattle.check_base.specs.declared.refusal.CheckError.{CheckError}
+use Rattle.check_base.specs.declared.refusal.CheckError.TheVariants as error
 use Rattle.service_check.specs.Answers.{Checks}
 use Rattle.jolie_main.specs.declared.refusal.Refusal.{Refusal}
 use Rattle.jolie_main.specs.declared.verdict.Verdict.{Verdict}
 use Rattle.jolie_main.specs.declared.verdict.Verdict.TheVariants as verdict
 use Rattle.jolie_main.specs.BuiltPrograms.{is_built_program}
-use Rattle.jolie_main.specs.Verdicts.{check_line, refusal_line, IsVerdict}
+use Rattle.jolie_main.specs.Verdicts.{check_line}
+use Rattle.jolie_main.specs.RefusalLines.{refusal_line, IsVerdict}
 use Rattle.jolie_main.specs.Programs.{IsChecked, IsUncheckedBy, no_file, no_program, IsProgram, form_line, IsNotRunBy}
 use Rattle.jolie_main.specs.Programs as program
 

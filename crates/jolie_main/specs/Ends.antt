@@ -1,3 +1,4 @@
+-- These definitions serve the proofs alone: no promise speaks of them.
 -- How the lines of a source ended, what was done and answered by then, and the cause and the status that each end has.
 use Rattle.std.specs.Prelude.{◌≡◌, ℕ, List}
 use Rattle.outside_traits.specs.Causes.{Rose}

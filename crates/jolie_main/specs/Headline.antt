@@ -8,10 +8,10 @@ use Rattle.jolie_main.specs.declared.history.Entry.{Entry}
 use Rattle.jolie_main.specs.declared.record.Traffic.{Traffic}
 use Rattle.jolie_main.specs.declared.record.Record.{Record}
 use Rattle.jolie_main.specs.declared.record.Ended.{Ended}
-use Rattle.jolie_main.specs.declared.words.Action.{Action}
-use Rattle.jolie_main.specs.declared.words.Action.TheVariants as action
-use Rattle.jolie_main.specs.declared.words.Words.{Words}
-use Rattle.jolie_main.specs.declared.words.Words.TheVariants as words
+use Rattle.command_words.specs.declared.table.Action.{Action}
+use Rattle.command_words.specs.declared.table.Action.TheVariants as action
+use Rattle.command_words.specs.declared.words.Words.{Words}
+use Rattle.command_words.specs.declared.words.Words.TheVariants as words
 use Rattle.jolie_main.specs.Verdicts.{IsAccepted, IsRefusedBy}
 use Rattle.jolie_ast.specs.Printed.{printed_text}
 use Rattle.jolie_main.specs.Programs.{IsChecked, IsUncheckedBy, IsProgram, IsNotRunBy}
@@ -80,11 +80,11 @@ pub data Prints (text : List ℕ) (status : ℕ) (before now : Stream) : Type 0 
 -- status 3. Of a run the record holds the text, the traffic has what the input gave and the output took, and the statuses
 -- 4 and 5 have their causes.
 pub data Runs (text : List ℕ) (ended : Ended) (input input_now output output_now : Stream) : Type 0 where
-  ran : ended.record.program ≡ text → Ran ended.status → IsRecord ended.status ended.record input_now.bytes
-      → HasBytes ended.status ended.record input.bytes input_now.bytes output.bytes output_now.bytes
+  ran : ended.report.program ≡ text → Ran ended.status → IsRecord ended.status ended.report input_now.bytes
+      → HasBytes ended.status ended.report input.bytes input_now.bytes output.bytes output_now.bytes
       → HasOwnCauses ended.status input.faults input_now.faults output.faults output_now.faults
       → Runs text ended input input_now output output_now
-  refused : (line : List ℕ) → IsNotRunBy text line → ended.status ≡ 3 → IsEmptyRecord ended.record
+  refused : (line : List ℕ) → IsNotRunBy text line → ended.status ≡ 3 → IsEmptyRecord ended.report
       → input_now ≡ input → IsWritten line output output_now
       → Runs text ended input input_now output output_now
 
@@ -92,7 +92,7 @@ pub data Runs (text : List ℕ) (ended : Ended) (input input_now output output_n
 
 -- nothing is recorded and nothing read of the input
 abbrev pub ShowsAlone : Ended → Outside → Outside → Type 0
-ShowsAlone ended before now = IsEmptyRecord ended.record × (now.input ≡ before.input)
+ShowsAlone ended before now = IsEmptyRecord ended.report × (now.input ≡ before.input)
 
 -- what a command does with the text of its file
 abbrev pub Does : Action → List ℕ → Ended → Outside → Outside → Type 0
@@ -104,24 +104,24 @@ Does action.Run text ended before now = Runs text ended before.input now.input b
 -- nothing is read, written or recorded.
 pub data Obeys (act : Action) (told : Option (List ℕ)) (ended : Ended) (before now : Outside) : Type 0 where
   read : (text : List ℕ) → IsReadOf told text → now.file_faults ≡ before.file_faults → Does act text ended before now → Obeys act told ended before now
-  failed : ended.status ≡ 2 → Rose before.file_faults now.file_faults → IsEmptyRecord ended.record
+  failed : ended.status ≡ 2 → Rose before.file_faults now.file_faults → IsEmptyRecord ended.report
       → now.input ≡ before.input → now.output ≡ before.output → Obeys act told ended before now
 
 -- ---- the words
 
 -- A text of help or of the version goes to the output, and that is all.
-pub record Tells (text : List ℕ) (ended : Ended) (before now : Outside) : Type 0 where
+pub record ShowsHelp (text : List ℕ) (ended : Ended) (before now : Outside) : Type 0 where
   pub said : Says text ended.status before.output now.output
-  pub empty : IsEmptyRecord ended.record
+  pub empty : IsEmptyRecord ended.report
   pub files : now.file_faults ≡ before.file_faults
   pub input : now.input ≡ before.input
   pub notes : now.notes ≡ before.notes
 
--- Faulty words have status 1: what is wrong with them goes to the notes, and that is all.
-pub record Rebukes (text : List ℕ) (ended : Ended) (before now : Outside) : Type 0 where
+-- A usage error has status 1: its text goes to the standard error, which the notes are, and that is all.
+pub record ShowsUsageError (text : List ℕ) (ended : Ended) (before now : Outside) : Type 0 where
   pub status : ended.status ≡ 1
   pub noted : IsWritten text before.notes now.notes
-  pub empty : IsEmptyRecord ended.record
+  pub empty : IsEmptyRecord ended.report
   pub files : now.file_faults ≡ before.file_faults
   pub input : now.input ≡ before.input
   pub output : now.output ≡ before.output
@@ -129,5 +129,5 @@ pub record Rebukes (text : List ℕ) (ended : Ended) (before now : Outside) : Ty
 -- What was understood of the words decides what is promised; `held` is what the files hold, as far as the outside tells.
 abbrev pub Promises : Words → (List ℕ → Option (List ℕ)) → Ended → Outside → Outside → Type 0
 Promises (words.Command c) held ended before now = Obeys c.action (held c.file) ended before now × (now.notes ≡ before.notes)
-Promises (words.Told text) held ended before now = Tells text ended before now
-Promises (words.Refused text) held ended before now = Rebukes text ended before now
+Promises (words.Help text) held ended before now = ShowsHelp text ended before now
+Promises (words.UsageError text) held ended before now = ShowsUsageError text ended before now

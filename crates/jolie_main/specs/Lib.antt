@@ -13,9 +13,8 @@ pub mod Mails
 pub mod Stages
 pub mod SessionSteps
 pub mod Sentences
-pub mod Commands
-pub mod Usage
 pub mod Verdicts
+pub mod RefusalLines
 pub mod Programs
 pub mod Progress
 pub mod Ends

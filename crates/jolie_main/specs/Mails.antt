@@ -1,3 +1,4 @@
+-- These definitions serve the proofs alone: no promise speaks of them.
 -- What the sessions of accepted messages are given.
 use Rattle.std.specs.Prelude.{◌≡◌, ℕ, ◌+◌, List, [], ◌∷◌, ◌++◌, length, true, Option, None, Some, IsTrue, slice_get}
 use Rattle.jolie_trees.specs.Data.{Tree}

@@ -2,8 +2,8 @@
 use Rattle.std.specs.Prelude.{◌≡◌, ℕ, true, false, List, None, Some, codes}
 use Rattle.behaviour_tree.specs.Data.{ProgramParts}
 use Rattle.jolie_ast.specs.declared.tree.Definition.{Definition}
-use Rattle.service_check.specs.declared.refusal.CheckName.{CheckName}
-use Rattle.service_check.specs.Least.{refusal as refused_for}
+use Rattle.check_base.specs.declared.refusal.CheckName.{CheckName}
+use Rattle.check_base.specs.Least.{refusal as refused_for}
 use Rattle.service_check.specs.Refusals.{refusal_of}
 use Rattle.service_check.specs.Programs.{program_of}
 use Rattle.jolie_main.specs.BuiltPrograms.{is_built_program}

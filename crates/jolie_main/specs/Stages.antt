@@ -1,3 +1,4 @@
+-- These definitions serve the proofs alone: no promise speaks of them.
 -- Where a session of a built program stands: what it has still to do, and the run by which it came there.
 use Rattle.std.specs.Prelude.{◌≡◌, ℕ, Bool, true, false, List, [], ◌∷◌, map, Option, Some, Contains}
 use Rattle.jolie_trees.specs.Data.{Tree}

@@ -1,3 +1,4 @@
+-- These definitions serve the proofs alone: no promise speaks of them.
 -- How a run goes line by line: what each posting adds to the history, to the sessions and to the output.
 use Rattle.std.specs.Prelude.{◌≡◌, ℕ, ◌+◌, Bool, true, false, List, [], ◌∷◌, ◌++◌, map, length, Option, Some, Ok, Err, slice_get, Contains, if◌then◌else◌}
 use Rattle.jolie_trees.specs.Data.{Tree}

@@ -1,5 +1,5 @@
 -- What is said of a text: its definitions, or the one line that refuses it.
-use Rattle.std.specs.Prelude.{◌≡◌, ℕ, ◌<◌, ◌≤◌, List, [], ◌++◌, length, codes}
+use Rattle.std.specs.Prelude.{ℕ, ◌<◌, ◌≤◌, List, [], ◌++◌, length, codes}
 use Rattle.std.specs.Fmt.{decimal}
 use Rattle.jolie_tokens.specs.declared.token.Token.{Token}
 use Rattle.jolie_tokens.specs.declared.lex_error.LexError.{LexError}
@@ -11,15 +11,8 @@ use Rattle.jolie_parse.specs.declared.parse_error.ParseError.TheVariants as pars
 use Rattle.jolie_parse.specs.Classes.{spelled}
 use Rattle.jolie_parse.specs.Grammar.{IsFile}
 use Rattle.jolie_parse.specs.Answers.{IsRefusedAt, IsTooDeepAt}
-use Rattle.service_check.specs.declared.refusal.CheckName.{CheckName}
-use Rattle.service_check.specs.declared.refusal.CheckName.TheVariants as check
-use Rattle.jolie_main.specs.declared.refusal.Stage.{Stage}
-use Rattle.jolie_main.specs.declared.refusal.Stage.TheVariants as stage
-use Rattle.jolie_main.specs.declared.refusal.Cause.{Cause}
-use Rattle.jolie_main.specs.declared.refusal.Cause.TheVariants as cause
-use Rattle.jolie_main.specs.declared.refusal.Refusal.{Refusal}
-use Rattle.jolie_main.specs.declared.verdict.Verdict.{Verdict}
-use Rattle.jolie_main.specs.declared.verdict.Verdict.TheVariants as verdict
+use Rattle.check_base.specs.declared.refusal.CheckName.{CheckName}
+use Rattle.check_base.specs.declared.refusal.CheckName.TheVariants as check
 
 -- ---- the line of a refusal
 
@@ -77,43 +70,3 @@ pub data IsRefusedBy (text : List ℕ) : List ℕ → Type 0 where
       → IsRefusedAt 64 (length text) (spelled text tokens) at → IsRefusedBy text (parse_line (parse.Syntax at))
   too_deep : (tokens : List Token) (at : ℕ) → length text ≤ longest → IsRead text tokens
       → IsTooDeepAt 64 (length text) (spelled text tokens) at → IsRefusedBy text (parse_line (parse.TooDeep at))
-
--- ---- as the code has them
-
--- the word of a stage
-abbrev pub stage_word : Stage → List ℕ
-stage_word stage.Lex = codes "lex"
-stage_word stage.Parse = codes "parse"
-stage_word stage.Check = codes "check"
-stage_word stage.First = codes "first"
-
--- the word of a cause
-abbrev pub cause_word : Cause → List ℕ
-cause_word cause.TooLong = codes "TooLong"
-cause_word cause.BadByte = codes "BadByte"
-cause_word cause.OpenString = codes "OpenString"
-cause_word cause.OpenComment = codes "OpenComment"
-cause_word cause.BadNumber = codes "BadNumber"
-cause_word cause.Syntax = codes "Syntax"
-cause_word cause.TooDeep = codes "TooDeep"
-cause_word (cause.Check name) = check_word name
-cause_word cause.Form = codes "Form"
-
--- the line of a refusal
-abbrev pub refusal_line : Refusal → List ℕ
-refusal_line r = refusal (stage_word r.stage) (cause_word r.cause) r.at
-
--- the error is no want of memory, and the refusal has its line
-abbrev pub IsLexRefusal : LexError → Refusal → Type 0
-IsLexRefusal (lex.Memory memory) r = ⊥
-IsLexRefusal e r = refusal_line r ≡ lex_line e
-
--- the same of an error of the parser
-abbrev pub IsParseRefusal : ParseError → Refusal → Type 0
-IsParseRefusal (parse.Memory memory) r = ⊥
-IsParseRefusal e r = refusal_line r ≡ parse_line e
-
--- what is said of the text is right
-abbrev pub IsVerdict : List ℕ → Verdict → Type 0
-IsVerdict text (verdict.File file) = IsAccepted text file
-IsVerdict text (verdict.Refused r) = IsRefusedBy text (refusal_line r)

@@ -3,7 +3,7 @@
 ghost use Rattle.std.specs.Prelude.{IfOk, MatchResult};
 ghost use Rattle.behaviour_tree.specs.PartsView.{parts_of};
 ghost use Rattle.jolie_main.specs.Programs.{IsChecked, IsUncheckedBy, IsProgram, IsNotRunBy};
-ghost use Rattle.jolie_main.specs.Verdicts.{refusal_line};
+ghost use Rattle.jolie_main.specs.RefusalLines.{refusal_line};
 
 use crate::built::can_run;
 use crate::refusal::Refusal;

@@ -16,15 +16,12 @@ mod serving;
 mod session;
 mod show;
 mod starting;
-pub mod status;
 mod top;
 mod turn;
 mod verdict;
-mod words;
 
 pub use built::one_service_is_built;
 pub use checked::program_in;
 pub use record::{Ended, Record, Traffic};
 pub use refusal::{Cause, Refusal, Stage};
 pub use top::run;
-pub use words::{Action, Command, Words, understood};

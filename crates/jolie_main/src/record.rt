@@ -25,5 +25,5 @@ pub struct Record {
 #[derive(Drop)]
 pub struct Ended {
     pub status: u8,
-    pub record: Record,
+    pub report: Record,
 }

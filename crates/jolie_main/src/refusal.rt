@@ -2,7 +2,8 @@
 
 ghost use Rattle.std.specs.Prelude.{◌≡◌, Some, IfOk, string_bytes};
 ghost use Rattle.jolie_main.specs.Programs.{form_line};
-ghost use Rattle.jolie_main.specs.Verdicts.{stage_word, cause_word, check_word as spelled_check, check_line, refusal_line, IsLexRefusal, IsParseRefusal};
+ghost use Rattle.jolie_main.specs.Verdicts.{check_word as spelled_check, check_line};
+ghost use Rattle.jolie_main.specs.RefusalLines.{stage_word, cause_word, refusal_line, IsLexRefusal, IsParseRefusal};
 
 use jolie_parse::ParseError;
 use jolie_tokens::LexError;

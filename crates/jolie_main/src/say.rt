@@ -3,13 +3,13 @@
 ghost use Rattle.std.specs.Prelude.{◌≡◌, IfOk};
 ghost use Rattle.jolie_main.specs.Headline.{Says, IsEmptyRecord};
 ghost use Rattle.jolie_main.specs.Outside.{stream, IsSaid, IsWritten};
-ghost use Rattle.jolie_main.specs.Verdicts.{refusal_line};
+ghost use Rattle.jolie_main.specs.RefusalLines.{refusal_line};
 
 use crate::history::History;
 use crate::record::{Ended, Record};
 use crate::refusal::Refusal;
 use crate::sending::write_text;
-use crate::status::{DONE, FAULTY_WORDS, OUTPUT_FAILED, REFUSED};
+use command_words::status::{DONE, OUTPUT_FAILED, REFUSED, USAGE_ERROR};
 use jolie_trees::Bytes;
 use outside_traits::Sink;
 use sqlite_items::Items;
@@ -27,7 +27,7 @@ pub fn say<K: Sink>(alloc: Global, text: &[u8], output: &mut K) -> Result<bool, 
 /// Writes the text that was asked for: the status is 0, or 5 where the output failed.
 pub fn tell<K: Sink>(alloc: Global, text: &[u8], output: &mut K) -> Result<Ended, AllocError>
     ensures says { IfOk result (λ ended. Says text.now ended.status (stream (K.taken output.old) (K.faults output.old)) (stream (K.taken output.new) (K.faults output.new))) }
-    ensures empty { IfOk result (λ ended. IsEmptyRecord ended.record) }
+    ensures empty { IfOk result (λ ended. IsEmptyRecord ended.report) }
 {
     let status = if say(alloc, text, output)? {
         DONE
@@ -45,29 +45,33 @@ pub fn refuse<K: Sink>(
 ) -> Result<Ended, AllocError>
     ensures status { IfOk result (λ ended. ended.status ≡ 3) }
     ensures written { IfOk result (λ ended. IsWritten (refusal_line refusal.now) (stream (K.taken output.old) (K.faults output.old)) (stream (K.taken output.new) (K.faults output.new))) }
-    ensures empty { IfOk result (λ ended. IsEmptyRecord ended.record) }
+    ensures empty { IfOk result (λ ended. IsEmptyRecord ended.report) }
 {
     let line = refusal.line(alloc)?;
     say(alloc, line.as_bytes(), output)?;
     Ok(without_record(alloc, REFUSED))
 }
 
-/// Writes what is wrong with the words: the status is 1, whether or not the notes take it.
-pub fn rebuke<N: Sink>(alloc: Global, text: &[u8], notes: &mut N) -> Result<Ended, AllocError>
+/// Writes a usage error: the status is 1, whether or not the standard error takes it.
+pub fn show_usage_error<N: Sink>(
+    alloc: Global,
+    text: &[u8],
+    notes: &mut N,
+) -> Result<Ended, AllocError>
     ensures status { IfOk result (λ ended. ended.status ≡ 1) }
     ensures written { IfOk result (λ ended. IsWritten text.now (stream (N.taken notes.old) (N.faults notes.old)) (stream (N.taken notes.new) (N.faults notes.new))) }
-    ensures empty { IfOk result (λ ended. IsEmptyRecord ended.record) }
+    ensures empty { IfOk result (λ ended. IsEmptyRecord ended.report) }
 {
     say(alloc, text, notes)?;
-    Ok(without_record(alloc, FAULTY_WORDS))
+    Ok(without_record(alloc, USAGE_ERROR))
 }
 
 /// The end of a call that ran no program.
 pub fn without_record(alloc: Global, status: u8) -> Ended
     ensures status { result.status ≡ status }
-    ensures empty { IsEmptyRecord result.record }
+    ensures empty { IsEmptyRecord result.report }
 {
-    let record = Record {
+    let report = Record {
         program: Bytes::new(alloc),
         history: History {
             entries: Items::new(alloc),
@@ -75,5 +79,5 @@ pub fn without_record(alloc: Global, status: u8) -> Ended
         sessions: Items::new(alloc),
         traffic: Items::new(alloc),
     };
-    Ended { status, record }
+    Ended { status, report }
 }

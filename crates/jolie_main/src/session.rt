@@ -52,7 +52,7 @@ pub fn serve(
     ensures run { IfOk result (λ served. IsWholeRun (parts_of program.now) message op value served.events served.how) }
     ensures lived { IfOk result (λ served. IsLived (asks_answer (operation_at (parts_of program.now) 0 op)) served.how) }
 {
-    let mut session = TermSession::start(alloc, program, 0)?;
+    let mut session = Box::new(alloc, TermSession::start(alloc, program, 0)?)?;
     let mut events = Items::new(alloc);
     let how = live(&mut session, program, message, op, value, &mut events)?;
     Ok(Served { events, how })

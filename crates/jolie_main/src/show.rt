@@ -15,7 +15,7 @@ use std::alloc::{AllocError, Global};
 /// Says `ok` of a text that is a program.
 pub fn check_text<K: Sink>(alloc: Global, text: &[u8], output: &mut K) -> Result<Ended, AllocError>
     ensures shows { IfOk result (λ ended. Checks text.now ended.status (stream (K.taken output.old) (K.faults output.old)) (stream (K.taken output.new) (K.faults output.new))) }
-    ensures empty { IfOk result (λ ended. IsEmptyRecord ended.record) }
+    ensures empty { IfOk result (λ ended. IsEmptyRecord ended.report) }
 {
     match checked_program(alloc, text)? {
         Ok(_) => {}
@@ -27,7 +27,7 @@ pub fn check_text<K: Sink>(alloc: Global, text: &[u8], output: &mut K) -> Result
 /// Prints the definitions of a text.
 pub fn print_text<K: Sink>(alloc: Global, text: &[u8], output: &mut K) -> Result<Ended, AllocError>
     ensures shows { IfOk result (λ ended. Prints text.now ended.status (stream (K.taken output.old) (K.faults output.old)) (stream (K.taken output.new) (K.faults output.new))) }
-    ensures empty { IfOk result (λ ended. IsEmptyRecord ended.record) }
+    ensures empty { IfOk result (λ ended. IsEmptyRecord ended.report) }
 {
     let file = match verdict_of(alloc, text)? {
         Verdict::File(file) => file,

@@ -1,10 +1,9 @@
 //! What the words of the command line ask for is done.
 
 ghost use Rattle.std.specs.Prelude.{◌≡◌, IfOk};
-ghost use Rattle.jolie_main.specs.declared.words.Words.{Words as Said};
+ghost use Rattle.command_words.specs.declared.words.Words.{Words as Said};
 ghost use Rattle.behaviour_tree.specs.PartsView.{parts_of};
-ghost use Rattle.jolie_main.specs.Commands.{spelled};
-ghost use Rattle.jolie_main.specs.Usage.{IsUnderstood};
+ghost use Rattle.command_words.specs.Usage.{IsUnderstood, spelled};
 ghost use Rattle.jolie_main.specs.Programs.{IsProgram};
 ghost use Rattle.jolie_main.specs.Outside.{Stream, stream, outside};
 ghost use Rattle.jolie_main.specs.Headline.{Promises, Obeys, Runs, Ran, IsRecord};
@@ -14,12 +13,12 @@ ghost use Rattle.jolie_main.specs.Closing.{HasBytes, HasOwnCauses};
 use crate::checked::program_in;
 use crate::lines::{End, Progress, answer_lines};
 use crate::record::{Ended, Record, Traffic};
-use crate::say::{rebuke, refuse, tell, without_record};
+use crate::say::{refuse, show_usage_error, tell, without_record};
 use crate::show::{check_text, print_text};
-use crate::status::{DONE, FILE_FAILED, INPUT_FAILED, OUTPUT_FAILED};
 use crate::turn::Deeds;
-use crate::words::{Action, Command, Words, understood};
 use behaviour_tree::Program;
+use command_words::status::{DONE, FILE_FAILED, INPUT_FAILED, OUTPUT_FAILED};
+use command_words::{Action, Command, Words, understood};
 use jolie_trees::Bytes;
 use outside_traits::{CallError, Files, Sink, Source};
 use sqlite_items::Items;
@@ -31,7 +30,7 @@ const MOST: u64 = 1_048_577;
 /// Does what the words of the command line say: `check FILE` says whether the file is a program, `print FILE` prints
 /// its definitions, and `run FILE` runs its program over the lines of the input.
 ///
-/// The status is 0 where all that was asked for was done, 1 for faulty words, 2 where the file can't be read, 3 for a
+/// The status is 0 where all that was asked for was done, 1 for a usage error, 2 where the file can't be read, 3 for a
 /// file that is refused, 4 where the input failed and 5 where the output failed.
 pub fn run<F: Files, S: Source, K: Sink, N: Sink>(
     alloc: Global,
@@ -48,8 +47,8 @@ pub fn run<F: Files, S: Source, K: Sink, N: Sink>(
 {
     match understood(alloc, words)? {
         Words::Command(command) => obey(alloc, &command, files, input, output),
-        Words::Told(text) => tell(alloc, text.as_str().as_bytes(), output),
-        Words::Refused(text) => rebuke(alloc, text.as_str().as_bytes(), notes),
+        Words::Help(text) => tell(alloc, text.as_str().as_bytes(), output),
+        Words::UsageError(text) => show_usage_error(alloc, text.as_str().as_bytes(), notes),
     }
 }
 
@@ -103,9 +102,9 @@ fn run_program<S: Source, K: Sink>(
     output: &mut K,
 ) -> Result<Ended, AllocError>
     requires { IsProgram text (parts_of program.now) }
-    ensures record { IfOk result (λ ended. Ran ended.status × IsRecord ended.status ended.record (S.left input.new)) }
-    ensures program { IfOk result (λ ended. ended.record.program ≡ text) }
-    ensures traffic { IfOk result (λ ended. HasBytes ended.status ended.record (S.left input.old) (S.left input.new) (K.taken output.old) (K.taken output.new)) }
+    ensures record { IfOk result (λ ended. Ran ended.status × IsRecord ended.status ended.report (S.left input.new)) }
+    ensures program { IfOk result (λ ended. ended.report.program ≡ text) }
+    ensures traffic { IfOk result (λ ended. HasBytes ended.status ended.report (S.left input.old) (S.left input.new) (K.taken output.old) (K.taken output.new)) }
     ensures causes { IfOk result (λ ended. HasOwnCauses ended.status (S.faults input.old) (S.faults input.new) (K.faults output.old) (K.faults output.new)) }
 {
     let mut progress = Progress::new(alloc);
@@ -124,7 +123,7 @@ fn run_program<S: Source, K: Sink>(
     office.stop()?;
     let mut traffic = Items::new(alloc);
     traffic.push(Traffic { read, written })?;
-    let record = Record {
+    let report = Record {
         program: text,
         history: office.into_history(),
         sessions,
@@ -132,7 +131,7 @@ fn run_program<S: Source, K: Sink>(
     };
     Ok(Ended {
         status: status_of(end),
-        record,
+        report,
     })
 }
 

@@ -1,7 +1,7 @@
 //! What is said of a text.
 
 ghost use Rattle.std.specs.Prelude.{IfOk};
-ghost use Rattle.jolie_main.specs.Verdicts.{IsVerdict};
+ghost use Rattle.jolie_main.specs.RefusalLines.{IsVerdict};
 
 use crate::refusal::Refusal;
 use jolie_ast::Ast;

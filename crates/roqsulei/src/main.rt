@@ -1,8 +1,8 @@
 //! The program over the words of the command line, real files and the three streams.
 #![tactic(auto)]
 
+use command_words::status::{OUT_OF_MEMORY, USAGE_ERROR};
 use jolie_main::run;
-use jolie_main::status::{FAULTY_WORDS, OUT_OF_MEMORY};
 use outside_traits::{Inputs, Outputs, Storage};
 use std::process::ExitCode;
 use std::{env, io};
@@ -49,7 +49,7 @@ fn status_without_words(rt: &HostRuntime, error: &io::Error) -> u8 {
     if error.kind() == io::ErrorKind::OutOfMemory {
         return OUT_OF_MEMORY;
     }
-    // Faulty words have their status also where nothing can be said of them.
+    // A usage error has its status also where nothing can be said of it.
     let _ = eprintln!(rt; "{NOT_UTF8}");
-    FAULTY_WORDS
+    USAGE_ERROR
 }

@@ -30,8 +30,8 @@ fn event(kind: Kind, number: u32, place: u32, fault: u32) -> Event {
 fn a_request_has_four_events_in_the_record(rt: HostRuntime) -> Result<(), Fail> {
     let alloc = rt.alloc();
     let (ended, _written, _noted) = ran(alloc, calm(LINE))?;
-    assert_eq!(rt; ended.record.sessions.len(), 1);
-    for events in ended.record.sessions.as_slice() {
+    assert_eq!(rt; ended.report.sessions.len(), 1);
+    for events in ended.report.sessions.as_slice() {
         assert_eq!(rt;
             events.as_slice(),
             [
@@ -43,7 +43,7 @@ fn a_request_has_four_events_in_the_record(rt: HostRuntime) -> Result<(), Fail> 
             .as_slice()
         );
     }
-    assert_eq!(rt; ended.record.history.entries.len(), 8);
+    assert_eq!(rt; ended.report.history.entries.len(), 8);
     Ok(())
 }
 

@@ -1,7 +1,7 @@
 //! The words of a command line: what they ask for, and what is told and noted.
 
 use crate::tests::{Run, SERVICE, gives, notes, over, ran};
-use jolie_main::{Action, Words, understood};
+use command_words::{Action, Words, understood};
 use std::alloc::{AllocError, Global};
 use std::test::Fail;
 
@@ -21,7 +21,7 @@ Options:
 
 Status:
   0  all was done
-  1  the words are faulty
+  1  invalid usage
   2  FILE can't be read
   3  FILE is refused, by one line with the reason and the place
   4  the input failed
@@ -69,21 +69,21 @@ fn asks_for(alloc: Global, words: &[&str], action: Action, file: &str) -> Result
 
 fn is_told(alloc: Global, words: &[&str], expected: &str) -> Result<bool, AllocError> {
     match said_of(alloc, words)? {
-        Words::Told(text) => Ok(text.as_str() == expected),
+        Words::Help(text) => Ok(text.as_str() == expected),
         _ => Ok(false),
     }
 }
 
 fn is_refused_with(alloc: Global, words: &[&str], expected: &str) -> Result<bool, AllocError> {
     match said_of(alloc, words)? {
-        Words::Refused(text) => Ok(text.as_str() == expected),
+        Words::UsageError(text) => Ok(text.as_str() == expected),
         _ => Ok(false),
     }
 }
 
 fn is_refused(alloc: Global, words: &[&str]) -> Result<bool, AllocError> {
     match said_of(alloc, words)? {
-        Words::Refused(text) => Ok(text.as_str().ends_with(".\n")),
+        Words::UsageError(text) => Ok(text.as_str().ends_with(".\n")),
         _ => Ok(false),
     }
 }
