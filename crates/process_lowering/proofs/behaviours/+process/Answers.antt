@@ -111,8 +111,9 @@ branch_made e i op target reply after same_op same_target same_reply =
 
 pub lowered_input-returns : goal.lowered_input-returns
 lowered_input-returns t c =
-    branch_made (numbering_of c.args.numbers.now c.args.names.now) c.args.input.now c.in_ok-op.op c.in_ok-target.target c.in_ok-reply.reply c.args.after.value
+    branch_made (numbering_of c.args.numbers.now c.args.names.now) c.args.input.now c.in_ok-op.op c.in_ok-target.target c.in_ok-reply.reply c.into_inner.result
     (c.in_ok-op.ensures ∙ ap (place_in c.args.numbers.now.inputs) c.as_str.ensures) c.in_ok-target.ensures c.in_ok-reply.ensures
+    ∙ ap (λ b. branch_after (lowered_input (numbering_of c.args.numbers.now c.args.names.now) c.args.input.now) (behaviour_view b)) c.into_inner.ensures
 
 pub lowered_reply-returns : goal.lowered_reply-returns
 lowered_reply-returns t c = grind (arith, reply_seen, reply_is)
