@@ -1,4 +1,3 @@
--- These definitions serve the proofs alone: no promise speaks of them.
 -- The line of a refusal and what is said of a text, as the code has them.
 use Rattle.std.specs.Prelude.{◌≡◌, ℕ, List, codes}
 use Rattle.jolie_tokens.specs.declared.lex_error.LexError.{LexError}
