@@ -54,13 +54,13 @@ fn recorded(
 }
 
 fn record_words(alloc: Global, ended: &Ended) -> Result<String, AllocError> {
-    let sessions = ended.record.sessions.as_slice();
+    let sessions = ended.report.sessions.as_slice();
     let mut words = format!(in alloc; "{} session\n", sessions.len())?;
     for events in sessions {
         let events = events_words(alloc, events)?;
         words.push_str(events.as_str())?;
     }
-    let entries = format!(in alloc; "{} entries", ended.record.history.entries.len())?;
+    let entries = format!(in alloc; "{} entries", ended.report.history.entries.len())?;
     words.push_str(entries.as_str())?;
     Ok(words)
 }

@@ -1,6 +1,6 @@
 //! What words ask for.
 
-use jolie_main::{Command, Words, understood};
+use command_words::{Command, Words, understood};
 use std::alloc::{AllocError, Global};
 use test_rows::Row;
 
@@ -32,8 +32,8 @@ fn words(alloc: Global, row: &Row<'_>) -> anyhow::Result<Vec<String>> {
 fn said_words(alloc: Global, said: &Words) -> Result<String, AllocError> {
     match said {
         Words::Command(command) => shown_command(alloc, command),
-        Words::Told(text) => format!(in alloc; "told: {}", text.as_str()),
-        Words::Refused(text) => format!(in alloc; "refused: {}", text.as_str()),
+        Words::Help(text) => format!(in alloc; "told: {}", text.as_str()),
+        Words::UsageError(text) => format!(in alloc; "refused: {}", text.as_str()),
     }
 }
 
@@ -44,7 +44,7 @@ fn shown_command(alloc: Global, command: &Command) -> Result<String, AllocError>
 
 fn refusal_words(alloc: Global, said: &Words) -> Result<String, AllocError> {
     match said {
-        Words::Refused(text) if text.as_str().ends_with(".\n") => {
+        Words::UsageError(text) if text.as_str().ends_with(".\n") => {
             String::from_str(alloc, "refused by a sentence")
         }
         _ => said_words(alloc, said),
