@@ -1,5 +1,5 @@
 -- The service of a program that runs is built.
-use Rattle.worked_rows.proofs.tests.sessions.session_events.Goals as goal
+use Rattle.jolie_main_tests.proofs.sessions.session_events.Goals as goal
 
 pub start-requires-clause-built : goal.start-requires-clause-built
 start-requires-clause-built c = c.one_service_is_built.ensures.built

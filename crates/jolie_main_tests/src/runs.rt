@@ -1,0 +1,85 @@
+//! How runs end, and what they write.
+
+use crate::objects::{files, notes, output, source, words};
+use jolie_main::run;
+use outside_traits::{ScriptedFiles, ScriptedSink, ScriptedSource};
+use std::alloc::{AllocError, Global};
+use test_rows::Row;
+
+/// How the run of a row ends: its status, its output and its notes.
+pub fn ended(alloc: Global, row: &Row<'_>) -> anyhow::Result<String> {
+    let mut files = files(alloc, row)?;
+    ended_over(alloc, row, &mut files)
+}
+
+fn ended_over(alloc: Global, row: &Row<'_>, files: &mut ScriptedFiles) -> anyhow::Result<String> {
+    let mut source = source(alloc, row)?;
+    ended_on(alloc, row, files, &mut source)
+}
+
+fn ended_on(
+    alloc: Global,
+    row: &Row<'_>,
+    files: &mut ScriptedFiles,
+    source: &mut ScriptedSource,
+) -> anyhow::Result<String> {
+    let words = words(alloc, row)?;
+    let mut output = output(alloc, row)?;
+    let mut notes = notes(alloc, row)?;
+    let status = status(alloc, &words, files, source, &mut output, &mut notes)?;
+    let written = written(alloc, row, output.bytes())?;
+    let noted = text_of(alloc, notes.bytes())?;
+    Ok(end_words(alloc, status, written.as_str(), noted.as_str())?)
+}
+
+/// The status of a run.
+fn status(
+    alloc: Global,
+    words: &[String],
+    files: &mut ScriptedFiles,
+    source: &mut ScriptedSource,
+    output: &mut ScriptedSink,
+    notes: &mut ScriptedSink,
+) -> Result<u32, AllocError> {
+    let ended = run(alloc, words, files, source, output, notes)?;
+    Ok(u32::from(ended.status))
+}
+
+/// The output of a run, as far as the row speaks of it.
+fn written(alloc: Global, row: &Row<'_>, bytes: &[u8]) -> anyhow::Result<String> {
+    let all = text_of(alloc, bytes)?;
+    match row.text(alloc, "call")?.as_str() {
+        "answer" => Ok(String::from_str(alloc, all.trim_end())?),
+        "beginning" => beginning(alloc, row, all),
+        _ => Ok(all),
+    }
+}
+
+/// What the row gives of the output where the output begins with it, else all of it.
+fn beginning(alloc: Global, row: &Row<'_>, all: String) -> anyhow::Result<String> {
+    let beginning = row.text(alloc, "output")?;
+    if all.starts_with(beginning.as_str()) {
+        Ok(beginning)
+    } else {
+        Ok(all)
+    }
+}
+
+fn text_of(alloc: Global, bytes: &[u8]) -> Result<String, AllocError> {
+    match str::from_utf8(bytes) {
+        Ok(text) => String::from_str(alloc, text),
+        Err(_) => String::from_str(alloc, "no text"),
+    }
+}
+
+fn end_words(alloc: Global, status: u32, written: &str, noted: &str) -> Result<String, AllocError> {
+    format!(in alloc; "status {status}, output {written:?}, notes {noted:?}")
+}
+
+/// What is expected of the run of a row, as `ended` writes it.
+pub fn expected_end(alloc: Global, row: &Row<'_>) -> anyhow::Result<String> {
+    let status = row.number(alloc, "status")?;
+    let written = row.text(alloc, "output")?;
+    let noted = row.text(alloc, "notes")?;
+    Ok(end_words(alloc, status, written.as_str(), noted.as_str())?)
+}
