@@ -72,20 +72,20 @@ row 'an input that is a directory fails' 4 '' ''
 over "$work/one" run "$top/examples/order.ol"
 row 'a program that does not run yet is refused' 3 'refused first Form 0' ''
 over "$work/empty" run
-row 'words without a FILE are faulty' 1 '' "error: the following required arguments were not provided:
+row 'words without a FILE are a usage error' 1 '' "error: the following required arguments were not provided:
   <FILE>
 
 Usage: roqsulei run <FILE>
 
 $usage"
 over "$work/empty" walk "$twice"
-row 'a command that is none is faulty' 1 '' "error: unrecognized subcommand 'walk'
+row 'a command that is none is a usage error' 1 '' "error: unrecognized subcommand 'walk'
 
 Usage: roqsulei <COMMAND>
 
 $usage"
 over "$work/empty" "$(printf '\377')"
-row 'a word that is no UTF-8 is faulty' 1 '' "error: invalid UTF-8 was detected in one or more arguments
+row 'a word that is no UTF-8 is a usage error' 1 '' "error: invalid UTF-8 was detected in one or more arguments
 
 Usage: roqsulei <COMMAND>
 
