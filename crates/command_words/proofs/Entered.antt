@@ -72,7 +72,7 @@ module _ (P : Text → Type 0) (rules : List Rule) (names : Names) (bare : Each 
   named_if true x y hx hy = hx
   named_if false x y hx hy = hy
 
-  subcommand_or_other_named : (entered : Option Text) (waiting : Waiting) (position : ℕ) (word : Text) (h : Held) → IfSome entered P
+  pub subcommand_or_other_named : (entered : Option Text) (waiting : Waiting) (position : ℕ) (word : Text) (h : Held) → IfSome entered P
       → HasName (subcommand_or_other rules entered waiting position word h).1
   subcommand_or_other_named (Some name) waiting position word h p = p
   subcommand_or_other_named None waiting position word h p =

@@ -1,8 +1,8 @@
--- What is found of an argument has its values from the words.
+-- What is found of an operand has its values from the words, and has one where it was given.
 use Rattle.std.specs.Prelude.{◌≡◌, ◌&&◌, ◌+◌, ℕ, Bool, zero, suc, true, false, not, List, [], ◌∷◌, ◌++◌, length, min, Option, Some, None, is_some, if◌then◌else◌, option_and_then, bytes_eq, find, fold, ⊤, refl, IfSome, drop, encode_utf8, slice_get}
 use Rattle.std.specs.Str.{chars}
 use Rattle.std.specs.List.{AllByRecursion as Each}
-use Rattle.std.proofs.Common.{◌∙◌, sym, subst, cond, true≢false}
+use Rattle.std.proofs.Common.{◌∙◌, ap, sym, subst, cond, true≢false}
 use Rattle.std.proofs.lemmas.Slice.Eq.{bytes_eq-Decides}
 use Rattle.clap.specs.Lexer.{long_of, short_of}
 use Rattle.clap.specs.Walk.{Text, Row, Rule, Held, Outcome, Waiting, idle, option, positional, Step, Walk, next, trailing, subcommand, value, done, waits, plain, refused, used, used_as, used_by_id, counted, values_or_missing, settled_rows, settled, reacted, pushed, option_word, plain_word, after_flag, flag_met, long_met, long_or_other, short_or_plain, short_met, bundle, bundle_met, bundle_step, subcommand_or_other, subcommand_met, word_met, to_positional, after_step, walked_from, walked, walk, walk_from, nothing_held, takes_values, arg_by_short, arg_by_long, arg_by_id, arg_by_index, with_default, finished, rows_after, first_of, at_row, without, with_values, with_count, is_pending, takes_several, attached_value, option_met, started, default_rows, reading_by, more_values, new_count, has_short, has_long, action_of, count_of}
@@ -12,6 +12,9 @@ use Rattle.clap.specs.declared.builder.value_parser.Reading.{Reading}
 use Rattle.clap.specs.declared.parser.matches.ValueSource.{ValueSource}
 use Rattle.clap.specs.declared.parser.matches.ValueSource.TheVariants.{CommandLine, DefaultValue}
 use Rattle.clap.specs.Matches.{count_text}
+use Rattle.clap.specs.Facts.{explicit_source}
+use Rattle.clap.specs.Takes.{is_given}
+use Rattle.std.specs.Option.{option_map_or}
 use Rattle.command_words.proofs.Entered.{each_append}
 
 -- it notes no count of its uses
@@ -23,6 +26,9 @@ counts _ = false
 abbrev pub has_none : {X : Type 0} → List X → Bool
 has_none [] = true
 has_none (x ∷ xs) = false
+
+pub cons_nil : {X : Type 0} (x : X) (xs : List X) → x ∷ xs ≡ [] → ⊥
+cons_nil x xs e = true≢false (ap has_none (sym e))
 
 -- an argument that is read by its place alone, and has its values from the words alone
 abbrev pub is_operand : Rule → Bool
@@ -62,22 +68,24 @@ operand_is a e =
       uncounted = is_no_flag (counts (action_of a)) third.1;
     }
 
-module _ (id : Text) (P : Text → Type 0) where
+module _ (id : Text) where
   abbrev pub IsFit : Rule → Type 0
   IsFit a = bytes_eq a.id id ≡ true → IsOperand a
 
   pub fit_is : (a : Rule) → fits id a ≡ true → IsFit a
   fit_is a e same = operand_is a (subst (λ (b : Bool). (if b then is_operand a else true) ≡ true) same e)
 
+-- `P` holds of words, and `Q` of the values that are made of them
+module _ (id : Text) (P : Text → Type 0) (Q : List Text → Type 0) (one : (word : Text) → P word → Q (word ∷ [])) (join : (xs ys : List Text) → Q xs → Q ys → Q (xs ++ ys)) where
   abbrev pub HasRow : Row → Type 0
-  HasRow r = bytes_eq r.id id ≡ true → Each P r.values
+  HasRow r = bytes_eq r.id id ≡ true → Q r.values
 
   abbrev pub HasRows : List Row → Type 0
   HasRows = Each HasRow
 
   abbrev pub HasPending : Option (Text × List Text) → Type 0
   HasPending None = ⊤
-  HasPending (Some p) = bytes_eq p.0 id ≡ true → Each P p.1
+  HasPending (Some p) = bytes_eq p.0 id ≡ true → Q p.1
 
   abbrev pub HasHeld : Held → Type 0
   HasHeld h = HasRows h.rows × HasPending h.pending
@@ -100,11 +108,11 @@ module _ (id : Text) (P : Text → Type 0) where
   without_has : (rid : Text) (rows : List Row) → HasRows rows → HasRows (without rid rows)
   without_has rid rows h = at_row_has rid (λ _. []) [] rows (λ r e has. tt) tt h
 
-  with_values_has : (rid : Text) (how : Reading) (source : ValueSource) (values : List Text) (rows : List Row) → (bytes_eq rid id ≡ true → Each P values) → HasRows rows
+  with_values_has : (rid : Text) (how : Reading) (source : ValueSource) (values : List Text) (rows : List Row) → (bytes_eq rid id ≡ true → Q values) → HasRows rows
       → HasRows (with_values rid how source values rows)
   with_values_has rid how source values rows v h =
       at_row_has rid (more_values source values) (record { id = rid; values = values; count = None; source = Some source; reading = how } ∷ []) rows
-      (λ r e has. ((λ same. each_append P r.values values (has same) (v (same_id r.id rid e same))), tt)) (v, tt) h
+      (λ r e has. ((λ same. join r.values values (has same) (v (same_id r.id rid e same))), tt)) (v, tt) h
 
   with_count_has : (rid : Text) (how : Reading) (source : ValueSource) (n : ℕ) (rows : List Row) → (bytes_eq rid id ≡ true → ⊥) → HasRows rows
       → HasRows (with_count rid how source n rows)
@@ -117,7 +125,7 @@ module _ (id : Text) (P : Text → Type 0) where
   counted_has rid how (v ∷ vs) rows other h = with_values_has rid how CommandLine (v ∷ vs) (without rid rows) (λ same. absurd (other same)) (without_has rid rows h)
 
   used_as_has : (act : ArgAction) (rid : Text) (how : Reading) (values : List Text) (rows : List Row) → (bytes_eq rid id ≡ true → counts act ≡ false)
-      → (bytes_eq rid id ≡ true → Each P values) → HasRows rows → HasRows (used_as act rid how values rows)
+      → (bytes_eq rid id ≡ true → Q values) → HasRows rows → HasRows (used_as act rid how values rows)
   used_as_has does.Set rid how values rows not_count v h = with_values_has rid how CommandLine values (without rid rows) v (without_has rid rows h)
   used_as_has does.SetTrue rid how values rows not_count v h = with_values_has rid how CommandLine values (without rid rows) v (without_has rid rows h)
   used_as_has does.SetFalse rid how values rows not_count v h = with_values_has rid how CommandLine values (without rid rows) v (without_has rid rows h)
@@ -128,34 +136,34 @@ module _ (id : Text) (P : Text → Type 0) where
   used_as_has does.HelpLong rid how values rows not_count v h = h
   used_as_has does.Version rid how values rows not_count v h = h
 
-  filled_has : (a : Rule) (values : List Text) → IsFit a → (bytes_eq a.id id ≡ true → Each P values) → bytes_eq a.id id ≡ true → Each P (values_or_missing a values)
-  filled_has a [] f v same = subst (λ (values : List Text). Each P values) (sym (f same).missing) tt
+  filled_has : (a : Rule) (values : List Text) → IsFit id a → (bytes_eq a.id id ≡ true → Q values) → bytes_eq a.id id ≡ true → Q (values_or_missing a values)
+  filled_has a [] f v same = subst Q (sym (f same).missing) (v same)
   filled_has a (x ∷ xs) f v same = v same
 
-  used_has : (a : Rule) (values : List Text) (rows : List Row) → IsFit a → (bytes_eq a.id id ≡ true → Each P values) → HasRows rows → HasRows (used a values rows)
+  used_has : (a : Rule) (values : List Text) (rows : List Row) → IsFit id a → (bytes_eq a.id id ≡ true → Q values) → HasRows rows → HasRows (used a values rows)
   used_has a values rows f v h =
       used_as_has (action_of a) a.id (reading_by a) (values_or_missing a values) rows (λ same. (f same).uncounted) (filled_has a values f v) h
 
-  found_fit : (p : Rule → Bool) (rules : List Rule) → Each IsFit rules → IfSome (find p rules) (λ a. IsFit a × (p a ≡ true))
+  found_fit : (p : Rule → Bool) (rules : List Rule) → Each (IsFit id) rules → IfSome (find p rules) (λ a. IsFit id a × (p a ≡ true))
   found_fit p [] fit = tt
   found_fit p (a ∷ rest) fit = go (p a) refl (found_fit p rest fit.1)
     where
-      go : (b : Bool) → p a ≡ b → IfSome (find p rest) (λ a. IsFit a × (p a ≡ true)) → IfSome (cond b (Some a) (find p rest)) (λ a. IsFit a × (p a ≡ true))
+      go : (b : Bool) → p a ≡ b → IfSome (find p rest) (λ a. IsFit id a × (p a ≡ true)) → IfSome (cond b (Some a) (find p rest)) (λ a. IsFit id a × (p a ≡ true))
       go true e later = (fit.0, e)
       go false e later = later
 
   -- an argument that is met by its name
   abbrev pub IsNamed : Rule → Type 0
-  IsNamed a = IsFit a × (bytes_eq a.id id ≡ true → ⊥)
+  IsNamed a = IsFit id a × (bytes_eq a.id id ≡ true → ⊥)
 
-  named_is : (has : Rule → Bool) (found : Option Rule) → IfSome found (λ a. IsFit a × ((not (is_some a.index) && has a) ≡ true)) → IfSome found IsNamed
+  named_is : (has : Rule → Bool) (found : Option Rule) → IfSome found (λ a. IsFit id a × ((not (is_some a.index) && has a) ≡ true)) → IfSome found IsNamed
   named_is has None f = tt
   named_is has (Some a) f =
       (f.0, λ same. true≢false (sym (f.0 same).placed ∙ is_no_flag (is_some a.index) (both_true (not (is_some a.index)) (has a) f.1).0))
 
-  module _ (rules : List Rule) (fit : Each IsFit rules) where
-    by_id_has : (found : Option Rule) (rid : Text) → IfSome found (λ a. IsFit a × (bytes_eq a.id rid ≡ true)) → (values : List Text) (rows : List Row)
-        → (bytes_eq rid id ≡ true → Each P values) → HasRows rows → HasRows (used_by_id found values rows)
+  module _ (rules : List Rule) (fit : Each (IsFit id) rules) where
+    by_id_has : (found : Option Rule) (rid : Text) → IfSome found (λ a. IsFit id a × (bytes_eq a.id rid ≡ true)) → (values : List Text) (rows : List Row)
+        → (bytes_eq rid id ≡ true → Q values) → HasRows rows → HasRows (used_by_id found values rows)
     by_id_has None rid f values rows v h = h
     by_id_has (Some a) rid f values rows v h = used_has a values rows f.0 (λ same. v (same_id a.id rid f.1 same)) h
 
@@ -171,8 +179,8 @@ module _ (id : Text) (P : Text → Type 0) where
 
     pending_pushed : (rid word : Text) (pending : Option (Text × List Text)) → P word → HasPending pending
         → HasPending (Some ((started rid pending).0, (started rid pending).1 ++ word ∷ []))
-    pending_pushed rid word None w has = λ same. (w, tt)
-    pending_pushed rid word (Some p) w has = λ same. each_append P p.1 (word ∷ []) (has same) (w, tt)
+    pending_pushed rid word None w has = λ same. one word w
+    pending_pushed rid word (Some p) w has = λ same. join p.1 (word ∷ []) (has same) (one word w)
 
     pushed_has : (rid word : Text) (h : Held) → P word → HasHeld h → HasHeld (pushed rid word h)
     pushed_has rid word h w has = (has.0, pending_pushed rid word h.pending w has.1)
@@ -198,7 +206,7 @@ module _ (id : Text) (P : Text → Type 0) where
 
     option_met_has : (a : Rule) → IsNamed a → (v : Option Text) (h : Held) → HasHeld h → HasHeld (option_met rules a v h).0
     option_met_has a f (Some v) h has = reacted_has a f (v ∷ []) h has
-    option_met_has a f None h has = ((settled_has h has).0, λ same. tt)
+    option_met_has a f None h has = ((settled_has h has).0, λ same. absurd (f.1 same))
 
     held_if : (b : Bool) (x y : Held × Outcome) → HasHeld x.0 → HasHeld y.0 → HasHeld (if b then x else y).0
     held_if true x y has also = has
@@ -285,36 +293,75 @@ module _ (id : Text) (P : Text → Type 0) where
     walked_has [] w p has = has
     walked_has (word ∷ rest) w p has = walked_has rest _ p.1 (walked_from_has w.stopped w word p.0 has)
 
-    default_rows_has : (a : Rule) (values : List Text) (rows : List Row) → (bytes_eq a.id id ≡ true → Each P values) → HasRows rows
+    default_rows_has : (a : Rule) (values : List Text) (rows : List Row) → (bytes_eq a.id id ≡ true → values ≡ []) → HasRows rows
         → HasRows (default_rows a.id (reading_by a) values rows)
-    default_rows_has a [] rows v h = h
-    default_rows_has a (x ∷ xs) rows v h = with_values_has a.id (reading_by a) DefaultValue (x ∷ xs) rows v h
+    default_rows_has a [] rows none h = h
+    default_rows_has a (x ∷ xs) rows none h = with_values_has a.id (reading_by a) DefaultValue (x ∷ xs) rows (λ same. absurd (cons_nil x xs (none same))) h
 
-    with_default_has : (rows : List Row) (a : Rule) → IsFit a → HasRows rows → HasRows (with_default rows a)
+    with_default_has : (rows : List Row) (a : Rule) → IsFit id a → HasRows rows → HasRows (with_default rows a)
     with_default_has rows a f has =
         rows_if _ rows _ (λ e. has)
-        (default_rows_has a a.defaults rows (λ same. subst (λ (values : List Text). Each P values) (sym (f same).defaults) tt) has)
+        (default_rows_has a a.defaults rows (λ same. (f same).defaults) has)
 
-    defaults_has : (some : List Rule) (rows : List Row) → Each IsFit some → HasRows rows → HasRows (fold with_default rows some)
+    defaults_has : (some : List Rule) (rows : List Row) → Each (IsFit id) some → HasRows rows → HasRows (fold with_default rows some)
     defaults_has [] rows f has = has
     defaults_has (a ∷ rest) rows f has = defaults_has rest (with_default rows a) f.1 (with_default_has rows a f.0 has)
 
     finished_has : (h : Held) → HasHeld h → HasRows (finished rules h)
     finished_has h has = defaults_has rules (settled rules h).rows fit (settled_has h has).0
 
-    first_value_has : (values : List Text) → Each P values → IfSome (slice_get values 0) P
-    first_value_has [] has = tt
-    first_value_has (v ∷ vs) has = has.0
+    -- each row of the argument of that id has values of the words
+    pub rows_have : (words : List Text) → Each P words → HasRows (rows_after rules [] words)
+    rows_have words p = finished_has (walk rules [] nothing_held words).held (walked_has words (walk_from nothing_held) p (tt, tt))
 
-    first_has : (rows : List Row) → HasRows rows → IfSome (first_of id rows) P
-    first_has [] has = tt
-    first_has (r ∷ rest) has = go (bytes_eq r.id id) refl (first_has rest has.1)
-      where
-        go : (b : Bool) → bytes_eq r.id id ≡ b → IfSome (first_of id rest) P
-            → IfSome (option_and_then (λ (r : Row). slice_get r.values 0) (cond b (Some r) (find (λ r. bytes_eq r.id id) rest))) P
-        go true e later = first_value_has r.values (has.0 e)
-        go false e later = later
+-- ---- the first value of an operand
 
-    -- the first value of the argument of that id is one of the words
-    pub first_comes : (words : List Text) → Each P words → IfSome (first_of id (rows_after rules [] words)) P
-    first_comes words p = first_has (rows_after rules [] words) (finished_has (walk rules [] nothing_held words).held (walked_has words (walk_from nothing_held) p (tt, tt)))
+module _ (id : Text) (P : Text → Type 0) (rules : List Rule) (fit : Each (IsFit id) rules) where
+  first_value_has : (values : List Text) → Each P values → IfSome (slice_get values 0) P
+  first_value_has [] has = tt
+  first_value_has (v ∷ vs) has = has.0
+
+  first_has : (rows : List Row) → Each (λ r. bytes_eq r.id id ≡ true → Each P r.values) rows → IfSome (first_of id rows) P
+  first_has [] has = tt
+  first_has (r ∷ rest) has = go (bytes_eq r.id id) refl (first_has rest has.1)
+    where
+      go : (b : Bool) → bytes_eq r.id id ≡ b → IfSome (first_of id rest) P
+          → IfSome (option_and_then (λ (r : Row). slice_get r.values 0) (cond b (Some r) (find (λ r. bytes_eq r.id id) rest))) P
+      go true e later = first_value_has r.values (has.0 e)
+      go false e later = later
+
+  -- it is one of the words
+  pub first_comes : (words : List Text) → Each P words → IfSome (first_of id (rows_after rules [] words)) P
+  first_comes words p =
+      first_has (rows_after rules [] words) (rows_have id P (Each P) (λ word w. (w, tt)) (λ xs ys. each_append P xs ys) rules fit words p)
+
+module _ (id : Text) (rules : List Rule) (fit : Each (IsFit id) rules) where
+  abbrev pub HasSome : List Text → Type 0
+  HasSome values = has_none values ≡ false
+
+  some_joined : (xs ys : List Text) → HasSome xs → HasSome ys → HasSome (xs ++ ys)
+  some_joined [] ys a b = b
+  some_joined (x ∷ xs) ys a b = refl
+
+  value_there : (values : List Text) → HasSome values → (v : Text) × (slice_get values 0 ≡ Some v)
+  value_there [] some = absurd (true≢false some)
+  value_there (v ∷ vs) some = (v, refl)
+
+  given_there : (rows : List Row) → Each (λ r. bytes_eq r.id id ≡ true → HasSome r.values) rows → is_given id rows ≡ true → (v : Text) × (first_of id rows ≡ Some v)
+  given_there [] has given = absurd (true≢false (sym given))
+  given_there (r ∷ rest) has given = go (bytes_eq r.id id) refl (given_there rest has.1) given
+    where
+      go : (b : Bool) → bytes_eq r.id id ≡ b → (is_given id rest ≡ true → (v : Text) × (first_of id rest ≡ Some v))
+          → option_map_or (λ (r : Row). explicit_source r.source) (cond b (Some r) (find (λ r. bytes_eq r.id id) rest)) false ≡ true
+          → (v : Text) × (option_and_then (λ (r : Row). slice_get r.values 0) (cond b (Some r) (find (λ r. bytes_eq r.id id) rest)) ≡ Some v)
+      go true e later given = value_there r.values (has.0 e)
+      go false e later given = later given
+
+  each_word : (words : List Text) → Each (λ _. ⊤) words
+  each_word [] = tt
+  each_word (word ∷ rest) = (tt, each_word rest)
+
+  -- it is there where the operand was given
+  pub first_is_there : (words : List Text) → is_given id (rows_after rules [] words) ≡ true → (v : Text) × (first_of id (rows_after rules [] words) ≡ Some v)
+  first_is_there words =
+      given_there (rows_after rules [] words) (rows_have id (λ _. ⊤) HasSome (λ word w. refl) some_joined rules fit words (each_word words))

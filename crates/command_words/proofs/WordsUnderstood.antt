@@ -1,70 +1,28 @@
 -- What is understood of words, from what the parser makes of them.
-use Rattle.std.specs.Prelude.{◌≡◌, ◌&&◌, ℕ, Bool, true, false, List, [], ◌∷◌, Option, Some, None, codes, option_map, find, refl, IfSome, Contains}
-use Rattle.std.specs.List.{AllByRecursion as Each, list_all}
-use Rattle.std.proofs.Common.{◌∙◌, ap, sym, subst, cond, inl, inr}
+use Rattle.std.specs.Prelude.{◌≡◌, ℕ, List, [], Option, Some, None, option_map, find, refl, IfSome, IsSome, is_some, Contains}
+use Rattle.std.specs.List.{AllByRecursion as Each}
+use Rattle.std.proofs.Common.{◌∙◌, ap, sym, subst, inl, inr}
 use Rattle.std.proofs.lemmas.Option.{none-some, same_Some}
 use Rattle.std.proofs.lemmas.List.Elements.{All-contains_itself, recursion_from_All}
-use Rattle.clap.specs.Walk.{Rule, Text, answers_to, rows_after, stop_after}
+use Rattle.clap.specs.Walk.{Text, answers_to, rows_after, stop_after}
 use Rattle.clap.specs.Simple.{Shape, built, entered, label_of, names_of, rows_at}
-use Rattle.clap.specs.Words.{HasKind, IsAmong, fault_of, is_simple_and_free, kind_of, subcommand_of}
+use Rattle.clap.specs.Words.{HasKind, IsAmong, fault_of, kind_of, subcommand_of}
 use Rattle.clap.specs.declared.error.Error.{Error}
 use Rattle.clap.specs.declared.error.kind.ErrorKind.{ErrorKind}
 use Rattle.clap.specs.declared.error.kind.ErrorKind.TheVariants as kind
 use Rattle.command_words.specs.Grammar.{program}
-use Rattle.command_words.specs.Usage.{IsCaused, IsFound, IsToldOf, IsUnderstood, action_of, command_entered, file_in, name_of, with_file}
+use Rattle.command_words.specs.Said.{IsFound, IsToldOf, command_in}
+use Rattle.command_words.specs.Usage.{IsCaused, IsUnderstood, action_of, command_entered, file_in, name_of, with_file}
 use Rattle.command_words.specs.Usage as usage
 use Rattle.command_words.specs.declared.table.Action.{Action}
 use Rattle.command_words.specs.declared.words.Command.{Command}
 use Rattle.command_words.specs.declared.words.Words.{Words}
 use Rattle.command_words.specs.declared.words.Words.TheVariants as words
 use Rattle.command_words.proofs.Plain.{command_of, name_is, plain_line_enters, plain_line_is_faultless}
-use Rattle.command_words.proofs.Origins.{IsFit, both_true, first_comes, fit_is, fits, has_none, nothing_in}
-use Rattle.command_words.proofs.Entered.{HasStop, answers_is, stop_has}
-
--- ---- the program, as it is built
-
--- no argument has a rule on another, so that the parser says which faults it finds
-pub is_free : is_simple_and_free program ≡ true
-is_free = refl
-
-abbrev pub top_rules : List Rule
-top_rules = (built program).top.rules
-
-abbrev pub file : Text
-file = codes "FILE"
-
--- a command has no other names, and its FILE is an operand
-abbrev pub suits : Shape → Bool
-suits s = has_none s.aliases && list_all (fits file) s.rules
-
-program_suits : list_all suits (built program).subs ≡ true
-program_suits = refl
-
-each_of : {X : Type 0} (p : X → Bool) (P : X → Type 0) (xs : List X) → ((x : X) → p x ≡ true → P x) → list_all p xs ≡ true → Each P xs
-each_of p P [] holds e = tt
-each_of p P (x ∷ xs) holds e =
-    let both = both_true (p x) (list_all p xs) e in
-    (holds x both.0, each_of p P xs holds both.1)
-
-abbrev pub Suits : Shape → Type 0
-Suits s = (s.aliases ≡ []) × (list_all (fits file) s.rules ≡ true)
-
-shapes_suit : Each Suits (built program).subs
-shapes_suit =
-    each_of suits Suits (built program).subs
-    (λ s e. let both = both_true (has_none s.aliases) (list_all (fits file) s.rules) e in (nothing_in s.aliases both.0, both.1)) program_suits
-
-bare_names : Each (λ s. s.1 ≡ []) (names_of (built program))
-bare_names = each_of (λ s. has_none s.1) (λ s. s.1 ≡ []) (names_of (built program)) (λ s e. nothing_in s.1 e) refl
-
-found_shape : (word : Text) (subs : List Shape) → Each Suits subs → IfSome (find (λ s. answers_to word (label_of s)) subs) (λ s. Suits s × (s.name ≡ word))
-found_shape word [] each = tt
-found_shape word (s ∷ rest) each = go (answers_to word (label_of s)) refl (found_shape word rest each.1)
-  where
-    go : (b : Bool) → answers_to word (label_of s) ≡ b → IfSome (find (λ s. answers_to word (label_of s)) rest) (λ s. Suits s × (s.name ≡ word))
-        → IfSome (cond b (Some s) (find (λ s. answers_to word (label_of s)) rest)) (λ s. Suits s × (s.name ≡ word))
-    go true e later = (each.0, answers_is word s.name s.aliases each.0.0 e)
-    go false e later = later
+use Rattle.command_words.proofs.Origins.{IsFit, first_comes, fit_is, fits}
+use Rattle.command_words.proofs.Entered.{HasStop, stop_has}
+use Rattle.command_words.proofs.ProgramBuilt.{Suits, bare_names, each_of, file, found_shape, shapes_suit, top_rules}
+use Rattle.command_words.proofs.Faultless.{faultless_enters}
 
 -- ---- a command comes from the words
 
@@ -84,7 +42,7 @@ module _ (P : Text → Type 0) where
   shape_comes : (s : Shape) (words : List Text) (c : Command) → Suits s → P s.name → Each P words → command_entered (Some (rows_at s words)) ≡ Some c → ComesFrom c
   shape_comes s words c suit name has e =
       named_comes s.name (action_of s.name) (file_in (rows_after s.rules [] words)) c refl name
-      (first_comes file P s.rules (each_of (fits file) (IsFit file P) s.rules (fit_is file P) suit.1) words has) e
+      (first_comes file P s.rules (each_of (fits file) (IsFit file) s.rules (fit_is file) suit.1) words has) e
 
   found_comes : (found : Option Shape) (word : Text) (words : List Text) (c : Command) → IfSome found (λ s. Suits s × (s.name ≡ word)) → P word → Each P words
       → command_entered (option_map (λ s. rows_at s words) found) ≡ Some c → ComesFrom c
@@ -106,7 +64,7 @@ line_has_command line c e = line_comes (Contains line) line c (recursion_from_Al
 -- ---- what was understood
 
 same_command : (c d : Command) → words.Command c ≡ words.Command d → c ≡ d
-same_command c d e = same_Some c d (ap usage.command_in e)
+same_command c d e = same_Some c d (ap command_in e)
 
 -- a command
 abbrev pub IsEntered : List (List ℕ) → Command → Type 0
@@ -121,21 +79,24 @@ said_command line c none is = record {
 }
 
 -- something else, of words that are no plain ones
-said_otherwise : (line : List (List ℕ)) (said : Words) → usage.command_in said ≡ None → IsCaused line said → ((c : Command) → usage.plain line ≡ Some c → ⊥)
+said_otherwise : (line : List (List ℕ)) (said : Words) → command_in said ≡ None → IsCaused line said → ((c : Command) → usage.plain line ≡ Some c → ⊥)
     → IsUnderstood line said
 said_otherwise line said none why not_plain = record {
   cause = why;
   plainly = λ c plain. absurd (not_plain c plain);
-  by_name = λ c is. absurd (none-some c (sym none ∙ ap usage.command_in is));
-  of_file = λ c is. absurd (none-some c (sym none ∙ ap usage.command_in is));
+  by_name = λ c is. absurd (none-some c (sym none ∙ ap command_in is));
+  of_file = λ c is. absurd (none-some c (sym none ∙ ap command_in is));
 }
 
 by_matches : (line : List (List ℕ)) (said : Words) (found : Option Command) → command_entered (subcommand_of program line) ≡ found → fault_of program line ≡ []
     → IsFound found said → IsUnderstood line said
 by_matches line said (Some c) is none same = subst (IsUnderstood line) (sym same) (said_command line c none is)
-by_matches line said None is none same =
-    subst (IsUnderstood line) (sym same.1)
-    (said_otherwise line (words.UsageError same.0) refl (usage.no_command same.0 none is) (λ c plain. none-some c (sym is ∙ plain_line_enters line c plain)))
+by_matches line said None is none same = absurd same
+
+-- the command is there, where the parser finds no fault
+pub command_is_there : (line : List (List ℕ)) (rows : _) → rows ≡ subcommand_of program line → fault_of program line ≡ [] → IsSome (command_entered rows)
+command_is_there line rows is none =
+    ap is_some (ap command_entered is ∙ (faultless_enters line none).1)
 
 -- of words in which the parser finds no fault
 pub understood_entered : (line : List (List ℕ)) (said : Words) (rows : _) → rows ≡ subcommand_of program line → fault_of program line ≡ [] → IsFound (command_entered rows) said

@@ -1,6 +1,6 @@
 -- What is understood of the words of the command line.
-use Rattle.std.specs.Prelude.{◌≡◌, ◌≢◌, ◌⊎◌, List, [], ◌∷◌, ℕ, Bool, false, ◌==◌, Option, Some, None, codes, find, map, option_map}
-use Rattle.std.specs.Prelude.{option_and_then, Contains, String, string_bytes, if◌then◌else◌}
+use Rattle.std.specs.Prelude.{◌≡◌, ◌≢◌, List, [], ◌∷◌, ℕ, Bool, false, ◌==◌, Option, Some, None, codes, find, map}
+use Rattle.std.specs.Prelude.{option_map, option_and_then, Contains, String, string_bytes, if◌then◌else◌}
 use Rattle.std.specs.Str.{bytes_eq}
 use Rattle.std.specs.declared.alloc.Global.{Global}
 use Rattle.clap.specs.Words.{IsAmong, Row, fault_of, first_of, subcommand_of}
@@ -40,7 +40,8 @@ file_in = first_of (codes "FILE")
 
 -- a command over its FILE, where both are there
 abbrev pub with_file : Option Action → Option (List ℕ) → Option Command
-with_file asked file = option_and_then (λ action. option_map (λ file. record { action = action; file = file }) file) asked
+with_file asked file =
+    option_and_then (λ action. option_map (λ file. record { action = action; file = file }) file) asked
 
 -- the command that a parse entered, by its name and what was found
 abbrev pub command_entered : Option (List ℕ × List Row) → Option Command
@@ -62,41 +63,21 @@ plain (name ∷ file ∷ more ∷ rest) = None
 
 -- ---- what was understood
 
--- Why that is said of the words, by the kinds of fault that `clap` finds in them: a command where it finds none, help where
--- help or the version is asked for, and a usage error where it finds another kind. Where it finds none, and yet no command of
--- the table with its FILE, that is a usage error too. The texts are those of `clap`.
+-- Why that is said of the words, by the kinds of fault that `clap` finds in them: the command that they enter where it
+-- finds none, help where help or the version is asked for, and a usage error where it finds another kind. The texts are
+-- those of `clap`.
 pub data IsCaused (line : List (List ℕ)) : Words → Type 0 where
   command : (c : Command) → fault_of program line ≡ [] → command_entered (subcommand_of program line) ≡ Some c
       → IsCaused line (words.Command c)
   help : (text : List ℕ) → IsAmong kind.DisplayHelp (fault_of program line) → IsCaused line (words.Help text)
   version : (text : List ℕ) → IsAmong kind.DisplayVersion (fault_of program line) → IsCaused line (words.Help text)
-  fault : (text : List ℕ) (k : ErrorKind) → IsAmong k (fault_of program line) → k ≢ kind.DisplayHelp → k ≢ kind.DisplayVersion
-      → IsCaused line (words.UsageError text)
-  no_command : (text : List ℕ) → fault_of program line ≡ [] → command_entered (subcommand_of program line) ≡ None
-      → IsCaused line (words.UsageError text)
+  fault : (text : List ℕ) (k : ErrorKind) → IsAmong k (fault_of program line)
+      → k ≢ kind.DisplayHelp → k ≢ kind.DisplayVersion → IsCaused line (words.UsageError text)
 
--- What was understood of the words: what is said has its cause, plain words ask for their command, and a command has its name
--- and its file from the words.
+-- What was understood of the words: what is said has its cause, plain words ask for their command, and a command has its
+-- name and its file from the words.
 pub record IsUnderstood (line : List (List ℕ)) (said : Words) : Type 0 where
   pub cause : IsCaused line said
   pub plainly : (c : Command) → plain line ≡ Some c → said ≡ words.Command c
   pub by_name : (c : Command) → said ≡ words.Command c → Contains line (name_of c.action)
   pub of_file : (c : Command) → said ≡ words.Command c → Contains line c.file
-
--- ---- for the proofs alone
-
--- the command that was understood
-abbrev pub command_in : Words → Option Command
-command_in (words.Command c) = Some c
-command_in _ = None
-
--- what is said of an error of that kind
-abbrev pub IsToldOf : ErrorKind → Words → Type 0
-IsToldOf k (words.Command c) = ⊥
-IsToldOf k (words.Help text) = (k ≢ kind.OutOfMemory) × ((k ≡ kind.DisplayHelp) ⊎ (k ≡ kind.DisplayVersion))
-IsToldOf k (words.UsageError text) = (k ≢ kind.OutOfMemory) × (k ≢ kind.DisplayHelp) × (k ≢ kind.DisplayVersion)
-
--- what is said of matches
-abbrev pub IsFound : Option Command → Words → Type 0
-IsFound None said = (text : List ℕ) × (said ≡ words.UsageError text)
-IsFound (Some c) said = said ≡ words.Command c

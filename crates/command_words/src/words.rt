@@ -1,9 +1,10 @@
 //! What is understood of the words of the command line.
 
-ghost use Rattle.std.specs.Prelude.{◌≡◌, ◌≢◌, IfOk, [], true};
+ghost use Rattle.std.specs.Prelude.{◌≡◌, ◌≢◌, IfOk, IsSome, []};
 ghost use Rattle.clap.specs.Words.{FailsBy, fault_of, kind_of, subcommand_of, subcommand_rows_of};
 ghost use Rattle.command_words.specs.Grammar.{program};
-ghost use Rattle.command_words.specs.Usage.{IsFound, IsToldOf, IsUnderstood, command_entered, spelled};
+ghost use Rattle.command_words.specs.Said.{IsFound, IsToldOf};
+ghost use Rattle.command_words.specs.Usage.{IsUnderstood, command_entered, spelled};
 
 use crate::found::command_found;
 use crate::program::program;
@@ -31,7 +32,6 @@ pub enum Words {
 }
 
 /// What the words after the program's name say.
-#[tactic(auto, using(crate::proofs::WordsUnderstood::understood_entered, crate::proofs::WordsUnderstood::understood_told))]
 pub fn understood(alloc: Global, words: &[String]) -> Result<Words, AllocError>
     ensures { IfOk result (λ said. IsUnderstood (spelled words.now) said) }
 {
@@ -49,14 +49,14 @@ fn parsed<'a>(alloc: Global, words: &'a [String]) -> Result<ArgMatches<'a>, Erro
     program.try_get_matches_from(words)
 }
 
-/// What is said of matches.
+/// The command that the parser entered.
 fn entered(alloc: Global, matches: &ArgMatches<'_>) -> Result<Words, AllocError>
+    requires { IsSome (command_entered (subcommand_rows_of matches.now)) }
     ensures { IfOk result (IsFound (command_entered (subcommand_rows_of matches.now))) }
 {
     match command_found(alloc, matches)? {
         Some(command) => Ok(Words::Command(command)),
-        // The parser finds a fault where a command or its FILE is missing, but no clause of its own says so.
-        None => Ok(Words::UsageError(Text::new(alloc, "error: no command\n")?)),
+        None => unreachable!(),
     }
 }
 
