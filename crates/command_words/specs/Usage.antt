@@ -74,8 +74,8 @@ pub data IsCaused (line : List (List ℕ)) : Words → Type 0 where
   fault : (text : List ℕ) (k : ErrorKind) → IsAmong k (fault_of program line)
       → k ≢ kind.DisplayHelp → k ≢ kind.DisplayVersion → IsCaused line (words.UsageError text)
 
--- What was understood of the words: what is said has its cause, plain words ask for their command, and a command has its
--- name and its file from the words.
+-- What was understood of the words: what is said has its cause, plain words ask for their command, and a command has
+-- its name and its file from the words.
 pub record IsUnderstood (line : List (List ℕ)) (said : Words) : Type 0 where
   pub cause : IsCaused line said
   pub plainly : (c : Command) → plain line ≡ Some c → said ≡ words.Command c
