@@ -11,7 +11,7 @@ use Rattle.behaviour_tree.specs.Data.{PathTree, Proc, HandlerList, no_procs, pro
 use Rattle.behaviour_tree.specs.Terms.{Term, seq, exec}
 use Rattle.behaviour_tree.specs.Start.{Begun, start}
 use Rattle.behaviour_tree.specs.After.{Effect, faults, stores, Move, instead, in_event, comes_request}
-use Rattle.term_session.specs.declared.moment.Made.{Made}
+use Rattle.term_session.specs.declared.config.Made.{Made}
 
 -- the path of a reply
 pub reply_path : (r : ReplyPart) → option_map path_view (out-ReplyPart r).path ≡ (reply_view r).path

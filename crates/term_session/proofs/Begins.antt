@@ -60,3 +60,10 @@ stops_before p ps n b e other = sym (goes_on-other ps b.form b.next other) ∙ a
 pub sequence_stops : (xs : List Behaviour) (i n : ℕ) (x : Behaviour) (b : Begun) → i < length xs → x ≡ get_or xs i x → b ≡ begin (behaviour_view x) n → (b.form ≡ done → ⊥)
     → begun (seq_of b.form (procs_of (map behaviour_view (drop (i + 1) xs)))) b.next ≡ begin_rest (procs_of (map behaviour_view (drop i xs))) n
 sequence_stops xs i n x b h is e other = rw (taken_off xs i x h is) (stops_before (behaviour_view x) (procs_of (map behaviour_view (drop (i + 1) xs))) n b e other)
+
+-- two forms begin as the second does where the first is done at once, and else as the first
+pub both_go_on : (p q : Proc) (n : ℕ) (b : Begun) → b ≡ begin p n → b.form ≡ done → begin q b.next ≡ begin (sequence (proc p (proc q no_procs))) n
+both_go_on p q n b e d = sym (begin_one q b.next) ∙ passed_over p (proc q no_procs) n b e d
+
+pub both_stop : (p q : Proc) (n : ℕ) (b : Begun) → b ≡ begin p n → (b.form ≡ done → ⊥) → begun (seq_of b.form (proc q no_procs)) b.next ≡ begin (sequence (proc p (proc q no_procs))) n
+both_stop p q n b e other = stops_before p (proc q no_procs) n b e other

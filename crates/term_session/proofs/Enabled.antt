@@ -1,6 +1,6 @@
 -- Strand 0 alone may have an event.
 use Rattle.std.proofs.Common.{◌≡◌, ℕ, zero, suc, [], ◌∷◌, Some, None, refl, sym, ◌∙◌, arith}
-use Rattle.std.specs.Prelude.{Contains, ◌↔◌, Result, Ok, Err, IfOk}
+use Rattle.std.specs.Prelude.{Contains, ◌↔◌}
 use Rattle.behaviour_tree.specs.declared.words.Need.{Need}
 use Rattle.behaviour_tree.specs.Data.{ProgramParts}
 use Rattle.behaviour_tree.specs.After.{Config, HasEvent}
@@ -23,8 +23,3 @@ module _ (parts : ProgramParts) (service : ℕ) (c : Config) where
   pub none_enabled : None ≡ needed parts service c 0 → (n : ℕ) → Contains [] n ↔ HasEvent parts service c n
   none_enabled h zero = (λ w. absurd (omega (arith, w.1)), λ w. let no : None ≡ Some w.1.need = h ∙ event_asks parts service c 0 w.0 w.1 w.2 in cc)
   none_enabled h (suc n) = (λ w. absurd (omega (arith, w.1)), λ w. absurd (other_strand n w))
-
--- what follows of the value of a call
-pub if_ok : {T E : Type 0} (r : Result T E) (P Q : T → Type 0) → ((x : T) → P x → Q x) → IfOk r P → IfOk r Q
-if_ok (Ok x) P Q f p = f x p
-if_ok (Err e) P Q f p = tt

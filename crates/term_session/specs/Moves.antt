@@ -10,9 +10,9 @@ use Rattle.term_session.specs.View.{term_view}
 use Rattle.term_session.specs.declared.effect.Effect as effect
 use Rattle.term_session.specs.declared.effect.Placed as effect_placed
 use Rattle.term_session.specs.declared.fault.Fault as fault
-use Rattle.term_session.specs.declared.moment.Moment as moment
-use Rattle.term_session.specs.declared.moment.Move as move_type
-use Rattle.term_session.specs.declared.moment.Done as done_type
+use Rattle.term_session.specs.declared.config.Config as config
+use Rattle.term_session.specs.declared.config.Move as move_type
+use Rattle.term_session.specs.declared.config.Done as done_type
 
 -- the fault or the store of a change
 abbrev pub effect_view : effect.Effect → spec.Effect
@@ -34,16 +34,16 @@ abbrev pub fault_view : fault.Fault → spec.Fault
 fault_view f = record { name = f.name; data_ = f.value }
 
 -- a configuration
-abbrev pub moment_view : moment.Moment → spec.Config
-moment_view m = record { form = term_view m.form; store = m.store; next = m.next; call = m.call; ended = m.ended }
+abbrev pub config_view : config.Config → spec.Config
+config_view m = record { form = term_view m.form.value; store = m.store; next = m.next; call = m.call; ended = m.ended }
 
 -- a move
 abbrev pub move_view : move_type.Move → spec.Move
-move_view m = record { form = term_view m.form; store = m.made.store; next = m.made.next; event = m.made.event; need = m.made.need }
+move_view m = record { form = term_view m.form.value; store = m.made.store; next = m.made.next; event = m.made.event; need = m.made.need }
 
 -- an event done
 abbrev pub done_view : done_type.Done → spec.Done
-done_view d = record { config = moment_view d.moment; event = d.event; need = d.need }
+done_view d = record { config = config_view d.config; event = d.event; need = d.need }
 
 -- a message comes to a branch of its operation
 abbrev pub comes_to : ℕ → ℕ → ℕ → Tree → List ℕ → ℕ → Tree → ℕ → BranchView → Option spec.Move

@@ -21,7 +21,7 @@ state_view state.TheVariants.Zombie = spec.zombie
 -- one level of a term, with what is inside already seen; no scope has a handler
 abbrev pub term_level : Term-F spec.Term → spec.Term
 term_level Term-F.Done = spec.done
-term_level (Term-F.Place p) = spec.place (behaviour_view p)
+term_level (Term-F.Place p) = spec.place (behaviour_view p.value)
 term_level (Term-F.Thrown f v) = spec.thrown f v
 term_level (Term-F.Seq t rest) = spec.seq t.value (procs_of (map behaviour_view (rest_items rest)))
 term_level (Term-F.Scope q t u) = spec.in_scope q t.value empty (state_view u)
@@ -40,11 +40,11 @@ is_prot t = false
 
 -- a form that has begun
 abbrev pub begun_view : begun.Begun → starts.Begun
-begun_view b = record { form = term_view b.form; next = b.next }
+begun_view b = record { form = term_view b.form.value; next = b.next }
 
 -- where a fault has come to
 abbrev pub carried_view : carried.Carried → throws.Carried
-carried_view (carried.TheVariants.Up t) = throws.up (term_view t)
+carried_view (carried.TheVariants.Up t) = throws.up (term_view t.value)
 carried_view (carried.TheVariants.Blocked n) = throws.blocked n
 carried_view carried.TheVariants.Absent = throws.absent
 

@@ -7,13 +7,10 @@ ghost use Rattle.behaviour_tree.specs.View.{path_view, type_view};
 ghost use Rattle.behaviour_tree.specs.declared.words.Outcome.TheVariants as outcome;
 
 use crate::evaluate::{steps_of, tree_at};
-use behaviour_tree::{Outcome, PathExpr, Program, TypeDef};
+use behaviour_tree::{Outcome, PathExpr, Program, TypeDef, standard};
 use jolie_trees::{Text, Tree};
 use message_types::{conforms, widen};
 use std::alloc::{AllocError, Global};
-
-/// The fault of a value that is not of its type.
-const TYPE_MISMATCH: u32 = 1;
 
 /// A fault of a program with its data.
 pub fn fault_outcome(
@@ -69,7 +66,7 @@ fn answer_as(
         widen(&mut value, response, program);
         return Ok(Outcome::Value(value));
     }
-    fault_outcome(alloc, program, TYPE_MISMATCH, Tree::void(alloc))
+    fault_outcome(alloc, program, standard::TYPE_MISMATCH, Tree::void(alloc))
 }
 
 /// The answer of a request whose body is done.

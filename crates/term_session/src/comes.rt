@@ -8,12 +8,12 @@ ghost use Rattle.behaviour_tree.specs.View.{behaviour_view, branch_view, branche
 ghost use Rattle.term_session.specs.Moves.{comes_to, effect_view, move_view};
 ghost use Rattle.term_session.specs.View.{term_view};
 
+use crate::config::{Config, Made, Move};
 use crate::effect::{Effect, received};
 use crate::evaluate::steps_of;
-use crate::moment::{Made, Moment, Move};
 use crate::rest::Rest;
 use crate::start::{Begun, started};
-use crate::term::{Term, copied_path};
+use crate::term::{Term, boxed, copied_path};
 use behaviour_tree::{Behaviour, Branch, Event, Kind, Need, Numbers, PathExpr, ReplyPart};
 use jolie_trees::Tree;
 use sqlite_items::Items;
@@ -60,31 +60,33 @@ fn made(arrival: Arrival, store: Tree, next: u64) -> Made
 }
 
 /// A fault in the place of a behaviour.
-fn instead(alloc: Global, fault: u32) -> Term
-    ensures { term_view result ≡ spec.instead fault }
+fn instead(alloc: Global, fault: u32) -> Result<Box<Term>, AllocError>
+    ensures { IfOk result (λ t. term_view t.value ≡ spec.instead fault) }
 {
-    Term::Thrown {
-        fault,
-        value: Tree::void(alloc),
-    }
+    let value = Tree::void(alloc);
+    boxed(alloc, Term::Thrown { fault, value })
 }
 
 /// A one-way branch goes on with what comes after.
 fn comes_one_way(
-    moment: &Moment,
+    config: &Config,
     arrival: Arrival,
     after: &Behaviour,
     effect: Effect,
 ) -> Result<Move, AllocError>
-    ensures { IfOk result (λ m. move_view m ≡ spec.comes_one_way arrival.strand arrival.message arrival.place arrival.ops moment.now.next moment.now.store (behaviour_view after.now) (effect_view effect)) }
+    ensures { IfOk result (λ m. move_view m ≡ spec.comes_one_way arrival.strand arrival.message arrival.place arrival.ops config.now.next config.now.store (behaviour_view after.now) (effect_view effect)) }
 {
     match effect {
-        Effect::Faults(fault) => Ok(Move {
-            form: instead(moment.alloc, fault),
-            made: made(arrival, moment.store.copied()?, moment.next),
-        }),
+        Effect::Faults(fault) => {
+            let form = instead(config.alloc, fault)?;
+            let store = config.store.copied()?;
+            Ok(Move {
+                form,
+                made: made(arrival, store, config.next),
+            })
+        }
         Effect::Stores(store) => {
-            let Begun { form, next } = started(moment.alloc, after, moment.next)?;
+            let Begun { form, next } = started(config.alloc, after, config.next)?;
             Ok(Move {
                 form,
                 made: made(arrival, store, next),
@@ -98,24 +100,25 @@ fn executed(
     alloc: Global,
     arrival: &Arrival,
     path: &Option<PathExpr>,
-    body: Term,
-) -> Result<Term, AllocError>
-    ensures { IfOk result (λ t. term_view t ≡ exec arrival.now.message arrival.now.op (option_map path_view path.now) (term_view body)) }
+    body: Box<Term>,
+) -> Result<Box<Term>, AllocError>
+    ensures { IfOk result (λ t. term_view t.value ≡ exec arrival.now.message arrival.now.op (option_map path_view path.now) (term_view body.value)) }
 {
-    Ok(Term::Exec {
+    let form = Term::Exec {
         message: arrival.message,
         op: arrival.op,
         path: copied_path(path)?,
-        body: Box::new(alloc, body)?,
-    })
+        body,
+    };
+    boxed(alloc, form)
 }
 
 /// A form with what comes after.
-fn followed(alloc: Global, head: Term, after: &Behaviour) -> Result<Term, AllocError>
-    ensures { IfOk result (λ t. term_view t ≡ seq (term_view head) (proc (behaviour_view after.now) no_procs)) }
+fn followed(alloc: Global, head: Box<Term>, after: &Behaviour) -> Result<Box<Term>, AllocError>
+    ensures { IfOk result (λ t. term_view t.value ≡ seq (term_view head.value) (proc (behaviour_view after.now) no_procs)) }
 {
     let rest = Rest::of_one(alloc, after)?;
-    Ok(Term::Seq(Box::new(alloc, head)?, rest))
+    boxed(alloc, Term::Seq(head, rest))
 }
 
 /// A body in a request, with what comes after.
@@ -123,10 +126,10 @@ fn in_request(
     alloc: Global,
     arrival: &Arrival,
     path: &Option<PathExpr>,
-    body: Term,
+    body: Box<Term>,
     after: &Behaviour,
-) -> Result<Term, AllocError>
-    ensures { IfOk result (λ t. term_view t ≡ seq (exec arrival.now.message arrival.now.op (option_map path_view path.now) (term_view body)) (proc (behaviour_view after.now) no_procs)) }
+) -> Result<Box<Term>, AllocError>
+    ensures { IfOk result (λ t. term_view t.value ≡ seq (exec arrival.now.message arrival.now.op (option_map path_view path.now) (term_view body.value)) (proc (behaviour_view after.now) no_procs)) }
 {
     let head = executed(alloc, arrival, path, body)?;
     followed(alloc, head, after)
@@ -134,26 +137,27 @@ fn in_request(
 
 /// A request-response branch goes on with its body, and then with what comes after.
 fn comes_request(
-    moment: &Moment,
+    config: &Config,
     arrival: Arrival,
     branch: &Branch,
     reply: &ReplyPart,
     effect: Effect,
 ) -> Result<Move, AllocError>
-    ensures { IfOk result (λ m. move_view m ≡ spec.comes_request arrival.strand arrival.message arrival.place arrival.ops moment.now.next moment.now.store arrival.op (reply_view reply.now).path (reply_view reply.now).body (branch_view branch.now).after (effect_view effect)) }
+    ensures { IfOk result (λ m. move_view m ≡ spec.comes_request arrival.strand arrival.message arrival.place arrival.ops config.now.next config.now.store arrival.op (reply_view reply.now).path (reply_view reply.now).body (branch_view branch.now).after (effect_view effect)) }
 {
     match effect {
         Effect::Faults(fault) => {
-            let body = instead(moment.alloc, fault);
-            let form = in_request(moment.alloc, &arrival, &reply.path, body, &branch.after)?;
+            let body = instead(config.alloc, fault)?;
+            let form = in_request(config.alloc, &arrival, &reply.path, body, &branch.after)?;
+            let store = config.store.copied()?;
             Ok(Move {
                 form,
-                made: made(arrival, moment.store.copied()?, moment.next),
+                made: made(arrival, store, config.next),
             })
         }
         Effect::Stores(store) => {
-            let Begun { form, next } = started(moment.alloc, &reply.body, moment.next)?;
-            let form = in_request(moment.alloc, &arrival, &reply.path, form, &branch.after)?;
+            let Begun { form, next } = started(config.alloc, &reply.body, config.next)?;
+            let form = in_request(config.alloc, &arrival, &reply.path, form, &branch.after)?;
             Ok(Move {
                 form,
                 made: made(arrival, store, next),
@@ -164,32 +168,32 @@ fn comes_request(
 
 /// A message comes to a branch of its operation.
 fn comes_to_branch(
-    moment: &Moment,
+    config: &Config,
     arrival: Arrival,
     value: &Tree,
     branch: &Branch,
 ) -> Result<Option<Move>, AllocError>
-    ensures { IfOk result (λ m. option_map move_view m ≡ comes_to arrival.strand arrival.message arrival.op value.now arrival.ops moment.now.next moment.now.store arrival.place (branch_view branch.now)) }
+    ensures { IfOk result (λ m. option_map move_view m ≡ comes_to arrival.strand arrival.message arrival.op value.now arrival.ops config.now.next config.now.store arrival.place (branch_view branch.now)) }
 {
-    match received(moment.alloc, &moment.store, &branch.target, value)? {
+    match received(config.alloc, &config.store, &branch.target, value)? {
         None => Ok(None),
         Some(effect) => match &branch.reply {
-            None => Ok(Some(comes_one_way(moment, arrival, &branch.after, effect)?)),
-            Some(reply) => Ok(Some(comes_request(moment, arrival, branch, reply, effect)?)),
+            None => Ok(Some(comes_one_way(config, arrival, &branch.after, effect)?)),
+            Some(reply) => Ok(Some(comes_request(config, arrival, branch, reply, effect)?)),
         },
     }
 }
 
 /// A message comes to the first branch of its operation.
 pub fn comes(
-    moment: &Moment,
+    config: &Config,
     strand: u64,
     message: u32,
     op: u32,
     value: &Tree,
     list: &[Branch],
 ) -> Result<Option<Move>, AllocError>
-    ensures { IfOk result (λ m. option_map move_view m ≡ spec.comes strand message op value.now (spec.ops_of (branches_of (map branch_view list.now))) moment.now.next moment.now.store 0 (branches_of (map branch_view list.now))) }
+    ensures { IfOk result (λ m. option_map move_view m ≡ spec.comes strand message op value.now (spec.ops_of (branches_of (map branch_view list.now))) config.now.next config.now.store 0 (branches_of (map branch_view list.now))) }
 {
     for i in 0..list.len() {
         let branch = &list[i];
@@ -199,9 +203,9 @@ pub fn comes(
                 message,
                 op,
                 place: u32::try_from(i).map_err(|_| AllocError)?,
-                ops: ops_of(moment.alloc, list)?,
+                ops: ops_of(config.alloc, list)?,
             };
-            return comes_to_branch(moment, arrival, value, branch);
+            return comes_to_branch(config, arrival, value, branch);
         }
     }
     Ok(None)

@@ -6,15 +6,9 @@ ghost use Rattle.jolie_trees.specs.Trees.{set, set_root, undef};
 ghost use Rattle.term_session.specs.Moves.{effect_view, placed_view, together};
 
 use crate::evaluate::{steps_of, value};
-use behaviour_tree::{Expr, PathExpr};
+use behaviour_tree::{Expr, PathExpr, standard};
 use jolie_trees::{Path, Root, SetError, Tree};
 use std::alloc::{AllocError, Global};
-
-/// The fault of an expression without a value.
-pub const EXPR_FAULT: u32 = 5;
-
-/// The fault of a store that would pass a limit.
-pub const STORE_TOO_LARGE: u32 = 7;
 
 /// The most nodes of a store.
 const MOST_NODES: u64 = 65_536;
@@ -44,8 +38,8 @@ fn with_root(store: &Tree, path: &Path, root: Root) -> Result<Effect, AllocError
     let mut changed = store.copied()?;
     match changed.set_root(path, root) {
         Ok(()) => Ok(Effect::Stores(changed)),
-        Err(SetError::TooLarge(_)) => Ok(Effect::Faults(STORE_TOO_LARGE)),
-        Err(SetError::TooDeep(_)) => Ok(Effect::Faults(STORE_TOO_LARGE)),
+        Err(SetError::TooLarge(_)) => Ok(Effect::Faults(standard::STORE_TOO_LARGE)),
+        Err(SetError::TooDeep(_)) => Ok(Effect::Faults(standard::STORE_TOO_LARGE)),
         Err(SetError::Memory(error)) => Err(error),
     }
 }
@@ -58,8 +52,8 @@ fn with_tree(store: &Tree, path: &Path, tree: Tree) -> Result<Effect, AllocError
     let mut changed = store.copied()?;
     match changed.set(path, tree) {
         Ok(()) => Ok(Effect::Stores(changed)),
-        Err(SetError::TooLarge(_)) => Ok(Effect::Faults(STORE_TOO_LARGE)),
-        Err(SetError::TooDeep(_)) => Ok(Effect::Faults(STORE_TOO_LARGE)),
+        Err(SetError::TooLarge(_)) => Ok(Effect::Faults(standard::STORE_TOO_LARGE)),
+        Err(SetError::TooDeep(_)) => Ok(Effect::Faults(standard::STORE_TOO_LARGE)),
         Err(SetError::Memory(error)) => Err(error),
     }
 }
@@ -71,7 +65,7 @@ fn within_limits(changed: Tree) -> Effect
     if changed.size() <= MOST_NODES && changed.depth() <= MOST_LEVELS {
         Effect::Stores(changed)
     } else {
-        Effect::Faults(STORE_TOO_LARGE)
+        Effect::Faults(standard::STORE_TOO_LARGE)
     }
 }
 
@@ -113,7 +107,7 @@ pub fn effect_of(
     ensures { IfOk result (λ f. effect_view f ≡ spec.effect_of store.now (path_view path.now) (expr_view expr.now)) }
 {
     match placed_value(alloc, store, path, expr)? {
-        None => Ok(Effect::Faults(EXPR_FAULT)),
+        None => Ok(Effect::Faults(standard::EXPR_FAULT)),
         Some(Placed { path, value }) => with_root(store, &path, value.root().copied()?),
     }
 }
@@ -129,7 +123,7 @@ pub fn effect_of_copy(
     ensures { IfOk result (λ f. effect_view f ≡ spec.copied store.now (path_view path.now) (expr_view expr.now)) }
 {
     match placed_value(alloc, store, path, expr)? {
-        None => Ok(Effect::Faults(EXPR_FAULT)),
+        None => Ok(Effect::Faults(standard::EXPR_FAULT)),
         Some(Placed { path, value }) => with_tree(store, &path, value),
     }
 }
@@ -139,7 +133,7 @@ pub fn effect_of_undef(alloc: Global, store: &Tree, path: &PathExpr) -> Result<E
     ensures { IfOk result (λ f. effect_view f ≡ spec.effect_of_undef store.now (path_view path.now)) }
 {
     match steps_of(alloc, path, store)? {
-        None => Ok(Effect::Faults(EXPR_FAULT)),
+        None => Ok(Effect::Faults(standard::EXPR_FAULT)),
         Some(path) => without(store, &path),
     }
 }

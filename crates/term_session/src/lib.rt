@@ -4,12 +4,12 @@
 mod after;
 mod answer;
 mod comes;
+mod config;
 mod effect;
 mod evaluate;
 mod fault;
 mod first;
 mod laws;
-mod moment;
 mod moves;
 mod needs;
 mod normal;

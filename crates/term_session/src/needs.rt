@@ -1,14 +1,14 @@
 ghost use Rattle.std.specs.Prelude.{◌≡◌, IfOk};
 ghost use Rattle.behaviour_tree.specs.PartsView.{parts_of};
 ghost use Rattle.behaviour_tree.specs.View.{behaviour_view};
-ghost use Rattle.term_session.specs.Moves.{moment_view};
+ghost use Rattle.term_session.specs.Moves.{config_view};
 ghost use Rattle.term_session.specs.Needs as spec;
 ghost use Rattle.term_session.specs.View.{term_view};
 
 use crate::after::{after, is_finished};
 use crate::comes::takes;
+use crate::config::Config;
 use crate::fault::fault_in;
-use crate::moment::Moment;
 use crate::term::Term;
 use behaviour_tree::{Behaviour, Given, Need, Numbers, Program};
 use jolie_trees::Tree;
@@ -51,15 +51,15 @@ fn awaited(
 }
 
 /// The operations that a strand of a session waits for a message of.
-fn awaited_now(moment: &Moment, strand: u64) -> Result<Option<Numbers>, AllocError>
-    ensures { IfOk result (λ ops. ops ≡ spec.awaited_now (moment_view moment.now) strand) }
+fn awaited_now(config: &Config, strand: u64) -> Result<Option<Numbers>, AllocError>
+    ensures { IfOk result (λ ops. ops ≡ spec.awaited_now (config_view config.now) strand) }
 {
-    if moment.ended || is_finished(&moment.form) {
+    if config.ended || is_finished(&config.form) {
         return Ok(None);
     }
-    match fault_in(moment.alloc, &moment.store, strand, 0, &moment.form)? {
+    match fault_in(config.alloc, &config.store, strand, 0, &config.form)? {
         Some(_) => Ok(None),
-        None => awaited(moment.alloc, &moment.store, strand, 0, &moment.form),
+        None => awaited(config.alloc, &config.store, strand, 0, &config.form),
     }
 }
 
@@ -67,14 +67,14 @@ fn awaited_now(moment: &Moment, strand: u64) -> Result<Option<Numbers>, AllocErr
 pub fn needed(
     program: &Program,
     service: u32,
-    moment: &Moment,
+    config: &Config,
     strand: u64,
 ) -> Result<Option<Need>, AllocError>
-    ensures { IfOk result (λ need. need ≡ spec.needed (parts_of program.now) service (moment_view moment.now) strand) }
+    ensures { IfOk result (λ need. need ≡ spec.needed (parts_of program.now) service (config_view config.now) strand) }
 {
-    match after(program, service, moment, strand, &Given::Nothing)? {
+    match after(program, service, config, strand, &Given::Nothing)? {
         Some(done) => Ok(Some(done.need)),
-        None => match awaited_now(moment, strand)? {
+        None => match awaited_now(config, strand)? {
             Some(ops) => Ok(Some(Need::Take { ops })),
             None => Ok(None),
         },

@@ -9,8 +9,8 @@ ghost use Rattle.term_session.specs.Sessions.{config_of, service_of};
 ghost use Rattle.term_session.specs.declared.session.StepError.TheVariants.{Memory};
 
 use crate::after::after;
-use crate::first::first_moment;
-use crate::moment::{Done, Moment};
+use crate::config::{Config, Done};
+use crate::first::first_config;
 use crate::needs::needed;
 use behaviour_tree::{Event, Given, Need, Program, Strands};
 use sqlite_items::Items;
@@ -39,7 +39,7 @@ impl From<AllocError> for StepError {
 pub struct TermSession {
     alloc: Global,
     service: u32,
-    moment: Option<Moment>,
+    config: Option<Config>,
 }
 
 impl TermSession {
@@ -48,11 +48,11 @@ impl TermSession {
         requires built { IsBuiltService (parts_of program.now) service }
         ensures { IfOk result (λ s. (service_of s ≡ service) × (config_of s ≡ start_of (parts_of program.now) service)) }
     {
-        let moment = first_moment(alloc, &program.parts().services[service as usize])?;
+        let config = first_config(alloc, &program.parts().services[service as usize])?;
         Ok(TermSession {
             alloc,
             service,
-            moment: Some(moment),
+            config: Some(config),
         })
     }
 
@@ -63,11 +63,11 @@ impl TermSession {
         ensures rising { IfOk result IsStrictlyIncreasing }
         ensures spent { config_of self.now ≡ None → IsErr result }
     {
-        let Some(moment) = &self.moment else {
+        let Some(config) = &self.config else {
             return Err(AllocError);
         };
         let mut strands = Items::new(self.alloc);
-        match needed(program, self.service, moment, 0)? {
+        match needed(program, self.service, config, 0)? {
             None => Ok(strands),
             Some(_) => {
                 strands.push(0)?;
@@ -83,10 +83,10 @@ impl TermSession {
             (λ need. HasEvent (parts_of program.now) (service_of self.now) c strand × ((g : Gift) (d : DoneEvent) → after_of (parts_of program.now) (service_of self.now) c strand g ≡ Some d → d.need ≡ need)))) }
         ensures spent { config_of self.now ≡ None → IsErr result }
     {
-        let Some(moment) = &self.moment else {
+        let Some(config) = &self.config else {
             return Err(AllocError);
         };
-        needed(program, self.service, moment, strand)
+        needed(program, self.service, config, strand)
     }
 
     /// Does the event of a strand for a gift.
@@ -98,22 +98,22 @@ impl TermSession {
         ensures spent { config_of self.old ≡ None → (a : AllocError) × (result ≡ Err (StepError.Memory a)) }
         ensures service { service_of self.new ≡ service_of self.old }
     {
-        let Some(moment) = &self.moment else {
+        let Some(config) = &self.config else {
             return Err(StepError::Memory(AllocError));
         };
-        match after(program, self.service, moment, strand, &given) {
+        match after(program, self.service, config, strand, &given) {
             Ok(Some(done)) => {
                 let Done {
-                    moment,
+                    config,
                     event,
                     need: _,
                 } = done;
-                self.moment = Some(moment);
+                self.config = Some(config);
                 Ok(event)
             }
             Ok(None) => Err(StepError::NotEnabled(strand)),
             Err(error) => {
-                self.moment = None;
+                self.config = None;
                 Err(StepError::Memory(error))
             }
         }
@@ -124,8 +124,8 @@ impl TermSession {
         ensures exact { IfSome (config_of self.now) (λ c. result ≡ c.ended) }
         ensures spent { config_of self.now ≡ None → result ≡ false }
     {
-        match &self.moment {
-            Some(moment) => moment.ended,
+        match &self.config {
+            Some(config) => config.ended,
             None => false,
         }
     }

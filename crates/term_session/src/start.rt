@@ -1,31 +1,52 @@
 ghost use Rattle.std.specs.Prelude.{◌≡◌, map, IfOk};
 ghost use Rattle.behaviour_tree.specs.Data.{no_procs, proc, sequence};
 ghost use Rattle.behaviour_tree.specs.Start as spec;
-ghost use Rattle.behaviour_tree.specs.Terms.{seq_of};
+ghost use Rattle.behaviour_tree.specs.Terms.{done, place, seq_of};
 ghost use Rattle.behaviour_tree.specs.View.{behaviour_view, procs_of};
 ghost use Rattle.term_session.specs.Rests.{rest_items};
 ghost use Rattle.term_session.specs.View.{begun_view, term_view};
 
 use crate::rest::Rest;
-use crate::term::Term;
+use crate::term::{Term, boxed};
 use behaviour_tree::Behaviour;
 use std::alloc::{AllocError, Global};
 
 /// A form that has begun, and the next strand.
 #[derive(Drop)]
 pub struct Begun {
-    pub form: Term,
+    pub form: Box<Term>,
     pub next: u64,
 }
 
 /// A head with the forms that begin after it.
-pub fn in_sequence(alloc: Global, head: Term, rest: Rest) -> Result<Term, AllocError>
-    ensures { IfOk result (λ t. term_view t ≡ seq_of (term_view head) (procs_of (map behaviour_view (rest_items rest)))) }
+pub fn in_sequence(alloc: Global, head: Box<Term>, rest: Rest) -> Result<Box<Term>, AllocError>
+    ensures { IfOk result (λ t. term_view t.value ≡ seq_of (term_view head.value) (procs_of (map behaviour_view (rest_items rest)))) }
 {
     if rest.as_slice().is_empty() {
         return Ok(head);
     }
-    Ok(Term::Seq(Box::new(alloc, head)?, rest))
+    boxed(alloc, Term::Seq(head, rest))
+}
+
+/// Nothing to do.
+fn begun_done(alloc: Global, next: u64) -> Result<Begun, AllocError>
+    ensures { IfOk result (λ b. begun_view b ≡ spec.begun done next) }
+{
+    Ok(Begun {
+        form: boxed(alloc, Term::Done)?,
+        next,
+    })
+}
+
+/// A form in its place.
+fn begun_place(alloc: Global, behaviour: &Behaviour, next: u64) -> Result<Begun, AllocError>
+    ensures { IfOk result (λ b. begun_view b ≡ spec.begun (place (behaviour_view behaviour.now)) next) }
+{
+    let behaviour = Box::new(alloc, behaviour.copied()?)?;
+    Ok(Begun {
+        form: boxed(alloc, Term::Place(behaviour))?,
+        next,
+    })
 }
 
 /// A form as it starts.
@@ -34,15 +55,9 @@ pub fn started(alloc: Global, behaviour: &Behaviour, next: u64) -> Result<Begun,
     ensures { IfOk result (λ b. begun_view b ≡ spec.start (behaviour_view behaviour.now) next) }
 {
     match behaviour {
-        Behaviour::Nothing => Ok(Begun {
-            form: Term::Done,
-            next,
-        }),
+        Behaviour::Nothing => begun_done(alloc, next),
         Behaviour::Sequence(list) => started_head(alloc, list, next),
-        _ => Ok(Begun {
-            form: Term::Place(behaviour.copied()?),
-            next,
-        }),
+        _ => begun_place(alloc, behaviour, next),
     }
 }
 
@@ -52,10 +67,7 @@ fn started_head(alloc: Global, list: &[Behaviour], next: u64) -> Result<Begun, A
     ensures { IfOk result (λ b. begun_view b ≡ spec.start_head (procs_of (map behaviour_view list.now)) next) }
 {
     match list {
-        [] => Ok(Begun {
-            form: Term::Done,
-            next,
-        }),
+        [] => begun_done(alloc, next),
         [head, rest @ ..] => {
             let Begun { form, next } = started(alloc, head, next)?;
             let rest = Rest::of_copies(alloc, rest)?;
@@ -74,15 +86,9 @@ pub fn begin(alloc: Global, behaviour: &Behaviour, next: u64) -> Result<Begun, A
     ensures { IfOk result (λ b. begun_view b ≡ spec.begin (behaviour_view behaviour.now) next) }
 {
     match behaviour {
-        Behaviour::Nothing => Ok(Begun {
-            form: Term::Done,
-            next,
-        }),
+        Behaviour::Nothing => begun_done(alloc, next),
         Behaviour::Sequence(list) => begin_rest(alloc, list, next),
-        _ => Ok(Begun {
-            form: Term::Place(behaviour.copied()?),
-            next,
-        }),
+        _ => begun_place(alloc, behaviour, next),
     }
 }
 
@@ -94,21 +100,16 @@ fn begin_rest(alloc: Global, list: &[Behaviour], next: u64) -> Result<Begun, All
     let mut after = next;
     for i in 0..list.len() {
         let Begun { form, next } = begin(alloc, &list[i], after)?;
-        match form {
-            Term::Done => after = next,
-            form => {
-                let rest = Rest::of_copies(alloc, &list[i + 1..])?;
-                return Ok(Begun {
-                    form: in_sequence(alloc, form, rest)?,
-                    next,
-                });
-            }
+        if !form.is_done() {
+            let rest = Rest::of_copies(alloc, &list[i + 1..])?;
+            return Ok(Begun {
+                form: in_sequence(alloc, form, rest)?,
+                next,
+            });
         }
+        after = next;
     }
-    Ok(Begun {
-        form: Term::Done,
-        next: after,
-    })
+    begun_done(alloc, after)
 }
 
 /// The first of what is left begins, and the next where it is done at once.
@@ -127,14 +128,11 @@ pub fn begin_next(alloc: Global, rest: Rest, next: u64) -> Result<Begun, AllocEr
         }
         after = next;
     }
-    Ok(Begun {
-        form: Term::Done,
-        next: after,
-    })
+    begun_done(alloc, after)
 }
 
 /// Two behaviours begin in sequence.
-#[tactic(auto, using(crate::proofs::Begins::begin_sequence, crate::proofs::Begins::begin_one))]
+#[tactic(auto, using(crate::proofs::Begins::both_go_on, crate::proofs::Begins::both_stop))]
 pub fn begin_both(
     alloc: Global,
     first: &Behaviour,
@@ -144,14 +142,12 @@ pub fn begin_both(
     ensures { IfOk result (λ b. begun_view b ≡ spec.begin (sequence (proc (behaviour_view first.now) (proc (behaviour_view second.now) no_procs))) next) }
 {
     let Begun { form, next } = begin(alloc, first, next)?;
-    match form {
-        Term::Done => begin(alloc, second, next),
-        form => {
-            let rest = Rest::of_one(alloc, second)?;
-            Ok(Begun {
-                form: in_sequence(alloc, form, rest)?,
-                next,
-            })
-        }
+    if form.is_done() {
+        return begin(alloc, second, next);
     }
+    let rest = Rest::of_one(alloc, second)?;
+    Ok(Begun {
+        form: in_sequence(alloc, form, rest)?,
+        next,
+    })
 }

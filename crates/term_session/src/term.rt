@@ -19,7 +19,7 @@ pub enum ScopeState {
 #[derive(Drop)]
 pub enum Term {
     Done,
-    Place(Behaviour),
+    Place(Box<Behaviour>),
     Thrown {
         fault: u32,
         value: Tree,
@@ -62,50 +62,90 @@ impl Term {
         }
     }
 
-    pub fn copied(&self, alloc: Global) -> Result<Term, AllocError>
-        ensures { IfOk result (λ t. term_view t ≡ term_view self.now) }
+    pub fn copied(&self, alloc: Global) -> Result<Box<Term>, AllocError>
+        ensures { IfOk result (λ t. term_view t.value ≡ term_view self.now) }
     {
         match self {
-            Term::Done => Ok(Term::Done),
-            Term::Place(place) => Ok(Term::Place(place.copied()?)),
-            Term::Thrown { fault, value } => Ok(Term::Thrown {
-                fault: *fault,
-                value: value.copied()?,
-            }),
-            Term::Seq(head, rest) => Ok(Term::Seq(
-                Box::new(alloc, head.copied(alloc)?)?,
-                rest.again()?,
-            )),
-            Term::Scope { name, body, state } => Ok(Term::Scope {
-                name: *name,
-                body: Box::new(alloc, body.copied(alloc)?)?,
-                state: *state,
-            }),
+            Term::Done => boxed(alloc, Term::Done),
+            Term::Place(place) => {
+                let place = Box::new(alloc, place.copied()?)?;
+                boxed(alloc, Term::Place(place))
+            }
+            Term::Thrown { fault, value } => {
+                let value = value.copied()?;
+                boxed(
+                    alloc,
+                    Term::Thrown {
+                        fault: *fault,
+                        value,
+                    },
+                )
+            }
+            Term::Seq(head, rest) => {
+                let rest = rest.again()?;
+                let head = head.copied(alloc)?;
+                boxed(alloc, Term::Seq(head, rest))
+            }
+            Term::Scope { name, body, state } => {
+                let body = body.copied(alloc)?;
+                boxed(
+                    alloc,
+                    Term::Scope {
+                        name: *name,
+                        body,
+                        state: *state,
+                    },
+                )
+            }
             Term::Exec {
                 message,
                 op,
                 path,
                 body,
-            } => Ok(Term::Exec {
-                message: *message,
-                op: *op,
-                path: copied_path(path)?,
-                body: Box::new(alloc, body.copied(alloc)?)?,
-            }),
+            } => {
+                let path = copied_path(path)?;
+                let body = body.copied(alloc)?;
+                boxed(
+                    alloc,
+                    Term::Exec {
+                        message: *message,
+                        op: *op,
+                        path,
+                        body,
+                    },
+                )
+            }
             Term::Fail {
                 message,
                 fault,
                 value,
                 body,
-            } => Ok(Term::Fail {
-                message: *message,
-                fault: *fault,
-                value: value.copied()?,
-                body: Box::new(alloc, body.copied(alloc)?)?,
-            }),
-            Term::Prot(body) => Ok(Term::Prot(Box::new(alloc, body.copied(alloc)?)?)),
+            } => {
+                let value = value.copied()?;
+                let body = body.copied(alloc)?;
+                boxed(
+                    alloc,
+                    Term::Fail {
+                        message: *message,
+                        fault: *fault,
+                        value,
+                        body,
+                    },
+                )
+            }
+            Term::Prot(body) => {
+                let body = body.copied(alloc)?;
+                boxed(alloc, Term::Prot(body))
+            }
         }
     }
+}
+
+/// A form on the heap.
+pub fn boxed(alloc: Global, form: Term) -> Result<Box<Term>, AllocError>
+    ensures { IfOk result (λ b. b.value ≡ form) }
+{
+    Ok(Box::new(alloc, form)?)
 }
 
 /// Copies of behaviours, in order.

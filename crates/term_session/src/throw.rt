@@ -1,10 +1,11 @@
 ghost use Rattle.std.specs.Prelude.{◌≡◌, ℕ, IfOk};
 ghost use Rattle.jolie_trees.specs.Data.{Tree as Plain};
 ghost use Rattle.behaviour_tree.specs.Tables.{empty};
+ghost use Rattle.behaviour_tree.specs.Terms.{fail, prot};
 ghost use Rattle.behaviour_tree.specs.Throw as spec;
 ghost use Rattle.term_session.specs.View.{carried_view, state_view, strands_of, term_view};
 
-use crate::term::{ScopeState, Term};
+use crate::term::{ScopeState, Term, boxed};
 use jolie_trees::Tree;
 use std::alloc::{AllocError, Global};
 
@@ -12,7 +13,7 @@ use std::alloc::{AllocError, Global};
 /// blocks it, or its strand has no place there. No scope has a handler yet, so none catches it.
 #[derive(Drop)]
 pub enum Carried {
-    Up(Term),
+    Up(Box<Term>),
     Blocked(u64),
     Absent,
 }
@@ -50,7 +51,7 @@ pub fn thrown(
     match term {
         Term::Place(_) | Term::Thrown { .. } => {
             if own == strand {
-                Ok(Carried::Up(Term::Done))
+                up(alloc, Term::Done)
             } else {
                 Ok(Carried::Absent)
             }
@@ -64,24 +65,44 @@ pub fn thrown(
         }
         Term::Exec { message, body, .. } => {
             match thrown(alloc, own, body, strand, fault, value)? {
-                Carried::Up(left) => {
-                    let fail = Term::Fail {
-                        message: *message,
-                        fault,
-                        value: value.copied()?,
-                        body: Box::new(alloc, left)?,
-                    };
-                    Ok(Carried::Up(Term::Prot(Box::new(alloc, fail)?)))
-                }
+                Carried::Up(body) => failed(alloc, *message, fault, value, body),
                 carried => Ok(carried),
             }
         }
         Term::Prot(body) => match thrown(alloc, own, body, strand, fault, value)? {
-            Carried::Up(left) => Ok(Carried::Up(Term::Prot(Box::new(alloc, left)?))),
+            Carried::Up(left) => up(alloc, Term::Prot(left)),
             carried => Ok(carried),
         },
         Term::Done | Term::Fail { .. } => Ok(Carried::Absent),
     }
+}
+
+/// A fault goes on upward with what a form is then.
+fn up(alloc: Global, form: Term) -> Result<Carried, AllocError>
+    ensures { IfOk result (λ c. carried_view c ≡ spec.up (term_view form)) }
+{
+    Ok(Carried::Up(boxed(alloc, form)?))
+}
+
+/// A fault goes on upward from a request, which fails.
+fn failed(
+    alloc: Global,
+    message: u32,
+    fault: u32,
+    value: &Tree,
+    body: Box<Term>,
+) -> Result<Carried, AllocError>
+    ensures { IfOk result (λ c. carried_view c ≡ spec.up (prot (fail message fault value.now (term_view body.value)))) }
+{
+    let value = value.copied()?;
+    let fail = Term::Fail {
+        message,
+        fault,
+        value,
+        body,
+    };
+    let fail = boxed(alloc, fail)?;
+    up(alloc, Term::Prot(fail))
 }
 
 /// A fault comes to a scope without handlers from its body.
@@ -89,10 +110,10 @@ fn at_scope(
     alloc: Global,
     ready: Option<u64>,
     name: u32,
-    body: Term,
+    body: Box<Term>,
     state: ScopeState,
 ) -> Result<Carried, AllocError>
-    ensures { IfOk result (λ c. (f : ℕ) (v : Plain) → carried_view c ≡ spec.reaches (strands_of ready) name (term_view body) empty (state_view state) f v) }
+    ensures { IfOk result (λ c. (f : ℕ) (v : Plain) → carried_view c ≡ spec.reaches (strands_of ready) name (term_view body.value) empty (state_view state) f v) }
 {
     if let Some(strand) = ready {
         return Ok(Carried::Blocked(strand));
@@ -101,10 +122,11 @@ fn at_scope(
         ScopeState::Live => {
             let zombie = Term::Scope {
                 name,
-                body: Box::new(alloc, body)?,
+                body,
                 state: ScopeState::Zombie,
             };
-            Ok(Carried::Up(Term::Prot(Box::new(alloc, zombie)?)))
+            let zombie = boxed(alloc, zombie)?;
+            up(alloc, Term::Prot(zombie))
         }
         ScopeState::Zombie => Ok(Carried::Absent),
     }

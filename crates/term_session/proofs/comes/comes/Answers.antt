@@ -12,14 +12,14 @@ pub loop-i-preserved : goal.loop-i-preserved
 loop-i-preserved c =
     let ops = spec.ops_of (branches_of (map branch_view c.args.list.now)) in
     let other : (branch_view c.index-list-i.result).op ≡ c.args.op → ⊥ = λ e. c.if-branch-op.false (branch_op c.index-list-i.result ∙ e) in
-    passes_branch c.args.strand c.args.message c.args.op c.args.value.now ops c.args.moment.now.next c.args.moment.now.store c.args.list.now c.loop-i.i c.index-list-i.result c.loop-i-test.true c.index-list-i.is other
+    passes_branch c.args.strand c.args.message c.args.op c.args.value.now ops c.args.config.now.next c.args.config.now.store c.args.list.now c.loop-i.i c.index-list-i.result c.loop-i-test.true c.index-list-i.is other
     ∙ c.loop-i.invariant
 
 pub returns-then-branch-op : goal.returns-then-branch-op
 returns-then-branch-op c =
     let all = branches_of (map branch_view c.args.list.now) in
     let ops = spec.ops_of all in
-    let m = c.args.moment.now in
+    let m = c.args.config.now in
     let b = branch_view c.index-list-i.result in
     let place : c.in_ok-map_err.field-0 ≡ c.loop-i.i = search rules in
     let its : b.op ≡ c.args.op = sym (branch_op c.index-list-i.result) ∙ c.if-branch-op.true in

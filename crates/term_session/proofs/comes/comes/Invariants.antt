@@ -5,4 +5,4 @@ use Rattle.term_session.proofs.Branches.{rest_from}
 use Rattle.term_session.proofs.comes.comes.Given as goal
 
 abbrev pub invariant-loop-i : goal.invariant-loop-i
-invariant-loop-i l = comes l.strand l.message l.op l.value (ops_of (branches_of (map branch_view l.list))) l.moment.next l.moment.store l.i (rest_from l.list l.i) ≡ comes l.strand l.message l.op l.value (ops_of (branches_of (map branch_view l.list))) l.moment.next l.moment.store 0 (branches_of (map branch_view l.list))
+invariant-loop-i l = comes l.strand l.message l.op l.value (ops_of (branches_of (map branch_view l.list))) l.config.next l.config.store l.i (rest_from l.list l.i) ≡ comes l.strand l.message l.op l.value (ops_of (branches_of (map branch_view l.list))) l.config.next l.config.store 0 (branches_of (map branch_view l.list))

@@ -10,18 +10,18 @@ use Rattle.term_session.specs.View.{begun_view, term_view}
 use Rattle.term_session.proofs.Arrivals.{reply_path, reply_body, branch_after, taken, request_faults, request_stores}
 use Rattle.term_session.proofs.comes.comes_request.Goals as goal
 
-pub returns-in_ok-copied-in-Faults : goal.returns-in_ok-copied-in-Faults
-returns-in_ok-copied-in-Faults c =
+pub returns-in_ok-store-in-Faults : goal.returns-in_ok-store-in-Faults
+returns-in_ok-store-in-Faults c =
     let a = c.args.arrival in
     let r = reply_view c.args.reply.now in
     let after = (branch_view c.args.branch.now).after in
     let path = reply_path c.args.reply.now in
     let rest = branch_after c.args.branch.now in
     let effect : effect_view c.args.effect ≡ spec.faults c.in-Faults.fault = search rules in
-    let form : term_view c.in_ok-form-in-Faults.form ≡ seq (exec a.message a.op r.path (spec.instead c.in-Faults.fault)) (proc after no_procs) =
-    c.in_ok-form-in-Faults.ensures ∙ rw (path, rest, c.instead-body.ensures) in
-    let kept : c.made.result ≡ taken a.strand a.message a.place a.ops c.args.moment.now.store c.args.moment.now.next = c.made.ensures ∙ rw c.in_ok-copied-in-Faults.ensures in
-    request_faults a.strand a.message a.place a.ops c.args.moment.now.next c.args.moment.now.store a.op r.path r.body after (effect_view c.args.effect) c.in-Faults.fault (term_view c.in_ok-form-in-Faults.form) c.made.result effect form kept
+    let form : term_view c.in_ok-form-in-Faults.form.value ≡ seq (exec a.message a.op r.path (spec.instead c.in-Faults.fault)) (proc after no_procs) =
+    c.in_ok-form-in-Faults.ensures ∙ rw (path, rest, c.in_ok-body-in-Faults.ensures) in
+    let kept : c.made.result ≡ taken a.strand a.message a.place a.ops c.args.config.now.store c.args.config.now.next = c.made.ensures ∙ rw c.in_ok-store-in-Faults.ensures in
+    request_faults a.strand a.message a.place a.ops c.args.config.now.next c.args.config.now.store a.op r.path r.body after (effect_view c.args.effect) c.in-Faults.fault (term_view c.in_ok-form-in-Faults.form.value) c.made.result effect form kept
 
 pub returns-in_ok-form-in-Stores-2 : goal.returns-in_ok-form-in-Stores-2
 returns-in_ok-form-in-Stores-2 c =
@@ -32,7 +32,7 @@ returns-in_ok-form-in-Stores-2 c =
     let body = reply_body c.args.reply.now in
     let rest = branch_after c.args.branch.now in
     let effect : effect_view c.args.effect ≡ spec.stores c.in-Stores.store = search rules in
-    let begun : begun_view c.in_ok-form-in-Stores.field-0 ≡ start r.body c.args.moment.now.next = c.in_ok-form-in-Stores.ensures ∙ ap (λ p. start p c.args.moment.now.next) body in
-    let form : term_view c.in_ok-form-in-Stores-2.form ≡ seq (exec a.message a.op r.path (begun_view c.in_ok-form-in-Stores.field-0).form) (proc after no_procs) =
+    let begun : begun_view c.in_ok-form-in-Stores.field-0 ≡ start r.body c.args.config.now.next = c.in_ok-form-in-Stores.ensures ∙ ap (λ p. start p c.args.config.now.next) body in
+    let form : term_view c.in_ok-form-in-Stores-2.form.value ≡ seq (exec a.message a.op r.path (begun_view c.in_ok-form-in-Stores.field-0).form) (proc after no_procs) =
     c.in_ok-form-in-Stores-2.ensures ∙ rw (path, rest) in
-    request_stores a.strand a.message a.place a.ops c.args.moment.now.next c.args.moment.now.store a.op r.path r.body after (effect_view c.args.effect) c.in-Stores.store (begun_view c.in_ok-form-in-Stores.field-0) (term_view c.in_ok-form-in-Stores-2.form) c.made-in-Stores.result effect begun form c.made-in-Stores.ensures
+    request_stores a.strand a.message a.place a.ops c.args.config.now.next c.args.config.now.store a.op r.path r.body after (effect_view c.args.effect) c.in-Stores.store (begun_view c.in_ok-form-in-Stores.field-0) (term_view c.in_ok-form-in-Stores-2.form.value) c.made-in-Stores.result effect begun form c.made-in-Stores.ensures

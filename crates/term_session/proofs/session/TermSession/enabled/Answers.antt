@@ -3,7 +3,7 @@ use Rattle.std.proofs.Common.{◌≡◌, ℕ, Some, None, Option, List, [], ◌�
 use Rattle.std.specs.Prelude.{Contains, ◌↔◌, IfOk, IfSome, Ok}
 use Rattle.behaviour_tree.specs.After.{Config, HasEvent}
 use Rattle.behaviour_tree.specs.PartsView.{parts_of}
-use Rattle.term_session.specs.Moves.{moment_view}
+use Rattle.term_session.specs.Moves.{config_view}
 use Rattle.term_session.specs.Needs.{needed}
 use Rattle.term_session.specs.Sessions.{config_of, service_of}
 use Rattle.term_session.proofs.Enabled.{one_enabled, none_enabled}
@@ -14,7 +14,7 @@ pub returns-clause-exact : goal.returns-clause-exact
 returns-clause-exact c =
     let parts = parts_of c.args.program.now in
     let service = service_of c.args.self.now in
-    let here = moment_view c.in-Some.moment in
+    let here = config_view c.in-Some.config in
     let at : config_of c.args.self.now ≡ Some here = search rules in
     let Exact : List ℕ → Option Config → Type 0 = λ strands k. IfSome k (λ c'. (n : ℕ) → Contains strands n ↔ HasEvent parts service c' n) in
     elim c.match-branch-2.branch [

@@ -5,9 +5,9 @@ use std::alloc::Global;
 
 /// What a session is at a moment.
 #[derive(Drop)]
-pub struct Moment {
+pub struct Config {
     pub alloc: Global,
-    pub form: Term,
+    pub form: Box<Term>,
     pub store: Tree,
     pub next: u64,
     pub call: u32,
@@ -26,14 +26,14 @@ pub struct Made {
 /// What an event makes of a form, before normal form.
 #[derive(Drop)]
 pub struct Move {
-    pub form: Term,
+    pub form: Box<Term>,
     pub made: Made,
 }
 
 /// An event done: what the session is after it, the event, and what it asks for.
 #[derive(Drop)]
 pub struct Done {
-    pub moment: Moment,
+    pub config: Config,
     pub event: Event,
     pub need: Need,
 }
