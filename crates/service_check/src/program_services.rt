@@ -1,6 +1,9 @@
 ghost use Rattle.std.specs.Prelude.{◌≡◌, ◌++◌, ◌∷◌, map, IfOk, OnOk};
 ghost use Rattle.std.specs.List.{filter_map};
-ghost use Rattle.std.specs.Option.{option_to_list};
+ghost use Rattle.std.specs.Option.{option_copied, option_to_list};
+ghost use Rattle.behaviour_tree.specs.View.{behaviour_view};
+ghost use Rattle.process_lowering.specs.Behaviours.{lowered_if_there};
+ghost use Rattle.process_lowering.specs.Numbers.{numbering_of};
 ghost use Rattle.behaviour_tree.specs.PartsView.{alias_view, port_view, service_view, set_view, variable_view};
 ghost use Rattle.check_base.specs.Files.{place_in, service_in, services_of, set_in};
 ghost use Rattle.service_check.specs.KeptPorts.{said_execution, sided, texts_in};
@@ -8,11 +11,11 @@ ghost use Rattle.service_check.specs.Programs.{lowered_alias, lowered_execution,
 
 use crate::service_numbers::numbers_of;
 use crate::sides::{SidedPort, ports_of};
-use behaviour_tree::{Alias, CorrelationSet, Execution, Port, Service, SetVariable};
+use behaviour_tree::{Alias, Behaviour, CorrelationSet, Execution, Port, Service, SetVariable};
 use check_base::{Interfaces, Names, init_of, main_of, number, said_execution, service_in, set_in};
-use jolie_ast::{Clause, CorrelationVariable, Definition, Name};
+use jolie_ast::{Block, Clause, CorrelationVariable, Definition, Name};
 use jolie_trees::Text;
-use process_lowering::lowered_if_there;
+use process_lowering::{Numbers, lowered_if_there};
 use std::alloc::{AllocError, Global};
 
 /// The services of a file, in order.
@@ -65,16 +68,32 @@ fn lowered_service<'a>(
     let clauses = service.clauses.as_slice();
     let sides = ports_of(alloc, clauses)?;
     let numbers = numbers_of(alloc, service, sides.as_slice(), interfaces)?;
-    let init = lowered_if_there(alloc, init_of(clauses), &numbers, names)?;
+    let name = service.name.text.copied()?;
+    let ports = lowered_ports(alloc, sides.as_slice(), interfaces.names())?;
+    let sets = lowered_sets(alloc, clauses, types)?;
+    let init = boxed_if_there(alloc, init_of(clauses), &numbers, names)?;
     let main = lowered_if_there(alloc, main_of(clauses), &numbers, names)?;
     Ok(Service {
-        name: service.name.text.copied()?,
+        name,
         execution: execution_of(clauses),
-        ports: lowered_ports(alloc, sides.as_slice(), interfaces.names())?,
-        sets: lowered_sets(alloc, clauses, types)?,
-        init,
+        ports,
+        sets,
+        init: Box::into_inner(init),
         main,
     })
+}
+
+/// The behaviour of a block that may be missing.
+fn boxed_if_there(
+    alloc: Global,
+    block: Option<&Block>,
+    numbers: &Numbers<'_>,
+    names: &Names<'_>,
+) -> Result<Box<Behaviour>, AllocError>
+    ensures { IfOk result (λ b. behaviour_view b.value ≡ lowered_if_there (numbering_of numbers.now names.now) (option_copied block.entry)) }
+{
+    let behaviour = lowered_if_there(alloc, block, numbers, names)?;
+    Ok(Box::new(alloc, behaviour)?)
 }
 
 // ---- clauses
