@@ -1,0 +1,11 @@
+mod Absent
+mod Asks
+mod Counting
+mod Endings
+mod Histories
+mod Kept
+mod Options
+mod Steps
+mod Unblocked
+mod Upward
+mod Waits

@@ -1,0 +1,6 @@
+//! The calculus in definitions: how a behaviour begins, what each event of a session makes of it, and what holds of every run.
+#![tactic(auto)]
+
+mod laws;
+
+pub use laws::runs_keep_their_promises;
