@@ -1,0 +1,5 @@
+pub mod Fills
+pub mod Places
+pub mod Sums
+pub mod Takes
+pub mod Views
