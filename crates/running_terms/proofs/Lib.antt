@@ -1,0 +1,9 @@
+pub mod Begins
+pub mod Held
+pub mod Lists
+pub mod Members
+pub mod NormalForms
+pub mod Rising
+pub mod Sequences
+pub mod Settled
+pub mod Weights

@@ -1,0 +1,20 @@
+-- What a fault does to a form by its outermost shape.
+use Rattle.std.specs.Prelude.{Bool, true, false}
+use Rattle.calculus.specs.Terms.{Fault, Term, done, place, thrown, seq, par, in_scope, exec, fail, wait, dead_wait, prot, State, live, caught, term, last, zombie}
+
+-- a killed scope with this body and in this state is to run its termination handler
+abbrev pub terminates : Term → State → Bool
+terminates done live = false
+terminates t live = true
+terminates t (caught g) = true
+terminates t u = false
+
+-- the body of a request becomes a failed request; any other form stays
+abbrev pub failed : Fault → Term → Term
+failed f (exec m o y t) = fail m f t
+failed f t = t
+
+-- a call that waits goes on for its handlers alone; any other form stays
+abbrev pub unanswered : Term → Term
+unanswered (wait k port op x list) = dead_wait k port op list
+unanswered t = t
