@@ -1,21 +1,21 @@
 -- What fields say, one after another, and what the rules make of it.
-use Rattle.std.proofs.Common.{◌≡◌, ℕ, ◌<◌, ◌≤◌, min, Bool, true, false, not, cond, ◌&&◌, ◌||◌, eqb, ltb, List, [], ◌∷◌, ◌++◌, length, sym, refl, ap, ◌∙◌, arith, inl, inr}
-use Rattle.std.specs.Prelude.{codes, flat_map, bytes_eq, count_by}
-use Rattle.std.specs.List.{list_all, list_any}
+use Rattle.std.proofs.Common.{◌≡◌, ℕ, min, Bool, true, false, not, cond, ◌&&◌, ◌||◌, eqb, ltb, List, [], ◌∷◌, ◌++◌, length, sym, refl, ap, ◌∙◌, arith, inl, inr}
+use Rattle.std.specs.Prelude.{codes, bytes_eq, count_by}
+use Rattle.std.specs.List.{list_all}
 use Rattle.std.specs.Str.Parse.{digits_value}
 use Rattle.std.proofs.lemmas.List.{append-nil}
 use Rattle.std.proofs.lemmas.Grind.{flat_map-append}
-use Rattle.std.proofs.lemmas.Bool.{lt-ltb, le-ltb, ne_eqb, cases_lt}
+use Rattle.std.proofs.lemmas.Bool.{lt-ltb, ne_eqb, cases_lt}
 use Rattle.std.proofs.lemmas.Bool.Decides.{nat_tests}
 use Rattle.http1.proofs.TextLemmas.{list_any-append}
-use Rattle.http1.specs.Fields.{Header, is_named, values_named, elements_named, has_option, known_fields}
+use Rattle.http1.specs.Fields.{Header, is_named, elements_named, has_option, known_fields}
 use Rattle.http_port.specs.declared.fields.Stated.{Stated}
 use Rattle.http_port.specs.declared.fields.Stated.TheVariants.{Nothing, Length, Unclear}
 use Rattle.http_port.specs.declared.fields.Framing.{Framing}
 use Rattle.http_port.specs.declared.verdict.Verdict.{Verdict}
 use Rattle.http_port.specs.declared.verdict.Verdict.TheVariants.{Refuses, Admits}
 use Rattle.http_port.specs.Framing.{is_digits, lengths_in, is_coded}
-use Rattle.http_port.specs.Walks.{stated_by, stated, stated_after, framing_of, is_unclear_by, is_unclear, wishes_of}
+use Rattle.http_port.specs.Walks.{stated, stated_after, framing_of, is_unclear_by, is_unclear, wishes_of}
 use Rattle.http_port.specs.Rules.{Head, lacks_host, admission, verdict_by_length, verdict_of}
 
 -- one more value

@@ -2,7 +2,6 @@
 use Rattle.std.proofs.Common.{◌≡◌, ℕ, ◌≤◌, Bool, true, false, not, cond, ◌&&◌, ltb, List, ◌++◌, length, take, Some, None, sym, refl, ap, ◌∙◌, subst, arith}
 use Rattle.std.specs.Prelude.{Option}
 use Rattle.std.proofs.Props.{props}
-use Rattle.std.proofs.Math.Logic.{∥∥₁_map, ∥∥₁_elim}
 use Rattle.std.proofs.lemmas.List.{take-append-le, take-take, length-take}
 use Rattle.http_port.specs.declared.scan.Scan.{Scan}
 use Rattle.http_port.specs.declared.verdict.Admission.{Admission}
@@ -12,8 +11,8 @@ use Rattle.http_port.specs.declared.head_reader.Fed.{Fed}
 use Rattle.http_port.specs.declared.head_reader.Fed.TheVariants.{NotYet, Interim, Refused}
 use Rattle.http_port.specs.HeadPart.{longest_head, head_part, HoldsScan}
 use Rattle.http_port.specs.Rules.{JudgesPart, JudgesBy, Judges}
-use Rattle.http_port.specs.Feeding.{Place, Open, Over, next_in_body, next, Gives}
-use Rattle.http_port.proofs.PartLemmas.{head_part_grows, head_part_within, take_min}
+use Rattle.http_port.specs.Feeding.{Place, Open, Over, next_in_body, Gives}
+use Rattle.http_port.proofs.PartLemmas.{head_part_grows, head_part_within}
 
 pub HoldsScan-prop : (bytes : List ℕ) (scan : Scan) → IsProp (HoldsScan bytes scan)
 HoldsScan-prop bytes scan = hlevel props

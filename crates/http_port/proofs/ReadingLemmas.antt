@@ -11,9 +11,12 @@ use Rattle.http_port.specs.declared.verdict.Verdict.{Verdict}
 use Rattle.http_port.specs.declared.verdict.Verdict.TheVariants.{Pending, Refuses, Admits}
 use Rattle.http_port.specs.declared.head_reader.Fed.{Fed}
 use Rattle.http_port.specs.declared.head_reader.Fed.TheVariants.{NotYet, Interim, Request, Refused}
+use Rattle.http_port.specs.declared.head_reader.Stage.{Stage}
+use Rattle.http_port.specs.declared.head_reader.Stage.TheVariants as Waits
 use Rattle.http_port.specs.HeadPart.{lines, part_length, longest_head, head_part}
 use Rattle.http_port.specs.Rules.{head_of, verdict_of, JudgesPart, JudgesBy, Judges}
-use Rattle.http_port.specs.Feeding.{Place, Open, Over, Spent, body_of, behind, next_in_body, next, Gives, Feeds}
+use Rattle.http_port.specs.Feeding.{Place, Open, Over, Spent, body_of, behind, next_in_body, next, Gives, Feeds, place_of, StageHolds}
+use Rattle.http_port.specs.Walks.{Asks, AsksWhereGiven}
 use Rattle.http_port.specs.Connections.{Reading, waits, refuses, lacks, closes, goes_on, given_first, given, Run, without_waits}
 use Rattle.http_port.proofs.PartLemmas.{head_part_grows, head_part_within}
 use Rattle.http_port.proofs.JudgeLemmas.{admits_grows}
@@ -42,10 +45,6 @@ same_status s t e = cc
 -- what is still to come of what was given, where the interim line of the first head was
 abbrev pub still : Bool → List Fed → List Fed
 still asked fs = cond asked (drop 1 fs) fs
-
--- the first head is admitted and asks for the interim line
-abbrev pub Asks : List ℕ → Type 0
-Asks bytes = (a : Admission) × Judges bytes (Admits a) × (a.interim ≡ true)
 
 -- from this place, with more bytes to come, a reader gives these
 abbrev pub Went : Place → List ℕ → List Fed → Type 0
@@ -196,11 +195,11 @@ comes b more asked (Admits a) j asks r = by_tests a.interim asked refl refl
         let i = ap (λ (y : Admission). y.interim) same in let yes = x.2 in absurd (cc)
     by_tests false false e f = comes_in_body b more a _ j r tail (seen false false e f)
 
-asks_grow : (left piece : List ℕ) → Asks left → Asks (left ++ piece)
+pub asks_grow : (left piece : List ℕ) → Asks left → Asks (left ++ piece)
 asks_grow left piece x = (x.0, admits_grows left piece x.0 x.1, x.2)
 
 -- one call, from any place
-step : (old : Place) (piece more : List ℕ) (fed : Fed) (mid : Place) (fs : List Fed) → Feeds old piece fed mid → Went old (piece ++ more) fs
+pub step : (old : Place) (piece more : List ℕ) (fed : Fed) (mid : Place) (fs : List Fed) → Feeds old piece fed mid → Went old (piece ++ more) fs
     → ∥ Comes more fs (fed, mid) ∥₁
 step (Open left asked) piece more fed mid fs feeds went = ∥∥₁_map feeds given_so
   where
@@ -228,7 +227,7 @@ without_waits-cons (Refused status) feds = refl
 abbrev pub ComesOf : List ℕ → List Fed → List Fed → Place → Type 0
 ComesOf more fs feds new = (gs : List Fed) × (fs ≡ without_waits feds ++ gs) × Went new more gs
 
-run_goes : (old : Place) (pieces : List (List ℕ)) (feds : List Fed) (new : Place) (more : List ℕ) (fs : List Fed)
+pub run_goes : (old : Place) (pieces : List (List ℕ)) (feds : List Fed) (new : Place) (more : List ℕ) (fs : List Fed)
     → Run old pieces feds new → Went old (concat pieces ++ more) fs → ∥ ComesOf more fs feds new ∥₁
 run_goes old [] [] new more fs run went = ∣ (fs, refl, subst (λ p. Went p more fs) (sym run) went) ∣₁
 run_goes old [] (fed ∷ feds) new more fs run went = absurd run
@@ -277,7 +276,7 @@ quiet_next b asked (Admits a) mid gs j e went = by_test (a.interim && not asked)
     by_test true is = let f = ap (λ x. x.0) is in absurd (cc)
     by_test false is = quiet_in_body b a mid gs j is went
 
-quiet : (old : Place) (piece : List ℕ) (mid : Place) (gs : List Fed) → Feeds old piece NotYet mid → Went mid [] gs → ∥ (gs ≡ []) ∥₁
+pub quiet : (old : Place) (piece : List ℕ) (mid : Place) (gs : List Fed) → Feeds old piece NotYet mid → Went mid [] gs → ∥ (gs ≡ []) ∥₁
 quiet (Open left asked) piece mid gs feeds went = ∥∥₁_map feeds (λ g. quiet_next (left ++ piece) asked g.0 mid gs g.1 g.2 went)
 quiet Over piece mid gs feeds went = ∣ subst (λ p. Went p [] gs) feeds.1 went ∣₁
 quiet Spent piece mid gs feeds went = absurd feeds
@@ -290,3 +289,10 @@ gives_all pieces feds mid place piece run feeds reading =
     (λ x. ∥∥₁_elim (step mid piece [] NotYet place x.0 feeds (subst (λ l. Went mid l x.0) (sym (append-nil piece)) x.2)) ∥∥₁_prop
     (λ y. ∥∥₁_map (quiet mid piece place y.0 feeds y.2)
     (λ z. x.1 ∙ ap (λ gs. without_waits feds ++ gs) (y.1 ∙ z) ∙ append-nil (without_waits feds))))
+
+-- the interim line was given of a head that asks for it
+pub asks_where_given : (unread : List ℕ) (stage : Stage) → ∥ StageHolds unread stage ∥₁ → AsksWhereGiven (place_of unread stage)
+asks_where_given unread (Waits.Head scan) held = λ e. absurd (cc)
+asks_where_given unread (Waits.Body a) held = λ e. ∥∥₁_map held (λ judged. (a, judged, e))
+asks_where_given unread Waits.Over held = tt
+asks_where_given unread Waits.Spent held = tt

@@ -1,5 +1,5 @@
 -- What holds of every way in which the bytes of a connection come.
-use Rattle.std.specs.Prelude.{◌≡◌, List, [], ◌∷◌, ◌++◌, ℕ, false}
+use Rattle.std.specs.Prelude.{◌≡◌, List, [], ◌++◌, ℕ, false}
 use Rattle.std.specs.List.{concat}
 use Rattle.http_port.specs.Feeding.{Place, Open, Feeds}
 use Rattle.http_port.specs.Connections.{Reading, given, Run, without_waits}

@@ -7,3 +7,6 @@ pub mod Connections
 pub mod Responses
 pub mod Talk
 pub mod Laws
+pub mod Asking
+pub mod Serving
+pub mod Turns

@@ -1,6 +1,7 @@
 //! Requests out of the bytes of a connection.
 ghost use Rattle.std.specs.Prelude.{◌≡◌, [], false, IfOk, OnErr};
 ghost use Rattle.http_port.specs.Feeding.{Open, Spent, Feeds, Gives, place_of, next_in_body, StageHolds};
+ghost use Rattle.http_port.specs.Walks.{AsksWhereGiven};
 ghost use Rattle.http_port.specs.Rules.{Judges};
 ghost use Rattle.http_port.specs.declared.verdict.Verdict.TheVariants.{Admits};
 
@@ -83,6 +84,21 @@ impl HeadReader {
         let came = advance(self.alloc, &mut self.unread, stage, piece)?;
         self.stage = came.stage;
         Ok(came.fed)
+    }
+
+    /// Gives up for want of memory.
+    pub(crate) fn spend(&mut self)
+        ensures { self.new ≡ Spent }
+    {
+        self.stage = Stage::Spent;
+    }
+
+    /// An interim line was given of a head that asks for it alone.
+    #[tactic(auto, using(crate::proofs::ReadingLemmas::asks_where_given))]
+    pub(crate) fn asks_where_given(&self)
+        ensures { AsksWhereGiven self.now }
+    {
+        let _ = &self.stage;
     }
 }
 

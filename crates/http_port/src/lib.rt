@@ -7,10 +7,15 @@ mod head_reader;
 mod laws;
 mod response;
 mod scan;
+mod serve;
+mod serving;
 pub mod status;
+mod turn;
 mod unread;
 mod verdict;
 
 pub use head_reader::{Fed, HeadReader};
-pub use laws::cuts_do_not_matter;
+pub use laws::{cuts_do_not_matter, each_connection_has_a_reading};
 pub use response::response_bytes;
+pub use serve::{Said, Serve};
+pub use serving::{WireEnd, serve_wire};

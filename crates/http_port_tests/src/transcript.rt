@@ -63,7 +63,7 @@ fn write_byte(byte: u8, text: &mut String) -> Result<(), AllocError> {
     }
 }
 
-/// Whether the bytes bring the same in two pieces, wherever they are cut, and byte by byte with nothing between.
+/// Whether the bytes bring the same in two pieces, wherever they are cut, and byte by byte.
 pub(crate) fn is_same_in_pieces(
     alloc: Global,
     bytes: &[u8],
@@ -75,6 +75,15 @@ pub(crate) fn is_same_in_pieces(
             return Ok(false);
         }
     }
+    is_same_byte_by_byte(alloc, bytes, whole)
+}
+
+/// Whether the bytes bring the same byte by byte with nothing between.
+pub(crate) fn is_same_byte_by_byte(
+    alloc: Global,
+    bytes: &[u8],
+    whole: &str,
+) -> Result<bool, AllocError> {
     Ok(byte_by_byte(alloc, bytes)?.as_str() == whole)
 }
 

@@ -1,3 +1,4 @@
 pub mod Adapted
 pub mod Causes
 pub mod Memory
+pub mod Wires

@@ -4,16 +4,21 @@
 #![tactic(auto)]
 
 mod calm;
+mod calm_wire;
 mod errors;
 mod memory;
 mod script;
 mod scripted;
+mod scripted_wire;
 mod system;
+mod tape;
 mod traits;
 
 pub use calm::{CalmFiles, CalmSink, CalmSource};
+pub use calm_wire::CalmWire;
 pub use errors::{CallError, Failed};
 pub use script::Script;
 pub use scripted::{ScriptedFiles, ScriptedSink, ScriptedSource};
+pub use scripted_wire::ScriptedWire;
 pub use system::{Inputs, Outputs, Storage};
-pub use traits::{Files, Sink, Source};
+pub use traits::{Files, Sink, Source, Wire};

@@ -1,7 +1,7 @@
-ghost use Rattle.std.specs.Prelude.{◌≡◌, ◌<◌, ◌≤◌, List, ℕ, length, take, IfOk, IfSome};
+ghost use Rattle.std.specs.Prelude.{◌≡◌, ◌<◌, ◌≤◌, List, ℕ, Bool, true, length, take, Ok, IsTrue, IsErr, IfOk, IfSome};
 ghost use Rattle.std.specs.declared.option.Option.{Option};
 ghost use Rattle.std.specs.Io.{ReadsAtMost, WritesAtMost};
-ghost use Rattle.std.specs.Io.KnownBytes.{ReadConsumes, WriteAppends};
+ghost use Rattle.std.specs.Io.KnownBytes.{ReadConsumes, WriteAppends, IsAtEnd};
 ghost use Rattle.outside_traits.specs.Causes.{HasCause, HasCallCause};
 
 use crate::errors::{CallError, Failed};
@@ -51,4 +51,52 @@ pub trait Sink {
         ensures some { IfOk result (λ count. 0 < length from.now → 0 < count) }
         ensures bytes { WriteAppends (taken self.old) (taken self.new) result from.now }
         ensures cause { HasCause (faults self.old) (faults self.new) result };
+}
+
+/// A connection: bytes come in and go out on it, until it is closed. A closed wire answers a read as at the end of input, and a write with a failure.
+pub trait Wire {
+    /// The bytes that were read, where they are told.
+    ghost given: { Self → Option (List ℕ) };
+
+    /// The bytes that are left to read, where they are told: none of a closed wire.
+    ghost left: { Self → Option (List ℕ) };
+
+    /// The bytes that were written, where they are told.
+    ghost taken: { Self → Option (List ℕ) };
+
+    /// How often a call has failed.
+    ghost faults: { Self → ℕ };
+
+    /// Whether the wire is closed.
+    ghost closed: { Self → Bool };
+
+    /// The next bytes. With a buffer that is not empty, 0 comes at the end of input and only there.
+    fn read(&mut self, into: &mut [u8]) -> Result<usize, Failed>
+        ensures bound { ReadsAtMost result into.new }
+        ensures bytes { ReadConsumes (left self.old) (left self.new) result into.new }
+        // What was read grows by the bytes that this call gave.
+        ensures given { WriteAppends (given self.old) (given self.new) result into.new }
+        ensures taken { taken self.new ≡ taken self.old }
+        ensures closed { closed self.new ≡ closed self.old }
+        ensures shut { IsTrue (closed self.old) → result ≡ Ok 0 }
+        ensures cause { HasCause (faults self.old) (faults self.new) result };
+
+    /// Takes a front of the bytes.
+    fn write(&mut self, from: &[u8]) -> Result<usize, Failed>
+        ensures bound { WritesAtMost result from.now }
+        ensures some { IfOk result (λ count. 0 < length from.now → 0 < count) }
+        ensures bytes { WriteAppends (taken self.old) (taken self.new) result from.now }
+        ensures given { given self.new ≡ given self.old }
+        ensures left { left self.new ≡ left self.old }
+        ensures closed { closed self.new ≡ closed self.old }
+        ensures shut { IsTrue (closed self.old) → IsErr result }
+        ensures cause { HasCause (faults self.old) (faults self.new) result };
+
+    /// Closes the wire, which drops what is left to read.
+    fn close(&mut self)
+        ensures closed { closed self.new ≡ true }
+        ensures left { IsAtEnd (left self.new) }
+        ensures given { given self.new ≡ given self.old }
+        ensures taken { taken self.new ≡ taken self.old }
+        ensures faults { faults self.new ≡ faults self.old };
 }

@@ -10,6 +10,7 @@ pub struct Calls {
     counts: String,
     failed: String,
     bytes: String,
+    written: String,
 }
 
 impl Calls {
@@ -19,6 +20,7 @@ impl Calls {
             counts: String::new(alloc),
             failed: String::new(alloc),
             bytes: String::new(alloc),
+            written: String::new(alloc),
         }
     }
 
@@ -40,10 +42,17 @@ impl Calls {
         self.bytes.push_str(text.as_str())
     }
 
+    /// Bytes went the other way.
+    pub fn went(&mut self, bytes: &[u8]) -> Result<(), AllocError> {
+        let text = String::from_utf8_lossy(self.alloc, bytes)?;
+        self.written.push_str(text.as_str())
+    }
+
     pub fn aspect(&self, name: &str) -> &str {
         match name {
             "bytes" => self.bytes.as_str(),
             "counts" => self.counts.as_str(),
+            "written" => self.written.as_str(),
             _ => self.failed.as_str(),
         }
     }

@@ -1,10 +1,11 @@
-//! Sources, sinks and files, with what their calls give and which of them fail.
+//! Sources, sinks, wires and files, with what their calls give and which of them fail.
 #![tactic(auto)]
 
 mod calls;
 mod files;
 mod sinks;
 mod sources;
+mod wires;
 
 use crate::calls::Calls;
 use std::alloc::Global;
@@ -12,7 +13,7 @@ use std::io;
 use test_rows::{Report, Row, TableError, rows, tables};
 
 /// What a row may expect.
-const ASPECTS: [&str; 3] = ["bytes", "counts", "failed"];
+const ASPECTS: [&str; 4] = ["bytes", "counts", "failed", "written"];
 
 fn main(rt: HostRuntime) -> anyhow::Result<()> {
     let text = tables(&rt)?;
@@ -45,6 +46,7 @@ fn given(rt: &HostRuntime, row: &Row<'_>) -> Result<String, TableError> {
     match object.as_str() {
         "source" => sources::called(rt.alloc(), row, &mut calls)?,
         "sink" => sinks::called(rt.alloc(), row, &mut calls)?,
+        "wire" => wires::called(rt.alloc(), row, &mut calls)?,
         _ => files::called(rt, row, &mut calls)?,
     }
     let mut all = String::new(rt.alloc());

@@ -1,4 +1,4 @@
-use Rattle.std.proofs.Common.{◌≡◌, false, take, sym, subst, rules}
+use Rattle.std.proofs.Common.{◌≡◌, false, take, subst}
 use Rattle.std.proofs.lemmas.Result.{IfOk-weaker}
 use Rattle.http_port.specs.HeadPart.{longest_head, HoldsScan}
 use Rattle.http_port.specs.Rules.{Judges}

@@ -1,7 +1,7 @@
-use Rattle.std.proofs.Common.{◌≡◌, ◌++◌, ◌∙◌, ap}
+use Rattle.std.proofs.Common.{◌++◌, ◌∙◌, ap}
 use Rattle.std.specs.Prelude.{codes, ◌==◌}
 use Rattle.httparse.specs.Ascii.{crlf_bytes}
-use Rattle.http_port.specs.Responses.{status_line, line_if, length_line}
+use Rattle.http_port.specs.Responses.{line_if, length_line}
 use Rattle.http_port.proofs.response.head_of.Goals as goal
 
 pub returns : goal.returns

@@ -1,7 +1,6 @@
-use Rattle.std.proofs.Common.{◌≡◌, ap, ◌∙◌, map, refl}
+use Rattle.std.proofs.Common.{◌∙◌, map, refl}
 use Rattle.httparse.specs.Spans.{header_bytes}
 use Rattle.http1.specs.declared.fields.KnownFields.{KnownFields}
-use Rattle.http_port.specs.declared.verdict.Wishes.{Wishes}
 use Rattle.http_port.proofs.FieldLemmas.{wishes_of_later}
 use Rattle.std.specs.Prelude.{not, ◌==◌}
 use Rattle.http_port.proofs.verdict.Wishes.of.Goals as goal

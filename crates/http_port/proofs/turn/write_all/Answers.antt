@@ -1,0 +1,24 @@
+use Rattle.std.proofs.Common.{◌-◌, ◌≤◌, arith, sym, ap, subst, ◌∙◌, length, take, drop}
+use Rattle.std.proofs.lemmas.List.{length-drop, take_rest}
+use Rattle.std.proofs.Math.Seq.{take-add}
+use Rattle.std.specs.Io.KnownBytes.{Appends}
+use Rattle.std.proofs.KnownBytes.{Appends-trans}
+use Rattle.http_port.proofs.turn.write_all.Goals as goal
+
+pub loop-done-preserved : goal.loop-done-preserved
+loop-done-preserved g c =
+    let bytes = c.args.bytes.now in
+    let done = c.loop-done.done in
+    let count = c.in_ok-done.field-0 in
+    let rest = take_rest bytes done in
+    let fits : count ≤ length bytes - done = subst (λ k. count ≤ k) (ap length rest ∙ length-drop done bytes) c.in_ok-done.ensures.bound in
+    let more = subst (λ l. Appends (g.W.Wire.taken c.loop-done.wire) (g.W.Wire.taken c.write.new.self) (take count l)) rest c.in_ok-done.ensures.bytes in
+    record {
+      within = omega arith;
+      written = subst (Appends (g.W.Wire.taken c.args.wire.now) (g.W.Wire.taken c.write.new.self)) (sym (take-add done count bytes))
+          (Appends-trans (g.W.Wire.taken c.args.wire.now) (g.W.Wire.taken c.loop-done.wire) (g.W.Wire.taken c.write.new.self) (take done bytes) (take count (drop done bytes)) c.loop-done.invariant.written more);
+      faults = c.in_ok-done.ensures.cause.calm ∙ c.loop-done.invariant.faults;
+      given = c.in_ok-done.ensures.given ∙ c.loop-done.invariant.given;
+      left = c.in_ok-done.ensures.left ∙ c.loop-done.invariant.left;
+      closed = c.in_ok-done.ensures.closed ∙ c.loop-done.invariant.closed;
+    }

@@ -1,0 +1,91 @@
+//! Serving a connection.
+ghost use Rattle.std.specs.Prelude.{◌≡◌, IfOk, OnErr, IsOkAnd, MatchResult};
+ghost use Rattle.std.specs.Io.KnownBytes.{Appends, Consumes, IsAtEnd};
+ghost use Rattle.http_port.specs.Asking.{Grows};
+ghost use Rattle.http_port.specs.Feeding.{Spent};
+ghost use Rattle.http_port.specs.Serving.{Service, IsFed, Serves, CountsFault};
+
+use crate::head_reader::HeadReader;
+use crate::serve::Serve;
+use crate::turn::{Turn, take_turn};
+use outside_traits::{Failed, Wire};
+use std::alloc::{AllocError, Global};
+
+/// How the serving of a connection ends.
+#[derive(Clone, Copy, Debug, PartialEq, Eq)]
+pub enum WireEnd {
+    /// No more bytes come.
+    Ended,
+    /// A response was written that closes the connection.
+    Closed,
+    /// The wire failed.
+    Faulted,
+    /// The answer of the last request comes later; the connection closes with it, or goes on.
+    Later { close: bool },
+}
+
+/// How many bytes are read at once.
+const CHUNK: usize = 4096;
+
+/// Serves the requests of a connection one after another, as far as the bytes reach: writes the interim lines and the responses, and asks for each answer. Where an answer comes later, the caller writes it and may call again.
+pub fn serve_wire<W: Wire, S: Serve>(
+    alloc: Global,
+    wire: &mut W,
+    reader: &mut HeadReader,
+    serve: &mut S,
+) -> Result<WireEnd, AllocError>
+    ensures serves { IfOk result (λ end. (did : Service)
+        × Appends (W.given wire.old) (W.given wire.new) did.came
+        × Consumes (W.left wire.old) (W.left wire.new) did.came
+        × Appends (W.taken wire.old) (W.taken wire.new) did.went
+        × Grows (S.heard serve.old) (S.heard serve.new) did.bodies
+        × Grows (S.said serve.old) (S.said serve.new) did.said
+        × IsFed reader.old did end reader.new
+        × Serves reader.old did end) }
+    ensures ended { result ≡ Ok WireEnd.Ended → IsAtEnd (W.left wire.new) }
+    ensures counts { MatchResult result (λ end. CountsFault end (W.faults wire.old) (W.faults wire.new)) (λ _. W.faults wire.new ≡ W.faults wire.old) }
+    ensures closed { W.closed wire.new ≡ W.closed wire.old }
+    ensures err { OnErr result (reader.new ≡ Spent) }
+{
+    let end = serve_each(alloc, wire, reader, serve);
+    if end.is_err() {
+        reader.spend();
+    }
+    end
+}
+
+/// Serves turn by turn, with what the reader holds first.
+fn serve_each<W: Wire, S: Serve>(
+    alloc: Global,
+    wire: &mut W,
+    reader: &mut HeadReader,
+    serve: &mut S,
+) -> Result<WireEnd, AllocError>
+    ensures serves { IfOk result (λ end. (did : Service)
+        × Appends (W.given wire.old) (W.given wire.new) did.came
+        × Consumes (W.left wire.old) (W.left wire.new) did.came
+        × Appends (W.taken wire.old) (W.taken wire.new) did.went
+        × Grows (S.heard serve.old) (S.heard serve.new) did.bodies
+        × Grows (S.said serve.old) (S.said serve.new) did.said
+        × IsFed reader.old did end reader.new
+        × Serves reader.old did end) }
+    ensures ended { result ≡ Ok WireEnd.Ended → IsAtEnd (W.left wire.new) }
+    ensures counts { MatchResult result (λ end. CountsFault end (W.faults wire.old) (W.faults wire.new)) (λ _. W.faults wire.new ≡ W.faults wire.old) }
+    ensures closed { W.closed wire.new ≡ W.closed wire.old }
+{
+    reader.asks_where_given();
+    let mut chunk = [0; CHUNK];
+    let mut count = 0;
+    for _ in 0..u64::MAX {
+        match take_turn(alloc, wire, reader, serve, &chunk[..count])? {
+            Turn::GoesOn => count = 0,
+            Turn::Ends(end) => return Ok(end),
+            Turn::Waits => match wire.read(&mut chunk) {
+                Ok(0) => return Ok(WireEnd::Ended),
+                Ok(read) => count = read,
+                Err(Failed) => return Ok(WireEnd::Faulted),
+            },
+        }
+    }
+    Err(AllocError)
+}

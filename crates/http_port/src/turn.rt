@@ -1,0 +1,159 @@
+//! One turn of serving a connection.
+ghost use Rattle.std.specs.Prelude.{◌≡◌, ℕ, List, [], ◌∷◌, true, take, IfOk, MatchResult};
+ghost use Rattle.std.specs.Io.KnownBytes.{Appends};
+ghost use Rattle.outside_traits.specs.Causes.{HasCause};
+ghost use Rattle.http_port.specs.Asking.{Grows};
+ghost use Rattle.http_port.specs.Feeding.{Feeds};
+ghost use Rattle.http_port.specs.Responses.{interim, response};
+ghost use Rattle.http_port.specs.Serving.{bodies_in};
+ghost use Rattle.http_port.specs.Turns.{turn_behind, Writes, Answers, Reacts, TurnCounts};
+ghost use Rattle.http_port.specs.declared.head_reader.Fed.{Fed};
+ghost use Rattle.http_port.specs.declared.serve.Said.{Said};
+
+use crate::head_reader::{Fed, HeadReader};
+use crate::response::response_bytes;
+use crate::serve::{Said, Serve};
+use crate::serving::WireEnd;
+use crate::status::{NO_CONTENT, OK};
+use outside_traits::{Failed, Wire};
+use std::alloc::{AllocError, Global};
+
+/// How serving goes on.
+#[derive(Clone, Copy)]
+pub(crate) enum Turn {
+    /// With what follows.
+    GoesOn,
+    /// With more bytes.
+    Waits,
+    /// Not at all.
+    Ends(WireEnd),
+}
+
+/// The interim line.
+const INTERIM: &[u8] = b"HTTP/1.1 100 Continue\r\n\r\n";
+
+/// Feeds the reader a piece, and does what that calls for.
+pub(crate) fn take_turn<W: Wire, S: Serve>(
+    alloc: Global,
+    wire: &mut W,
+    reader: &mut HeadReader,
+    serve: &mut S,
+    piece: &[u8],
+) -> Result<Turn, AllocError>
+    ensures reacts { IfOk result (λ turn. (fed : Fed) × (said : List Said) × (went : List ℕ)
+        × Feeds reader.old piece.now fed reader.new
+        × Reacts fed said went turn
+        × Appends (W.taken wire.old) (W.taken wire.new) went
+        × Grows (S.heard serve.old) (S.heard serve.new) (bodies_in (fed ∷ []))
+        × Grows (S.said serve.old) (S.said serve.new) said) }
+    ensures counts { MatchResult result (λ turn. TurnCounts turn (W.faults wire.old) (W.faults wire.new)) (λ _. W.faults wire.new ≡ W.faults wire.old) }
+    ensures given { W.given wire.new ≡ W.given wire.old }
+    ensures left { W.left wire.new ≡ W.left wire.old }
+    ensures closed { W.closed wire.new ≡ W.closed wire.old }
+{
+    match reader.feed(piece)? {
+        Fed::NotYet => Ok(Turn::Waits),
+        Fed::Interim => Ok(write(wire, INTERIM, Turn::GoesOn)),
+        Fed::Request { body, close } => answer(alloc, wire, serve, body.as_slice(), close),
+        Fed::Refused(status) => respond(alloc, wire, status, &[], true),
+    }
+}
+
+/// Hands a body on, and writes what is said to it.
+fn answer<W: Wire, S: Serve>(
+    alloc: Global,
+    wire: &mut W,
+    serve: &mut S,
+    body: &[u8],
+    close: bool,
+) -> Result<Turn, AllocError>
+    ensures answers { IfOk result (λ turn. (first : Said) × (went : List ℕ)
+        × Answers first close went turn
+        × Appends (W.taken wire.old) (W.taken wire.new) went
+        × Grows (S.heard serve.old) (S.heard serve.new) (body.now ∷ [])
+        × Grows (S.said serve.old) (S.said serve.new) (first ∷ [])) }
+    ensures counts { MatchResult result (λ turn. TurnCounts turn (W.faults wire.old) (W.faults wire.new)) (λ _. W.faults wire.new ≡ W.faults wire.old) }
+    ensures given { W.given wire.new ≡ W.given wire.old }
+    ensures left { W.left wire.new ≡ W.left wire.old }
+    ensures closed { W.closed wire.new ≡ W.closed wire.old }
+{
+    let said = serve.request(body)?;
+    reply(alloc, wire, &said, close)
+}
+
+/// Writes what was said to a request, unless it comes later.
+fn reply<W: Wire>(alloc: Global, wire: &mut W, said: &Said, close: bool) -> Result<Turn, AllocError>
+    ensures answers { IfOk result (λ turn. (went : List ℕ)
+        × Answers said.now close went turn
+        × Appends (W.taken wire.old) (W.taken wire.new) went) }
+    ensures counts { MatchResult result (λ turn. TurnCounts turn (W.faults wire.old) (W.faults wire.new)) (λ _. W.faults wire.new ≡ W.faults wire.old) }
+    ensures given { W.given wire.new ≡ W.given wire.old }
+    ensures left { W.left wire.new ≡ W.left wire.old }
+    ensures closed { W.closed wire.new ≡ W.closed wire.old }
+{
+    match said {
+        Said::Text(text) => respond(alloc, wire, OK, text.as_slice(), close),
+        Said::Nothing => respond(alloc, wire, NO_CONTENT, &[], close),
+        Said::Later => Ok(Turn::Ends(WireEnd::Later { close })),
+    }
+}
+
+/// Writes a response, with which the connection closes or goes on.
+fn respond<W: Wire>(
+    alloc: Global,
+    wire: &mut W,
+    status: u16,
+    body: &[u8],
+    close: bool,
+) -> Result<Turn, AllocError>
+    ensures writes { IfOk result (λ turn. (went : List ℕ)
+        × Writes (response status body.now close) (turn_behind close) went turn
+        × Appends (W.taken wire.old) (W.taken wire.new) went) }
+    ensures counts { MatchResult result (λ turn. TurnCounts turn (W.faults wire.old) (W.faults wire.new)) (λ _. W.faults wire.new ≡ W.faults wire.old) }
+    ensures given { W.given wire.new ≡ W.given wire.old }
+    ensures left { W.left wire.new ≡ W.left wire.old }
+    ensures closed { W.closed wire.new ≡ W.closed wire.old }
+{
+    let bytes = response_bytes(alloc, status, body, close)?;
+    Ok(write(wire, bytes.as_slice(), turn_behind(close)))
+}
+
+/// How a turn goes on behind an answer.
+fn turn_behind(close: bool) -> Turn
+    ensures { result ≡ turn_behind close }
+{
+    if close {
+        Turn::Ends(WireEnd::Closed)
+    } else {
+        Turn::GoesOn
+    }
+}
+
+/// Writes a text and then goes on so, or ends where the wire fails.
+fn write<W: Wire>(wire: &mut W, text: &[u8], next: Turn) -> Turn
+    ensures writes { (went : List ℕ) × Writes text.now next went result × Appends (W.taken wire.old) (W.taken wire.new) went }
+    ensures counts { TurnCounts next (W.faults wire.old) (W.faults wire.old) → TurnCounts result (W.faults wire.old) (W.faults wire.new) }
+    ensures given { W.given wire.new ≡ W.given wire.old }
+    ensures left { W.left wire.new ≡ W.left wire.old }
+    ensures closed { W.closed wire.new ≡ W.closed wire.old }
+{
+    match write_all(wire, text) {
+        Ok(()) => next,
+        Err(Failed) => Turn::Ends(WireEnd::Faulted),
+    }
+}
+
+/// Writes all of the bytes, or a front of them where the wire fails.
+fn write_all<W: Wire>(wire: &mut W, bytes: &[u8]) -> Result<(), Failed>
+    ensures writes { MatchResult result (λ _. Appends (W.taken wire.old) (W.taken wire.new) bytes.now) (λ _. (count : ℕ) × Appends (W.taken wire.old) (W.taken wire.new) (take count bytes.now)) }
+    ensures cause { HasCause (W.faults wire.old) (W.faults wire.new) result }
+    ensures given { W.given wire.new ≡ W.given wire.old }
+    ensures left { W.left wire.new ≡ W.left wire.old }
+    ensures closed { W.closed wire.new ≡ W.closed wire.old }
+{
+    let mut done = 0;
+    while done < bytes.len() {
+        done += wire.write(&bytes[done..])?;
+    }
+    Ok(())
+}

@@ -1,0 +1,131 @@
+//! Rows of connections that are served.
+
+use crate::answers::Answers;
+use crate::stream::stream_of;
+use http_port::{HeadReader, WireEnd, serve_wire};
+use outside_traits::{CalmWire, Script, ScriptedWire};
+use std::alloc::{AllocError, Global};
+use test_rows::{Row, TableError};
+
+/// For how many bytes a wire has room.
+const ROOM: usize = 1000;
+
+/// What the row expects: how serving ends, what is asked and what is written.
+pub(crate) fn expected(alloc: Global, row: &Row<'_>) -> Result<String, TableError> {
+    let end = row.text(alloc, "end")?;
+    let asked = row.text(alloc, "asked")?;
+    let written = row.text(alloc, "written")?;
+    Ok(lines(alloc, end.as_str(), asked.as_str(), written.as_str())?)
+}
+
+fn lines(alloc: Global, end: &str, asked: &str, written: &str) -> Result<String, AllocError> {
+    format!(in alloc; "{end}\n{asked}\n{written}")
+}
+
+fn outcome(
+    alloc: Global,
+    end: WireEnd,
+    answers: &Answers<'_>,
+    written: &[u8],
+) -> Result<String, AllocError> {
+    let written = String::from_utf8_lossy(alloc, written)?;
+    lines(alloc, name_of(end), answers.asked(), written.as_str())
+}
+
+fn name_of(end: WireEnd) -> &'static str {
+    match end {
+        WireEnd::Ended => "ended",
+        WireEnd::Closed => "closed",
+        WireEnd::Faulted => "faulted",
+        WireEnd::Later { close: true } => "later, and closes",
+        WireEnd::Later { close: false } => "later",
+    }
+}
+
+/// What serving the row's connection comes to, and a remark where its pieces come to something else.
+pub(crate) fn given(alloc: Global, row: &Row<'_>) -> Result<String, TableError> {
+    let stream = stream_of(alloc, row)?;
+    let stream = stream.as_slice();
+    let says = row.text(alloc, "says")?;
+    let says = says.as_str();
+    if row.has("fails") {
+        let failing = u64::from(row.number(alloc, "fails")?);
+        let piece = row.number(alloc, "piece")? as usize;
+        return Ok(scripted(alloc, stream, says, piece, &[failing])?);
+    }
+    let mut whole = in_pieces(alloc, &[stream], says)?;
+    let is_same = is_same_in_pieces(alloc, stream, says, whole.as_str())?
+        && (!row.has("pairs") || is_same_cut_twice(alloc, stream, says, whole.as_str())?);
+    if !is_same {
+        whole.push_str(", and it differs in pieces")?;
+    }
+    Ok(whole)
+}
+
+/// By a wire that gives and takes so many bytes a call, and fails at these calls.
+fn scripted(
+    alloc: Global,
+    stream: &[u8],
+    says: &str,
+    piece: usize,
+    failing: &[u64],
+) -> Result<String, AllocError> {
+    let script = Script::new(alloc, failing)?;
+    let mut wire = ScriptedWire::new(alloc, stream, ROOM, piece.max(1), script)?;
+    let mut reader = HeadReader::new(alloc);
+    let mut answers = Answers::new(alloc, says)?;
+    let end = serve_wire(alloc, &mut wire, &mut reader, &mut answers)?;
+    outcome(alloc, end, &answers, wire.taken())
+}
+
+/// By a wire for each piece.
+fn in_pieces(alloc: Global, pieces: &[&[u8]], says: &str) -> Result<String, AllocError> {
+    let mut reader = HeadReader::new(alloc);
+    let mut answers = Answers::new(alloc, says)?;
+    let mut written = Vec::new(alloc);
+    let mut end = WireEnd::Ended;
+    for piece in pieces {
+        let mut wire = CalmWire::new(alloc, piece, ROOM)?;
+        end = serve_wire(alloc, &mut wire, &mut reader, &mut answers)?;
+        written.extend_from_slice(wire.taken())?;
+        if end != WireEnd::Ended {
+            break;
+        }
+    }
+    outcome(alloc, end, &answers, written.as_slice())
+}
+
+/// Whether serving comes to the same byte by byte, and where the stream is cut at each place.
+fn is_same_in_pieces(
+    alloc: Global,
+    stream: &[u8],
+    says: &str,
+    whole: &str,
+) -> Result<bool, AllocError> {
+    for cut in 0..stream.len() {
+        let (front, back) = stream.split_at(cut);
+        if in_pieces(alloc, &[front, back], says)?.as_str() != whole {
+            return Ok(false);
+        }
+    }
+    Ok(scripted(alloc, stream, says, 1, &[])?.as_str() == whole)
+}
+
+/// Whether serving comes to the same where the stream is cut at each two places.
+fn is_same_cut_twice(
+    alloc: Global,
+    stream: &[u8],
+    says: &str,
+    whole: &str,
+) -> Result<bool, AllocError> {
+    for second in 0..stream.len() {
+        let (front, back) = stream.split_at(second);
+        for first in 0..second {
+            let (start, middle) = front.split_at(first);
+            if in_pieces(alloc, &[start, middle, back], says)?.as_str() != whole {
+                return Ok(false);
+            }
+        }
+    }
+    Ok(true)
+}

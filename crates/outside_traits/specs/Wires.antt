@@ -1,0 +1,27 @@
+-- What a contract sees of the wires in memory.
+use Rattle.std.specs.Prelude.{ℕ, Bool, if◌then◌else◌, List, []}
+use Rattle.outside_traits.specs.Memory.{Plan, Shelved}
+
+-- bytes that are given away from the front: those that were given, and those that are left
+pub record Taped : Type 0 where
+  pub given : List ℕ
+  pub left : List ℕ
+
+-- a wire that fails only for want of room, or because it is closed
+pub record CalmLine : Type 0 where
+  pub tape : Taped
+  pub shelf : Shelved
+  pub faults : ℕ
+  pub closed : Bool
+
+-- a wire that follows a script, and gives and takes at most so many bytes a call
+pub record ScriptedLine : Type 0 where
+  pub script : Plan
+  pub tape : Taped
+  pub shelf : Shelved
+  pub piece : ℕ
+  pub closed : Bool
+
+-- the bytes that can be read yet: none where the wire is closed
+abbrev pub readable : Bool → Taped → List ℕ
+readable closed tape = if closed then [] else tape.left

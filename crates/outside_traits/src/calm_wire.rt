@@ -1,0 +1,134 @@
+ghost use Rattle.std.specs.Prelude.{◌≡◌, ◌<◌, ◌≤◌, ◌↔◌, ◌⊎◌, [], true, false, Ok, Some, IsTrue, IsErr, IfOk, length, min};
+ghost use Rattle.std.specs.Io.{ReadsAtMost, WritesAtMost};
+ghost use Rattle.std.specs.Io.KnownBytes.{ReadConsumes, WriteAppends};
+ghost use Rattle.outside_traits.specs.Causes.{Rose, HasCause};
+ghost use Rattle.outside_traits.specs.Memory.{room_left};
+ghost use Rattle.outside_traits.specs.Wires.{readable};
+
+use crate::errors::Failed;
+use crate::memory::Shelf;
+use crate::tape::Tape;
+use crate::traits::Wire;
+use std::alloc::{AllocError, Global};
+use std::marker::Model;
+
+/// A wire in memory. It fails only where the room that it was made with is used up or it is closed, which it counts.
+#[derive(Drop)]
+pub struct CalmWire {
+    tape: Tape,
+    shelf: Shelf,
+    faults: u64,
+    closed: bool,
+}
+
+impl Model for CalmWire {
+    ghost use Rattle.outside_traits.specs.Wires.{CalmLine};
+
+    ghost Value = { CalmLine };
+
+    ghost view = { λ w. record { tape = w.tape; shelf = w.shelf; faults = w.faults; closed = w.closed } };
+}
+
+impl CalmWire {
+    /// A wire on which these bytes come in, and `room` bytes go out in all.
+    pub fn new(alloc: Global, bytes: &[u8], room: usize) -> Result<CalmWire, AllocError>
+        ensures given { IfOk result (λ wire. wire.tape.given ≡ []) }
+        ensures left { IfOk result (λ wire. wire.tape.left ≡ bytes.now) }
+        ensures taken { IfOk result (λ wire. wire.shelf.taken ≡ []) }
+        ensures room { IfOk result (λ wire. wire.shelf.room ≡ room) }
+        ensures faults { IfOk result (λ wire. wire.faults ≡ 0) }
+        ensures closed { IfOk result (λ wire. wire.closed ≡ false) }
+    {
+        let tape = Tape::new(alloc, bytes)?;
+        let shelf = Shelf::new(alloc, room)?;
+        Ok(CalmWire {
+            tape,
+            shelf,
+            faults: 0,
+            closed: false,
+        })
+    }
+
+    /// What was read.
+    pub fn given(&self) -> &[u8]
+        ensures { result.now ≡ self.now.tape.given }
+    {
+        self.tape.given()
+    }
+
+    /// What was written.
+    pub fn taken(&self) -> &[u8]
+        ensures { result.now ≡ self.now.shelf.taken }
+    {
+        self.shelf.bytes()
+    }
+
+    /// Counts a failure.
+    fn fail(&mut self) -> Result<usize, Failed>
+        ensures failed { IsErr result }
+        ensures rose { Rose self.old.faults self.new.faults }
+        ensures later { self.old.faults ≤ self.new.faults }
+        ensures tape { self.new.tape ≡ self.old.tape }
+        ensures shelf { self.new.shelf ≡ self.old.shelf }
+        ensures closed { self.new.closed ≡ self.old.closed }
+    {
+        self.faults = self.faults.saturating_add(1);
+        Err(Failed)
+    }
+}
+
+impl Wire for CalmWire {
+    ghost given = { λ w. Some w.tape.given };
+
+    ghost left = { λ w. Some (readable w.closed w.tape) };
+
+    ghost taken = { λ w. Some w.shelf.taken };
+
+    ghost faults = { λ w. w.faults };
+
+    ghost closed = { λ w. w.closed };
+
+    fn read(&mut self, into: &mut [u8]) -> Result<usize, Failed>
+        ensures count { result ≡ Ok (min (length (readable self.old.closed self.old.tape)) (length into.old)) }
+        ensures shelf { self.new.shelf ≡ self.old.shelf }
+        ensures bound { ReadsAtMost result into.new }
+        ensures bytes { ReadConsumes (Some (readable self.old.closed self.old.tape)) (Some (readable self.new.closed self.new.tape)) result into.new }
+        ensures given { WriteAppends (Some self.old.tape.given) (Some self.new.tape.given) result into.new }
+        ensures taken { Some self.new.shelf.taken ≡ Some self.old.shelf.taken }
+        ensures closed { self.new.closed ≡ self.old.closed }
+        ensures shut { IsTrue self.old.closed → result ≡ Ok 0 }
+        ensures cause { HasCause self.old.faults self.new.faults result }
+    {
+        if self.closed {
+            return Ok(0);
+        }
+        Ok(self.tape.give(into.len(), into))
+    }
+
+    fn write(&mut self, from: &[u8]) -> Result<usize, Failed>
+        ensures full { IsErr result ↔ (IsTrue self.old.closed ⊎ ((room_left self.old.shelf ≡ 0) × (0 < length from.now))) }
+        ensures count { IfOk result (λ count. count ≡ min (room_left self.old.shelf) (length from.now)) }
+        ensures room { self.new.shelf.room ≡ self.old.shelf.room }
+        ensures bound { WritesAtMost result from.now }
+        ensures some { IfOk result (λ count. 0 < length from.now → 0 < count) }
+        ensures bytes { WriteAppends (Some self.old.shelf.taken) (Some self.new.shelf.taken) result from.now }
+        ensures given { Some self.new.tape.given ≡ Some self.old.tape.given }
+        ensures left { Some (readable self.new.closed self.new.tape) ≡ Some (readable self.old.closed self.old.tape) }
+        ensures closed { self.new.closed ≡ self.old.closed }
+        ensures shut { IsTrue self.old.closed → IsErr result }
+        ensures cause { HasCause self.old.faults self.new.faults result }
+    {
+        if self.closed {
+            return self.fail();
+        }
+        let count = self.shelf.keep(from.len(), from);
+        if count == 0 && !from.is_empty() {
+            return self.fail();
+        }
+        Ok(count)
+    }
+
+    fn close(&mut self) {
+        self.closed = true;
+    }
+}

@@ -1,0 +1,151 @@
+ghost use Rattle.std.specs.Prelude.{◌≡◌, ◌<◌, ◌↔◌, ◌⊎◌, [], true, false, Ok, Some, IsTrue, IsErr, IfOk, Contains, length, min};
+ghost use Rattle.std.specs.Io.{ReadsAtMost, WritesAtMost};
+ghost use Rattle.std.specs.Io.KnownBytes.{ReadConsumes, WriteAppends};
+ghost use Rattle.outside_traits.specs.Causes.{HasCause};
+ghost use Rattle.outside_traits.specs.Memory.{room_left, IsNext};
+ghost use Rattle.outside_traits.specs.Wires.{readable};
+
+use crate::errors::Failed;
+use crate::memory::Shelf;
+use crate::script::Script;
+use crate::tape::Tape;
+use crate::traits::Wire;
+use std::alloc::{AllocError, Global};
+use std::marker::Model;
+
+/// A wire in memory on which bytes come and go in pieces, with the failures of a script. It fails too, which it counts, where the room that it was made with is used up or it is closed.
+#[derive(Drop)]
+pub struct ScriptedWire {
+    script: Script,
+    tape: Tape,
+    shelf: Shelf,
+    piece: usize,
+    closed: bool,
+}
+
+impl Model for ScriptedWire {
+    ghost use Rattle.std.specs.Prelude.{◌<◌};
+    ghost use Rattle.outside_traits.specs.Wires.{ScriptedLine};
+
+    ghost Value = { ScriptedLine };
+
+    ghost view = { λ w. record { script = w.script; tape = w.tape; shelf = w.shelf; piece = w.piece; closed = w.closed } };
+
+    ghost invariant = { λ w. 0 < w.piece };
+}
+
+impl ScriptedWire {
+    /// A wire on which these bytes come in, `room` bytes go out in all, and at most `piece` a call either way. The script counts reads and writes together.
+    pub fn new(
+        alloc: Global,
+        bytes: &[u8],
+        room: usize,
+        piece: usize,
+        script: Script,
+    ) -> Result<ScriptedWire, AllocError>
+        requires { 0 < piece }
+        ensures script { IfOk result (λ wire. wire.script ≡ script) }
+        ensures given { IfOk result (λ wire. wire.tape.given ≡ []) }
+        ensures left { IfOk result (λ wire. wire.tape.left ≡ bytes.now) }
+        ensures taken { IfOk result (λ wire. wire.shelf.taken ≡ []) }
+        ensures room { IfOk result (λ wire. wire.shelf.room ≡ room) }
+        ensures piece { IfOk result (λ wire. wire.piece ≡ piece) }
+        ensures closed { IfOk result (λ wire. wire.closed ≡ false) }
+    {
+        let tape = Tape::new(alloc, bytes)?;
+        let shelf = Shelf::new(alloc, room)?;
+        Ok(ScriptedWire {
+            script,
+            tape,
+            shelf,
+            piece,
+            closed: false,
+        })
+    }
+
+    /// What was read.
+    pub fn given(&self) -> &[u8]
+        ensures { result.now ≡ self.now.tape.given }
+    {
+        self.tape.given()
+    }
+
+    /// What was written.
+    pub fn taken(&self) -> &[u8]
+        ensures { result.now ≡ self.now.shelf.taken }
+    {
+        self.shelf.bytes()
+    }
+}
+
+impl Wire for ScriptedWire {
+    ghost given = { λ w. Some w.tape.given };
+
+    ghost left = { λ w. Some (readable w.closed w.tape) };
+
+    ghost taken = { λ w. Some w.shelf.taken };
+
+    ghost faults = { λ w. w.script.faults };
+
+    ghost closed = { λ w. w.closed };
+
+    // A closed wire does nothing with its script.
+    fn read(&mut self, into: &mut [u8]) -> Result<usize, Failed>
+        ensures scripted { self.old.closed ≡ false → (IsErr result ↔ Contains self.old.script.failing self.old.script.call) }
+        ensures count { IfOk result (λ count. count ≡ min (length (readable self.old.closed self.old.tape)) (min self.old.piece (length into.old))) }
+        ensures script { self.old.closed ≡ false → IsNext self.old.script self.new.script }
+        ensures kept { IsTrue self.old.closed → self.new ≡ self.old }
+        ensures shelf { self.new.shelf ≡ self.old.shelf }
+        ensures piece { self.new.piece ≡ self.old.piece }
+        ensures bound { ReadsAtMost result into.new }
+        ensures bytes { ReadConsumes (Some (readable self.old.closed self.old.tape)) (Some (readable self.new.closed self.new.tape)) result into.new }
+        ensures given { WriteAppends (Some self.old.tape.given) (Some self.new.tape.given) result into.new }
+        ensures taken { Some self.new.shelf.taken ≡ Some self.old.shelf.taken }
+        ensures closed { self.new.closed ≡ self.old.closed }
+        ensures shut { IsTrue self.old.closed → result ≡ Ok 0 }
+        ensures cause { HasCause self.old.script.faults self.new.script.faults result }
+    {
+        if self.closed {
+            return Ok(0);
+        }
+        if self.script.fails() {
+            return Err(Failed);
+        }
+        Ok(self.tape.give(self.piece, into))
+    }
+
+    fn write(&mut self, from: &[u8]) -> Result<usize, Failed>
+        ensures scripted { Contains self.old.script.failing self.old.script.call → IsErr result }
+        ensures full { IsErr result → (IsTrue self.old.closed ⊎ Contains self.old.script.failing self.old.script.call) ⊎ ((room_left self.old.shelf ≡ 0) × (0 < length from.now)) }
+        ensures count { IfOk result (λ count. count ≡ min (room_left self.old.shelf) (min self.old.piece (length from.now))) }
+        ensures room { self.new.shelf.room ≡ self.old.shelf.room }
+        ensures script { self.old.closed ≡ false → IsNext self.old.script self.new.script }
+        ensures piece { self.new.piece ≡ self.old.piece }
+        ensures bound { WritesAtMost result from.now }
+        ensures some { IfOk result (λ count. 0 < length from.now → 0 < count) }
+        ensures bytes { WriteAppends (Some self.old.shelf.taken) (Some self.new.shelf.taken) result from.now }
+        ensures given { Some self.new.tape.given ≡ Some self.old.tape.given }
+        ensures left { Some (readable self.new.closed self.new.tape) ≡ Some (readable self.old.closed self.old.tape) }
+        ensures closed { self.new.closed ≡ self.old.closed }
+        ensures shut { IsTrue self.old.closed → IsErr result }
+        ensures cause { HasCause self.old.script.faults self.new.script.faults result }
+    {
+        if self.closed {
+            self.script.count_fault();
+            return Err(Failed);
+        }
+        if self.script.fails() {
+            return Err(Failed);
+        }
+        let count = self.shelf.keep(self.piece, from);
+        if count == 0 && !from.is_empty() {
+            self.script.count_fault();
+            return Err(Failed);
+        }
+        Ok(count)
+    }
+
+    fn close(&mut self) {
+        self.closed = true;
+    }
+}
