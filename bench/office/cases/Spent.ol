@@ -1,0 +1,5 @@
+interface I { RequestResponse: go(void)(int) }
+service S {
+  inputPort In { location: "socket://localhost:8000" protocol: jsonrpc interfaces: I }
+  main { go()(y) { i = 0 ; while (i < 3) { i++ } ; y = i } }
+}

@@ -1,0 +1,13 @@
+pub mod Limits
+pub mod Past
+pub mod Sessions
+pub mod Boxes
+pub mod Weights
+pub mod Keys
+pub mod Route
+pub mod Accepted
+pub mod Answers
+pub mod Calls
+pub mod Bound
+pub mod Legal
+pub mod Laws

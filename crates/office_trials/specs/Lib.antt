@@ -1,0 +1,5 @@
+pub mod Same
+pub mod Counts
+pub mod Sessions
+pub mod Quiet
+pub mod Fronts

@@ -1,0 +1,96 @@
+-- When nothing is left to do in a record: at its end, and before each posting.
+use Rattle.std.specs.Prelude.{◌≡◌, ℕ, zero, suc, Bool, true, false, not, ◌&&◌, List, [], ◌∷◌, ◌++◌, length, nat_eq, if◌then◌else◌, Some, is_some, slice_get}
+use Rattle.std.specs.List.{list_any, filter}
+use Rattle.behaviour_tree.specs.declared.words.Event.{Event}
+use Rattle.behaviour_tree.specs.declared.words.Need.{Need}
+use Rattle.behaviour_tree.specs.declared.words.Need.TheVariants as need
+use Rattle.behaviour_tree.specs.declared.words.Given.{Given}
+use Rattle.calculus.specs.After.{Config, Done, after}
+use Rattle.office_core.specs.declared.history.Act.TheVariants as act
+use Rattle.office_core.specs.declared.history.Entry.{Entry}
+use Rattle.office_core.specs.Limits.{Setting}
+use Rattle.office_core.specs.Past.{Past, some_entry, stops}
+use Rattle.office_core.specs.Sessions.{service_of, is_live, was_adopted}
+use Rattle.office_core.specs.Boxes.{queue}
+use Rattle.office_core.specs.Keys.{first}
+use Rattle.office_core.specs.Accepted.{past_of}
+use Rattle.office_core.specs.Calls.{Call, calls, goes_out, brings, result}
+use Rattle.run_record.specs.Steps.{calls_of, makes_call}
+use Rattle.run_record.specs.Agrees.{Agrees}
+
+-- ---- a session
+
+-- the history has what an event of session s asks for: a message that waits, the outcome of a call; all else always
+abbrev pub is_given : Setting → Past → ℕ → Need → Bool
+is_given w past s (need.Take ops) = is_some (first (queue past s ops))
+is_given w past s (need.Answer k) = is_some (result w past s k)
+is_given w past s n = true
+
+-- A session can act: it lives, and after its events one of its strands has an event for which the history has what it
+-- asks for.
+pub record CanAct (w : Setting) (h : List Entry) (s : ℕ) (events : List Event) : Type 0 where
+  pub live : is_live w (past_of w h) s ≡ true
+  pub last : Config
+  pub agrees : Agrees w h s events last
+  pub strand : ℕ
+  pub gift : Given
+  pub done : Done
+  pub event : after w.parts agrees.service last strand gift ≡ Some done
+  pub given : is_given w (past_of w h) s done.need ≡ true
+
+-- ---- a record
+
+-- the calls that went out and whose outcome nobody brought
+abbrev pub unbrought : Past → List Call
+unbrought past = filter (λ c. goes_out c && not (some_entry past (brings c))) (calls past)
+
+-- Nothing is left to do, after the entries of h and these events: each session that was born was adopted, each call that
+-- went out has its outcome, and a session that could still act used its whole budget.
+pub record IsQuiet (w : Setting) (budget : ℕ) (h : List Entry) (sessions : List (List Event)) : Type 0 where
+  pub adopted : (s service : ℕ) → service_of w (past_of w h) s ≡ Some service → was_adopted (past_of w h) s ≡ true
+  pub brought : unbrought (past_of w h) ≡ []
+  pub idle : (s : ℕ) (events : List Event) → slice_get sessions s ≡ Some events
+      → CanAct w h s events → length events ≡ budget
+
+-- the entries before the stop
+abbrev pub before_stop : List Entry → List Entry
+before_stop [] = []
+before_stop (e ∷ es) = if stops e then [] else e ∷ before_stop es
+
+-- ---- before a posting
+
+-- the events before the one that makes the call behind so many others
+abbrev pub events_for : ℕ → List Event → List Event
+events_for calls [] = []
+events_for calls (e ∷ es) = elim (makes_call e.kind) [
+  | false ↦ e ∷ events_for calls es
+  | true ↦ elim calls [ zero ↦ [] | suc n ↦ e ∷ events_for n es ]
+]
+
+-- the events that sessions, the first of which has the number s, had when the history was h: those before the first event
+-- whose call came later
+abbrev pub sessions_at : Setting → List Entry → ℕ → List (List Event) → List (List Event)
+sessions_at w h s [] = []
+sessions_at w h s (events ∷ sessions) =
+    events_for (length (calls_of w h s)) events ∷ sessions_at w h (suc s) sessions
+
+-- a post by an actor for its posting j
+abbrev pub posts_for : ℕ → ℕ → Entry → Bool
+posts_for actor j e = elim e.act [ act.Post posting i q r ↦ nat_eq actor e.actor && nat_eq j posting | _ ↦ false ]
+
+-- a post
+abbrev pub posts : Entry → Bool
+posts e = elim e.act [ act.Post posting i q r ↦ true | _ ↦ false ]
+
+-- an entry behind others begins a posting, and not the first of the run
+abbrev pub begins_posting : List Entry → Entry → Bool
+begins_posting before e = elim e.act [
+  | act.Post j i q r ↦ list_any posts before && not (list_any (posts_for e.actor j) before)
+  | _ ↦ false
+]
+
+-- Before each posting but the first of the run nothing was left to do.
+abbrev pub IsStill : Setting → ℕ → List Entry → List (List Event) → Type 0
+IsStill w budget h sessions =
+    (before later : List Entry) (e : Entry) → h ≡ before ++ e ∷ later → begins_posting before e ≡ true
+    → IsQuiet w budget before (sessions_at w before 0 sessions)
