@@ -6,4 +6,5 @@ pub mod NormalForms
 pub mod Rising
 pub mod Sequences
 pub mod Settled
+pub mod Listed
 pub mod Weights

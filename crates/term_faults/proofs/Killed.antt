@@ -1,9 +1,9 @@
 -- How members are killed, one by one.
-use Rattle.std.proofs.Common.{◌≡◌, ℕ, ◌+◌, ◌<◌, ◌≤◌, List, [], ◌∷◌, ◌++◌, map, take, drop, length, get_or, set, refl, sym, ap, ◌∙◌}
+use Rattle.std.proofs.Common.{◌≡◌, ℕ, ◌+◌, ◌<◌, ◌≤◌, List, [], ◌∷◌, map, take, drop, length, get_or, set, sym, ap, ◌∙◌}
 use Rattle.std.proofs.lemmas.List.{drop_all, take_all, map-append, take_more_set}
 use Rattle.calculus.specs.Terms.{Fault, Strands, no_strands, strand}
 use Rattle.calculus.specs.Kill.{kill, kill_members}
-use Rattle.running_terms.specs.View.{StrandView, strands_of, strand_view, members_view}
+use Rattle.running_terms.specs.View.{StrandView, strand_view, members_view}
 use Rattle.running_terms.specs.declared.term.Strand.{Strand}
 use Rattle.running_terms.proofs.Begins.{before, before-more, before-none}
 use Rattle.running_terms.proofs.Lists.{first_unvisited}

@@ -1,1 +1,6 @@
+pub mod Among
+pub mod Carried
 pub mod Killed
+pub mod Least
+pub mod Positions
+pub mod Tests

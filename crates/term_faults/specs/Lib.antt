@@ -1,1 +1,4 @@
+pub mod Decisions
+pub mod Least
+pub mod Places
 pub mod Shapes

@@ -1,6 +1,6 @@
 -- What a fault does to a form by its outermost shape.
 use Rattle.std.specs.Prelude.{Bool, true, false}
-use Rattle.calculus.specs.Terms.{Fault, Term, done, place, thrown, seq, par, in_scope, exec, fail, wait, dead_wait, prot, State, live, caught, term, last, zombie}
+use Rattle.calculus.specs.Terms.{Fault, Term, done, exec, fail, wait, dead_wait, State, live, caught}
 
 -- a killed scope with this body and in this state is to run its termination handler
 abbrev pub terminates : Term → State → Bool
@@ -8,6 +8,11 @@ terminates done live = false
 terminates t live = true
 terminates t (caught g) = true
 terminates t u = false
+
+-- a scope with this body and in this state is about to end
+abbrev pub may_end : Term → State → Bool
+may_end done live = true
+may_end t u = false
 
 -- the body of a request becomes a failed request; any other form stays
 abbrev pub failed : Fault → Term → Term

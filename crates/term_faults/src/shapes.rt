@@ -1,6 +1,6 @@
 ghost use Rattle.std.specs.Prelude.{◌≡◌, IfOk};
 ghost use Rattle.std.specs.Arc.{arc_value};
-ghost use Rattle.calculus.specs.Terms.{term};
+ghost use Rattle.calculus.specs.Terms.{caught, term, zombie};
 ghost use Rattle.running_terms.specs.View.{fault_view, state_view, term_view};
 ghost use Rattle.term_faults.specs.Shapes as spec;
 
@@ -19,11 +19,37 @@ pub fn terminates(body: &Term, state: &ScopeState) -> bool
     }
 }
 
+/// Whether a scope with this body and in this state is about to end.
+pub fn may_end(body: &Term, state: &ScopeState) -> bool
+    ensures { result ≡ spec.may_end (term_view body.now) (state_view state.now) }
+{
+    match state {
+        ScopeState::Live => body.is_done(),
+        ScopeState::Caught(_) => false,
+        ScopeState::Term | ScopeState::Last | ScopeState::Zombie => false,
+    }
+}
+
 /// A scope is to run its termination handler.
 pub fn end_early(state: &mut ScopeState)
     ensures { state_view state.new ≡ term }
 {
     *state = ScopeState::Term;
+}
+
+/// A scope caught a fault.
+pub fn catch(state: &mut ScopeState, fault: &Arc<Fault>) -> Result<(), AllocError>
+    ensures { IfOk result (λ _. state_view state.new ≡ caught (fault_view (arc_value fault.now))) }
+{
+    *state = ScopeState::Caught(Arc::try_clone(fault)?);
+    Ok(())
+}
+
+/// A fault left a scope.
+pub fn fade(state: &mut ScopeState)
+    ensures { state_view state.new ≡ zombie }
+{
+    *state = ScopeState::Zombie;
 }
 
 /// The body of a request becomes a failed request.
