@@ -1,20 +1,19 @@
 #!/bin/sh
-# Times the reading of 1,000,000 requests in one piece, and the parsing of their heads alone by httparse, of which the first is to take at
-# most 3 times the second; and the reading of 20,000 and of 200,000 requests byte by byte, whose ratio is to be at most 12. It runs in a
-# folder of its own, outside the gate: bench/requests.sh
+# Counts the instructions, by callgrind, of reading 1,000,000 requests in one piece and of parsing their heads alone by httparse, of which
+# the first are to be at most 3 times the second; and of reading 2,000 and 20,000 requests byte by byte, whose ratio is to be at most 12.
+# What making the requests takes is taken off. It runs in a folder of its own, outside the gate: bench/requests.sh
 # shellcheck source=bench/common.sh
 . "$(dirname "$0")/common.sh"
 
 make_crate 'request_times: http_port jolie_trees outside_traits httparse http1 memchr' jolie_trees outside_traits http_port <<'EOF'
-//! The time, in microseconds, of reading so many requests: `whole` in one piece, `bytes` byte by byte, `heads` by httparse alone; and how
-//! many were read.
+//! Reads so many requests: `whole` in one piece, `bytes` byte by byte, `heads` by httparse alone, or `none` of them; and says how many were
+//! read.
 #![tactic(auto)]
 
 use http_port::{Fed, HeadReader};
 use httparse::Status;
 use httparse::spans::{EMPTY_HEADER_SPAN, parse_request};
 use std::alloc::{AllocError, Global};
-use std::time::Instant;
 use std::{env, io};
 
 const REQUEST: &[u8] = b"POST / HTTP/1.1\r\nHost: localhost\r\nContent-Length: 59\r\n\r\n{\"jsonrpc\":\"2.0\",\"method\":\"twice\",\"params\":{\"n\":21},\"id\":1}";
@@ -25,28 +24,24 @@ fn main(rt: HostRuntime) -> io::Result<()> {
     let mut how = String::new(rt.alloc());
     for word in env::args(&rt)?.skip(1) {
         match word.as_str().parse::<u32>() {
-            Ok(count) => time(&rt, how.as_str(), count)?,
+            Ok(count) => match read(rt.alloc(), how.as_str(), count) {
+                Ok(read) => println!(rt; "{read}")?,
+                Err(_) => println!(rt; "out of memory")?,
+            },
             Err(_) => how = word,
         }
     }
     Ok(())
 }
 
-fn time(rt: &HostRuntime, how: &str, count: u32) -> io::Result<()> {
-    let Ok(stream) = stream_of(rt.alloc(), count) else {
-        return println!(rt; "out of memory");
-    };
+fn read(alloc: Global, how: &str, count: u32) -> Result<u32, AllocError> {
+    let stream = stream_of(alloc, count)?;
     let stream = stream.as_slice();
-    let start = Instant::now(rt)?;
-    let read = match how {
-        "whole" => whole(rt.alloc(), stream),
-        "bytes" => bytes(rt.alloc(), stream),
-        _ => Ok(heads(stream, count)),
-    };
-    let micros = start.elapsed(rt)?.as_micros();
-    match read {
-        Ok(read) => println!(rt; "{micros} {read}"),
-        Err(_) => println!(rt; "out of memory"),
+    match how {
+        "whole" => whole(alloc, stream),
+        "bytes" => bytes(alloc, stream),
+        "heads" => Ok(heads(stream, count)),
+        _ => Ok(0),
     }
 }
 
@@ -104,16 +99,29 @@ fn heads(stream: &[u8], most: u32) -> u32 {
 EOF
 build_crate whole 1
 
-# Each run is a process of its own; the least of 10 times counts, and the count of requests stands behind it.
-micros() {
-    run_crate "$@"
+# The instructions of reading so many requests, without those of making them. All of them must be read.
+instructions() {
+    counted "$1" "$2" "$2"
+    all=$count
+    counted none "$2" 0
+    echo $((all - count))
 }
-whole=$(least 10 micros whole 1000000)
-heads=$(least 10 micros heads 1000000)
-short=$(least 10 micros bytes 20000)
-long=$(least 10 micros bytes 200000)
+
+# Puts the instructions of a run into `count`, which must read so many requests.
+counted() {
+    run="$work/crates/request_times/out/request_times $1 $2"
+    # shellcheck disable=SC2086
+    valgrind --tool=callgrind --callgrind-out-file=/dev/null $run > "$work/read" 2> "$work/counts"
+    [ "$(cat "$work/read")" = "$3" ] || { echo "not all requests were read" >&2; exit 1; }
+    count=$(sed -n 's/.*Collected : //p' "$work/counts")
+}
+
+whole=$(instructions whole 1000000)
+heads=$(instructions heads 1000000)
+short=$(instructions bytes 2000)
+long=$(instructions bytes 20000)
 echo "$whole $heads $short $long" | awk '{
-    printf "in one piece: %.0f ms for %d requests, httparse alone %.0f ms for %d, ratio %.2f (at most 3)\n", $1 / 1000, $2, $3 / 1000, $4, $1 / $3
-    printf "byte by byte: %.1f ms for %d requests, %.1f ms for %d, ratio %.1f (at most 12)\n", $5 / 1000, $6, $7 / 1000, $8, $7 / $5
-    exit !($1 <= 3 * $3 && $7 <= 12 * $5)
+    printf "in one piece: %d million instructions, httparse alone %d million, ratio %.2f (at most 3)\n", $1 / 1e6, $2 / 1e6, $1 / $2
+    printf "byte by byte: %d million, ten times the bytes %d million, ratio %.2f (at most 12)\n", $3 / 1e6, $4 / 1e6, $4 / $3
+    exit !($1 <= 3 * $2 && $4 <= 12 * $3)
 }'

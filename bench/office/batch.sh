@@ -8,6 +8,6 @@ for c in "$@"; do
   n=$(echo "$c" | sed 's#/##;s/strands/Strands/;s/whole/Whole/;s/first/First/')
   python3 ../../bench/office/convert.py $WHOLE ${SPOILT:+--spoilt} "$VECTORS/$c" $SPOILT > "proofs/$n.antt" && echo "mod $n" >> proofs/Lib.antt
 done
-nice -n 19 rt check --jobs 1 2>&1 | grep -v ^statements
+nice -n 10 rt check --jobs 1 2>&1 | grep -v ^statements
 for c in "$@"; do rm -f "proofs/$(echo "$c" | sed 's#/##;s/strands/Strands/;s/whole/Whole/;s/first/First/').antt"; done
 mv /tmp/office-lib.$$ proofs/Lib.antt

@@ -173,8 +173,9 @@ IMPORTS = [
 def head(title):
     out = [f'-- {title}']
     for module, names in IMPORTS:
-        out.append(f'use Rattle.{module} {names}' if names.startswith('as ') else
-                   f'use Rattle.{module}.{{{", ".join(names.split())}}}')
+        library = '' if module.startswith('mathlib') else 'Rattle.'
+        out.append(f'use {library}{module} {names}' if names.startswith('as ') else
+                   f'use {library}{module}.{{{", ".join(names.split())}}}')
     return '\n'.join(out) + '\n'
 
 
@@ -441,6 +442,58 @@ def some_spoils(run, kinds, most):
 # a tuple with a place for each entry has a limit
 MOST = 300
 
+# what line_trials imports beside what the others do, and what it does not
+LINES = [
+    ('std.specs.Str', 'is_utf8 chars'),
+    ('std.specs.Float.Numeral', 'scan_numeral'),
+    ('json.specs.Print', 'escape_byte'),
+    ('json.specs.Json', 'value'),
+    ('json.specs.Lex', 'punctuate lex'),
+    ('json.specs.Text', 'content'),
+    ('json.specs.Word', 'word after_number'),
+    ('serde_json.specs.Read', 'number_of'),
+    ('jsonrpc_text.specs.FromJson', 'root_name'),
+    ('jsonrpc_text.specs.Posted', 'posted'),
+    ('jsonrpc_text.specs.Responses', 'answer batch early_answer'),
+    ('run_record.specs.Run', 'alone'),
+    ('branch_workers.specs.Split', 'split all_lines said_lines'),
+    ('branch_workers.specs.Lines', 'come_in IsAnswered IsCutShort'),
+    ('std.specs.Prelude', '◌≢◌'),
+    ('std.proofs.Common', 'true≢false ap'),
+    ('mathlib.Core.Logic', 'inl inr'),
+]
+COMPUTED = ('digits escape_byte is_utf8 chars encode scan_numeral value punctuate lex content word after_number number_of root_name '
+            'posted answer batch early_answer split')
+
+
+def of_lines(run, path, title):
+    """That a history answers the lines that were read by those that were written."""
+    global IMPORTS
+    IMPORTS = [(m, n) for m, n in IMPORTS if not m.startswith('office_trials')] + LINES
+    read, written = (pathlib.Path(path + end).read_text() for end in ('.jsonl', '.stdout'))
+    return (given(run, title).replace('use Rattle.std.specs.Fmt', 'use lib.Utf8.{encode}\nuse Rattle.std.specs.Fmt', 1) + f'\n-- what was read\nabbrev read : List ℕ\nread = {text(read)}\n'
+            f'\n-- what was written\nabbrev written : List ℕ\nwritten = {text(written)}\n'
+            '\npub answered : IsAnswered alone setting history (come_in (said_lines (all_lines read)))\n'
+            f'    (record {{ written = written; noted = {text(run.notes)} }})\n'
+            f'unfolding {COMPUTED}\n'
+            f'answered = record {{ posted = refl; order = {listed(run.order)}; in_order = refl; written = refl; noted = refl }}\n'
+            + cut_short(run, written))
+
+
+def cut_short(run, written):
+    """The same where the output took a part alone: the rest of it is what was not written."""
+    line = written[:written.index('\n') + 1] if '\n' in written else ''
+    front, rest = line[:len(line) // 2], written[len(line) // 2:]
+    return (f'\npub cut_short : IsCutShort alone setting history (come_in (said_lines (all_lines read)))\n'
+            f'    (record {{ written = {text(front)}; noted = {text(run.notes)} }})\n'
+            f'unfolding {COMPUTED}\n'
+            f'cut_short = record {{ came = come_in (said_lines (all_lines read)); front = ([], refl); posted = refl; '
+            f'order = {listed(run.order)}; in_order = refl; written = (rest, refl); noted = ([], refl); '
+            f'cut = inl (rest, rest_is_some, refl) }}\n').replace('cut_short = record', f'cut_short = record', 1).replace(
+                '\npub cut_short', f'\n-- what was not written of it\nabbrev rest : List ℕ\nrest = {text(rest)}\n'
+                '\nrest_is_some : rest ≢ []\nrest_is_some h = true≢false (ap (λ l. elim l [ [] ↦ false | b ∷ bs ↦ true ]) h)\n'
+                '\npub cut_short', 1)
+
 
 def module(run, title, kinds):
     good = legal(run) if len(run.entries) <= MOST else counted(run)
@@ -448,7 +501,9 @@ def module(run, title, kinds):
 
 
 if __name__ == '__main__':
-    if sys.argv[1] == '--whole':
+    if sys.argv[1] == '--lines':
+        print(of_lines(load_case(sys.argv[2]), sys.argv[2], sys.argv[3]), end='')
+    elif sys.argv[1] == '--whole':
         run = load(sys.argv[2])
         print(given(run, sys.argv[2]) + counted(run) + sessions(run), end='')
     elif sys.argv[1] == '--spoilt':

@@ -34,3 +34,12 @@ Run048 taken_by_another_session,reply_by_another_session,call_number_skipped A r
 Run057 take_left_out,message_number_skipped,refused_without_cause,another_outcome A recorded run.
 Run068 accepted_against_the_rules,collected_by_another,adopted_after_the_stop A recorded run.
 CASES
+
+# The lines of some of them: cases/NAME.jsonl is what was read, cases/NAME.stdout what was written.
+to=../../crates/line_trials/proofs
+mkdir -p $to
+: > $to/Lib.antt
+for lines in cases/*.jsonl; do
+  n=$(basename "$lines" .jsonl)
+  python3 convert.py --lines "cases/$n" "What was read and what was written, in the run $n." > "$to/$n.antt" && echo "mod $n" >> $to/Lib.antt
+done

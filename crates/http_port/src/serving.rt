@@ -1,5 +1,5 @@
 //! Serving a connection.
-ghost use Rattle.std.specs.Prelude.{◌≡◌, IfOk, OnErr, IsOkAnd, MatchResult};
+ghost use Rattle.std.specs.Prelude.{◌≡◌, IfOk, OnErr, MatchResult};
 ghost use Rattle.std.specs.Io.KnownBytes.{Appends, Consumes, IsAtEnd};
 ghost use Rattle.http_port.specs.Asking.{Grows};
 ghost use Rattle.http_port.specs.Feeding.{Spent};
