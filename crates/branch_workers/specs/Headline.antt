@@ -7,7 +7,8 @@ use Rattle.run_record.specs.declared.record.Record.{Record}
 use Rattle.run_record.specs.declared.record.Traffic.{Traffic}
 use Rattle.run_record.specs.Run.{Hands, IsRun, IsSpent}
 use Rattle.branch_workers.specs.Split.{whole_lines, all_lines, said_lines}
-use Rattle.branch_workers.specs.Lines.{most_postings, come_in, is_by_first, IsAnswered, IsCutShort}
+use Rattle.branch_workers.specs.Texts.{Came}
+use Rattle.branch_workers.specs.Lines.{most_postings, come_in, is_by_first, Output, IsAnswered, IsCutShort}
 use Rattle.branch_workers.specs.Statuses.{Faults, SourceRose, Halted, IsCalm, HasStatus}
 
 -- what a run over lines left behind: its record and status, how often the outside failed before and after it, what the
@@ -20,22 +21,37 @@ pub record Ending : Type 0 where
   pub left : Option (List ℕ)
   pub noted : List ℕ
 
--- The lines that were read are answered: all of them, where nothing failed and the source was read to its end or brought
--- as many postings as there may be; those that have their end, where the source failed; and where a front halted, the answer
--- is cut short, of those that have their end, or of all once the source has nothing left.
+-- what all lines bring in
+abbrev pub all_of : Traffic → List Came
+all_of traffic = come_in (said_lines (all_lines traffic.read))
+
+-- what the lines bring in that have their end
+abbrev pub whole_of : Traffic → List Came
+whole_of traffic = come_in (said_lines (whole_lines traffic.read))
+
+-- what went out
+abbrev pub output_of : Traffic → Ending → Output
+output_of traffic e = record { written = traffic.written; noted = e.noted }
+
+-- the source was read to its end, or brought as many postings as there may be
+abbrev pub IsExhausted : Traffic → Ending → Type 0
+IsExhausted traffic e = IsAtEnd e.left ⊎ (most_postings ≤ length (said_lines (all_lines traffic.read)))
+
+-- The lines that were read are answered: all of them, where nothing failed and the source was exhausted; those that
+-- have their end, where the source failed; and where a front halted, the answer is cut short, of those that have their
+-- end, or of all once the source has nothing left.
 pub data AnswersLines (hands : Hands) (w : Setting) (traffic : Traffic) (e : Ending) : Type 0 where
-  whole : e.now.source ≡ e.before.source → IsCalm e.before e.now
-      → IsAtEnd e.left ⊎ (most_postings ≤ length (said_lines (all_lines traffic.read)))
-      → IsAnswered hands w e.run.history.entries (come_in (said_lines (all_lines traffic.read))) (traffic.written, e.noted)
+  whole : e.now.source ≡ e.before.source → IsCalm e.before e.now → IsExhausted traffic e
+      → IsAnswered hands w e.run.history.entries (all_of traffic) (output_of traffic e)
       → AnswersLines hands w traffic e
   cut : SourceRose e.before e.now → IsCalm e.before e.now
-      → IsAnswered hands w e.run.history.entries (come_in (said_lines (whole_lines traffic.read))) (traffic.written, e.noted)
+      → IsAnswered hands w e.run.history.entries (whole_of traffic) (output_of traffic e)
       → AnswersLines hands w traffic e
   halted : Halted e.before e.now
-      → IsCutShort hands w e.run.history.entries (come_in (said_lines (whole_lines traffic.read))) (traffic.written, e.noted)
+      → IsCutShort hands w e.run.history.entries (whole_of traffic) (output_of traffic e)
       → AnswersLines hands w traffic e
   halted_at_end : Halted e.before e.now → IsAtEnd e.left
-      → IsCutShort hands w e.run.history.entries (come_in (said_lines (all_lines traffic.read))) (traffic.written, e.noted)
+      → IsCutShort hands w e.run.history.entries (all_of traffic) (output_of traffic e)
       → AnswersLines hands w traffic e
 
 -- Whether a front halted: only where the output or the notes failed, and always where one of them did.

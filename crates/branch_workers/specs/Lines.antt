@@ -1,6 +1,5 @@
 -- What a run over lines posts and writes.
-use Rattle.std.specs.Prelude.{◌≡◌, ◌≢◌, ◌⊎◌, ℕ, Bool, true, false, List, [], ◌∷◌, ◌++◌, length, map, take, flat_map, nat_eq, Option, None, Some, slice_get}
-use Rattle.jsonrpc_text.specs.declared.message.Read.{Read}
+use Rattle.std.specs.Prelude.{◌≡◌, ◌≢◌, ◌⊎◌, ℕ, Bool, true, List, [], ◌∷◌, ◌++◌, length, map, take, flat_map, nat_eq, Option, None, Some, slice_get}
 use Rattle.jsonrpc_text.specs.Posted.{posted}
 use Rattle.office_core.specs.declared.history.Act.TheVariants as act
 use Rattle.office_core.specs.declared.history.Entry.{Entry}
@@ -40,7 +39,10 @@ line_if (Some text) = text ++ 10 ∷ []
 
 -- the line that answers the posting of a number, none where it is not there
 abbrev pub line_of : Setting → Past → List Came → ℕ → List ℕ
-line_of w past all j = elim (slice_get all j) [ None ↦ [] | Some came ↦ line_if (response w past first_worker j came) ]
+line_of w past all j = elim (slice_get all j) [
+  | None ↦ []
+  | Some came ↦ line_if (response w past first_worker j came)
+]
 
 -- the lines that answer postings, in an order
 abbrev pub lines_in : Setting → List Entry → List Came → List ℕ → List ℕ
@@ -59,22 +61,27 @@ IsFront {A} xs ys = (rest : List A) × (xs ++ rest ≡ ys)
 abbrev pub IsProperFront : {A : Type 0} → List A → List A → Type 0
 IsProperFront {A} xs ys = (rest : List A) × (rest ≢ []) × (xs ++ rest ≡ ys)
 
+-- what went out: the lines, and the notes
+pub record Output : Type 0 where
+  pub written : List ℕ
+  pub noted : List ℕ
+
 -- All that came in was posted, in order; it was answered, each posting once; and all was noted.
-pub record IsAnswered (hands : Hands) (w : Setting) (h : List Entry) (all : List Came) (out : List ℕ × List ℕ) : Type 0 where
+pub record IsAnswered (hands : Hands) (w : Setting) (h : List Entry) (all : List Came) (out : Output) : Type 0 where
   pub posted : posts_by first_worker h ≡ posts_of 0 (map posting_of all)
   pub order : List ℕ
   pub in_order : IsOrderOf hands w h (length all) order
-  pub written : out.0 ≡ lines_in w h all order
-  pub noted : out.1 ≡ notes w h
+  pub written : out.written ≡ lines_in w h all order
+  pub noted : out.noted ≡ notes w h
 
 -- After a halt what was posted is the front of what came in; what was written and what was noted end inside the answers
 -- of what was posted and inside its notes, one of the two before their end.
-pub record IsCutShort (hands : Hands) (w : Setting) (h : List Entry) (all : List Came) (out : List ℕ × List ℕ) : Type 0 where
+pub record IsCutShort (hands : Hands) (w : Setting) (h : List Entry) (all : List Came) (out : Output) : Type 0 where
   pub came : List Came
   pub front : IsFront came all
   pub posted : posts_by first_worker h ≡ posts_of 0 (map posting_of came)
   pub order : List ℕ
   pub in_order : IsOrderOf hands w h (length came) order
-  pub written : IsFront out.0 (lines_in w h came order)
-  pub noted : IsFront out.1 (notes w h)
-  pub cut : IsProperFront out.0 (lines_in w h came order) ⊎ IsProperFront out.1 (notes w h)
+  pub written : IsFront out.written (lines_in w h came order)
+  pub noted : IsFront out.noted (notes w h)
+  pub cut : IsProperFront out.written (lines_in w h came order) ⊎ IsProperFront out.noted (notes w h)

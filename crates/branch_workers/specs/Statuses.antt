@@ -1,9 +1,6 @@
 -- The status of a run by its causes.
 use Rattle.std.specs.Prelude.{◌≡◌, ◌≢◌, ◌⊎◌, ℕ}
 use Rattle.outside_traits.specs.Causes.{Rose}
-use Rattle.run_record.specs.declared.record.Record.{Record}
-use Rattle.office_core.specs.Limits.{Setting}
-use Rattle.run_record.specs.Run.{IsSpent}
 
 -- how often the source, the output, the notes and the doors of a run failed
 pub record Faults : Type 0 where
@@ -28,8 +25,9 @@ IsCalm before now = (now.output ≡ before.output) × (now.notes ≡ before.note
 abbrev pub DoorsRose : Faults → Faults → Type 0
 DoorsRose before now = Rose before.doors now.doors
 
--- The status of a run over a program that was accepted. Of the faults that came the least is the status, and each has its
--- own cause; where none came it is 6 exactly where a session used its whole budget and could act all the same, and else 0.
+-- The status of a run over a program that was accepted. Of the faults that came the least is the status, and each has
+-- its own cause; where none came it is 6 exactly where a session used its whole budget and could act all the same,
+-- and else 0.
 pub record HasStatus (status : ℕ) (before now : Faults) (IsMore : Type 0) : Type 0 where
   pub one : (status ≡ 0) ⊎ (status ≡ 4) ⊎ (status ≡ 5) ⊎ (status ≡ 6) ⊎ (status ≡ 7)
   pub source : status ≡ 4 → SourceRose before now

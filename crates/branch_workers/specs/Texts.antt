@@ -1,5 +1,5 @@
 -- What a JSON-RPC text brings in, and the text that answers it.
-use Rattle.std.specs.Prelude.{ℕ, suc, ◌+◌, Bool, true, false, List, [], ◌∷◌, ◌++◌, map, if◌then◌else◌, Option, None, Some, option_and_then, unwrap_or, Ok, Err}
+use Rattle.std.specs.Prelude.{ℕ, suc, Bool, true, false, List, [], ◌∷◌, ◌++◌, map, if◌then◌else◌, Option, None, Some, option_and_then, unwrap_or, Ok, Err}
 use Rattle.jolie_trees.specs.Data.{Tree}
 use Rattle.behaviour_tree.specs.declared.words.Outcome.{Outcome}
 use Rattle.behaviour_tree.specs.declared.words.Outcome.TheVariants as outcome
@@ -8,7 +8,6 @@ use Rattle.behaviour_tree.specs.Data.{TypeTree, undefined, OperationPart, Progra
 use Rattle.behaviour_tree.specs.Operations.{operation_at, operation_named}
 use Rattle.jsonrpc_text.specs.declared.message.Id.{Id}
 use Rattle.jsonrpc_text.specs.declared.message.Id.TheVariants as id
-use Rattle.jsonrpc_text.specs.declared.message.Early.{Early}
 use Rattle.jsonrpc_text.specs.declared.message.ReadCall.{ReadCall}
 use Rattle.jsonrpc_text.specs.declared.message.Read.{Read}
 use Rattle.jsonrpc_text.specs.Responses.{answer, early_answer, early_code, batch}

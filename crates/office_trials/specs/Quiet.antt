@@ -1,4 +1,4 @@
--- Whether nothing is left to do in a record, as a value that computes: what the office could give is tried for each strand.
+-- Whether nothing is left to do in a record, as a value that computes: what the office could give is tried.
 use Rattle.std.specs.Prelude.{ℕ, zero, suc, Bool, true, false, not, ◌&&◌, ◌||◌, List, [], ◌∷◌, ◌++◌, length, map, nat_eq, if◌then◌else◌, Option, None, Some}
 use Rattle.std.specs.List.{list_any, list_all}
 use Rattle.jolie_trees.specs.Trees.{void_tree}
@@ -17,14 +17,15 @@ use Rattle.office_core.specs.Boxes.{box}
 use Rattle.office_core.specs.Accepted.{past_of}
 use Rattle.run_record.specs.Steps.{calls_of, steps_of, mail}
 use Rattle.run_record.specs.Quiet.{is_given, unbrought, begins_posting, sessions_at}
-use Rattle.std.specs.Prelude.{slice_get}
+use Rattle.std.specs.Prelude.{slice_get, option_and_then}
 
 -- the numbers below a number
 abbrev pub below : ℕ → List ℕ
 below zero = []
 below (suc n) = below n ++ n ∷ []
 
--- gifts of which each event that can be has one: nothing, a variable that is bound, an outcome, and the messages that wait
+-- gifts of which each event that can be has one: nothing, a variable that is bound, an outcome, and the messages that
+-- wait
 abbrev pub offers : Past → ℕ → List Given
 offers past s =
     given.Nothing ∷ given.Bound ∷ given.Answer (outcome.Value void_tree)
@@ -50,13 +51,14 @@ leads_from parts d c (s ∷ steps) = elim (after parts d c s.event.strand s.gift
   | Some k ↦ leads_from parts d k.config steps
 ]
 
+-- where the events of a session of service d lead
+abbrev pub leads_as : Setting → List Entry → ℕ → List Event → ℕ → Option Config
+leads_as w h s events d =
+    option_and_then (λ c. leads_from w.parts d c (steps_of events (calls_of w h s))) (start_of w.parts d)
+
 -- where the events of a session lead
 abbrev pub leads_to : Setting → List Entry → ℕ → List Event → Option Config
-leads_to w h s events =
-    elim (service_of w (past_of w h) s) [
-      | None ↦ None
-      | Some d ↦ elim (start_of w.parts d) [ None ↦ None | Some c ↦ leads_from w.parts d c (steps_of events (calls_of w h s)) ]
-    ]
+leads_to w h s events = option_and_then (leads_as w h s events) (service_of w (past_of w h) s)
 
 -- a session that lives can act
 abbrev pub can_act : Setting → List Entry → ℕ → List Event → Bool

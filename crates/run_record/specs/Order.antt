@@ -44,7 +44,8 @@ before_first is_it (e ∷ es) = if is_it e then [] else e ∷ before_first is_it
 abbrev pub posts_above : ℕ → ℕ → Entry → Bool
 posts_above actor i e = elim e.act [ act.Post j k q r ↦ nat_eq actor e.actor && nat_lt i j | _ ↦ false ]
 
--- what happened before the first post of a posting above i, and before the stop. The messages are those of the whole past
+-- what happened before the first post of a posting above i, and before the stop. The messages are those of the whole
+-- past
 abbrev pub until_posting : Past → ℕ → ℕ → Past
 until_posting past actor i = record {
   entries = before_first (λ e. posts_above actor i e || stops e) past.entries;
@@ -61,8 +62,8 @@ abbrev pub least_from : (ℕ → Bool) → ℕ → ℕ → ℕ
 least_from is_it i zero = i
 least_from is_it i (suc n) = if is_it i then i else least_from is_it (suc i) n
 
--- where posting j of so many is finished: at the first posting from its own on before whose end it had its answers; and at
--- the end, which is a number of its own, where the stop alone gave one
+-- where posting j of so many is finished: at the first posting from its own on before whose end it had its answers;
+-- and at the end, which is a number of its own, where the stop alone gave one
 abbrev pub finished_at : Setting → Past → ℕ → ℕ → ℕ → ℕ
 finished_at w past actor count j = least_from (is_finished w past actor j) j (count - j)
 
@@ -71,8 +72,8 @@ abbrev pub finished_there : Setting → Past → ℕ → ℕ → ℕ → List �
 finished_there w past actor count i =
     filter (λ j. nat_eq i (finished_at w past actor count j)) (numbers_from 0 count)
 
--- the postings of an actor, so many, in the order in which one worker answers them: by where they are finished, and then by
--- their numbers
+-- the postings of an actor, so many, in the order in which one worker answers them: by where they are finished, and
+-- then by their numbers
 abbrev pub order_alone : Setting → List Entry → ℕ → ℕ → List ℕ
 order_alone w h actor count = flat_map (finished_there w (past_of w h) actor count) (numbers_from 0 (suc count))
 
@@ -98,8 +99,8 @@ last_collect w h actor j = last_from (collects_any (messages_for (past_of w h) a
 abbrev pub IsEachOnce : ℕ → List ℕ → Type 0
 IsEachOnce count order = (j : ℕ) → count_by (nat_eq j) order ≡ (if nat_lt j count then 1 else 0)
 
--- The postings of an actor, so many, each once; of two that were collected, the one whose last collect came first stands
--- first.
+-- The postings of an actor, so many, each once; of two that were collected, the one whose last collect came first
+-- stands first.
 pub record IsOrder (w : Setting) (h : List Entry) (actor count : ℕ) (order : List ℕ) : Type 0 where
   pub each : IsEachOnce count order
   pub collects : (m n i j a b : ℕ) → slice_get order m ≡ Some i → slice_get order n ≡ Some j → m < n

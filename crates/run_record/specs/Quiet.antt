@@ -44,8 +44,8 @@ pub record CanAct (w : Setting) (h : List Entry) (s : ℕ) (events : List Event)
 abbrev pub unbrought : Past → List Call
 unbrought past = filter (λ c. goes_out c && not (some_entry past (brings c))) (calls past)
 
--- Nothing is left to do, after the entries of h and these events: each session that was born was adopted, each call that
--- went out has its outcome, and a session that could still act used its whole budget.
+-- Nothing is left to do, after the entries of h and these events: each session that was born was adopted, each call
+-- that went out has its outcome, and a session that could still act used its whole budget.
 pub record IsQuiet (w : Setting) (budget : ℕ) (h : List Entry) (sessions : List (List Event)) : Type 0 where
   pub adopted : (s service : ℕ) → service_of w (past_of w h) s ≡ Some service → was_adopted (past_of w h) s ≡ true
   pub brought : unbrought (past_of w h) ≡ []
@@ -67,8 +67,8 @@ events_for calls (e ∷ es) = elim (makes_call e.kind) [
   | true ↦ elim calls [ zero ↦ [] | suc n ↦ e ∷ events_for n es ]
 ]
 
--- the events that sessions, the first of which has the number s, had when the history was h: those before the first event
--- whose call came later
+-- the events that sessions, the first of which has the number s, had when the history was h: those before the first
+-- event whose call came later
 abbrev pub sessions_at : Setting → List Entry → ℕ → List (List Event) → List (List Event)
 sessions_at w h s [] = []
 sessions_at w h s (events ∷ sessions) =

@@ -1,0 +1,3 @@
+mod HaltedBeside
+mod LeftInTheBox
+mod Stopped
