@@ -1,6 +1,9 @@
-//! The requests that the office accepted, each with where it came from and its answer.
+//! The messages that the office accepted, each with where it came from and its one answer.
 #![tactic(auto)]
 
+mod book;
 mod origin;
+mod place;
 
+pub use book::Book;
 pub use origin::Origin;

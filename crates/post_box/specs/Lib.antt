@@ -1,0 +1,4 @@
+pub mod Limit
+pub mod Oldest
+pub mod Refusals
+pub mod View
