@@ -1,10 +1,9 @@
 //! Lines that change the tables or ask of them.
 
-use crate::behaviours::read_handlers;
-use crate::outline::Outline;
 use behaviour_tree::{Behaviour, Handlers};
 use handler_table::Table;
 use std::alloc::{AllocError, Global};
+use test_behaviours::{Outline, read_handlers};
 use test_values::WordError;
 
 /// What the lines give, a line for each.
