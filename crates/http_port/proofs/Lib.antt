@@ -1,5 +1,6 @@
 pub mod FieldLemmas
 pub mod JudgeLemmas
+pub mod KnownLemmas
 pub mod PartLemmas
 pub mod ReadingLemmas
 pub mod TalkLemmas

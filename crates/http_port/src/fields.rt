@@ -2,9 +2,11 @@
 ghost use Rattle.std.specs.Prelude.{◌≡◌, ℕ, ◌++◌, ◌∷◌, [], List, length, map, min, Some, None, if◌then◌else◌, All};
 ghost use Rattle.std.specs.Str.Parse.{digits_value};
 ghost use Rattle.httparse.specs.Spans.{IsHeaderWithin, header_bytes};
+ghost use Rattle.http1.specs.Fields.{known_fields};
 ghost use Rattle.http_port.specs.Framing.{is_digits};
 ghost use Rattle.http_port.specs.Walks.{stated_after, framing_of, is_unclear};
 
+use http1::fields::{ContentLength, KnownFields};
 use http1::text::eq_ignore_case;
 use httparse::spans::HeaderSpan;
 
@@ -41,7 +43,22 @@ pub(crate) struct Framing {
 }
 
 impl Framing {
-    pub(crate) fn of(head: &[u8], fields: &[HeaderSpan]) -> Framing
+    /// What the summary of the fields says, where that is enough; else what the fields say, one after another.
+    pub(crate) fn of(known: KnownFields, head: &[u8], fields: &[HeaderSpan]) -> Framing
+        requires known { known ≡ known_fields (map (header_bytes head.now) fields.now) }
+        requires fields { All (IsHeaderWithin (length head.now)) fields.now }
+        ensures { result ≡ framing_of (map (header_bytes head.now) fields.now) }
+    {
+        match known.content_length {
+            ContentLength::Value(number) if known.framing_fields == 1 => Framing {
+                stated: Stated::Length(number.min(u64::from(LONGEST_BODY + 1)) as u32),
+                is_coded: false,
+            },
+            _ => Framing::of_each(head, fields),
+        }
+    }
+
+    fn of_each(head: &[u8], fields: &[HeaderSpan]) -> Framing
         requires { All (IsHeaderWithin (length head.now)) fields.now }
         ensures { result ≡ framing_of (map (header_bytes head.now) fields.now) }
     {

@@ -37,10 +37,13 @@ impl Unread {
         &self.bytes.as_slice()[self.start..]
     }
 
-    /// Puts more bytes at the back.
+    /// Puts more bytes at the back. Where there are none, nothing is moved.
     pub(crate) fn append(&mut self, more: &[u8]) -> Result<(), AllocError>
         ensures { OnOk result (self.new ≡ self.old ++ more.now) }
     {
+        if more.is_empty() {
+            return Ok(());
+        }
         self.close_gap();
         self.bytes.extend_from_slice(more)
     }

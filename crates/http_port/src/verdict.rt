@@ -1,6 +1,8 @@
 //! What the bytes at the front of a connection are judged to be.
-ghost use Rattle.std.specs.Prelude.{◌≡◌, ◌≤◌, List, ℕ, length, map, take, All};
+ghost use Rattle.std.specs.Prelude.{◌≡◌, ◌≤◌, List, ℕ, length, map, take, All, IfSome, IsSome};
+ghost use Rattle.httparse.specs.Grammar.{ReadsRequest, RequestHead};
 ghost use Rattle.httparse.specs.Spans.{IsHeaderWithin, header_bytes, span_bytes, IsWithin};
+ghost use Rattle.http1.specs.Fields.{Header, known_fields};
 ghost use Rattle.http_port.specs.HeadPart.{HoldsScan};
 ghost use Rattle.http_port.specs.Rules.{verdict_of, JudgesPart, Judges};
 ghost use Rattle.http_port.specs.Walks.{wishes_of};
@@ -19,6 +21,9 @@ const LONGEST_HEAD: usize = 8192;
 
 /// The most fields of a head.
 const MOST_FIELDS: usize = 64;
+
+/// As many fields as most heads have at most. Room for these alone is made faster.
+const FEW_FIELDS: usize = 16;
 
 /// A request that is not refused, by its head.
 #[derive(Clone, Copy)]
@@ -53,11 +58,9 @@ pub(crate) struct Wishes {
 }
 
 impl Wishes {
-    fn of(minor: u8, head: &[u8], fields: &[HeaderSpan]) -> Wishes
-        requires { All (IsHeaderWithin (length head.now)) fields.now }
-        ensures { result ≡ wishes_of minor (map (header_bytes head.now) fields.now) }
+    fn of(minor: u8, known: KnownFields) -> Wishes
+        ensures { (headers : List Header) → known ≡ known_fields headers → result ≡ wishes_of minor headers }
     {
-        let known = KnownFields::from_spans(head, fields);
         if minor == 0 {
             return Wishes {
                 lacks_host: false,
@@ -92,10 +95,27 @@ fn judge_part(part: &[u8]) -> Verdict
     requires { length part.now ≤ LONGEST_HEAD }
     ensures { JudgesPart part.now result }
 {
-    let mut fields = [EMPTY_HEADER_SPAN; MOST_FIELDS];
-    match parse_request(part, &mut fields) {
-        Ok(Status::Complete(head)) => judge_head(part, &head, &fields[..head.headers]),
-        _ => Verdict::Refuses(BAD_REQUEST),
+    let mut few = [EMPTY_HEADER_SPAN; FEW_FIELDS];
+    if let Some(verdict) = judge_in_room(part, &mut few) {
+        return verdict;
+    }
+    let mut most = [EMPTY_HEADER_SPAN; MOST_FIELDS];
+    match judge_in_room(part, &mut most) {
+        Some(verdict) => verdict,
+        None => Verdict::Refuses(BAD_REQUEST),
+    }
+}
+
+/// Judges a whole head part by the head that it begins with, if there is one whose fields have the room.
+fn judge_in_room(part: &[u8], room: &mut [HeaderSpan]) -> Option<Verdict>
+    requires part { length part.now ≤ LONGEST_HEAD }
+    requires room { length room.old ≤ MOST_FIELDS }
+    ensures judges { IfSome result (JudgesPart part.now) }
+    ensures found { (h : RequestHead) (rest : List ℕ) → ReadsRequest part.now h rest → length h.fields ≤ length room.old → IsSome result }
+{
+    match parse_request(part, room) {
+        Ok(Status::Complete(head)) => Some(judge_head(part, &head, &room[..head.headers])),
+        _ => None,
     }
 }
 
@@ -111,8 +131,9 @@ fn judge_head(part: &[u8], head: &RequestSpans, fields: &[HeaderSpan]) -> Verdic
       headers = map (header_bytes part.now) fields.now;
     }) }
 {
-    let framing = Framing::of(part, fields);
-    let wishes = Wishes::of(head.version, part, fields);
+    let known = KnownFields::from_spans(part, fields);
+    let framing = Framing::of(known, part, fields);
+    let wishes = Wishes::of(head.version, known);
     if wishes.lacks_host {
         return Verdict::Refuses(BAD_REQUEST);
     }
