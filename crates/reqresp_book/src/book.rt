@@ -29,7 +29,7 @@ impl Book {
 
     /// Notes a message, which has no answer yet.
     pub fn open(&mut self, message: u32, origin: Origin) -> Result<(), AllocError>
-        requires { standing_of self.old message ≡ None }
+        requires { origin_of self.old message ≡ None }
         ensures origin { OnOk result (ComesFrom message origin self.old self.new) }
         ensures standing { OnOk result (Stands message (Some standing.Open) self.old self.new) }
         ensures unchanged { OnErr result (AreSame self.old self.new) }
