@@ -1,6 +1,6 @@
 -- What the summary of the fields says of the body.
 use Rattle.std.proofs.Common.{◌≡◌, ℕ, ◌+◌, ◌^◌, min, Bool, true, false, cond, ◌&&◌, ◌||◌, ltb, List, [], ◌∷◌, ◌++◌, length, map, sym, refl, ap, ◌∙◌, arith}
-use Rattle.std.specs.Prelude.{codes, bytes_eq, count_by}
+use Rattle.std.specs.Prelude.{codes, count_by}
 use Rattle.std.specs.List.{list_all}
 use Rattle.std.specs.Str.Parse.{digits_value}
 use Rattle.std.specs.Char.{is_ascii_digit, to_ascii_lowercase}

@@ -2,6 +2,7 @@ pub mod FieldLemmas
 pub mod JudgeLemmas
 pub mod KnownLemmas
 pub mod PartLemmas
+pub mod PlaceLemmas
 pub mod ReadingLemmas
 pub mod TalkLemmas
 pub mod TurnLemmas

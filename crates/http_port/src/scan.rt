@@ -1,9 +1,10 @@
 //! The search for the end of a head part, line by line.
 ghost use Rattle.std.specs.Prelude.{◌≡◌, false};
+ghost use Rattle.memchr.specs.Find.{IsFirstByte, is_byte};
 ghost use Rattle.http_port.specs.HeadPart.{is_empty_line, part_length, lines, HoldsScan};
 ghost use Rattle.http_port.specs.Walks.{begun_behind};
 
-use memchr::memchr;
+use memchr::memchr_iter;
 
 /// How far a head part was looked through: whole lines up to `at`, of which one is not empty where it has begun.
 #[derive(Clone, Copy)]
@@ -25,7 +26,7 @@ impl Scan {
         ensures length { result ≡ part_length false (lines bytes.now) }
         ensures scan { HoldsScan bytes.now self.new }
     {
-        while let Some(before) = memchr(b'\n', &bytes[self.at..]) {
+        while let Some(before) = next_line_feed(&bytes[self.at..]) {
             let end = self.at + before + 1;
             let Some(begun) = begun_behind(self.begun, &bytes[self.at..end]) else {
                 return Some(end);
@@ -35,6 +36,14 @@ impl Scan {
         }
         None
     }
+}
+
+/// The place of the next LF, which is near in most heads.
+#[tactic(auto, using(crate::proofs::PlaceLemmas::first_by_places))]
+fn next_line_feed(bytes: &[u8]) -> Option<usize>
+    ensures { IsFirstByte (is_byte 10) bytes.now result }
+{
+    memchr_iter(b'\n', bytes).next()
 }
 
 /// Whether a line that is not empty came, with this one; none where this one ends the head part.
