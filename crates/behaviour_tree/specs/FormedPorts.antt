@@ -1,10 +1,11 @@
 -- What well-formed ports are.
-use Rattle.std.specs.Prelude.{ℕ, Bool, not, ◌&&◌, ◌||◌, nat_lt, bytes_eq, codes, if◌then◌else◌, List, [], ◌∷◌, length, map, flat_map}
+use Rattle.std.specs.Prelude.{ℕ, Bool, not, ◌&&◌, ◌||◌, nat_lt, bytes_eq, codes, if◌then◌else◌}
+use Rattle.std.specs.Prelude.{List, [], ◌∷◌, length, map, flat_map}
 use Rattle.std.specs.List.{list_all}
 use Rattle.behaviour_tree.specs.Data.{OperationPart, InterfacePart, PortPart, ServicePart}
 use Rattle.behaviour_tree.specs.Locations.{is_local, is_socket}
 use Rattle.behaviour_tree.specs.Operations.{operations_of}
-use Rattle.behaviour_tree.specs.Distinct.{is_in, texts_differ, numbers_differ}
+use Rattle.behaviour_tree.specs.Distinct.{is_in, texts_differ}
 
 -- the name of the port that every service has behind its own
 abbrev pub console : List ℕ
@@ -18,13 +19,9 @@ operation_names operations = map (λ (o : OperationPart). o.name) operations
 abbrev pub port_operations : List InterfacePart → PortPart → List OperationPart
 port_operations interfaces port = operations_of interfaces port.interfaces
 
--- an input port names no interface twice
-abbrev pub names_once : PortPart → Bool
-names_once port = not port.input || numbers_differ port.interfaces
-
--- an output port has no operation twice
+-- a port has no operation twice
 abbrev pub has_once : List InterfacePart → PortPart → Bool
-has_once interfaces port = port.input || texts_differ (operation_names (port_operations interfaces port))
+has_once interfaces port = texts_differ (operation_names (port_operations interfaces port))
 
 -- an output port at a local location is met by an input port
 abbrev pub is_met : List (List ℕ) → PortPart → Bool
@@ -35,7 +32,7 @@ abbrev pub is_port : List InterfacePart → List (List ℕ) → PortPart → Boo
 is_port interfaces locations port =
     not (bytes_eq port.name console) && (is_local port.location || is_socket port.location)
     && list_all (λ n. nat_lt n (length interfaces)) port.interfaces
-    && names_once port && has_once interfaces port && is_met locations port
+    && has_once interfaces port && is_met locations port
 
 -- the location of an input port
 abbrev pub input_location : PortPart → List (List ℕ)

@@ -1,8 +1,11 @@
 -- What well-formed types are.
-use Rattle.std.specs.Prelude.{ℕ, zero, suc, Bool, true, false, not, ◌&&◌, ◌||◌, ◌==◌, nat_lt, List, [], ◌∷◌, length, slice_get, Option, None, Some, option_and_then}
+use Rattle.std.specs.Prelude.{ℕ, suc, Bool, true, not, ◌&&◌, nat_lt, List, [], ◌∷◌, length, slice_get}
+use Rattle.std.specs.Prelude.{Option, None, Some, option_and_then}
 use Rattle.std.specs.List.{list_all}
 use Rattle.behaviour_tree.specs.Data.{TypeTree, plain, named, undefined, TypeFields, no_type_fields, type_field}
 use Rattle.behaviour_tree.specs.Distinct.{texts_differ}
+use Rattle.behaviour_tree.specs.Leading.{led_to}
+use Rattle.behaviour_tree.specs.Operations.{is_among}
 
 -- the names of fields
 abbrev pub field_names : TypeFields → List (List ℕ)
@@ -36,15 +39,14 @@ number_in undefined = None
 abbrev pub next_number : List TypeTree → ℕ → Option ℕ
 next_number types n = option_and_then number_in (slice_get types n)
 
--- whether the numbers from one on lead to a start within so many steps
-abbrev pub leads_to : (ℕ → Option ℕ) → ℕ → ℕ → ℕ → Bool
-leads_to next zero start n = false
-leads_to next (suc steps) start n = elim (next n) [ None ↦ false | Some m ↦ (m == start) || leads_to next steps start m ]
+-- the number of a type leads back to itself
+abbrev pub number_leads_back : List TypeTree → ℕ → Bool
+number_leads_back types n = is_among (led_to (next_number types) (length types) n) n
 
 -- no number of types, from one on, leads back to itself
 abbrev pub none_leads_back : List TypeTree → ℕ → List TypeTree → Bool
 none_leads_back types n [] = true
-none_leads_back types n (ty ∷ rest) = not (leads_to (next_number types) (length types) n n) && none_leads_back types (suc n) rest
+none_leads_back types n (ty ∷ rest) = not (number_leads_back types n) && none_leads_back types (suc n) rest
 
 -- the types of a program
 abbrev pub are_types : List TypeTree → Bool

@@ -13,6 +13,7 @@ pub mod FormedServices
 pub mod FormedSets
 pub mod FormedTypes
 pub mod Laws
+pub mod Leading
 pub mod Locations
 pub mod Names
 pub mod Numbers

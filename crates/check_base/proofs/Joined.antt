@@ -13,6 +13,13 @@ pub joined_append : (so : Option Refusal) (rs ss : List Refusal) → joined so (
 joined_append so [] ss = refl
 joined_append so (r ∷ rs) ss = joined_append (offered so r) rs ss
 
+-- four lists
+pub joined_four : (so : Option Refusal) (rs ss ts us : List Refusal) → joined so (rs ++ ss ++ ts ++ us) ≡ joined (joined (joined (joined so rs) ss) ts) us
+joined_four so rs ss ts us =
+    joined_append so (rs ++ ss ++ ts) us
+    ∙ ap (λ p. joined p us) (joined_append so (rs ++ ss) ts)
+    ∙ ap (λ p. joined (joined p ts) us) (joined_append so rs ss)
+
 -- one more thing is checked
 pub joined_more : {X : Type 0} (so : Option Refusal) (f : X → List Refusal) (xs : List X) (x : X) → joined so (flat_map f (xs ++ x ∷ [])) ≡ joined (joined so (flat_map f xs)) (f x)
 joined_more so f xs x = ap (joined so) (sym (flat_map_more f [] xs x)) ∙ joined_append so (flat_map f xs) (f x)

@@ -6,4 +6,5 @@ pub mod Lookups
 pub mod Loops
 pub mod PlaceCounts
 pub mod Repetitions
+pub mod TypeNames
 pub mod Variables

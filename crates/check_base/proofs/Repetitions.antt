@@ -4,7 +4,7 @@ use Rattle.std.specs.Prelude.{◌||◌, if◌then◌else◌}
 use Rattle.std.proofs.lemmas.List.{map-append, take_more}
 use Rattle.jolie_ast.specs.declared.name.Name.{Name}
 use Rattle.behaviour_tree.specs.Distinct.{is_in}
-use Rattle.check_base.specs.declared.refusal.CheckName.TheVariants.{DuplicateName}
+use Rattle.check_base.specs.declared.refusal.CheckName.{CheckName}
 use Rattle.check_base.specs.declared.refusal.Refusal.{Refusal}
 use Rattle.check_base.specs.Least.{joined, refused, refused_if}
 use Rattle.check_base.specs.Repeated.{repeated, repeated_after}
@@ -35,24 +35,24 @@ repeated_behind before (m ∷ ns) n =
     ∙ sym (append_assoc (second (is_in m.text before) m) (repeated_after (m.text ∷ before) ns) (second (is_in n.text before || is_in n.text (map (λ (m : Name). m.text) (m ∷ ns))) n))
 
 -- what is refused of a name that may stand a second time
-pub second_refused : (known : Bool) (n : Name) → refused DuplicateName (second known n) ≡ refused_if known DuplicateName n.at
-second_refused true n = refl
-second_refused false n = refl
+pub second_refused : (cause : CheckName) (known : Bool) (n : Name) → refused cause (second known n) ≡ refused_if known cause n.at
+second_refused cause true n = refl
+second_refused cause false n = refl
 
 -- a turn of a loop over names
-pub repeated_turn : (p0 p1 p2 : Option Refusal) (ns : List Name) (i : ℕ) (n : Name) (known : Bool) → i < length ns → n ≡ get_or ns i n
+pub repeated_turn : (cause : CheckName) (p0 p1 p2 : Option Refusal) (ns : List Name) (i : ℕ) (n : Name) (known : Bool) → i < length ns → n ≡ get_or ns i n
     → known ≡ is_in n.text (map (λ (m : Name). m.text) (take i ns))
-    → p1 ≡ joined p0 (refused DuplicateName (repeated (take i ns))) → p2 ≡ joined p1 (refused_if known DuplicateName n.at) → p2 ≡ joined p0 (refused DuplicateName (repeated (take (i + 1) ns)))
-repeated_turn p0 p1 p2 ns i n known below item there before turn =
+    → p1 ≡ joined p0 (refused cause (repeated (take i ns))) → p2 ≡ joined p1 (refused_if known cause n.at) → p2 ≡ joined p0 (refused cause (repeated (take (i + 1) ns)))
+repeated_turn cause p0 p1 p2 ns i n known below item there before turn =
     turn
-    ∙ ap (λ p. joined p (refused_if known DuplicateName n.at)) before
-    ∙ sym (joined_append p0 (refused DuplicateName (repeated (take i ns))) (refused_if known DuplicateName n.at))
-    ∙ ap (λ rs. joined p0 (refused DuplicateName (repeated (take i ns)) ++ rs)) (sym (second_refused known n))
-    ∙ ap (joined p0) (sym (refused_append DuplicateName (repeated (take i ns)) (second known n)))
-    ∙ ap (λ b. joined p0 (refused DuplicateName (repeated (take i ns) ++ second b n))) there
-    ∙ ap (λ xs. joined p0 (refused DuplicateName xs)) (sym (repeated_behind [] (take i ns) n))
-    ∙ ap (λ m. joined p0 (refused DuplicateName (repeated (take i ns ++ m ∷ [])))) item
-    ∙ ap (λ ms. joined p0 (refused DuplicateName (repeated ms))) (sym (take_more ns i n below))
+    ∙ ap (λ p. joined p (refused_if known cause n.at)) before
+    ∙ sym (joined_append p0 (refused cause (repeated (take i ns))) (refused_if known cause n.at))
+    ∙ ap (λ rs. joined p0 (refused cause (repeated (take i ns)) ++ rs)) (sym (second_refused cause known n))
+    ∙ ap (joined p0) (sym (refused_append cause (repeated (take i ns)) (second known n)))
+    ∙ ap (λ b. joined p0 (refused cause (repeated (take i ns) ++ second b n))) there
+    ∙ ap (λ xs. joined p0 (refused cause xs)) (sym (repeated_behind [] (take i ns) n))
+    ∙ ap (λ m. joined p0 (refused cause (repeated (take i ns ++ m ∷ [])))) item
+    ∙ ap (λ ms. joined p0 (refused cause (repeated ms))) (sym (take_more ns i n below))
 
 -- the texts of a turn of a loop over names
 pub texts_turn : (ts us : List (List ℕ)) (ns : List Name) (i : ℕ) (n : Name) → i < length ns → n ≡ get_or ns i n → ts ≡ map (λ (m : Name). m.text) (take i ns) → us ≡ ts ++ n.text ∷ [] → us ≡ map (λ (m : Name). m.text) (take (i + 1) ns)

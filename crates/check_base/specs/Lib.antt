@@ -3,3 +3,4 @@ pub mod Files
 pub mod Least
 pub mod MaybeThere
 pub mod Repeated
+pub mod TypeNames

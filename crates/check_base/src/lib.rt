@@ -3,6 +3,7 @@
 
 mod clauses;
 mod definitions;
+mod laws;
 mod least;
 mod names;
 mod places;
@@ -15,9 +16,10 @@ pub use clauses::{
     said_execution, set_in, variables_of,
 };
 pub use definitions::{interface_in, service_in, type_in};
+pub use laws::type_names_are_followed;
 pub use least::Least;
 pub use names::Names;
 pub use places::{fitting, number};
 pub use refusal::{CheckError, CheckName, Refusal};
-pub use repeated::{Mention, repeated_refused};
+pub use repeated::{Mention, repeated_refused, repeated_refused_as};
 pub use tables::{Interfaces, Types};

@@ -62,7 +62,7 @@ impl<'a> Mention<'a> {
     }
 }
 
-/// Refuses each name that stands a second time.
+/// Refuses each name that stands a second time as a duplicate.
 pub fn repeated_refused(
     alloc: Global,
     mentions: &[Mention],
@@ -70,10 +70,22 @@ pub fn repeated_refused(
 ) -> Result<(), AllocError>
     ensures { OnOk result (least.new ≡ joined least.old (refused DuplicateName (repeated mentions.now))) }
 {
+    repeated_refused_as(alloc, CheckName::DuplicateName, mentions, least)
+}
+
+/// Refuses each name that stands a second time, for this cause.
+pub fn repeated_refused_as(
+    alloc: Global,
+    cause: CheckName,
+    mentions: &[Mention],
+    least: &mut Least,
+) -> Result<(), AllocError>
+    ensures { OnOk result (least.new ≡ joined least.old (refused cause (repeated mentions.now))) }
+{
     let mut names = Names::new(alloc);
     for mention in mentions {
         let known = names.add(mention.text())?;
-        least.offer_if(known, CheckName::DuplicateName, mention.at());
+        least.offer_if(known, cause, mention.at());
     }
     Ok(())
 }

@@ -6,12 +6,15 @@ use Rattle.command_words.specs.declared.table.OptionRow.{OptionRow}
 use Rattle.command_words.specs.declared.table.CommandRow.{CommandRow}
 use Rattle.command_words.specs.Table.{CommandWords, OptionWords}
 
+-- the name of an operand
 abbrev pub operand_words : OperandRow → List ℕ
 operand_words row = row.name.now
 
+-- an option with its name and the least and the greatest number that it takes
 abbrev pub option_words : OptionRow → OptionWords
 option_words row = record { name = row.name.now; least = row.least; most = row.most }
 
+-- a command with what it does, its name, its operands and its options
 abbrev pub command_words : CommandRow → CommandWords
 command_words row = record {
   action = row.action;

@@ -1,4 +1,5 @@
-pub mod Evaluates
+pub mod Faults
 pub mod Lists
+pub mod Operands
 pub mod Parses
 pub mod Ranges

@@ -1,11 +1,13 @@
-ghost use Rattle.std.specs.Prelude.{◌≡◌, IfOk, option_and_then};
+ghost use Rattle.std.specs.Prelude.{◌≡◌, option_and_then};
 ghost use Rattle.behaviour_tree.specs.Casts as spec;
 ghost use Rattle.behaviour_tree.specs.Numbers.{int_root, long_root};
+ghost use Rattle.jolie_expr.specs.Answers.{Answers};
 
+use crate::eval_error::EvalError;
 use crate::text::{int_in, long_in, spelled, text_root};
 use behaviour_tree::CastKind;
 use jolie_trees::Root;
-use std::alloc::{AllocError, Global};
+use std::alloc::Global;
 
 /// A root as an int.
 fn to_int(root: &Root) -> Option<Root>
@@ -34,15 +36,12 @@ fn to_long(root: &Root) -> Option<Root>
 }
 
 /// What a cast makes of a root.
-pub fn cast(alloc: Global, to: CastKind, root: Option<Root>) -> Result<Option<Root>, AllocError>
-    ensures { IfOk result (λ r. r ≡ option_and_then (spec.cast_to to) root) }
+pub fn cast(alloc: Global, to: CastKind, root: &Root) -> Result<Root, EvalError>
+    ensures { Answers (spec.cast_to to root.now) result }
 {
-    match root {
-        None => Ok(None),
-        Some(root) => match to {
-            CastKind::Int => Ok(to_int(&root)),
-            CastKind::Long => Ok(to_long(&root)),
-            CastKind::Text => Ok(text_root(spelled(alloc, &root)?)),
-        },
+    match to {
+        CastKind::Int => to_int(root).ok_or(EvalError::ExprFault),
+        CastKind::Long => to_long(root).ok_or(EvalError::ExprFault),
+        CastKind::Text => text_root(spelled(alloc, root)?).ok_or(EvalError::ExprFault),
     }
 }

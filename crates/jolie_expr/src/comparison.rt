@@ -1,6 +1,5 @@
 ghost use Rattle.std.specs.Prelude.{◌≡◌};
 ghost use Rattle.behaviour_tree.specs.Comparisons as spec;
-ghost use Rattle.behaviour_tree.specs.Operators.{both};
 
 use behaviour_tree::CompareOp;
 use jolie_trees::Root;
@@ -48,15 +47,5 @@ pub fn compare(a: &Root, b: &Root, op: CompareOp) -> Option<bool>
         CompareOp::AtMost => Some(order(a, b)?.is_le()),
         CompareOp::More => Some(order(a, b)?.is_gt()),
         CompareOp::AtLeast => Some(order(a, b)?.is_ge()),
-    }
-}
-
-/// The answer of an operator on two operands; a fault on either side is the fault of both.
-pub fn compared(a: Option<Root>, op: CompareOp, b: Option<Root>) -> Option<bool>
-    ensures { result ≡ both (spec.compared_by op) a b }
-{
-    match (a, b) {
-        (Some(a), Some(b)) => compare(&a, &b, op),
-        _ => None,
     }
 }

@@ -1,12 +1,13 @@
-ghost use Rattle.std.specs.Prelude.{◌≡◌, ◌∷◌, map, not, option_and_then, option_map, IfOk, is_some, OnOk};
-ghost use Rattle.behaviour_tree.specs.Data.{PathTree};
-ghost use Rattle.behaviour_tree.specs.View.{expr_view, exps_of, member_list_of, member_view, mul_part_view, mul_parts_of, path_view, step_of, step_view, sum_part_view, sum_parts_of};
-ghost use Rattle.jolie_trees.specs.declared.root.Root.TheVariants as root;
+ghost use Rattle.std.specs.Prelude.{◌≡◌, map, IfOk, Some, OnOk};
+ghost use Rattle.behaviour_tree.specs.View.{expr_view, exps_of, member_list_of, member_view, mul_part_view, mul_parts_of, path_view, step_view, sum_part_view, sum_parts_of};
+ghost use Rattle.jolie_expr.specs.Answers.{Answers};
+ghost use Rattle.jolie_expr.specs.Steps.{step_in};
 ghost use Rattle.jolie_trees.specs.Trees.{void_tree};
 ghost use Rattle.behaviour_tree.specs.Values as spec;
 
 use crate::cast::cast;
-use crate::comparison::compared;
+use crate::comparison::compare;
+use crate::eval_error::EvalError;
 use crate::operator::{index_in, negated, product_of_two, sum_of_two, truth_in};
 use crate::text::constant;
 use behaviour_tree::{Expr, Member, MulPart, PathExpr, PathStep, SumPart};
@@ -14,67 +15,21 @@ use jolie_trees::{Path, Root, Step, Text, Tree};
 use sqlite_items::Items;
 use std::alloc::{AllocError, Global};
 
-/// A root alone, where there is one.
-fn alone(alloc: Global, root: Option<Root>) -> Option<Tree>
-    ensures { result ≡ option_map spec.alone root }
-{
-    match root {
-        None => None,
-        Some(root) => Some(Tree::of_root(alloc, root)),
-    }
-}
-
-/// A bool alone, where there is one.
-fn truth_alone(alloc: Global, truth: Option<bool>) -> Option<Tree>
-    ensures { result ≡ option_map spec.alone (option_map root.Bool truth) }
-{
-    match truth {
-        None => None,
-        Some(truth) => Some(Tree::of_root(alloc, Root::Bool(truth))),
-    }
-}
-
-/// The other bool, where there is one.
-fn opposite(truth: Option<bool>) -> Option<bool>
-    ensures { result ≡ option_map not truth }
-{
-    match truth {
-        None => None,
-        Some(truth) => Some(!truth),
-    }
-}
-
 /// The whole tree at a path, void where nothing is there.
-fn tree_at(alloc: Global, store: &Tree, path: Option<Path>) -> Result<Option<Tree>, AllocError>
-    ensures { IfOk result (λ t. t ≡ option_map (spec.tree_at store.now) (option_map (λ p. p.steps) path)) }
+fn tree_at(alloc: Global, store: &Tree, path: &Path) -> Result<Tree, AllocError>
+    ensures { IfOk result (λ t. t ≡ spec.tree_at store.now path.now.steps) }
 {
-    match path {
-        None => Ok(None),
-        Some(path) => match store.get(&path) {
-            None => Ok(Some(Tree::void(alloc))),
-            Some(tree) => Ok(Some(tree.copied()?)),
-        },
+    match store.get(path) {
+        None => Ok(Tree::void(alloc)),
+        Some(tree) => tree.copied(),
     }
 }
 
-/// How many nodes a path names.
-fn count_at(store: &Tree, path: Option<Path>) -> Option<Root>
-    ensures { result ≡ option_and_then (spec.count_root store.now) (option_map (λ p. p.steps) path) }
+/// How many nodes a path names, where an int holds it.
+fn count_at(store: &Tree, path: &Path) -> Option<Root>
+    ensures { result ≡ spec.count_root store.now path.now.steps }
 {
-    match path {
-        None => None,
-        Some(path) => Some(Root::Int(i32::try_from(store.count(&path)).ok()?)),
-    }
-}
-
-/// Whether a node is there.
-fn defined_at(store: &Tree, path: Option<Path>) -> Option<Root>
-    ensures { result ≡ option_map (spec.defined_root store.now) (option_map (λ p. p.steps) path) }
-{
-    match path {
-        None => None,
-        Some(path) => Some(Root::Bool(store.get(&path).is_some())),
-    }
+    Some(Root::Int(i32::try_from(store.count(path)).ok()?))
 }
 
 /// Puts a member into a literal, where an earlier one of its name gives way.
@@ -90,132 +45,133 @@ fn put_member(alloc: Global, literal: &mut Tree, name: &Text, value: Tree) -> Re
     literal.push(name, value)
 }
 
-/// A literal with a further member, where both have a value.
-fn joined(
-    alloc: Global,
-    literal: Option<Tree>,
-    name: &Text,
-    value: Option<Tree>,
-) -> Result<Option<Tree>, AllocError>
-    ensures { IfOk result (λ t. t ≡ spec.joined name.now literal value) }
-{
-    match (literal, value) {
-        (Some(mut literal), Some(value)) => {
-            put_member(alloc, &mut literal, name, value)?;
-            Ok(Some(literal))
-        }
-        _ => Ok(None),
-    }
-}
-
-/// The value of an expression, or none where it faults.
+/// The value of an expression.
 #[cycle(value)]
-pub fn value(alloc: Global, e: &Expr, store: &Tree) -> Result<Option<Tree>, AllocError>
-    ensures { IfOk result (λ v. v ≡ spec.value store.now (expr_view e.now)) }
+#[tactic(auto, using(crate::proofs::Faults::map_passes, crate::proofs::Faults::then_passes, crate::proofs::Faults::left_passes, crate::proofs::Faults::right_passes))]
+pub fn value(alloc: Global, e: &Expr, store: &Tree) -> Result<Tree, EvalError>
+    ensures { Answers (spec.value store.now (expr_view e.now)) result }
 {
     match e {
-        Expr::Value(root) => Ok(alone(alloc, constant(root)?)),
-        Expr::Path(path) => tree_at(alloc, store, steps_of(alloc, path, store)?),
-        Expr::Count(path) => Ok(alone(alloc, count_at(store, steps_of(alloc, path, store)?))),
+        Expr::Value(root) => Ok(Tree::of_root(alloc, constant(root)?)),
+        Expr::Path(path) => {
+            let path = steps_of(alloc, path, store)?;
+            Ok(tree_at(alloc, store, &path)?)
+        }
+        Expr::Count(path) => {
+            let path = steps_of(alloc, path, store)?;
+            let count = count_at(store, &path).ok_or(EvalError::ExprFault)?;
+            Ok(Tree::of_root(alloc, count))
+        }
         Expr::IsDefined(path) => {
-            Ok(alone(alloc, defined_at(store, steps_of(alloc, path, store)?)))
+            let path = steps_of(alloc, path, store)?;
+            let is_there = store.get(&path).is_some();
+            Ok(Tree::of_root(alloc, Root::Bool(is_there)))
         }
         Expr::Literal(members) => literal(alloc, members, store),
-        Expr::Or(list) => Ok(truth_alone(alloc, any_from(alloc, list, store)?)),
-        Expr::And(list) => Ok(truth_alone(alloc, all_from(alloc, list, store)?)),
+        Expr::Or(list) => {
+            let truth = any_from(alloc, list, store)?;
+            Ok(Tree::of_root(alloc, Root::Bool(truth)))
+        }
+        Expr::And(list) => {
+            let truth = all_from(alloc, list, store)?;
+            Ok(Tree::of_root(alloc, Root::Bool(truth)))
+        }
         Expr::Compare { left, op, right } => {
             let left = root_value(alloc, left, store)?;
             let right = root_value(alloc, right, store)?;
-            Ok(truth_alone(alloc, compared(left, *op, right)))
+            let truth = compare(&left, &right, *op).ok_or(EvalError::ExprFault)?;
+            Ok(Tree::of_root(alloc, Root::Bool(truth)))
         }
         Expr::Sum { first, rest } => {
             let first = root_value(alloc, first, store)?;
-            Ok(alone(alloc, sum_from(alloc, rest, store, first)?))
+            Ok(Tree::of_root(alloc, sum_from(alloc, rest, store, first)?))
         }
         Expr::Product { first, rest } => {
             let first = root_value(alloc, first, store)?;
-            Ok(alone(alloc, product_from(alloc, rest, store, first)?))
+            Ok(Tree::of_root(alloc, product_from(alloc, rest, store, first)?))
         }
-        Expr::Minus(inner) => Ok(alone(alloc, negated(root_value(alloc, inner, store)?))),
+        Expr::Minus(inner) => {
+            let root = root_value(alloc, inner, store)?;
+            let opposite = negated(&root).ok_or(EvalError::ExprFault)?;
+            Ok(Tree::of_root(alloc, opposite))
+        }
         Expr::Not(inner) => {
-            let truth = truth_in(root_value(alloc, inner, store)?);
-            Ok(truth_alone(alloc, opposite(truth)))
+            let truth = truth_value(alloc, inner, store)?;
+            Ok(Tree::of_root(alloc, Root::Bool(!truth)))
         }
         Expr::Cast { to, value: inner } => {
             let root = root_value(alloc, inner, store)?;
-            Ok(alone(alloc, cast(alloc, *to, root)?))
+            Ok(Tree::of_root(alloc, cast(alloc, *to, &root)?))
         }
     }
 }
 
 /// The root of the value of an expression.
 #[cycle(value)]
-pub fn root_value(alloc: Global, e: &Expr, store: &Tree) -> Result<Option<Root>, AllocError>
-    ensures { IfOk result (λ r. r ≡ spec.root_in (spec.value store.now (expr_view e.now))) }
+fn root_value(alloc: Global, e: &Expr, store: &Tree) -> Result<Root, EvalError>
+    ensures { Answers (spec.root_in (spec.value store.now (expr_view e.now))) result }
 {
-    match value(alloc, e, store)? {
-        None => Ok(None),
-        Some(tree) => Ok(Some(tree.root().copied()?)),
-    }
+    let tree = value(alloc, e, store)?;
+    Ok(tree.root().copied()?)
 }
 
-/// The tree of some members, all of which are evaluated.
+/// What an expression says where a bool is asked.
 #[cycle(value)]
-fn literal(alloc: Global, members: &[Member], store: &Tree) -> Result<Option<Tree>, AllocError>
-    ensures { IfOk result (λ t. t ≡ spec.literal_from store.now (Some void_tree) (member_list_of (map member_view members.now))) }
+pub fn truth_value(alloc: Global, e: &Expr, store: &Tree) -> Result<bool, EvalError>
+    ensures { Answers (spec.truth_of store.now (expr_view e.now)) result }
 {
-    let mut literal = Some(Tree::void(alloc));
+    let root = root_value(alloc, e, store)?;
+    truth_in(&root).ok_or(EvalError::ExprFault)
+}
+
+/// The tree of some members.
+#[cycle(value)]
+fn literal(alloc: Global, members: &[Member], store: &Tree) -> Result<Tree, EvalError>
+    ensures { Answers (spec.literal_from store.now (Some void_tree) (member_list_of (map member_view members.now))) result }
+{
+    let mut literal = Tree::void(alloc);
     for member in members {
         let value = value(alloc, &member.value, store)?;
-        literal = joined(alloc, literal, &member.name, value)?;
+        put_member(alloc, &mut literal, &member.name, value)?;
     }
     Ok(literal)
 }
 
 /// `||` of operands, the first true one leaving the rest.
 #[cycle(value)]
-fn any_from(alloc: Global, list: &[Expr], store: &Tree) -> Result<Option<bool>, AllocError>
-    ensures { IfOk result (λ b. b ≡ spec.any_from store.now (exps_of (map expr_view list.now))) }
+fn any_from(alloc: Global, list: &[Expr], store: &Tree) -> Result<bool, EvalError>
+    ensures { Answers (spec.any_from store.now (exps_of (map expr_view list.now))) result }
 {
     for e in list {
-        match truth_in(root_value(alloc, e, store)?) {
-            None => return Ok(None),
-            Some(true) => return Ok(Some(true)),
-            Some(false) => {}
+        if truth_value(alloc, e, store)? {
+            return Ok(true);
         }
     }
-    Ok(Some(false))
+    Ok(false)
 }
 
 /// `&&` of operands, the first false one leaving the rest.
 #[cycle(value)]
-fn all_from(alloc: Global, list: &[Expr], store: &Tree) -> Result<Option<bool>, AllocError>
-    ensures { IfOk result (λ b. b ≡ spec.all_from store.now (exps_of (map expr_view list.now))) }
+fn all_from(alloc: Global, list: &[Expr], store: &Tree) -> Result<bool, EvalError>
+    ensures { Answers (spec.all_from store.now (exps_of (map expr_view list.now))) result }
 {
     for e in list {
-        match truth_in(root_value(alloc, e, store)?) {
-            None => return Ok(None),
-            Some(false) => return Ok(Some(false)),
-            Some(true) => {}
+        if !truth_value(alloc, e, store)? {
+            return Ok(false);
         }
     }
-    Ok(Some(true))
+    Ok(true)
 }
 
 /// What is added and taken away, one by one from the left.
 #[cycle(value)]
-fn sum_from(
-    alloc: Global,
-    rest: &[SumPart],
-    store: &Tree,
-    first: Option<Root>,
-) -> Result<Option<Root>, AllocError>
-    ensures { IfOk result (λ r. r ≡ spec.sum_from store.now first (sum_parts_of (map sum_part_view rest.now))) }
+fn sum_from(alloc: Global, rest: &[SumPart], store: &Tree, first: Root) -> Result<Root, EvalError>
+    ensures { Answers (spec.sum_from store.now (Some first) (sum_parts_of (map sum_part_view rest.now))) result }
 {
     let mut sum = first;
     for part in rest {
         let operand = root_value(alloc, &part.value, store)?;
-        sum = sum_of_two(alloc, part.op, sum, operand)?;
+        sum = sum_of_two(alloc, part.op, &sum, &operand)?;
     }
     Ok(sum)
 }
@@ -226,47 +182,42 @@ fn product_from(
     alloc: Global,
     rest: &[MulPart],
     store: &Tree,
-    first: Option<Root>,
-) -> Result<Option<Root>, AllocError>
-    ensures { IfOk result (λ r. r ≡ spec.product_from store.now first (mul_parts_of (map mul_part_view rest.now))) }
+    first: Root,
+) -> Result<Root, EvalError>
+    ensures { Answers (spec.product_from store.now (Some first) (mul_parts_of (map mul_part_view rest.now))) result }
 {
     let mut product = first;
     for part in rest {
         let operand = root_value(alloc, &part.value, store)?;
-        product = product_of_two(part.op, product, operand);
+        product = product_of_two(part.op, &product, &operand).ok_or(EvalError::ExprFault)?;
     }
     Ok(product)
 }
 
-/// The steps of a path, or none where an index is no int from 0. All indices are evaluated.
+/// The steps of a path, a fault where an index is no int from 0.
 #[cycle(value)]
-pub fn steps_of(alloc: Global, path: &PathExpr, store: &Tree) -> Result<Option<Path>, AllocError>
-    ensures { IfOk result (λ p. option_map (λ p. p.steps) p ≡ spec.steps_of store.now (path_view path.now)) }
+pub fn steps_of(alloc: Global, path: &PathExpr, store: &Tree) -> Result<Path, EvalError>
+    ensures { Answers (spec.path_in store.now (path_view path.now)) result }
 {
     let mut steps = Items::new(alloc);
     for step in &path.steps {
-        match evaluated(alloc, step, store)? {
-            None => return Ok(None),
-            Some(step) => steps.push(step)?,
-        }
+        steps.push(evaluated(alloc, step, store)?)?;
     }
-    Ok(Some(Path { steps }))
+    Ok(Path { steps })
 }
 
 /// A step with its index.
 #[cycle(value)]
-fn evaluated(alloc: Global, step: &PathStep, store: &Tree) -> Result<Option<Step>, AllocError>
-    ensures { IfOk result (λ s. (p : PathTree) → spec.steps_of store.now (step_of (step_view step.now).name (step_view step.now).index p) ≡ option_and_then (λ s. option_map (λ ss. s ∷ ss) (spec.steps_of store.now p)) s) }
+fn evaluated(alloc: Global, step: &PathStep, store: &Tree) -> Result<Step, EvalError>
+    ensures { Answers (step_in store.now (step_view step.now)) result }
 {
     let name = step.name.copied()?;
-    match &step.index {
-        None => Ok(Some(Step { name, index: None })),
-        Some(index) => match index_in(root_value(alloc, index, store)?) {
-            None => Ok(None),
-            Some(index) => Ok(Some(Step {
-                name,
-                index: Some(index),
-            })),
-        },
-    }
+    let index = match &step.index {
+        None => None,
+        Some(index) => {
+            let root = root_value(alloc, index, store)?;
+            Some(index_in(&root).ok_or(EvalError::ExprFault)?)
+        }
+    };
+    Ok(Step { name, index })
 }

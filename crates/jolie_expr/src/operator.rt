@@ -1,84 +1,72 @@
-ghost use Rattle.std.specs.Prelude.{◌≡◌, IfOk, option_and_then};
+ghost use Rattle.std.specs.Prelude.{◌≡◌};
 ghost use Rattle.behaviour_tree.specs.Operators as spec;
+ghost use Rattle.jolie_expr.specs.Answers.{Answers};
 
+use crate::eval_error::EvalError;
 use crate::number::{minus, over, plus, rest, times};
 use crate::text::joined;
 use behaviour_tree::{MulOp, SumOp};
 use jolie_trees::Root;
-use std::alloc::{AllocError, Global};
+use std::alloc::Global;
 
 /// The sum of two roots.
-fn added(alloc: Global, a: &Root, b: &Root) -> Result<Option<Root>, AllocError>
-    ensures { IfOk result (λ sum. sum ≡ spec.added a.now b.now) }
+fn added(alloc: Global, a: &Root, b: &Root) -> Result<Root, EvalError>
+    ensures { Answers (spec.added a.now b.now) result }
 {
     match (a, b) {
         (Root::Text(_), _) => joined(alloc, a, b),
         (_, Root::Text(_)) => joined(alloc, a, b),
-        (Root::Void, _) => Ok(Some(b.copied()?)),
-        (_, Root::Void) => Ok(Some(a.copied()?)),
-        _ => Ok(plus(a, b)),
+        (Root::Void, _) => Ok(b.copied()?),
+        (_, Root::Void) => Ok(a.copied()?),
+        _ => plus(a, b).ok_or(EvalError::ExprFault),
     }
 }
 
-/// An operator of a sum; a fault on either side is the fault of both.
-pub fn sum_of_two(
-    alloc: Global,
-    op: SumOp,
-    a: Option<Root>,
-    b: Option<Root>,
-) -> Result<Option<Root>, AllocError>
-    ensures { IfOk result (λ sum. sum ≡ spec.both (spec.sum_of_two op) a b) }
+/// An operator of a sum.
+pub fn sum_of_two(alloc: Global, op: SumOp, a: &Root, b: &Root) -> Result<Root, EvalError>
+    ensures { Answers (spec.sum_of_two op a.now b.now) result }
 {
-    match (a, b) {
-        (Some(a), Some(b)) => match op {
-            SumOp::Plus => added(alloc, &a, &b),
-            SumOp::Minus => Ok(minus(&a, &b)),
-        },
-        _ => Ok(None),
+    match op {
+        SumOp::Plus => added(alloc, a, b),
+        SumOp::Minus => minus(a, b).ok_or(EvalError::ExprFault),
     }
 }
 
-/// An operator of a product; a fault on either side is the fault of both.
-pub fn product_of_two(op: MulOp, a: Option<Root>, b: Option<Root>) -> Option<Root>
-    ensures { result ≡ spec.both (spec.product_of_two op) a b }
+/// An operator of a product.
+pub fn product_of_two(op: MulOp, a: &Root, b: &Root) -> Option<Root>
+    ensures { result ≡ spec.product_of_two op a.now b.now }
 {
-    match (a, b) {
-        (Some(a), Some(b)) => match op {
-            MulOp::Times => times(&a, &b),
-            MulOp::Over => over(&a, &b),
-            MulOp::Rest => rest(&a, &b),
-        },
-        _ => None,
+    match op {
+        MulOp::Times => times(a, b),
+        MulOp::Over => over(a, b),
+        MulOp::Rest => rest(a, b),
     }
 }
 
 /// A number taken from 0.
-pub fn negated(a: Option<Root>) -> Option<Root>
-    ensures { result ≡ option_and_then spec.negated a }
+pub fn negated(a: &Root) -> Option<Root>
+    ensures { result ≡ spec.negated a.now }
 {
-    match a {
-        None => None,
-        Some(a) => minus(&Root::Int(0), &a),
-    }
+    minus(&Root::Int(0), a)
 }
 
 /// What a root says where a bool is asked.
-pub fn truth_in(root: Option<Root>) -> Option<bool>
-    ensures { result ≡ option_and_then spec.truth_in root }
+pub fn truth_in(root: &Root) -> Option<bool>
+    ensures { result ≡ spec.truth_in root.now }
 {
     match root {
-        Some(Root::Void) => Some(false),
-        Some(Root::Bool(b)) => Some(b),
+        Root::Void => Some(false),
+        Root::Bool(b) => Some(*b),
         _ => None,
     }
 }
 
 /// The index that a root is.
-pub fn index_in(root: Option<Root>) -> Option<u32>
-    ensures { result ≡ option_and_then spec.index_in root }
+pub fn index_in(root: &Root) -> Option<u32>
+    ensures { result ≡ spec.index_in root.now }
 {
     match root {
-        Some(Root::Int(n)) if n >= 0 => Some(n as u32),
+        Root::Int(n) => u32::try_from(*n).ok(),
         _ => None,
     }
 }

@@ -2,9 +2,11 @@ ghost use Rattle.std.specs.Prelude.{◌≡◌, ◌++◌, IfOk, string_bytes, opt
 ghost use Rattle.jolie_trees.specs.declared.root.Root.TheVariants as root;
 ghost use Rattle.behaviour_tree.specs.Numbers.{int_root, long_root};
 ghost use Rattle.behaviour_tree.specs.Operators.{constant_root};
+ghost use Rattle.jolie_expr.specs.Answers.{Answers};
 ghost use Rattle.jolie_expr.specs.Signs.{begins_with_plus};
 ghost use Rattle.behaviour_tree.specs.Texts as spec;
 
+use crate::eval_error::EvalError;
 use jolie_trees::{Root, Text};
 use std::alloc::{AllocError, Global};
 use std::string::ToString;
@@ -38,22 +40,22 @@ pub fn text_root(text: String) -> Option<Root>
 }
 
 /// Two roots as one text.
-pub fn joined(alloc: Global, a: &Root, b: &Root) -> Result<Option<Root>, AllocError>
-    ensures { IfOk result (λ sum. sum ≡ spec.text_root (spec.spelled a.now ++ spec.spelled b.now)) }
+pub fn joined(alloc: Global, a: &Root, b: &Root) -> Result<Root, EvalError>
+    ensures { Answers (spec.text_root (spec.spelled a.now ++ spec.spelled b.now)) result }
 {
     let mut text = spelled(alloc, a)?;
     let more = spelled(alloc, b)?;
     text.push_str(more.as_str())?;
-    Ok(text_root(text))
+    text_root(text).ok_or(EvalError::ExprFault)
 }
 
 /// A root of a program that a text does not make too long.
-pub fn constant(root: &Root) -> Result<Option<Root>, AllocError>
-    ensures { IfOk result (λ same. same ≡ constant_root root.now) }
+pub fn constant(root: &Root) -> Result<Root, EvalError>
+    ensures { Answers (constant_root root.now) result }
 {
     match root {
-        Root::Text(text) if text.len() > MOST_TEXT => Ok(None),
-        _ => Ok(Some(root.copied()?)),
+        Root::Text(text) if text.len() > MOST_TEXT => Err(EvalError::ExprFault),
+        _ => Ok(root.copied()?),
     }
 }
 

@@ -6,7 +6,7 @@ use Rattle.jolie_parse.specs.Syntax.{Syn, token, give, both, either, many, means
 use Rattle.jolie_parse.specs.Deciding.{disjoint, later, covers, nullable, first, further}
 use Rattle.jolie_parse.specs.Factored.{rule, Within, Nests, decided, usable}
 use Rattle.jolie_parse.specs.Reading.{Outcome, got, take_token, repeat, enclosed, inner, read}
-use Rattle.jolie_parse.proofs.Numbered.{eq_same}
+use Rattle.jolie_parse.proofs.SameClasses.{eq_same}
 use Rattle.jolie_parse.proofs.Sets.{and_left, and_right, or_left, or_right, not_true, is_false, has_left, has_right, apart, begins_left, begins_right, begins_covered, cons_split, nil_split}
 
 -- ---- the first token

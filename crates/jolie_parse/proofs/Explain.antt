@@ -6,7 +6,7 @@ use Rattle.jolie_parse.specs.Syntax.{Syn, token, give, both, either, many, means
 use Rattle.jolie_parse.specs.Deciding.{disjoint, later, covers, nullable, first, further}
 use Rattle.jolie_parse.specs.Factored.{rule, Within, Nests, decided, usable}
 use Rattle.jolie_parse.specs.Reading.{Outcome, got, refused, too_deep, and_then, SameHead, take_token, repeat, deepen, enclosed, prefixed, inner, read}
-use Rattle.jolie_parse.proofs.Numbered.{same_eq, eq_same}
+use Rattle.jolie_parse.proofs.SameClasses.{same_eq, eq_same}
 use Rattle.jolie_parse.proofs.Sets.{and_left, and_right, or_cases, or_left, not_true}
 use Rattle.jolie_parse.proofs.Samples.{sample, sample_class}
 use Rattle.jolie_parse.proofs.Complete.{Decided, empty, nonempty_shorter, nonempty_some, repeat_stops}

@@ -1,4 +1,4 @@
-pub mod Numbered
+pub mod SameClasses
 pub mod Sets
 pub mod Complete
 pub mod OneToken

@@ -8,7 +8,7 @@ use Rattle.jolie_parse.specs.Deciding.{disjoint, nullable, first, further}
 use Rattle.jolie_parse.specs.Factored.{rule, Within, Nests, decided}
 use Rattle.jolie_parse.specs.Reading.{Outcome, got, refused, too_deep, and_then, take_token, repeat, deepen, inner, read}
 use Rattle.jolie_parse.specs.Levels.{Opener, bracket, before, opening}
-use Rattle.jolie_parse.proofs.Numbered.{same_eq}
+use Rattle.jolie_parse.proofs.SameClasses.{same_eq}
 use Rattle.jolie_parse.proofs.Sets.{and_left, and_right, or_cases, not_true, is_false, has_left, has_right, apart}
 use Rattle.jolie_parse.proofs.Complete.{within_reads, reads, complete, empty, head, starts, apart_after, nonempty_shorter, nonempty_some, many_head}
 use Rattle.jolie_parse.proofs.OneToken.{rules_decided}

@@ -3,7 +3,7 @@ use Rattle.std.proofs.Common.{◌≡◌, ◌⊎◌, inl, inr, Bool, true, false,
 use Rattle.jolie_parse.specs.declared.class.Class.{Class}
 use Rattle.jolie_parse.specs.Classes.{Spelled, has, same, begins, class}
 use Rattle.jolie_parse.specs.Deciding.{disjoint, covers}
-use Rattle.jolie_parse.proofs.Numbered.{same_eq}
+use Rattle.jolie_parse.proofs.SameClasses.{same_eq}
 
 pub and_left : (a b : Bool) → a && b ≡ true → a ≡ true
 and_left true b e = refl

@@ -1,15 +1,17 @@
 -- The classes of tokens: one for each sign and each word that counts, one for all other words, and one each for ints,
 -- longs and strings.
-use Rattle.std.specs.Prelude.{ℕ, ◌+◌, Bool, false, ◌||◌, ◌==◌, List, [], ◌∷◌, ◌++◌, map, take, drop}
+use Rattle.std.specs.Prelude.{ℕ, Bool, true, false, ◌||◌, List, [], ◌∷◌, ◌++◌, map, take, drop}
+use denote.Enum.Bare.{sameb}
 use Rattle.jolie_tokens.specs.declared.token.Token.{Token}
 use Rattle.jolie_tokens.specs.declared.token.TokenKind.{TokenKind}
 use Rattle.jolie_tokens.specs.declared.token.TokenKind.TheVariants as kind
+use Rattle.jolie_tokens.specs.contracts.sign.Sign as sign_row
 use Rattle.jolie_tokens.specs.declared.sign.Sign.{Sign}
 use Rattle.jolie_tokens.specs.declared.sign.Sign.TheVariants as sign
 use Rattle.jolie_parse.specs.declared.word.Word.TheVariants as word
 use Rattle.jolie_parse.specs.declared.class.Class.{Class}
 use Rattle.jolie_parse.specs.declared.class.Class.TheVariants as classed
-use Rattle.jolie_parse.specs.Words.{word_of, word_number}
+use Rattle.jolie_parse.specs.Words.{word_of, same_word}
 
 -- a token with the bytes that it is written in
 pub record Spelled : Type 0 where
@@ -344,6 +346,10 @@ sign_at = classed.Sign sign.At
 abbrev pub sign_question : Class
 sign_question = classed.Sign sign.Question
 
+-- they are the same sign, as `==` says
+abbrev pub same_sign : Sign → Sign → Bool
+same_sign = sameb sign_row.the_type
+
 -- the class of a token of that kind, written so
 abbrev pub class_of : TokenKind → List ℕ → Class
 class_of kind.Word spelling = classed.Word (word_of spelling)
@@ -356,53 +362,14 @@ class_of (kind.Sign s) spelling = classed.Sign s
 abbrev pub class : Spelled → Class
 class t = class_of t.token.kind t.spelling
 
--- a number for each sign; it only tells one sign from another
-abbrev pub sign_number : Sign → ℕ
-sign_number sign.Arrow = 0
-sign_number sign.Equal = 1
-sign_number sign.NotEqual = 2
-sign_number sign.AtMost = 3
-sign_number sign.AtLeast = 4
-sign_number sign.DeepAssign = 5
-sign_number sign.Increment = 6
-sign_number sign.Decrement = 7
-sign_number sign.And = 8
-sign_number sign.Or = 9
-sign_number sign.OpenBrace = 10
-sign_number sign.CloseBrace = 11
-sign_number sign.OpenParen = 12
-sign_number sign.CloseParen = 13
-sign_number sign.OpenBracket = 14
-sign_number sign.CloseBracket = 15
-sign_number sign.Comma = 16
-sign_number sign.Semicolon = 17
-sign_number sign.Colon = 18
-sign_number sign.Dot = 19
-sign_number sign.Bar = 20
-sign_number sign.Assign = 21
-sign_number sign.Less = 22
-sign_number sign.Greater = 23
-sign_number sign.Plus = 24
-sign_number sign.Minus = 25
-sign_number sign.Star = 26
-sign_number sign.Slash = 27
-sign_number sign.Percent = 28
-sign_number sign.Not = 29
-sign_number sign.Hash = 30
-sign_number sign.At = 31
-sign_number sign.Question = 32
-
--- a number for each class; it only tells one class from another
-abbrev pub number : Class → ℕ
-number (classed.Word w) = word_number w
-number classed.Int = 41
-number classed.Long = 42
-number classed.Str = 43
-number (classed.Sign s) = sign_number s + 44
-
--- they are the same class
+-- they are the same class: of one word, of one sign, or both of ints, of longs or of strings
 abbrev pub same : Class → Class → Bool
-same j k = number j == number k
+same (classed.Word v) (classed.Word w) = same_word v w
+same (classed.Sign r) (classed.Sign s) = same_sign r s
+same classed.Int classed.Int = true
+same classed.Long classed.Long = true
+same classed.Str classed.Str = true
+same _ _ = false
 
 -- the classes of `id`: the words that are not reserved
 abbrev pub ids : List Class

@@ -3,7 +3,8 @@
 use Rattle.std.specs.Prelude.{Bool, true, false, ◌&&◌, ◌||◌, not, List, [], ◌∷◌, ◌++◌, if◌then◌else◌}
 use Rattle.jolie_parse.specs.declared.class.Class.{Class}
 use Rattle.jolie_parse.specs.Classes.{has, sign_open_bracket, sign_dot, the_else}
-use Rattle.jolie_parse.specs.Syntax.{Part, an_operand, an_else_if, Syn, token, give, both, either, many, means, inside, prefix}
+use Rattle.jolie_parse.specs.Syntax.{Part, an_operand, an_else_if, Syn}
+use Rattle.jolie_parse.specs.Syntax.{token, give, both, either, many, means, inside, prefix}
 
 -- no class is in both
 abbrev pub disjoint : List Class → List Class → Bool

@@ -9,9 +9,11 @@ use Rattle.jolie_parse.specs.declared.class.Class.{Class}
 use Rattle.jolie_parse.specs.Classes as c
 use Rattle.jolie_parse.specs.Classes.{Spelled, has}
 use Rattle.jolie_parse.specs.Meanings as means_as
-use Rattle.jolie_parse.specs.Syntax.{Part, an_else_if, Meant, Syn, token, give, both, either, many, means, inside, prefix, Lang, Derives, behind}
+use Rattle.jolie_parse.specs.Syntax.{Part, an_else_if, Meant, Syn, Lang, Derives, behind}
+use Rattle.jolie_parse.specs.Syntax.{token, give, both, either, many, means, inside, prefix}
 use Rattle.jolie_parse.specs.Deciding.{nullable, first, further, later, disjoint, covers}
-use Rattle.jolie_parse.specs.Grammar.{id, path_parts, input_parts, output_parts, change, block, nothing, marked_statement, part_rules}
+use Rattle.jolie_parse.specs.Grammar.{id, path_parts, input_parts, output_parts, change, block}
+use Rattle.jolie_parse.specs.Grammar.{nothing, marked_statement, part_rules}
 
 -- an input behind its operation, as what it is for that name
 abbrev pub named_input : Syn (Spelled → Process)
@@ -23,7 +25,9 @@ named_output = means {B = Spelled → Process} (λ parts t. means_as.output_of t
 
 -- an assignment behind the first name of its path, as what it is for that name
 abbrev pub named_assignment : Syn (Spelled → Process)
-named_assignment = means {B = Spelled → Process} (λ parts t. process.Assign (means_as.path_of t parts.0) parts.1) (both path_parts change)
+named_assignment =
+    means {B = Spelled → Process} (λ parts t. process.Assign (means_as.path_of t parts.0) parts.1)
+    (both path_parts change)
 
 -- what follows the first name of a statement, as what the statement is for that name
 unfoldable pub named_parts : Syn (Spelled → Process)

@@ -54,7 +54,12 @@ use Rattle.jolie_parse.specs.declared.process.IfParts.{IfParts}
 use Rattle.jolie_parse.specs.Classes as c
 use Rattle.jolie_parse.specs.Classes.{Spelled, class, place, ids, words}
 use Rattle.jolie_parse.specs.Meanings as means_as
-use Rattle.jolie_parse.specs.Syntax.{Part, an_expression, an_operand, a_path, maybe_path, maybe_expression, a_body, some_handlers, a_name, an_input, an_else_if, for_parts, throw_parts, some_members, a_type_name, some_bounds, some_fields, some_operations, port_parts, some_variables, some_clauses, Meant, Syn, token, give, both, either, many, means, inside, prefix, Lang, Derives, separated, some_of, optional, behind, ended, between}
+use Rattle.jolie_parse.specs.Syntax.{Part, an_expression, an_operand, a_path, maybe_path, maybe_expression, a_body}
+use Rattle.jolie_parse.specs.Syntax.{some_handlers, a_name, an_input, an_else_if, for_parts, throw_parts, some_members}
+use Rattle.jolie_parse.specs.Syntax.{a_type_name, some_bounds, some_fields, some_operations}
+use Rattle.jolie_parse.specs.Syntax.{port_parts, some_variables, some_clauses}
+use Rattle.jolie_parse.specs.Syntax.{Meant, Syn, token, give, both, either, many, means, inside, prefix, Lang, Derives}
+use Rattle.jolie_parse.specs.Syntax.{separated, some_of, optional, behind, ended, between}
 
 -- a token of one class
 abbrev pub one : Class → Syn Spelled
@@ -115,7 +120,9 @@ quoted_text = means (λ t. means_as.expression (place t) (form.Str (means_as.mea
 
 -- `true` or `false`
 unfoldable pub truth : Syn Expr
-truth = means (λ t. means_as.expression (place t) (form.Bool (means_as.is_true t))) (token (c.the_true ∷ c.the_false ∷ []))
+truth =
+    means (λ t. means_as.expression (place t) (form.Bool (means_as.is_true t)))
+    (token (c.the_true ∷ c.the_false ∷ []))
 
 -- the value at a path
 unfoldable pub path_value : Syn Expr
@@ -127,11 +134,15 @@ size = means (λ q. means_as.expression (place q.0) (form.Size q.1)) (both (one 
 
 -- whether a path is there
 unfoldable pub defined_test : Syn Expr
-defined_test = means (λ q. means_as.expression (place q.0) (form.IsDefined q.1)) (both (one c.the_is_defined) (parens a_path))
+defined_test =
+    means (λ q. means_as.expression (place q.0) (form.IsDefined q.1))
+    (both (one c.the_is_defined) (parens a_path))
 
 -- a value turned into another kind
 unfoldable pub cast : Syn Expr
-cast = means (λ q. means_as.expression (place q.0) (form.Cast (means_as.cast_target (class q.0)) q.1)) (both (token (c.the_int ∷ c.the_long ∷ c.the_string ∷ [])) (parens an_expression))
+cast =
+    means (λ q. means_as.expression (place q.0) (form.Cast (means_as.cast_target (class q.0)) q.1))
+    (both (token (c.the_int ∷ c.the_long ∷ c.the_string ∷ [])) (parens an_expression))
 
 -- an expression in parentheses
 unfoldable pub grouped : Syn Expr
@@ -139,12 +150,15 @@ grouped = means (λ q. means_as.begun_at (place q.0) q.1) (inside c.sign_open_pa
 
 -- a tree written out
 unfoldable pub literal : Syn Expr
-literal = means (λ q. means_as.expression (place q.0) (form.Literal q.1)) (inside c.sign_open_brace some_members c.sign_close_brace)
+literal =
+    means (λ q. means_as.expression (place q.0) (form.Literal q.1))
+    (inside c.sign_open_brace some_members c.sign_close_brace)
 
 -- an operand without a prefix
 unfoldable pub primary : Syn Expr
 primary =
-    either whole_number (either long_number (either quoted_text (either truth (either path_value (either size (either defined_test (either cast (either grouped literal))))))))
+    either whole_number (either long_number (either quoted_text (either truth
+    (either path_value (either size (either defined_test (either cast (either grouped literal))))))))
 
 -- `-` or `!` and the operand behind it
 unfoldable pub prefixed_operand : Syn Expr
@@ -172,7 +186,10 @@ sum = means means_as.sum_of (both product (many term))
 
 -- a sum behind a sign that compares
 unfoldable pub comparand : Syn (Spelled × Expr)
-comparand = both (token (c.sign_equal ∷ c.sign_not_equal ∷ c.sign_less ∷ c.sign_at_most ∷ c.sign_greater ∷ c.sign_at_least ∷ [])) sum
+comparand =
+    both
+    (token (c.sign_equal ∷ c.sign_not_equal ∷ c.sign_less ∷ c.sign_at_most ∷ c.sign_greater ∷ c.sign_at_least ∷ []))
+    sum
 
 -- a sum, or two that are compared
 unfoldable pub comparison : Syn Expr
@@ -188,7 +205,9 @@ expr = means means_as.or_of (separated c.sign_or conjunction)
 
 -- a member of a literal: a name and its value
 unfoldable pub member : Syn Member
-member = means (λ q. roll-Member (record { name = means_as.name_of q.1.0; value = q.1.1 })) (both (optional (one c.sign_dot)) (both word (behind c.sign_assign expr)))
+member =
+    means (λ q. roll-Member (record { name = means_as.name_of q.1.0; value = q.1.1 }))
+    (both (optional (one c.sign_dot)) (both word (behind c.sign_assign expr)))
 
 -- the members of a literal
 unfoldable pub members : Syn (List Member)
@@ -222,7 +241,9 @@ choice = means means_as.choice_of (some_of branch)
 
 -- what an output awaits: a path and handlers
 unfoldable pub answer : Syn Answer
-answer = means means_as.answer_of (both (parens maybe_path) (optional (between c.sign_open_bracket some_handlers c.sign_close_bracket)))
+answer =
+    means means_as.answer_of
+    (both (parens maybe_path) (optional (between c.sign_open_bracket some_handlers c.sign_close_bracket)))
 
 -- an output behind its operation
 unfoldable pub output_parts : Syn (Spelled × (Option Expr × Option Answer))
@@ -249,7 +270,9 @@ assign = means (λ q. process.Assign q.0 q.1) (both path change)
 
 -- a correlation variable gets a value
 unfoldable pub correlate : Syn Process
-correlate = means (λ q. process.Correlate (place q.0) (means_as.name_of q.1.0) q.1.1) (both (one c.the_csets) (both (behind c.sign_dot id) (behind c.sign_assign expr)))
+correlate =
+    means (λ q. process.Correlate (place q.0) (means_as.name_of q.1.0) q.1.1)
+    (both (one c.the_csets) (both (behind c.sign_dot id) (behind c.sign_assign expr)))
 
 -- the last part of a `for` behind its path
 unfoldable pub last_change : Syn ForStep
@@ -261,18 +284,22 @@ last_change =
 unfoldable pub loop_parts : Syn ForParts
 loop_parts =
     means (λ q. record { path = q.0; first = q.1.0; test = q.1.1.0; stepped = q.1.1.1.0; step = q.1.1.1.1 })
-    (both path (both (behind c.sign_assign expr) (both (behind c.sign_comma expr) (both (behind c.sign_comma path) last_change))))
+    (both path (both (behind c.sign_assign expr)
+    (both (behind c.sign_comma expr) (both (behind c.sign_comma path) last_change))))
 
 -- what may follow an `if` and its block
 unfoldable pub else_parts : Syn Otherwise
 else_parts =
-    either (means (λ q. otherwise.ElseIf (means_as.if_of q.0 q.1)) (behind c.the_else (prefix (c.the_if ∷ []) an_else_if)))
+    either
+    (means (λ q. otherwise.ElseIf (means_as.if_of q.0 q.1)) (behind c.the_else (prefix (c.the_if ∷ []) an_else_if)))
     (either (means otherwise.Else (behind c.the_else block))
     (give otherwise.Nothing))
 
 -- an `if` behind its word
 abbrev pub if_parts : Syn Otherwise → Syn IfParts
-if_parts rest = means (λ q. record { test = q.0; body = q.1.0; otherwise = q.1.1 }) (both (parens an_expression) (both block rest))
+if_parts rest =
+    means (λ q. record { test = q.0; body = q.1.0; otherwise = q.1.1 })
+    (both (parens an_expression) (both block rest))
 
 -- a path is taken away
 unfoldable pub undefine : Syn Process
@@ -284,7 +311,9 @@ conditional rest = means (λ q. process.If (means_as.if_of q.0 q.1)) (both (one 
 
 -- a `while` statement
 unfoldable pub repetition : Syn Process
-repetition = means (λ q. process.While (place q.0) q.1.0 q.1.1) (both (one c.the_while) (both (parens an_expression) block))
+repetition =
+    means (λ q. process.While (place q.0) q.1.0 q.1.1)
+    (both (one c.the_while) (both (parens an_expression) block))
 
 -- a `for` statement
 unfoldable pub counted_loop : Syn Process
@@ -335,7 +364,8 @@ nothing = means (λ t. process.Nothing (place t)) (one c.the_null_process)
 
 -- a statement
 unfoldable pub statement : Syn Process
-statement = either nothing (either (means process.Input input) (either output (either assign (marked_statement else_parts))))
+statement =
+    either nothing (either (means process.Input input) (either output (either assign (marked_statement else_parts))))
 
 -- statements one after the other
 abbrev pub in_sequence : Syn Process → Syn Process
@@ -384,7 +414,9 @@ type_body =
 
 -- the bounds of a cardinality
 unfoldable pub bounds : Syn Cardinality
-bounds = means (λ q. means_as.bounds_of q.0 q.1) (both (one c.int_number) (behind c.sign_comma (token (c.int_number ∷ c.sign_star ∷ []))))
+bounds =
+    means (λ q. means_as.bounds_of q.0 q.1)
+    (both (one c.int_number) (behind c.sign_comma (token (c.int_number ∷ c.sign_star ∷ []))))
 
 -- how often a field may stand: `?`, `*` or bounds
 unfoldable pub cardinal : Syn Cardinality
@@ -397,7 +429,8 @@ cardinal =
 unfoldable pub field : Syn Field
 field =
     means (λ q. means_as.field_of q.1.0 q.1.1.0 q.1.1.1.0)
-    (both (optional (one c.sign_dot)) (both word (both (optional cardinal) (both (behind c.sign_colon type_body) (optional (one c.sign_comma))))))
+    (both (optional (one c.sign_dot)) (both word (both (optional cardinal)
+    (both (behind c.sign_colon type_body) (optional (one c.sign_comma))))))
 
 -- what stands behind the name of a type
 unfoldable pub defined_type : Syn DefinedType
@@ -436,11 +469,15 @@ one_way = means means_as.one_way_of (both id (parens a_type_name))
 
 -- operations behind the word `RequestResponse`
 unfoldable pub request_responses : Syn OperationGroup
-request_responses = means (λ q. group.RequestResponse (place q.0) q.1) (both (ended (one c.the_request_response) c.sign_colon) (separated c.sign_comma request_response))
+request_responses =
+    means (λ q. group.RequestResponse (place q.0) q.1)
+    (both (ended (one c.the_request_response) c.sign_colon) (separated c.sign_comma request_response))
 
 -- operations behind the word `OneWay`
 unfoldable pub one_ways : Syn OperationGroup
-one_ways = means (λ q. group.OneWay (place q.0) q.1) (both (ended (one c.the_one_way) c.sign_colon) (separated c.sign_comma one_way))
+one_ways =
+    means (λ q. group.OneWay (place q.0) q.1)
+    (both (ended (one c.the_one_way) c.sign_colon) (separated c.sign_comma one_way))
 
 -- the operations of one kind
 unfoldable pub operation_group : Syn OperationGroup
@@ -448,13 +485,17 @@ operation_group = either request_responses one_ways
 
 -- an interface with its operations
 unfoldable pub interface : Syn Interface
-interface = means (λ q. means_as.interface_of q.0 q.1.0 q.1.1) (both (one c.the_interface) (both id (braces some_operations)))
+interface =
+    means (λ q. means_as.interface_of q.0 q.1.0 q.1.1)
+    (both (one c.the_interface) (both id (braces some_operations)))
 
 -- ---- services
 
 -- where messages of a type have the value of a correlation variable
 unfoldable pub alias : Syn Alias
-alias = means (λ q. means_as.alias_of q.0 q.1.0 q.1.1) (both id (both (behind c.sign_dot word) (many (behind c.sign_dot word))))
+alias =
+    means (λ q. means_as.alias_of q.0 q.1.0 q.1.1)
+    (both id (both (behind c.sign_dot word) (many (behind c.sign_dot word))))
 
 -- a correlation variable and its aliases
 unfoldable pub variable : Syn CorrelationVariable
@@ -466,7 +507,9 @@ labelled k s = behind k (behind c.sign_colon s)
 
 -- how a service runs its sessions
 unfoldable pub execution_clause : Syn Clause
-execution_clause = means (λ q. clause.Execution (place q.0) (means_as.execution_of q.1)) (both (ended (one c.the_execution) c.sign_colon) (token (c.the_concurrent ∷ c.the_single ∷ [])))
+execution_clause =
+    means (λ q. clause.Execution (place q.0) (means_as.execution_of q.1))
+    (both (ended (one c.the_execution) c.sign_colon) (token (c.the_concurrent ∷ c.the_single ∷ [])))
 
 -- the parts of a port
 unfoldable pub port_body : Syn (Quoted × Option Name × List Name)
@@ -478,7 +521,9 @@ port_body =
 
 -- a port
 unfoldable pub port : Syn Clause
-port = means (λ q. means_as.port_clause q.0 (means_as.port_of q.0 q.1.0 q.1.1)) (both (token (c.the_input_port ∷ c.the_output_port ∷ [])) (both id (braces port_parts)))
+port =
+    means (λ q. means_as.port_clause q.0 (means_as.port_of q.0 q.1.0 q.1.1))
+    (both (token (c.the_input_port ∷ c.the_output_port ∷ [])) (both id (braces port_parts)))
 
 -- a correlation set
 unfoldable pub correlation_set : Syn Clause
@@ -502,7 +547,9 @@ service = means (λ q. means_as.service_of q.0 q.1.0 q.1.1) (both (one c.the_ser
 
 -- a type, an interface or a service
 unfoldable pub file_part : Syn Definition
-file_part = either (means definition.Type type_definition) (either (means definition.Interface interface) (means definition.Service service))
+file_part =
+    either (means definition.Type type_definition)
+    (either (means definition.Interface interface) (means definition.Service service))
 
 -- a file: types, interfaces and services
 unfoldable pub file : Syn (List Definition)

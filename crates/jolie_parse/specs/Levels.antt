@@ -3,7 +3,8 @@ use Rattle.std.specs.Prelude.{◌≡◌, ◌⊎◌, ℕ, zero, suc, true, List, 
 use Rattle.jolie_ast.specs.declared.tree.Definition.{Definition}
 use Rattle.jolie_parse.specs.declared.class.Class.{Class}
 use Rattle.jolie_parse.specs.Classes.{Spelled, class, has, place, open_brackets}
-use Rattle.jolie_parse.specs.Syntax.{Part, Meant, Syn, token, give, both, either, many, means, inside, prefix, Lang, Derives}
+use Rattle.jolie_parse.specs.Syntax.{Part, Meant, Syn, Lang, Derives}
+use Rattle.jolie_parse.specs.Syntax.{token, give, both, either, many, means, inside, prefix}
 use Rattle.jolie_parse.specs.Grammar.{production, Allowed, IsFile, BeginsFile, file}
 
 -- what opens a level: a bracket with what stands in it and the bracket that closes, or tokens before what is a level
@@ -22,13 +23,18 @@ abbrev pub opened : Opener → Part
 opened (bracket o r c) = r
 opened (before ks r) = r
 
--- the tokens lead to a part that opens a level, of which at says the rest by the tokens from it on
-abbrev pub LeadsTo : {A : Type 0} → ((r : Part) → Lang (Meant r)) → (Opener → List Spelled → Type 0) → Syn A → List Spelled → Type 0
+-- the tokens go through a phrase up to a part of it that opens a level; `at` holds of what opens it and of the tokens
+-- from there on
+abbrev pub LeadsTo : {A : Type 0} → ((r : Part) → Lang (Meant r)) → (Opener → List Spelled → Type 0) → Syn A
+    → List Spelled → Type 0
 LeadsTo within at (token ks) w = ⊥
 LeadsTo within at (give a) w = ⊥
-LeadsTo within at (both {A} s t) w = LeadsTo within at s w ⊎ ((x y : List Spelled) × (a : A) × (w ≡ x ++ y) × Derives within s x a × LeadsTo within at t y)
+LeadsTo within at (both {A} s t) w =
+    LeadsTo within at s w
+    ⊎ ((x y : List Spelled) × (a : A) × (w ≡ x ++ y) × Derives within s x a × LeadsTo within at t y)
 LeadsTo within at (either s t) w = LeadsTo within at s w ⊎ LeadsTo within at t w
-LeadsTo within at (many {A} s) w = (x y : List Spelled) × (vs : List A) × (w ≡ x ++ y) × Derives within (many s) x vs × LeadsTo within at s y
+LeadsTo within at (many {A} s) w =
+    (x y : List Spelled) × (vs : List A) × (w ≡ x ++ y) × Derives within (many s) x vs × LeadsTo within at s y
 LeadsTo within at (means f s) w = LeadsTo within at s w
 LeadsTo within at (inside o r c) w = at (bracket o r c) w
 LeadsTo within at (prefix ks r) w = at (before ks r) w
@@ -55,7 +61,8 @@ module _ (rules : (r : Part) → Syn (Meant r)) (within : ℕ → (r : Part) →
 
 -- behind these tokens the next opens level n + 1
 abbrev pub OpensNext : ℕ → List Spelled → List Spelled → Type 0
-OpensNext n w r = (t : Spelled) × (q : List Spelled) × (r ≡ t ∷ q) × LeadsTo (Allowed n) (Leads production Allowed n t) file w
+OpensNext n w r =
+    (t : Spelled) × (q : List Spelled) × (r ≡ t ∷ q) × LeadsTo (Allowed n) (Leads production Allowed n t) file w
 
 -- with these tokens and the next, or with none behind them, no file begins
 abbrev pub IsDead : List Spelled → List Spelled → Type 0

@@ -121,7 +121,10 @@ cast_target k = if same k c.the_int then target.Int else if same k c.the_long th
 
 -- the operator of a sign: `*`, `/` or `%`
 abbrev pub multiplicative_of : Class → Multiplicative
-multiplicative_of k = if same k c.sign_star then multiplicative.Times else if same k c.sign_slash then multiplicative.Divide else multiplicative.Remainder
+multiplicative_of k =
+    if same k c.sign_star then multiplicative.Times
+    else if same k c.sign_slash then multiplicative.Divide
+    else multiplicative.Remainder
 
 -- the operator of a sign: `+` or `-`
 abbrev pub additive_of : Class → Additive
@@ -262,7 +265,8 @@ field_of t count ty = roll-Field (record { name = name_of t; cardinality = count
 
 -- `[least, most]`, where most is an int or `*`
 abbrev pub bounds_of : Spelled → Spelled → Cardinality
-bounds_of least most = cardinality.Between (int_value least) (if same (class most) c.int_number then Some (int_value most) else None)
+bounds_of least most =
+    cardinality.Between (int_value least) (if same (class most) c.int_number then Some (int_value most) else None)
 
 -- a type with its name, at its word
 abbrev pub definition_of : Spelled → Spelled → DefinedType → TypeDefinition
@@ -275,7 +279,12 @@ fault_of q = record { name = name_of q.0; ty = q.1 }
 -- a request-response operation of its name, types and faults
 abbrev pub request_response_of : Spelled → TypeName → TypeName → Option (List Fault) → RequestResponse
 request_response_of t request response throws =
-    record { name = name_of t; request = request; response = response; throws = elim throws [ None ↦ [] | Some faults ↦ faults ] }
+    record {
+      name = name_of t;
+      request = request;
+      response = response;
+      throws = elim throws [ None ↦ [] | Some faults ↦ faults ];
+    }
 
 -- a one-way operation of its name and type
 abbrev pub one_way_of : Spelled × TypeName → OneWay
@@ -293,7 +302,13 @@ execution_of t = if same (class t) c.the_concurrent then execution.Concurrent el
 
 -- a port of its name, location, protocol and interfaces, at its word
 abbrev pub port_of : Spelled → Spelled → Quoted × Option Name × List Name → Port
-port_of t name parts = record { at = place t; name = name_of name; location = parts.0; protocol = parts.1; interfaces = parts.2 }
+port_of t name parts = record {
+  at = place t;
+  name = name_of name;
+  location = parts.0;
+  protocol = parts.1;
+  interfaces = parts.2;
+}
 
 -- a port of the one kind or the other
 abbrev pub port_clause : Spelled → Port → Clause

@@ -39,7 +39,9 @@ take_token ks (t ∷ ts) = if has ks (class t) then got t ts else refused (t ∷
 -- a phrase again and again, while its first classes go on, at most n times
 abbrev pub repeat : {A : Type 0} → (List Spelled → Outcome A) → List Class → ℕ → List Spelled → Outcome (List A)
 repeat one ks zero ts = got [] ts
-repeat one ks (suc n) ts = if begins ks ts then and_then (one ts) (λ a r. and_then (repeat one ks n r) (λ more rest. got (a ∷ more) rest)) else got [] ts
+repeat one ks (suc n) ts =
+    if begins ks ts then and_then (one ts) (λ a r. and_then (repeat one ks n r) (λ more rest. got (a ∷ more) rest))
+    else got [] ts
 
 -- what opens a level where none is left
 abbrev pub no_level : {A : Type 0} → List Class → List Spelled → Outcome A
@@ -53,10 +55,12 @@ deepen (refused ts) zero = no_level open_brackets ts
 deepen (refused ts) (suc n) = refused ts
 
 -- a part between its brackets, one level further in
-abbrev pub enclosed : ℕ → {A : Type 0} → (List Spelled → Outcome A) → Class → Class → List Spelled → Outcome (Spelled × A)
+abbrev pub enclosed : ℕ → {A : Type 0} → (List Spelled → Outcome A) → Class → Class → List Spelled
+    → Outcome (Spelled × A)
 enclosed zero inner o c ts = no_level (o ∷ []) ts
 enclosed (suc n) inner o c ts =
-    and_then (take_token (o ∷ []) ts) (λ t r. deepen (and_then (inner r) (λ v r2. and_then (take_token (c ∷ []) r2) (λ _ r3. got (t, v) r3))) n)
+    and_then (take_token (o ∷ []) ts)
+    (λ t r. deepen (and_then (inner r) (λ v r2. and_then (take_token (c ∷ []) r2) (λ _ r3. got (t, v) r3))) n)
 
 -- a part behind its prefix, one level further in
 abbrev pub prefixed : ℕ → {A : Type 0} → (List Spelled → Outcome A) → List Class → List Spelled → Outcome (Spelled × A)

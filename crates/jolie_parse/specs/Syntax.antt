@@ -23,7 +23,10 @@ use Rattle.jolie_parse.specs.Classes.{Spelled, class, has}
 
 -- what stands one level further in: between brackets, behind a prefix, behind the `if` of an `else if`
 pub data Part : Type 0 where
-  an_expression an_operand a_path maybe_path maybe_expression a_body some_handlers a_name an_input an_else_if for_parts throw_parts some_members a_type_name some_bounds some_fields some_operations port_parts some_variables some_clauses : Part
+  an_expression an_operand a_path maybe_path maybe_expression : Part
+  a_body some_handlers a_name an_input an_else_if for_parts throw_parts some_members : Part
+  a_type_name some_bounds some_fields some_operations : Part
+  port_parts some_variables some_clauses : Part
 
 -- what each of these means
 abbrev pub Meant : Part → Type 0
@@ -83,7 +86,9 @@ Derives within (both s t) ts v = (x y : List Spelled) × (ts ≡ x ++ y) × Deri
 Derives within (either s t) ts v = Derives within s ts v ⊎ Derives within t ts v
 Derives within (many s) ts v = Many (Derives within s) ts v
 Derives within (means {A} f s) ts v = (a : A) × (f a ≡ v) × Derives within s ts a
-Derives within (inside o r c) ts v = (close : Spelled) × (x : List Spelled) × (class v.0 ≡ o) × (class close ≡ c) × (ts ≡ v.0 ∷ (x ++ close ∷ [])) × within r x v.1
+Derives within (inside o r c) ts v =
+    (close : Spelled) × (x : List Spelled) × (class v.0 ≡ o) × (class close ≡ c) × (ts ≡ v.0 ∷ (x ++ close ∷ []))
+    × within r x v.1
 Derives within (prefix ks r) ts v = (x : List Spelled) × (has ks (class v.0) ≡ true) × (ts ≡ v.0 ∷ x) × within r x v.1
 
 -- ---- forms that grammars are made of

@@ -1,7 +1,9 @@
 -- The words that count in the grammar, as they are written.
-use Rattle.std.specs.Prelude.{ℕ, List, [], ◌∷◌, codes, Option, Some, None}
+use Rattle.std.specs.Prelude.{ℕ, Bool, List, [], ◌∷◌, codes, Option, Some, None}
 use Rattle.std.specs.List.{find}
 use Rattle.std.specs.Str.{bytes_eq}
+use denote.Enum.Bare.{sameb}
+use Rattle.jolie_parse.specs.contracts.word.Word as word_row
 use Rattle.jolie_parse.specs.declared.word.Word.{Word}
 use Rattle.jolie_parse.specs.declared.word.Word.TheVariants as word
 
@@ -67,46 +69,6 @@ counted bytes = find (λ w. bytes_eq (spelling w) bytes) counted_words
 unfoldable pub word_of : List ℕ → Word
 word_of bytes = elim (counted bytes) [ Some w ↦ w | None ↦ word.Plain ]
 
--- a number for each word; it only tells one word from another
-abbrev pub word_number : Word → ℕ
-word_number word.Plain = 0
-word_number word.Location = 1
-word_number word.Protocol = 2
-word_number word.Interfaces = 3
-word_number word.Concurrent = 4
-word_number word.Single = 5
-word_number word.Type = 6
-word_number word.Interface = 7
-word_number word.Service = 8
-word_number word.InputPort = 9
-word_number word.OutputPort = 10
-word_number word.Execution = 11
-word_number word.Cset = 12
-word_number word.Csets = 13
-word_number word.Init = 14
-word_number word.Main = 15
-word_number word.Scope = 16
-word_number word.Install = 17
-word_number word.Throw = 18
-word_number word.Comp = 19
-word_number word.InnerHandler = 20
-word_number word.This = 21
-word_number word.NullProcess = 22
-word_number word.If = 23
-word_number word.Else = 24
-word_number word.While = 25
-word_number word.For = 26
-word_number word.Undef = 27
-word_number word.IsDefined = 28
-word_number word.True = 29
-word_number word.False = 30
-word_number word.Void = 31
-word_number word.Bool = 32
-word_number word.Int = 33
-word_number word.Long = 34
-word_number word.Str = 35
-word_number word.Any = 36
-word_number word.Undefined = 37
-word_number word.Throws = 38
-word_number word.RequestResponse = 39
-word_number word.OneWay = 40
+-- they are the same word, as `==` says
+abbrev pub same_word : Word → Word → Bool
+same_word = sameb word_row.the_type

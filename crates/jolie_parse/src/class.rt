@@ -1,5 +1,5 @@
-ghost use Rattle.std.specs.Prelude.{◌≡◌, ◌<◌};
-ghost use Rattle.jolie_parse.specs.Classes.{same, has, number, sign_number};
+ghost use Rattle.std.specs.Prelude.{◌≡◌};
+ghost use Rattle.jolie_parse.specs.Classes.{same, has};
 
 use crate::word::Word;
 use jolie_tokens::Sign;
@@ -255,23 +255,17 @@ pub const FILE_PART_FIRSTS: [Class; 3] = [
 ];
 
 impl Class {
-    /// Each class has a number of its own.
-    fn number(self) -> u8
-        ensures { result ≡ number self }
-    {
-        match self {
-            Class::Word(word) => word.number(),
-            Class::Int => 41,
-            Class::Long => 42,
-            Class::Str => 43,
-            Class::Sign(sign) => sign_number(sign) + 44,
-        }
-    }
-
     pub fn is(self, other: Class) -> bool
         ensures { result ≡ same self other }
     {
-        self.number() == other.number()
+        match (self, other) {
+            (Class::Word(a), Class::Word(b)) => a == b,
+            (Class::Sign(a), Class::Sign(b)) => a == b,
+            (Class::Int, Class::Int) => true,
+            (Class::Long, Class::Long) => true,
+            (Class::Str, Class::Str) => true,
+            _ => false,
+        }
     }
 
     /// Whether the class is one of these.
@@ -283,11 +277,4 @@ impl Class {
             [one, rest @ ..] => one.is(self) || self.is_one_of(rest),
         }
     }
-}
-
-fn sign_number(sign: Sign) -> u8
-    ensures value { result ≡ sign_number sign }
-    ensures small { result < 33 }
-{
-    sign as u8
 }

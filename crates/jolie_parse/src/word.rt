@@ -143,13 +143,6 @@ impl Word {
         }
     }
 
-    /// Each word has a number of its own.
-    pub fn number(self) -> u8
-        ensures { result ≡ spec.word_number self }
-    {
-        self as u8
-    }
-
     /// The word that is written so.
     #[tactic(auto, unfolding(crate::specs::Words::word_of))]
     pub fn of(spelling: &[u8]) -> Word

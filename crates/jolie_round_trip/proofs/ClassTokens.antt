@@ -12,7 +12,7 @@ use Rattle.jolie_parse.specs.declared.class.Class.{Class}
 use Rattle.jolie_parse.specs.declared.class.Class.TheVariants as classed
 use Rattle.jolie_parse.specs.Words.{spelling, counted_words, counted, word_of}
 use Rattle.jolie_parse.specs.Classes.{class_of, has, same}
-use Rattle.jolie_parse.proofs.Numbered.{same_eq}
+use Rattle.jolie_parse.proofs.SameClasses.{same_eq}
 use Rattle.jolie_round_trip.proofs.Lexemes.{printed_spelling, Every}
 
 -- ---- words

@@ -1,7 +1,8 @@
 -- These definitions serve the proofs alone: no promise speaks of them.
--- What the functions of this crate compute of the bytes at the front of a text. No promise of `lex` speaks of these: they
--- are proved to find the pieces and the refusals that the other files of definitions have.
-use Rattle.std.specs.Prelude.{◌≡◌, ℕ, ◌+◌, ◌-◌, min, Bool, true, false, ◌&&◌, not, ◌==◌, List, [], ◌∷◌, map, length, take, drop, if◌then◌else◌, Option, None, Some, Result, Ok, Err, MatchResult}
+-- What the functions of this crate compute of the bytes at the front of a text. They are proved to find the pieces and
+-- the refusals that the other files of definitions have.
+use Rattle.std.specs.Prelude.{◌≡◌, ℕ, ◌+◌, ◌-◌, min, Bool, true, false, ◌&&◌, not, ◌==◌, List, [], ◌∷◌, map, length}
+use Rattle.std.specs.Prelude.{take, drop, if◌then◌else◌, Option, None, Some, Result, Ok, Err, MatchResult}
 use Rattle.std.specs.List.{prefix_len}
 use Rattle.std.specs.Int.{is_in_range}
 use Rattle.std.specs.Str.{is_utf8}
@@ -10,7 +11,8 @@ use Rattle.jolie_tokens.specs.declared.lexeme.Lexeme.{Lexeme}
 use Rattle.jolie_tokens.specs.declared.lex_error.LexError.{LexError}
 use Rattle.jolie_tokens.specs.declared.lex_error.LexError.TheVariants as error
 use Rattle.jolie_tokens.specs.declared.sign.Sign.{Sign}
-use Rattle.jolie_tokens.specs.Bytes.{quote, star, slash, backslash, is_blank, is_letter, is_digit, is_word_byte, is_in_line, is_escape}
+use Rattle.jolie_tokens.specs.Bytes.{quote, star, slash, backslash}
+use Rattle.jolie_tokens.specs.Bytes.{is_blank, is_letter, is_digit, is_word_byte, is_in_line, is_escape}
 use Rattle.jolie_tokens.specs.Numbers.{closes_long, is_bad_number}
 use Rattle.jolie_tokens.specs.Signs.{sign_at}
 use Rattle.jolie_tokens.specs.Pieces as p
@@ -51,7 +53,8 @@ utf8_stop bs = if is_utf8 bs then None else Some (utf8_valid_len bs + begun_len 
 -- where `*/` stands, from the place i on, after a star or not
 abbrev pub comment_end_from : Bool → ℕ → List ℕ → Option ℕ
 comment_end_from starred i [] = None
-comment_end_from starred i (b ∷ bs) = if starred && b == slash then Some (i - 1) else comment_end_from (b == star) (i + 1) bs
+comment_end_from starred i (b ∷ bs) =
+    if starred && b == slash then Some (i - 1) else comment_end_from (b == star) (i + 1) bs
 
 -- where the first `*/` stands
 unfoldable pub comment_end : List ℕ → Option ℕ
@@ -72,7 +75,9 @@ string_end bs = string_end_from false 0 bs
 -- where the first bad escape stands, from the place i on, after a backslash or not
 abbrev pub bad_escape_from : Bool → ℕ → List ℕ → Option ℕ
 bad_escape_from escaped i [] = None
-bad_escape_from escaped i (b ∷ bs) = if escaped && not (is_escape b) then Some (i - 1) else bad_escape_from (not escaped && b == backslash) (i + 1) bs
+bad_escape_from escaped i (b ∷ bs) =
+    if escaped && not (is_escape b) then Some (i - 1)
+    else bad_escape_from (not escaped && b == backslash) (i + 1) bs
 
 -- where the backslash of the first bad escape stands
 unfoldable pub bad_escape : List ℕ → Option ℕ
@@ -81,7 +86,9 @@ bad_escape bs = bad_escape_from false 0 bs
 -- the parts of a string's inside, after a backslash or not
 abbrev pub parts_from : Bool → List ℕ → List Part
 parts_from escaped [] = []
-parts_from escaped (b ∷ bs) = if not escaped && b == backslash then parts_from true bs else (if escaped then escape b else plain b) ∷ parts_from false bs
+parts_from escaped (b ∷ bs) =
+    if not escaped && b == backslash then parts_from true bs
+    else (if escaped then escape b else plain b) ∷ parts_from false bs
 
 -- the parts of a string's inside
 unfoldable pub parts : List ℕ → List Part
@@ -145,7 +152,8 @@ unless_stopped (Some k) piece at = Err (error.BadByte (at + k))
 -- the comment of the rest of the line
 unfoldable pub line_comment : List ℕ → ℕ → Result Piece LexError
 line_comment bs at =
-    let line : List ℕ = take (prefix_len is_in_line bs) bs in unless_stopped (utf8_stop line) (p.line_comment line) (at + 2)
+    let line : List ℕ = take (prefix_len is_in_line bs) bs in
+    unless_stopped (utf8_stop line) (p.line_comment line) (at + 2)
 
 -- the comment up to the `*/` at a place, or none to close it
 abbrev pub block_comment_to : Option ℕ → List ℕ → ℕ → Result Piece LexError

@@ -1,11 +1,13 @@
--- The pieces that a text is made of: blanks, comments and tokens; how each is written, which are valid, and before which
--- bytes they may stand.
-use Rattle.std.specs.Prelude.{◌≡◌, ◌≢◌, ℕ, ◌≤◌, Bool, true, false, ◌||◌, ◌&&◌, ◌==◌, List, [], ◌∷◌, ◌++◌, map, IsUtf8, Option, None, Some, pos}
+-- The pieces that a text is made of: blanks, comments and tokens; how each is written, which are valid, and before
+-- which bytes they may stand.
+use Rattle.std.specs.Prelude.{◌≡◌, ◌≢◌, ℕ, ◌≤◌, Bool, true, false, ◌||◌, ◌&&◌, ◌==◌, pos}
+use Rattle.std.specs.Prelude.{List, [], ◌∷◌, ◌++◌, map, IsUtf8, Option, None, Some}
 use Rattle.std.specs.List.{All, AllPass, flat_map}
 use Rattle.jolie_tokens.specs.declared.sign.Sign.{Sign}
 use Rattle.jolie_tokens.specs.declared.token.TokenKind.{TokenKind}
 use Rattle.jolie_tokens.specs.declared.token.TokenKind.TheVariants as kind
-use Rattle.jolie_tokens.specs.Bytes.{quote, star, slash, letter_l, backslash, is_blank, is_letter, is_word_byte, is_in_line, is_escape, meant_byte, begins}
+use Rattle.jolie_tokens.specs.Bytes.{quote, star, slash, letter_l, backslash}
+use Rattle.jolie_tokens.specs.Bytes.{is_blank, is_letter, is_word_byte, is_in_line, is_escape, meant_byte, begins}
 use Rattle.jolie_tokens.specs.Numbers.{largest_int, largest_long, AreDigits, value, begins_fraction}
 use Rattle.jolie_tokens.specs.Signs.{sign_bytes, IsLongest}
 

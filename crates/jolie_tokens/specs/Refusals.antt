@@ -35,7 +35,8 @@ IsOpenComment bs = (after : List ℕ) × (bs ≡ slash ∷ star ∷ after) × Ha
 -- the backslash of a bad escape stands at that place of a string's inside
 abbrev pub IsBadEscape : List Part → ℕ → Type 0
 IsBadEscape parts k =
-    (before after : List Part) × (b : ℕ) × (parts ≡ before ++ escape b ∷ after) × (is_escape b ≡ false) × (k ≡ length (inside before))
+    (before after : List Part) × (b : ℕ) × (parts ≡ before ++ escape b ∷ after) × (is_escape b ≡ false)
+    × (k ≡ length (inside before))
 
 -- a bad escape stands at that place of a string's inside, or the bytes stop beginning UTF-8 there
 abbrev pub IsFault : List Part → ℕ → Type 0
@@ -80,8 +81,8 @@ pub record IsBadNumber (bs : List ℕ) : Type 0 where
   pub ends : begins is_digit rest ≡ false
   pub bad : is_bad_number digits rest ≡ true
 
--- The place of a bad byte, where the bytes begin at the place `at`: their own, or one in a string or in a comment, whose
--- inside begins after one byte or two.
+-- The place of a bad byte, where the bytes begin at the place `at`: their own, or one in a string or in a comment,
+-- whose inside begins after one byte or two.
 pub data IsBadByte (bs : List ℕ) (at place : ℕ) : Type 0 where
   of_nothing : BeginsNothing bs → place ≡ at → IsBadByte bs at place
   of_string : (k : ℕ) → IsBadString bs k → place ≡ at + 1 + k → IsBadByte bs at place

@@ -44,7 +44,8 @@ sign_bytes sign.Question = codes "?"
 -- no longer sign stands where this one does, before these bytes
 abbrev pub IsLongest : Sign → List ℕ → Type 0
 IsLongest s rest =
-    (longer : Sign) (others : List ℕ) → sign_bytes s ++ rest ≡ sign_bytes longer ++ others → length (sign_bytes longer) ≤ length (sign_bytes s)
+    (longer : Sign) (others : List ℕ) → sign_bytes s ++ rest ≡ sign_bytes longer ++ others
+    → length (sign_bytes longer) ≤ length (sign_bytes s)
 
 -- the first sign of the table that the bytes begin with
 unfoldable pub sign_at : List ℕ → Option Sign

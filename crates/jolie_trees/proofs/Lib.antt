@@ -5,3 +5,4 @@ pub mod Names
 pub mod Growth
 pub mod Kept
 pub mod Lent
+pub mod Lessened

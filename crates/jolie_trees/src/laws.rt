@@ -1,6 +1,11 @@
-ghost use Rattle.jolie_trees.specs.Laws.{KeepsWhatIsSet};
+ghost use Rattle.jolie_trees.specs.Laws.{KeepsWhatIsSet, UndefKeepsLimits};
 
 /// What a tree is given at a path, it has there.
 pub fn trees_keep_what_is_set()
     ensures { KeepsWhatIsSet }
+{}
+
+/// A tree within the limits of a store stays so where nodes are taken away.
+pub fn undef_keeps_limits()
+    ensures { UndefKeepsLimits }
 {}

@@ -50,9 +50,26 @@ fn asked(alloc: Global, tree: &Tree, verb: &str, rest: &str) -> Result<String, A
         "text_bytes" => tree.text_bytes().to_string(alloc),
         "count" => tree.count(&path(alloc, rest)?).to_string(alloc),
         "int" => int_at(alloc, tree, rest),
+        "fits_root" => shown_truth(alloc, tree.fits_root(&path(alloc, rest)?)),
+        "fits_set" => fits_set(alloc, tree, rest),
         "copied" => copied(alloc, tree, rest),
         _ => String::from_str(alloc, "no such verb"),
     }
+}
+
+/// `TO FROM`, the value being what stands at FROM.
+fn fits_set(alloc: Global, tree: &Tree, rest: &str) -> Result<String, AllocError> {
+    let (to, from) = rest.split_once(' ').unwrap_or((rest, ""));
+    let to = path(alloc, to)?;
+    let from = path(alloc, from)?;
+    match tree.get(&from) {
+        Some(value) => shown_truth(alloc, tree.fits_set(&to, value)),
+        None => String::from_str(alloc, "nothing"),
+    }
+}
+
+fn shown_truth(alloc: Global, truth: bool) -> Result<String, AllocError> {
+    format!(in alloc; "{truth}")
 }
 
 /// The int there, as a copy of the tree has it, and the size of the copy.

@@ -1,4 +1,5 @@
 pub mod Addresses
+pub mod Behind
 pub mod BroughtGroups
 pub mod BroughtIn
 pub mod Nows

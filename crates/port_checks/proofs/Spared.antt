@@ -2,6 +2,7 @@
 use Rattle.std.proofs.Common.{◌≡◌, ℕ, Bool, true, false, List, [], ◌∷◌, ◌++◌, map, Option, Some, None, refl, ap, sym, ◌∙◌, subst, bytes_eq, append_assoc, append-nil}
 use Rattle.std.specs.Prelude.{◌||◌, if◌then◌else◌}
 use Rattle.std.proofs.lemmas.Bool.{or_left, or_right, false≢true}
+use Rattle.std.proofs.lemmas.List.Folds.{list_any-append}
 use Rattle.std.proofs.lemmas.Slice.Eq.{bytes_eq-Decides}
 use Rattle.jolie_ast.specs.declared.name.Name.{Name}
 use Rattle.jolie_ast.specs.declared.interface.Interface.{Interface}
@@ -16,7 +17,6 @@ use Rattle.check_base.specs.Repeated.{repeated, repeated_after}
 use Rattle.port_checks.specs.Spared.{first_alone, spared, spared_after, spared_in, spared_unless}
 use Rattle.check_base.proofs.Joined.{joined_append, refused_append}
 use Rattle.check_base.proofs.Repetitions.{second}
-use Rattle.port_checks.proofs.Sets.{in_either}
 use Rattle.check_base.proofs.Loops.{mapped_twice}
 use Rattle.check_base.proofs.Firsts.{again as known_again, either_way}
 
@@ -36,6 +36,10 @@ offered_again None r = ap Some (either_is (comes_first r r) r)
 offered_again (Some so) r = again_by (comes_first so r) so r refl
 
 -- ---- texts that are there
+
+-- a text among two lists is in one of them
+in_either : (x : List ℕ) (ts us : List (List ℕ)) → is_in x (ts ++ us) ≡ (is_in x ts || is_in x us)
+in_either x ts us = list_any-append (λ t. bytes_eq t x) ts us
 
 -- the same texts are there
 abbrev pub Same : List (List ℕ) → List (List ℕ) → Type 0

@@ -58,19 +58,15 @@ brought_in interfaces earlier (p ∷ ports) =
     brought interfaces earlier p.interfaces
     ++ brought_in interfaces (earlier ++ map (λ (n : Name). n.text) p.interfaces) ports
 
--- an interface that a port names twice
-abbrev pub interfaces_repeated : Port → List Refusal
-interfaces_repeated p = refused DuplicateName (repeated p.interfaces)
+-- an operation that a port has a second time
+abbrev pub operations_repeated : List Interface → Port → List Refusal
+operations_repeated interfaces port = refused DuplicateName (repeated (brought interfaces [] port.interfaces))
 
--- an operation that the input ports have a second time, and an interface that one input port names twice
+-- an operation that the input ports have a second time, together or one of them alone
 abbrev pub input_ports_refused : List Interface → List Port → List Refusal
 input_ports_refused interfaces ports =
     refused DuplicateName (repeated (brought_in interfaces [] ports))
-    ++ flat_map interfaces_repeated ports
-
--- an operation that an output port has a second time
-abbrev pub output_port_refused : List Interface → Port → List Refusal
-output_port_refused interfaces port = refused DuplicateName (repeated (brought interfaces [] port.interfaces))
+    ++ flat_map (operations_repeated interfaces) ports
 
 -- a location that is none
 abbrev pub wrong_location : Port → List Refusal
@@ -127,5 +123,5 @@ ports_refused interfaces locations s =
     refused DuplicateName (repeated (map port_name (filter_map port_in s.clauses)))
     ++ flat_map (sided_refused interfaces) (filter_map port_in s.clauses)
     ++ input_ports_refused interfaces (input_ports s)
-    ++ flat_map (output_port_refused interfaces) (output_ports s)
+    ++ flat_map (operations_repeated interfaces) (output_ports s)
     ++ flat_map (unmet locations) (output_ports s)

@@ -1,6 +1,6 @@
 -- What is refused of the correlation sets of a service.
-use Rattle.std.specs.Prelude.{ℕ, zero, suc, pos, Bool, true, false, not, ◌&&◌, List, [], ◌∷◌, ◌++◌, map, flat_map}
-use Rattle.std.specs.Prelude.{bytes_eq, if◌then◌else◌, Option, None, Some, option_and_then, length}
+use Rattle.std.specs.Prelude.{ℕ, pos, Bool, true, false, not, ◌&&◌, List, [], ◌∷◌, ◌++◌, map, flat_map}
+use Rattle.std.specs.Prelude.{bytes_eq, if◌then◌else◌, Option, None, Some, option_and_then}
 use Rattle.std.specs.List.{list_all}
 use Rattle.std.specs.Ordering.{int_eq}
 use Rattle.jolie_ast.specs.declared.name.Name.{Name}
@@ -23,7 +23,8 @@ use Rattle.check_base.specs.declared.refusal.CheckName.TheVariants.{TwoSets}
 use Rattle.check_base.specs.declared.refusal.Refusal.{Refusal}
 use Rattle.check_base.specs.Repeated.{repeated, first_names}
 use Rattle.check_base.specs.Least.{refused, refused_if}
-use Rattle.check_base.specs.Files.{type_named, sets_of, execution_of, is_concurrent, body_of, name_in, variables_of}
+use Rattle.check_base.specs.Files.{type_named, sets_of, execution_of, is_concurrent, body_of, variables_of}
+use Rattle.check_base.specs.TypeNames.{behind_names}
 
 -- ---- aliases
 
@@ -39,14 +40,6 @@ is_once (Some (cardinality.Between least (Some most))) = int_eq least (pos 1) &&
 abbrev pub field_named : List Field → List ℕ → Option Field
 field_named [] name = None
 field_named (f ∷ fields) name = if bytes_eq (out-Field f).name.text name then Some f else field_named fields name
-
--- the type behind a body's names within n steps; one that is not there or leads back has none
-abbrev pub behind_names : List TypeDefinition → ℕ → TypeBody → Option TypeBody
-behind_names types zero body = elim (name_in (out-TypeBody body)) [ None ↦ Some body | Some name ↦ None ]
-behind_names types (suc n) body = elim (name_in (out-TypeBody body)) [
-  | None ↦ Some body
-  | Some name ↦ elim (type_named types name) [ None ↦ None | Some ty ↦ behind_names types n (body_of ty.body) ]
-]
 
 -- the kinds that a variable of a set may have
 abbrev pub is_value_kind : RootKind → Bool
@@ -74,8 +67,7 @@ is_value (TypeBody-F.Undefined at) = false
 abbrev pub once_in : List TypeDefinition → TypeBody → Name → Option TypeBody
 once_in types body n =
     option_and_then
-    (λ (f : Field). if is_once (out-Field f).cardinality then behind_names types (length types) (out-Field f).body else
-    None)
+    (λ (f : Field). if is_once (out-Field f).cardinality then behind_names types (out-Field f).body else None)
     (field_named (fields_in (out-TypeBody body)) n.text)
 
 -- a chain of fields that stand once, which ends at a root that a variable may have
@@ -87,7 +79,7 @@ leads_to_value types (Some body) (n ∷ path) = leads_to_value types (once_in ty
 -- the type that an alias begins at, behind its names
 abbrev pub alias_type : List TypeDefinition → Alias → Option TypeBody
 alias_type types a =
-    option_and_then (λ (ty : TypeDefinition). behind_names types (length types) (body_of ty.body))
+    option_and_then (λ (ty : TypeDefinition). behind_names types (body_of ty.body))
     (type_named types a.ty.text)
 
 -- an alias that leads to no value
@@ -138,15 +130,9 @@ set_refused types set = flat_map (variable_refused types) set ++ flat_map (partl
 abbrev pub types_in_sets : List (List CorrelationVariable) → List (List ℕ)
 types_in_sets sets = flat_map set_texts sets
 
--- a type that an earlier set has
-abbrev pub in_earlier : List (List ℕ) → Name → List Refusal
-in_earlier earlier n = refused_if (is_in n.text earlier) TwoSets n.at
-
--- a type of a set that an earlier set of the service has
-abbrev pub two_sets : List (List ℕ) → List (List CorrelationVariable) → List Refusal
-two_sets earlier [] = []
-two_sets earlier (set ∷ sets) =
-    flat_map (in_earlier earlier) (set_types set) ++ two_sets (set_texts set ++ earlier) sets
+-- a type that stands in a second set of the service, at its first alias there
+abbrev pub two_sets : List (List CorrelationVariable) → List Refusal
+two_sets sets = refused TwoSets (repeated (flat_map set_types sets))
 
 -- a set of a service whose sessions run one alone, at its word
 abbrev pub set_of_single : Bool → Clause → List Refusal
@@ -161,5 +147,5 @@ set_of_single concurrent (clause.Main at body) = []
 abbrev pub sets_refused : List TypeDefinition → Service → List Refusal
 sets_refused types s =
     refused DuplicateName (repeated (variables_of s))
-    ++ flat_map (set_refused types) (sets_of s) ++ two_sets [] (sets_of s)
+    ++ flat_map (set_refused types) (sets_of s) ++ two_sets (sets_of s)
     ++ flat_map (set_of_single (is_concurrent (execution_of s))) s.clauses

@@ -1,8 +1,9 @@
-ghost use Rattle.std.specs.Prelude.{◌≡◌, ◌∷◌, Some, length};
+ghost use Rattle.std.specs.Prelude.{◌≡◌, ◌∷◌, Some};
 ghost use Rattle.std.specs.Option.{option_copied};
 ghost use Rattle.jolie_ast.specs.declared.types.TypeBody.{out-TypeBody};
-ghost use Rattle.port_checks.specs.SetRules.{alias_type, behind_names, field_named, fields_in, is_once, is_value, is_value_kind, leads_to_value, once_in};
+ghost use Rattle.port_checks.specs.SetRules.{alias_type, field_named, fields_in, is_once, is_value, is_value_kind, leads_to_value, once_in};
 ghost use Rattle.check_base.specs.Files.{body_of, name_in};
+ghost use Rattle.check_base.specs.TypeNames.{behind_names};
 
 use check_base::Types;
 use jolie_ast::{Alias, Cardinality, DefinedType, Field, Name, RootKind, TypeBody, TypeDefinition};
@@ -130,8 +131,9 @@ fn is_value_kind(kind: RootKind) -> bool
 }
 
 /// The type behind a body's names; one that is not there or leads back has none.
+#[tactic(auto, using(crate::proofs::Behind::behind_no_name, crate::proofs::Behind::behind_last_name, crate::proofs::Behind::behind_unknown, crate::proofs::Behind::behind_known))]
 fn behind_names<'a>(types: &Types<'a>, body: Body<'a>) -> Option<Body<'a>>
-    ensures { result ≡ behind_names types.now (length types.now) body.entry }
+    ensures { result ≡ behind_names types.now body.entry }
 {
     let mut body = body;
     let mut left = types.len();

@@ -4,7 +4,7 @@ ghost use Rattle.std.specs.Option.{option_copied};
 ghost use Rattle.jolie_ast.specs.declared.name.Name.{Name};
 ghost use Rattle.check_base.specs.Files.{first_there, input_port_in};
 ghost use Rattle.check_base.specs.Least.{joined};
-ghost use Rattle.port_checks.specs.PortRules.{answering_at, group_at, input_ports_refused, interfaces_repeated, output_port_refused, silent_at};
+ghost use Rattle.port_checks.specs.PortRules.{answering_at, group_at, input_ports_refused, operations_repeated, silent_at};
 ghost use Rattle.port_checks.specs.Spared.{first_alone, group_texts, spared, spared_in, spared_unless};
 
 use check_base::{Interfaces, Least, Mention, Names, add_names, input_port_in, repeated_refused};
@@ -159,17 +159,6 @@ fn bring_silent<'a>(
     Ok(())
 }
 
-/// The interfaces that a port names.
-fn interface_names(alloc: Global, interfaces: &[Name]) -> Result<Vec<Mention<'_>>, AllocError>
-    ensures { IfOk result (λ names. names.items ≡ interfaces.now) }
-{
-    let mut names = Vec::new(alloc);
-    for name in interfaces {
-        names.push(Mention::name(name))?;
-    }
-    Ok(names)
-}
-
 /// The operations that an input port brings, but of interfaces that earlier ports have; its own are among those then.
 fn bring_in<'a>(
     alloc: Global,
@@ -204,7 +193,7 @@ fn brought_in<'a>(
     Ok(mentions)
 }
 
-/// An operation that the input ports have a second time, and an interface that one input port names twice.
+/// An operation that the input ports have a second time, together or one of them alone.
 #[tactic(auto, using(check_base::proofs::Joined::joined_append, crate::proofs::Spared::input_spared))]
 pub fn input_ports_refused<'a>(
     alloc: Global,
@@ -216,42 +205,35 @@ pub fn input_ports_refused<'a>(
 {
     let mentions = brought_in(alloc, interfaces, clauses)?;
     repeated_refused(alloc, mentions.as_slice(), least)?;
-    all_interfaces_repeated(alloc, clauses, least)
+    each_input_repeated(alloc, interfaces, clauses, least)
 }
 
-/// Interfaces that one input port names twice.
-fn all_interfaces_repeated(
+/// Operations that one input port has a second time.
+fn each_input_repeated(
     alloc: Global,
+    interfaces: &Interfaces,
     clauses: &[Clause],
     least: &mut Least,
 ) -> Result<(), AllocError>
-    ensures { OnOk result (least.new ≡ joined least.old (flat_map interfaces_repeated (filter_map input_port_in clauses.now))) }
+    ensures { OnOk result (least.new ≡ joined least.old (flat_map (operations_repeated interfaces.now) (filter_map input_port_in clauses.now))) }
 {
     for clause in clauses {
         if let Some(port) = input_port_in(clause) {
-            interfaces_repeated(alloc, port, least)?;
+            operations_repeated(alloc, interfaces, port, least)?;
         }
     }
     Ok(())
 }
 
-/// An interface that a port names twice.
-fn interfaces_repeated(alloc: Global, port: &Port, least: &mut Least) -> Result<(), AllocError>
-    ensures { OnOk result (least.new ≡ joined least.old (interfaces_repeated port.now)) }
-{
-    let names = interface_names(alloc, port.interfaces.as_slice())?;
-    repeated_refused(alloc, names.as_slice(), least)
-}
-
-/// An operation that an output port has a second time.
+/// An operation that a port has a second time.
 #[tactic(auto, using(crate::proofs::Spared::output_spared))]
-pub fn output_port_refused(
+pub fn operations_repeated(
     alloc: Global,
     interfaces: &Interfaces,
     port: &Port,
     least: &mut Least,
 ) -> Result<(), AllocError>
-    ensures { OnOk result (least.new ≡ joined least.old (output_port_refused interfaces.now port.now)) }
+    ensures { OnOk result (least.new ≡ joined least.old (operations_repeated interfaces.now port.now)) }
 {
     let none = Names::new(alloc);
     let mut mentions = Vec::new(alloc);

@@ -3,9 +3,9 @@ ghost use Rattle.std.specs.List.{filter_map};
 ghost use Rattle.jolie_ast.specs.declared.service.Port.{Port};
 ghost use Rattle.check_base.specs.Files.{input_port_in, output_port_in, port_in, services_of};
 ghost use Rattle.check_base.specs.Least.{joined};
-ghost use Rattle.port_checks.specs.PortRules.{input_locations, output_port_refused, port_name, port_refused, ports_refused, sided_refused, unknown_interface, unmet, wrong_local_protocol, wrong_location, wrong_protocol, wrong_socket_protocol};
+ghost use Rattle.port_checks.specs.PortRules.{input_locations, operations_repeated, port_name, port_refused, ports_refused, sided_refused, unknown_interface, unmet, wrong_local_protocol, wrong_location, wrong_protocol, wrong_socket_protocol};
 
-use crate::brought::{input_ports_refused, output_port_refused};
+use crate::brought::{input_ports_refused, operations_repeated};
 use crate::locations::{begins_local, is_local, is_socket};
 use check_base::{
     CONSOLE, CheckName, Interfaces, Least, Mention, Names, input_port_in, output_port_in, port_in,
@@ -66,11 +66,11 @@ fn output_ports_refused(
     clauses: &[Clause],
     least: &mut Least,
 ) -> Result<(), AllocError>
-    ensures { OnOk result (least.new ≡ joined least.old (flat_map (output_port_refused interfaces.now) (filter_map output_port_in clauses.now))) }
+    ensures { OnOk result (least.new ≡ joined least.old (flat_map (operations_repeated interfaces.now) (filter_map output_port_in clauses.now))) }
 {
     for clause in clauses {
         if let Some(port) = output_port_in(clause) {
-            output_port_refused(alloc, interfaces, port, least)?;
+            operations_repeated(alloc, interfaces, port, least)?;
         }
     }
     Ok(())

@@ -7,17 +7,17 @@ ghost use Rattle.behaviour_tree.specs.Distinct.{is_in};
 ghost use Rattle.check_base.specs.Files.{set_in, sets_of, set_names};
 ghost use Rattle.check_base.specs.Least.{joined};
 ghost use Rattle.check_base.specs.Repeated.{first_names};
-ghost use Rattle.port_checks.specs.SetRules.{alias_names, alias_texts, all_have, in_earlier, partly, partly_among, set_of_single, set_refused, set_texts, set_types, sets_refused, two_sets, types_in_sets, variable_refused, wrong_alias};
+ghost use Rattle.port_checks.specs.SetRules.{alias_names, alias_texts, all_have, partly, partly_among, set_of_single, set_refused, set_texts, set_types, sets_refused, two_sets, types_in_sets, variable_refused, wrong_alias};
 
 use crate::aliases::leads_to_value;
 use check_base::{
-    CheckName, Least, Mention, Names, Types, is_concurrent, repeated_refused, set_in,
+    CheckName, Least, Mention, Names, Types, is_concurrent, repeated_refused, repeated_refused_as,
+    set_in,
 };
 use jolie_ast::{Alias, Clause, CorrelationVariable, Name, Service};
 use std::alloc::{AllocError, Global};
 
 /// What is refused of the correlation sets of a service.
-#[tactic(auto, using(check_base::proofs::Joined::joined_append))]
 pub fn sets_refused(
     alloc: Global,
     types: &Types,
@@ -261,48 +261,45 @@ fn first_names<'a>(alloc: Global, names: &[&'a Name]) -> Result<Vec<&'a Name>, A
 
 // ---- the sets of a service
 
-/// The types of sets that an earlier set has.
+/// The types that stand in a second set of the service.
 fn two_sets(alloc: Global, clauses: &[Clause], least: &mut Least) -> Result<(), AllocError>
-    ensures { OnOk result (least.new ≡ joined least.old (two_sets [] (filter_map set_in clauses.now))) }
+    ensures { OnOk result (least.new ≡ joined least.old (two_sets (filter_map set_in clauses.now))) }
 {
-    let mut earlier = Names::new(alloc);
+    let types = types_of_sets(alloc, clauses)?;
+    repeated_refused_as(alloc, CheckName::TwoSets, types.as_slice(), least)
+}
+
+/// The types of each set in order, each at its first alias there.
+fn types_of_sets(alloc: Global, clauses: &[Clause]) -> Result<Vec<Mention<'_>>, AllocError>
+    ensures { IfOk result (λ types. types.items ≡ flat_map set_types (filter_map set_in clauses.now)) }
+{
+    let mut types = Vec::new(alloc);
     for clause in clauses {
         if let Some(set) = set_in(clause) {
-            in_two_sets(alloc, set, &mut earlier, least)?;
+            mention_types(alloc, set, &mut types)?;
         }
     }
-    Ok(())
+    Ok(types)
 }
 
-/// The types of a set that earlier sets have; all of them are earlier types then.
-fn in_two_sets<'a>(
+fn mention_types<'a>(
     alloc: Global,
     set: &'a [CorrelationVariable],
-    earlier: &mut Names<'a>,
-    least: &mut Least,
+    mentions: &mut Vec<Mention<'a>>,
 ) -> Result<(), AllocError>
-    ensures earlier { OnOk result (earlier.new ≡ earlier.old ++ set_texts set.now) }
-    ensures refused { OnOk result (least.new ≡ joined least.old (flat_map (in_earlier earlier.old) (set_types set.now))) }
+    ensures { OnOk result (mentions.new.items ≡ mentions.old.items ++ set_types set.now) }
 {
     let types = set_types(alloc, set)?;
-    all_in_earlier(earlier, types.as_slice(), least);
-    add_texts(types.as_slice(), earlier)
+    mention_names(types.as_slice(), mentions)
 }
 
-fn all_in_earlier(earlier: &Names, types: &[&Name], least: &mut Least)
-    ensures { least.new ≡ joined least.old (flat_map (in_earlier earlier.now) (map (λ n. n.now) types.now)) }
+fn mention_names<'a>(names: &[&'a Name], mentions: &mut Vec<Mention<'a>>) -> Result<(), AllocError>
+    ensures { OnOk result (mentions.new.items ≡ mentions.old.items ++ map (λ n. n.now) names.now) }
 {
-    for ty in types {
-        in_earlier(earlier, ty, least);
+    for name in names {
+        mentions.push(Mention::name(*name))?;
     }
-}
-
-/// A type that an earlier set has.
-fn in_earlier(earlier: &Names, ty: &Name, least: &mut Least)
-    ensures { least.new ≡ joined least.old (in_earlier earlier.now ty.now) }
-{
-    let is_earlier = earlier.has(ty.text.as_str());
-    least.offer_if(is_earlier, CheckName::TwoSets, ty.at);
+    Ok(())
 }
 
 /// Adds the texts of names behind the others.

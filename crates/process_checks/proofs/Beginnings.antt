@@ -10,7 +10,7 @@ use Rattle.jolie_ast.specs.declared.process.ForStep.{ForStep}
 use Rattle.jolie_ast.specs.declared.process.Otherwise.TheOpen.{Process-F}
 use Rattle.jolie_ast.specs.declared.process.Process.{Process, out-Process, roll-Process, roll-out-Process}
 use Rattle.jolie_ast.specs.declared.process.Process.TheVariants as process
-use Rattle.jolie_ast.specs.declared.process.Otherwise.TheFolds.{fold-Branch, fold-Input, fold-roll-Block, fold-roll-Branch, fold-roll-Input, fold-roll-Process}
+use Rattle.jolie_ast.specs.declared.process.Otherwise.TheFolds.{map-Process, fold-Branch, fold-Input, fold-roll-Block, fold-roll-Branch, fold-roll-Input, fold-roll-Process}
 use Rattle.jolie_ast.specs.declared.process.Otherwise.{Otherwise}
 use Rattle.jolie_ast.specs.declared.process.Answer.{Answer}
 use Rattle.jolie_ast.specs.declared.process.Reply.{Reply}
@@ -63,128 +63,83 @@ block_begins b = ap first_input (sym (roll-out-Block b)) ∙ block_made (out-Blo
 
 -- ---- processes
 
-pub nothing_begins : (at : ℕ) → (beginning (process.Nothing at)).operations ≡ None
+-- what a process begins with, by the form that it is made of
+process_made : (x : Process-F Otherwise Process Answer Block Branch Handler If Input Reply) {p : Process} → roll-Process x ≡ p
+    → beginning p ≡ process_level (map-Process Otherwise Process Answer Block Branch Handler If Input Reply (Unit {0}) Beginning (Unit {0}) (Option (List Name)) Name (Unit {0}) (Unit {0}) Name (Unit {0}) (λ o. tt) beginning (λ a. tt) first_input branch_name (λ h. tt) (λ i. tt) input_name (λ r. tt) x)
 unfolding first_input beginning
-nothing_begins at =
-    ap (λ p. (beginning p).operations) (sym (process.rolls-Nothing at))
-    ∙ ap (λ (b : Beginning). b.operations) (fold-roll-Process (Unit {0}) Beginning (Unit {0}) (Option (List Name)) Name (Unit {0}) (Unit {0}) Name (Unit {0}) (λ o. tt) process_level (λ a. tt) block_level branch_level (λ h. tt) (λ i. tt) input_level (λ r. tt) (Process-F.«Process::Nothing» at))
+process_made x made = ap beginning (sym made) ∙ fold-roll-Process (Unit {0}) Beginning (Unit {0}) (Option (List Name)) Name (Unit {0}) (Unit {0}) Name (Unit {0}) (λ o. tt) process_level (λ a. tt) block_level branch_level (λ h. tt) (λ i. tt) input_level (λ r. tt) x
+
+-- its operations
+operations_made : (x : Process-F Otherwise Process Answer Block Branch Handler If Input Reply) {p : Process} → roll-Process x ≡ p
+    → (beginning p).operations ≡ (process_level (map-Process Otherwise Process Answer Block Branch Handler If Input Reply (Unit {0}) Beginning (Unit {0}) (Option (List Name)) Name (Unit {0}) (Unit {0}) Name (Unit {0}) (λ o. tt) beginning (λ a. tt) first_input branch_name (λ h. tt) (λ i. tt) input_name (λ r. tt) x)).operations
+operations_made x made = ap (λ (b : Beginning). b.operations) (process_made x made)
+
+pub nothing_begins : (at : ℕ) → (beginning (process.Nothing at)).operations ≡ None
+nothing_begins at = operations_made (Process-F.«Process::Nothing» at) (process.rolls-Nothing at)
 
 pub assign_begins : (path : Path) (assignment : Assignment) → (beginning (process.Assign path assignment)).operations ≡ None
-unfolding first_input beginning
-assign_begins path assignment =
-    ap (λ p. (beginning p).operations) (sym (process.rolls-Assign path assignment))
-    ∙ ap (λ (b : Beginning). b.operations) (fold-roll-Process (Unit {0}) Beginning (Unit {0}) (Option (List Name)) Name (Unit {0}) (Unit {0}) Name (Unit {0}) (λ o. tt) process_level (λ a. tt) block_level branch_level (λ h. tt) (λ i. tt) input_level (λ r. tt) (Process-F.Assign path assignment))
+assign_begins path assignment = operations_made (Process-F.Assign path assignment) (process.rolls-Assign path assignment)
 
 pub undef_begins : (at : ℕ) (path : Path) → (beginning (process.Undef at path)).operations ≡ None
-unfolding first_input beginning
-undef_begins at path =
-    ap (λ p. (beginning p).operations) (sym (process.rolls-Undef at path))
-    ∙ ap (λ (b : Beginning). b.operations) (fold-roll-Process (Unit {0}) Beginning (Unit {0}) (Option (List Name)) Name (Unit {0}) (Unit {0}) Name (Unit {0}) (λ o. tt) process_level (λ a. tt) block_level branch_level (λ h. tt) (λ i. tt) input_level (λ r. tt) (Process-F.Undef at path))
+undef_begins at path = operations_made (Process-F.Undef at path) (process.rolls-Undef at path)
 
 pub correlate_begins : (at : ℕ) (variable : Name) (value : Expr) → (beginning (process.Correlate at variable value)).operations ≡ None
-unfolding first_input beginning
-correlate_begins at variable value =
-    ap (λ p. (beginning p).operations) (sym (process.rolls-Correlate at variable value))
-    ∙ ap (λ (b : Beginning). b.operations) (fold-roll-Process (Unit {0}) Beginning (Unit {0}) (Option (List Name)) Name (Unit {0}) (Unit {0}) Name (Unit {0}) (λ o. tt) process_level (λ a. tt) block_level branch_level (λ h. tt) (λ i. tt) input_level (λ r. tt) (Process-F.Correlate at variable value))
+correlate_begins at variable value = operations_made (Process-F.Correlate at variable value) (process.rolls-Correlate at variable value)
 
 pub if_begins : (i : If) → (beginning (process.If i)).operations ≡ None
-unfolding first_input beginning
-if_begins i =
-    ap (λ p. (beginning p).operations) (sym (process.rolls-If i))
-    ∙ ap (λ (b : Beginning). b.operations) (fold-roll-Process (Unit {0}) Beginning (Unit {0}) (Option (List Name)) Name (Unit {0}) (Unit {0}) Name (Unit {0}) (λ o. tt) process_level (λ a. tt) block_level branch_level (λ h. tt) (λ i. tt) input_level (λ r. tt) (Process-F.If i))
+if_begins i = operations_made (Process-F.If i) (process.rolls-If i)
 
 pub while_begins : (at : ℕ) (test : Expr) (body : Block) → (beginning (process.While at test body)).operations ≡ None
-unfolding first_input beginning
-while_begins at test body =
-    ap (λ p. (beginning p).operations) (sym (process.rolls-While at test body))
-    ∙ ap (λ (b : Beginning). b.operations) (fold-roll-Process (Unit {0}) Beginning (Unit {0}) (Option (List Name)) Name (Unit {0}) (Unit {0}) Name (Unit {0}) (λ o. tt) process_level (λ a. tt) block_level branch_level (λ h. tt) (λ i. tt) input_level (λ r. tt) (Process-F.While at test body))
+while_begins at test body = operations_made (Process-F.While at test body) (process.rolls-While at test body)
 
 pub for_begins : (at : ℕ) (path : Path) (first : Expr) (test : Expr) (stepped : Path) (step : ForStep) (body : Block) → (beginning (process.For at path first test stepped step body)).operations ≡ None
-unfolding first_input beginning
-for_begins at path first test stepped step body =
-    ap (λ p. (beginning p).operations) (sym (process.rolls-For at path first test stepped step body))
-    ∙ ap (λ (b : Beginning). b.operations) (fold-roll-Process (Unit {0}) Beginning (Unit {0}) (Option (List Name)) Name (Unit {0}) (Unit {0}) Name (Unit {0}) (λ o. tt) process_level (λ a. tt) block_level branch_level (λ h. tt) (λ i. tt) input_level (λ r. tt) (Process-F.For at path first test stepped step body))
+for_begins at path first test stepped step body = operations_made (Process-F.For at path first test stepped step body) (process.rolls-For at path first test stepped step body)
 
 pub input_begins : (i : Input) → (beginning (process.Input i)).operations ≡ Some ((out-Input i).operation ∷ [])
-unfolding first_input beginning
 input_begins i =
-    ap (λ p. (beginning p).operations) (sym (process.rolls-Input i))
-    ∙ ap (λ (b : Beginning). b.operations) (fold-roll-Process (Unit {0}) Beginning (Unit {0}) (Option (List Name)) Name (Unit {0}) (Unit {0}) Name (Unit {0}) (λ o. tt) process_level (λ a. tt) block_level branch_level (λ h. tt) (λ i. tt) input_level (λ r. tt) (Process-F.Input i))
+    operations_made (Process-F.Input i) (process.rolls-Input i)
     ∙ ap (λ n. Some (n ∷ [])) (input_name_is i)
 
 pub choice_begins : (at : ℕ) (branches : List Branch) → (beginning (process.Choice at branches)).operations ≡ Some (map branch_operation branches)
-unfolding first_input beginning
 choice_begins at branches =
-    ap (λ p. (beginning p).operations) (sym (process.rolls-Choice at branches))
-    ∙ ap (λ (b : Beginning). b.operations) (fold-roll-Process (Unit {0}) Beginning (Unit {0}) (Option (List Name)) Name (Unit {0}) (Unit {0}) Name (Unit {0}) (λ o. tt) process_level (λ a. tt) block_level branch_level (λ h. tt) (λ i. tt) input_level (λ r. tt) (Process-F.Choice at branches))
+    operations_made (Process-F.Choice at branches) (process.rolls-Choice at branches)
     ∙ ap Some (branch_names_are branches)
 
 pub output_begins : (operation : Name) (port : Name) (value : Option Expr) (answer : Option Answer) → (beginning (process.Output operation port value answer)).operations ≡ None
-unfolding first_input beginning
-output_begins operation port value answer =
-    ap (λ p. (beginning p).operations) (sym (process.rolls-Output operation port value answer))
-    ∙ ap (λ (b : Beginning). b.operations) (fold-roll-Process (Unit {0}) Beginning (Unit {0}) (Option (List Name)) Name (Unit {0}) (Unit {0}) Name (Unit {0}) (λ o. tt) process_level (λ a. tt) block_level branch_level (λ h. tt) (λ i. tt) input_level (λ r. tt) (Process-F.Output operation port value answer))
+output_begins operation port value answer = operations_made (Process-F.Output operation port value answer) (process.rolls-Output operation port value answer)
 
 pub scope_begins : (at : ℕ) (name : Name) (body : Block) → (beginning (process.Scope at name body)).operations ≡ first_input body
-unfolding first_input beginning
-scope_begins at name body =
-    ap (λ p. (beginning p).operations) (sym (process.rolls-Scope at name body))
-    ∙ ap (λ (b : Beginning). b.operations) (fold-roll-Process (Unit {0}) Beginning (Unit {0}) (Option (List Name)) Name (Unit {0}) (Unit {0}) Name (Unit {0}) (λ o. tt) process_level (λ a. tt) block_level branch_level (λ h. tt) (λ i. tt) input_level (λ r. tt) (Process-F.Scope at name body))
+scope_begins at name body = operations_made (Process-F.Scope at name body) (process.rolls-Scope at name body)
 
 pub install_begins : (at : ℕ) (fs : List Handler) → (beginning (process.Install at fs)).operations ≡ None
-unfolding first_input beginning
-install_begins at fs =
-    ap (λ p. (beginning p).operations) (sym (process.rolls-Install at fs))
-    ∙ ap (λ (b : Beginning). b.operations) (fold-roll-Process (Unit {0}) Beginning (Unit {0}) (Option (List Name)) Name (Unit {0}) (Unit {0}) Name (Unit {0}) (λ o. tt) process_level (λ a. tt) block_level branch_level (λ h. tt) (λ i. tt) input_level (λ r. tt) (Process-F.Install at fs))
+install_begins at fs = operations_made (Process-F.Install at fs) (process.rolls-Install at fs)
 
 pub throw_begins : (at : ℕ) (fault : Name) (value : Option Expr) → (beginning (process.Throw at fault value)).operations ≡ None
-unfolding first_input beginning
-throw_begins at fault value =
-    ap (λ p. (beginning p).operations) (sym (process.rolls-Throw at fault value))
-    ∙ ap (λ (b : Beginning). b.operations) (fold-roll-Process (Unit {0}) Beginning (Unit {0}) (Option (List Name)) Name (Unit {0}) (Unit {0}) Name (Unit {0}) (λ o. tt) process_level (λ a. tt) block_level branch_level (λ h. tt) (λ i. tt) input_level (λ r. tt) (Process-F.Throw at fault value))
+throw_begins at fault value = operations_made (Process-F.Throw at fault value) (process.rolls-Throw at fault value)
 
 pub compensate_begins : (at : ℕ) (scope : Name) → (beginning (process.Compensate at scope)).operations ≡ None
-unfolding first_input beginning
-compensate_begins at scope =
-    ap (λ p. (beginning p).operations) (sym (process.rolls-Compensate at scope))
-    ∙ ap (λ (b : Beginning). b.operations) (fold-roll-Process (Unit {0}) Beginning (Unit {0}) (Option (List Name)) Name (Unit {0}) (Unit {0}) Name (Unit {0}) (λ o. tt) process_level (λ a. tt) block_level branch_level (λ h. tt) (λ i. tt) input_level (λ r. tt) (Process-F.Compensate at scope))
+compensate_begins at scope = operations_made (Process-F.Compensate at scope) (process.rolls-Compensate at scope)
 
 pub inner_handler_begins : (at : ℕ) → (beginning (process.InnerHandler at)).operations ≡ None
-unfolding first_input beginning
-inner_handler_begins at =
-    ap (λ p. (beginning p).operations) (sym (process.rolls-InnerHandler at))
-    ∙ ap (λ (b : Beginning). b.operations) (fold-roll-Process (Unit {0}) Beginning (Unit {0}) (Option (List Name)) Name (Unit {0}) (Unit {0}) Name (Unit {0}) (λ o. tt) process_level (λ a. tt) block_level branch_level (λ h. tt) (λ i. tt) input_level (λ r. tt) (Process-F.InnerHandler at))
+inner_handler_begins at = operations_made (Process-F.InnerHandler at) (process.rolls-InnerHandler at)
 
 pub block_form_begins : (b : Block) → (beginning (process.Block b)).operations ≡ first_input b
-unfolding first_input beginning
-block_form_begins b =
-    ap (λ p. (beginning p).operations) (sym (process.rolls-Block b))
-    ∙ ap (λ (b : Beginning). b.operations) (fold-roll-Process (Unit {0}) Beginning (Unit {0}) (Option (List Name)) Name (Unit {0}) (Unit {0}) Name (Unit {0}) (λ o. tt) process_level (λ a. tt) block_level branch_level (λ h. tt) (λ i. tt) input_level (λ r. tt) (Process-F.Block b))
+block_form_begins b = operations_made (Process-F.Block b) (process.rolls-Block b)
 
 pub sequence_begins : (statements : List Process) → (beginning (process.Sequence statements)).operations ≡ of_sequence (map beginning statements)
-unfolding first_input beginning
-sequence_begins statements =
-    ap (λ p. (beginning p).operations) (sym (process.rolls-Sequence statements))
-    ∙ ap (λ (b : Beginning). b.operations) (fold-roll-Process (Unit {0}) Beginning (Unit {0}) (Option (List Name)) Name (Unit {0}) (Unit {0}) Name (Unit {0}) (λ o. tt) process_level (λ a. tt) block_level branch_level (λ h. tt) (λ i. tt) input_level (λ r. tt) (Process-F.Sequence statements))
+sequence_begins statements = operations_made (Process-F.Sequence statements) (process.rolls-Sequence statements)
 
 pub parallel_begins : (members : List Process) → (beginning (process.Parallel members)).operations ≡ None
-unfolding first_input beginning
-parallel_begins members =
-    ap (λ p. (beginning p).operations) (sym (process.rolls-Parallel members))
-    ∙ ap (λ (b : Beginning). b.operations) (fold-roll-Process (Unit {0}) Beginning (Unit {0}) (Option (List Name)) Name (Unit {0}) (Unit {0}) Name (Unit {0}) (λ o. tt) process_level (λ a. tt) block_level branch_level (λ h. tt) (λ i. tt) input_level (λ r. tt) (Process-F.Parallel members))
+parallel_begins members = operations_made (Process-F.Parallel members) (process.rolls-Parallel members)
 
 -- ---- installs
 
 pub install_installs : (at : ℕ) (fs : List Handler) → (beginning (process.Install at fs)).installs ≡ true
-unfolding first_input beginning
-install_installs at fs =
-    ap (λ p. (beginning p).installs) (sym (process.rolls-Install at fs))
-    ∙ ap (λ (b : Beginning). b.installs) (fold-roll-Process (Unit {0}) Beginning (Unit {0}) (Option (List Name)) Name (Unit {0}) (Unit {0}) Name (Unit {0}) (λ o. tt) process_level (λ a. tt) block_level branch_level (λ h. tt) (λ i. tt) input_level (λ r. tt) (Process-F.Install at fs))
+install_installs at fs = ap (λ (b : Beginning). b.installs) (process_made (Process-F.Install at fs) (process.rolls-Install at fs))
 
 pub no_install_form : (f : Process-F Otherwise Process Answer Block Branch Handler If Input Reply) → ((at : ℕ) (fs : List Handler) → roll-Process f ≡ process.Install at fs → ⊥) → (beginning (roll-Process f)).installs ≡ false
-unfolding first_input beginning
 no_install_form (Process-F.Install at fs) other = absurd (other at fs (process.rolls-Install at fs))
-no_install_form f other = ap (λ (b : Beginning). b.installs) (fold-roll-Process (Unit {0}) Beginning (Unit {0}) (Option (List Name)) Name (Unit {0}) (Unit {0}) Name (Unit {0}) (λ o. tt) process_level (λ a. tt) block_level branch_level (λ h. tt) (λ i. tt) input_level (λ r. tt) f)
+no_install_form f other = ap (λ (b : Beginning). b.installs) (process_made f {p = roll-Process f} refl)
 
 pub other_installs : (p : Process) → ((at : ℕ) (fs : List Handler) → p ≡ process.Install at fs → ⊥) → (beginning p).installs ≡ false
 other_installs p other =

@@ -8,8 +8,9 @@ use Rattle.jolie_ast.specs.declared.expression.Path.{Path}
 use Rattle.jolie_ast.specs.declared.process.Assignment.{Assignment}
 use Rattle.jolie_ast.specs.declared.process.ForStep.{ForStep}
 use Rattle.jolie_ast.specs.declared.process.Otherwise.TheOpen.{Otherwise-F, Process-F}
-use Rattle.jolie_ast.specs.declared.process.Otherwise.TheFolds.{fold-Answer, fold-Branch, fold-Handler, fold-Input, fold-Reply, fold-roll-Answer, fold-roll-Block, fold-roll-Branch, fold-roll-Handler, fold-roll-If, fold-roll-Input, fold-roll-Otherwise, fold-roll-Process, fold-roll-Reply}
-use Rattle.jolie_ast.specs.declared.process.Process.{Process}
+use Rattle.jolie_ast.specs.declared.process.Otherwise.TheFolds.{map-Process, fold-Answer, fold-Branch, fold-Handler, fold-Input, fold-Reply, fold-roll-Answer, fold-roll-Block, fold-roll-Branch, fold-roll-Handler, fold-roll-If, fold-roll-Input, fold-roll-Otherwise, fold-roll-Process, fold-roll-Reply}
+use Rattle.jolie_ast.specs.declared.process.Process.{Process, roll-Process}
+use Rattle.jolie_ast.specs.declared.process.Otherwise.{Otherwise}
 use Rattle.jolie_ast.specs.declared.process.Process.TheVariants as process
 use Rattle.jolie_ast.specs.declared.process.Block.{Block, out-Block, roll-Block, roll-out-Block}
 use Rattle.jolie_ast.specs.declared.process.If.{If, out-If, roll-out-If}
@@ -186,120 +187,76 @@ else_refused e b h =
 
 -- ---- processes
 
-pub nothing_refused : (e : Surroundings) (at : ℕ) (h : Bool) → process_refused e (process.Nothing at) h ≡ []
+-- what is refused of a process, by the form that it is made of
+process_made : (e : Surroundings) (h : Bool) (x : Process-F Otherwise Process Answer Block Branch Handler If Input Reply) {p : Process} → roll-Process x ≡ p
+    → process_refused e p h ≡ process_level e (map-Process Otherwise Process Answer Block Branch Handler If Input Reply Found Found Found Found InputFound HandlerFound Found InputFound Found (otherwise_refused e) (process_refused e) (answer_found e) (block_refused e) (branch_found e) (handler_found e) (conditional_refused e) (input_found e) (reply_found e) x) h
 unfolding process_refused block_refused conditional_refused otherwise_refused
-nothing_refused e at h =
-    ap (λ p. process_refused e p h) (sym (process.rolls-Nothing at))
-    ∙ ap (λ (f : Found). f h) (fold-roll-Process Found Found Found Found InputFound HandlerFound Found InputFound Found otherwise_level (process_level e) answer_level block_level branch_level handler_level if_level (input_level e) reply_level (Process-F.«Process::Nothing» at))
+process_made e h x made = ap (λ p. process_refused e p h) (sym made) ∙ ap (λ (f : Found). f h) (fold-roll-Process Found Found Found Found InputFound HandlerFound Found InputFound Found otherwise_level (process_level e) answer_level block_level branch_level handler_level if_level (input_level e) reply_level x)
+
+pub nothing_refused : (e : Surroundings) (at : ℕ) (h : Bool) → process_refused e (process.Nothing at) h ≡ []
+nothing_refused e at h = process_made e h (Process-F.«Process::Nothing» at) (process.rolls-Nothing at)
 
 pub assign_refused : (e : Surroundings) (path : Path) (assignment : Assignment) (h : Bool) → process_refused e (process.Assign path assignment) h ≡ []
-unfolding process_refused block_refused conditional_refused otherwise_refused
-assign_refused e path assignment h =
-    ap (λ p. process_refused e p h) (sym (process.rolls-Assign path assignment))
-    ∙ ap (λ (f : Found). f h) (fold-roll-Process Found Found Found Found InputFound HandlerFound Found InputFound Found otherwise_level (process_level e) answer_level block_level branch_level handler_level if_level (input_level e) reply_level (Process-F.Assign path assignment))
+assign_refused e path assignment h = process_made e h (Process-F.Assign path assignment) (process.rolls-Assign path assignment)
 
 pub undef_refused : (e : Surroundings) (at : ℕ) (path : Path) (h : Bool) → process_refused e (process.Undef at path) h ≡ []
-unfolding process_refused block_refused conditional_refused otherwise_refused
-undef_refused e at path h =
-    ap (λ p. process_refused e p h) (sym (process.rolls-Undef at path))
-    ∙ ap (λ (f : Found). f h) (fold-roll-Process Found Found Found Found InputFound HandlerFound Found InputFound Found otherwise_level (process_level e) answer_level block_level branch_level handler_level if_level (input_level e) reply_level (Process-F.Undef at path))
+undef_refused e at path h = process_made e h (Process-F.Undef at path) (process.rolls-Undef at path)
 
 pub correlate_refused : (e : Surroundings) (at : ℕ) (variable : Name) (value : Expr) (h : Bool) → process_refused e (process.Correlate at variable value) h ≡ lacks_variable e at variable
-unfolding process_refused block_refused conditional_refused otherwise_refused
-correlate_refused e at variable value h =
-    ap (λ p. process_refused e p h) (sym (process.rolls-Correlate at variable value))
-    ∙ ap (λ (f : Found). f h) (fold-roll-Process Found Found Found Found InputFound HandlerFound Found InputFound Found otherwise_level (process_level e) answer_level block_level branch_level handler_level if_level (input_level e) reply_level (Process-F.Correlate at variable value))
+correlate_refused e at variable value h = process_made e h (Process-F.Correlate at variable value) (process.rolls-Correlate at variable value)
 
 pub if_refused : (e : Surroundings) (i : If) (h : Bool) → process_refused e (process.If i) h ≡ conditional_refused e i h
-unfolding process_refused block_refused conditional_refused otherwise_refused
-if_refused e i h =
-    ap (λ p. process_refused e p h) (sym (process.rolls-If i))
-    ∙ ap (λ (f : Found). f h) (fold-roll-Process Found Found Found Found InputFound HandlerFound Found InputFound Found otherwise_level (process_level e) answer_level block_level branch_level handler_level if_level (input_level e) reply_level (Process-F.If i))
+if_refused e i h = process_made e h (Process-F.If i) (process.rolls-If i)
 
 pub while_refused : (e : Surroundings) (at : ℕ) (test : Expr) (body : Block) (h : Bool) → process_refused e (process.While at test body) h ≡ block_refused e body h
-unfolding process_refused block_refused conditional_refused otherwise_refused
-while_refused e at test body h =
-    ap (λ p. process_refused e p h) (sym (process.rolls-While at test body))
-    ∙ ap (λ (f : Found). f h) (fold-roll-Process Found Found Found Found InputFound HandlerFound Found InputFound Found otherwise_level (process_level e) answer_level block_level branch_level handler_level if_level (input_level e) reply_level (Process-F.While at test body))
+while_refused e at test body h = process_made e h (Process-F.While at test body) (process.rolls-While at test body)
 
 pub for_refused : (e : Surroundings) (at : ℕ) (path : Path) (first : Expr) (test : Expr) (stepped : Path) (step : ForStep) (body : Block) (h : Bool) → process_refused e (process.For at path first test stepped step body) h ≡ block_refused e body h
-unfolding process_refused block_refused conditional_refused otherwise_refused
-for_refused e at path first test stepped step body h =
-    ap (λ p. process_refused e p h) (sym (process.rolls-For at path first test stepped step body))
-    ∙ ap (λ (f : Found). f h) (fold-roll-Process Found Found Found Found InputFound HandlerFound Found InputFound Found otherwise_level (process_level e) answer_level block_level branch_level handler_level if_level (input_level e) reply_level (Process-F.For at path first test stepped step body))
+for_refused e at path first test stepped step body h = process_made e h (Process-F.For at path first test stepped step body) (process.rolls-For at path first test stepped step body)
 
 pub input_alone_refused : (e : Surroundings) (i : Input) (h : Bool) → process_refused e (process.Input i) h ≡ input_refused e i h
-unfolding process_refused block_refused conditional_refused otherwise_refused
 input_alone_refused e i h =
-    ap (λ p. process_refused e p h) (sym (process.rolls-Input i))
-    ∙ ap (λ (f : Found). f h) (fold-roll-Process Found Found Found Found InputFound HandlerFound Found InputFound Found otherwise_level (process_level e) answer_level block_level branch_level handler_level if_level (input_level e) reply_level (Process-F.Input i))
+    process_made e h (Process-F.Input i) (process.rolls-Input i)
     ∙ input_is e i h
 
 pub choice_is_refused : (e : Surroundings) (at : ℕ) (branches : List Branch) (h : Bool) → process_refused e (process.Choice at branches) h ≡ choice_refused e branches h
-unfolding process_refused block_refused conditional_refused otherwise_refused
 choice_is_refused e at branches h =
-    ap (λ p. process_refused e p h) (sym (process.rolls-Choice at branches))
-    ∙ ap (λ (f : Found). f h) (fold-roll-Process Found Found Found Found InputFound HandlerFound Found InputFound Found otherwise_level (process_level e) answer_level block_level branch_level handler_level if_level (input_level e) reply_level (Process-F.Choice at branches))
+    process_made e h (Process-F.Choice at branches) (process.rolls-Choice at branches)
     ∙ ap (λ ns. refused DuplicateName (repeated ns) ++ flat_map (λ (b : InputFound). b.found h) (map (branch_found e) branches)) (found_operations e branches)
     ∙ ap (λ rs. refused DuplicateName (repeated (map branch_operation branches)) ++ rs) (found_branches e branches h)
 
 pub output_is_refused : (e : Surroundings) (operation port : Name) (value : Option Expr) (answer : Option Answer) (h : Bool) → process_refused e (process.Output operation port value answer) h ≡ output_refused e operation port answer
-unfolding process_refused block_refused conditional_refused otherwise_refused
-output_is_refused e operation port value None h =
-    ap (λ p. process_refused e p h) (sym (process.rolls-Output operation port value None))
-    ∙ ap (λ (f : Found). f h) (fold-roll-Process Found Found Found Found InputFound HandlerFound Found InputFound Found otherwise_level (process_level e) answer_level block_level branch_level handler_level if_level (input_level e) reply_level (Process-F.Output operation port value None))
+output_is_refused e operation port value None h = process_made e h (Process-F.Output operation port value None) (process.rolls-Output operation port value None)
 output_is_refused e operation port value (Some answer) h =
-    ap (λ p. process_refused e p h) (sym (process.rolls-Output operation port value (Some answer)))
-    ∙ ap (λ (f : Found). f h) (fold-roll-Process Found Found Found Found InputFound HandlerFound Found InputFound Found otherwise_level (process_level e) answer_level block_level branch_level handler_level if_level (input_level e) reply_level (Process-F.Output operation port value (Some answer)))
+    process_made e h (Process-F.Output operation port value (Some answer)) (process.rolls-Output operation port value (Some answer))
     ∙ ap (λ rs. sends e operation port true ++ rs) (answer_is e answer h)
 
 pub scope_refused : (e : Surroundings) (at : ℕ) (name : Name) (body : Block) (h : Bool) → process_refused e (process.Scope at name body) h ≡ block_refused e body h
-unfolding process_refused block_refused conditional_refused otherwise_refused
-scope_refused e at name body h =
-    ap (λ p. process_refused e p h) (sym (process.rolls-Scope at name body))
-    ∙ ap (λ (f : Found). f h) (fold-roll-Process Found Found Found Found InputFound HandlerFound Found InputFound Found otherwise_level (process_level e) answer_level block_level branch_level handler_level if_level (input_level e) reply_level (Process-F.Scope at name body))
+scope_refused e at name body h = process_made e h (Process-F.Scope at name body) (process.rolls-Scope at name body)
 
 pub install_refused : (e : Surroundings) (at : ℕ) (fs : List Handler) (h : Bool) → process_refused e (process.Install at fs) h ≡ handlers_refused e fs
-unfolding process_refused block_refused conditional_refused otherwise_refused
 install_refused e at fs h =
-    ap (λ p. process_refused e p h) (sym (process.rolls-Install at fs))
-    ∙ ap (λ (f : Found). f h) (fold-roll-Process Found Found Found Found InputFound HandlerFound Found InputFound Found otherwise_level (process_level e) answer_level block_level branch_level handler_level if_level (input_level e) reply_level (Process-F.Install at fs))
+    process_made e h (Process-F.Install at fs) (process.rolls-Install at fs)
     ∙ handlers_are e fs
 
 pub throw_refused : (e : Surroundings) (at : ℕ) (fault : Name) (value : Option Expr) (h : Bool) → process_refused e (process.Throw at fault value) h ≡ []
-unfolding process_refused block_refused conditional_refused otherwise_refused
-throw_refused e at fault value h =
-    ap (λ p. process_refused e p h) (sym (process.rolls-Throw at fault value))
-    ∙ ap (λ (f : Found). f h) (fold-roll-Process Found Found Found Found InputFound HandlerFound Found InputFound Found otherwise_level (process_level e) answer_level block_level branch_level handler_level if_level (input_level e) reply_level (Process-F.Throw at fault value))
+throw_refused e at fault value h = process_made e h (Process-F.Throw at fault value) (process.rolls-Throw at fault value)
 
 pub compensate_refused : (e : Surroundings) (at : ℕ) (scope : Name) (h : Bool) → process_refused e (process.Compensate at scope) h ≡ refused_if (not h) CompOutsideHandler at
-unfolding process_refused block_refused conditional_refused otherwise_refused
-compensate_refused e at scope h =
-    ap (λ p. process_refused e p h) (sym (process.rolls-Compensate at scope))
-    ∙ ap (λ (f : Found). f h) (fold-roll-Process Found Found Found Found InputFound HandlerFound Found InputFound Found otherwise_level (process_level e) answer_level block_level branch_level handler_level if_level (input_level e) reply_level (Process-F.Compensate at scope))
+compensate_refused e at scope h = process_made e h (Process-F.Compensate at scope) (process.rolls-Compensate at scope)
 
 pub inner_handler_refused : (e : Surroundings) (at : ℕ) (h : Bool) → process_refused e (process.InnerHandler at) h ≡ refused_if (not h) ChOutsideHandler at
-unfolding process_refused block_refused conditional_refused otherwise_refused
-inner_handler_refused e at h =
-    ap (λ p. process_refused e p h) (sym (process.rolls-InnerHandler at))
-    ∙ ap (λ (f : Found). f h) (fold-roll-Process Found Found Found Found InputFound HandlerFound Found InputFound Found otherwise_level (process_level e) answer_level block_level branch_level handler_level if_level (input_level e) reply_level (Process-F.InnerHandler at))
+inner_handler_refused e at h = process_made e h (Process-F.InnerHandler at) (process.rolls-InnerHandler at)
 
 pub block_alone_refused : (e : Surroundings) (b : Block) (h : Bool) → process_refused e (process.Block b) h ≡ block_refused e b h
-unfolding process_refused block_refused conditional_refused otherwise_refused
-block_alone_refused e b h =
-    ap (λ p. process_refused e p h) (sym (process.rolls-Block b))
-    ∙ ap (λ (f : Found). f h) (fold-roll-Process Found Found Found Found InputFound HandlerFound Found InputFound Found otherwise_level (process_level e) answer_level block_level branch_level handler_level if_level (input_level e) reply_level (Process-F.Block b))
+block_alone_refused e b h = process_made e h (Process-F.Block b) (process.rolls-Block b)
 
 pub sequence_refused : (e : Surroundings) (statements : List Process) (h : Bool) → process_refused e (process.Sequence statements) h ≡ processes_refused e statements h
-unfolding process_refused block_refused conditional_refused otherwise_refused
 sequence_refused e statements h =
-    ap (λ p. process_refused e p h) (sym (process.rolls-Sequence statements))
-    ∙ ap (λ (f : Found). f h) (fold-roll-Process Found Found Found Found InputFound HandlerFound Found InputFound Found otherwise_level (process_level e) answer_level block_level branch_level handler_level if_level (input_level e) reply_level (Process-F.Sequence statements))
+    process_made e h (Process-F.Sequence statements) (process.rolls-Sequence statements)
     ∙ flat_map-map (λ (f : Found). f h) (process_refused e) statements
 
 pub parallel_refused : (e : Surroundings) (members : List Process) (h : Bool) → process_refused e (process.Parallel members) h ≡ processes_refused e members h
-unfolding process_refused block_refused conditional_refused otherwise_refused
 parallel_refused e members h =
-    ap (λ p. process_refused e p h) (sym (process.rolls-Parallel members))
-    ∙ ap (λ (f : Found). f h) (fold-roll-Process Found Found Found Found InputFound HandlerFound Found InputFound Found otherwise_level (process_level e) answer_level block_level branch_level handler_level if_level (input_level e) reply_level (Process-F.Parallel members))
+    process_made e h (Process-F.Parallel members) (process.rolls-Parallel members)
     ∙ flat_map-map (λ (f : Found). f h) (process_refused e) members

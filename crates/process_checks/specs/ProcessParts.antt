@@ -15,11 +15,18 @@ use Rattle.check_base.specs.declared.refusal.CheckName.TheVariants.{DuplicateNam
 use Rattle.check_base.specs.declared.refusal.Refusal.{Refusal}
 use Rattle.check_base.specs.Repeated.{repeated}
 use Rattle.check_base.specs.Least.{refused, refused_if}
+use Rattle.process_checks.specs.declared.process_rules.Where.{Where}
+use Rattle.process_checks.specs.declared.process_rules.Where.TheVariants as stands
 use Rattle.process_checks.specs.Surroundings.{Surroundings}
 use Rattle.process_checks.specs.ProcessRules.{agree, used, sends, wrong_if_written, Found, InputFound, HandlerFound}
 use Rattle.process_checks.specs.ProcessRules.{key_name, process_level, block_level, if_level, otherwise_level}
 use Rattle.process_checks.specs.ProcessRules.{input_level, reply_level, branch_level, answer_level, handler_level}
 use Rattle.process_checks.specs.ProcessRules.{process_refused, block_refused}
+
+-- whether processes that stand there are in a handler
+abbrev pub in_handler : Where → Bool
+in_handler stands.Plain = false
+in_handler stands.Handler = true
 
 -- what is refused of an `if`
 unfoldable pub conditional_refused : Surroundings → If → Found

@@ -1,6 +1,6 @@
-ghost use Rattle.std.specs.Prelude.{◌≡◌, OnOk};
-ghost use Rattle.check_base.specs.Least.{joined};
-ghost use Rattle.process_checks.specs.ProcessParts.{answer_refused, bodies_refused, branch_refused, branches_refused, choice_refused, conditional_refused, handler_refused, handlers_refused, input_refused, otherwise_refused, output_refused, processes_refused, reply_if_written, reply_refused};
+ghost use Rattle.std.specs.Prelude.{◌≡◌, OnOk, false, not};
+ghost use Rattle.check_base.specs.Least.{joined, refused_if};
+ghost use Rattle.process_checks.specs.ProcessParts.{answer_refused, bodies_refused, branch_refused, branches_refused, choice_refused, conditional_refused, handler_refused, handlers_refused, in_handler, input_refused, otherwise_refused, output_refused, processes_refused, reply_if_written, reply_refused};
 ghost use Rattle.process_checks.specs.ProcessRules.{block_refused, process_refused};
 
 use crate::process_part_rules::{
@@ -11,346 +11,283 @@ use check_base::{CheckName, Least, repeated_refused};
 use jolie_ast::{Answer, Block, Branch, Handler, If, Input, Name, Otherwise, Process, Reply};
 use std::alloc::{AllocError, Global};
 
-/// What is refused of a process, inside a handler or outside of one.
-#[cycle(process)]
-#[tactic(auto, using(crate::proofs::ProcessForms::nothing_refused, crate::proofs::ProcessForms::assign_refused, crate::proofs::ProcessForms::undef_refused, crate::proofs::ProcessForms::correlate_refused, crate::proofs::ProcessForms::if_refused, crate::proofs::ProcessForms::while_refused, crate::proofs::ProcessForms::for_refused, crate::proofs::ProcessForms::input_alone_refused, crate::proofs::ProcessForms::choice_is_refused, crate::proofs::ProcessForms::output_is_refused, crate::proofs::ProcessForms::scope_refused, crate::proofs::ProcessForms::install_refused, crate::proofs::ProcessForms::throw_refused, crate::proofs::ProcessForms::compensate_refused, crate::proofs::ProcessForms::inner_handler_refused, crate::proofs::ProcessForms::block_alone_refused, crate::proofs::ProcessForms::sequence_refused, crate::proofs::ProcessForms::parallel_refused))]
-fn process_refused(
-    process: &Process,
-    is_in_handler: bool,
-    alloc: Global,
-    surroundings: &Surroundings,
-    least: &mut Least,
-) -> Result<(), AllocError>
-    ensures { OnOk result (least.new ≡ joined least.old (process_refused surroundings.now process.now is_in_handler)) }
-{
-    match process {
-        Process::Nothing(_) => Ok(()),
-        Process::Assign { .. } => Ok(()),
-        Process::Undef { .. } => Ok(()),
-        Process::Correlate { at, variable, .. } => {
-            lacks_variable(*at, variable, surroundings, least);
-            Ok(())
-        }
-        Process::If(conditional) => {
-            conditional_refused(conditional, is_in_handler, alloc, surroundings, least)
-        }
-        Process::While { body, .. } => {
-            block_refused(body, is_in_handler, alloc, surroundings, least)
-        }
-        Process::For { body, .. } => {
-            block_refused(body, is_in_handler, alloc, surroundings, least)
-        }
-        Process::Input(input) => input_refused(input, is_in_handler, alloc, surroundings, least),
-        Process::Choice { branches, .. } => {
-            choice_refused(
-                branches.as_slice(),
-                is_in_handler,
-                alloc,
-                surroundings,
-                least,
-            )
-        }
-        Process::Output {
-            operation,
-            port,
-            answer,
-            ..
-        } => output_refused(operation, port, answer, alloc, surroundings, least),
-        Process::Scope { body, .. } => {
-            block_refused(body, is_in_handler, alloc, surroundings, least)
-        }
-        Process::Install { handlers, .. } => {
-            handlers_refused(handlers.as_slice(), alloc, surroundings, least)
-        }
-        Process::Throw { .. } => Ok(()),
-        Process::Compensate { at, .. } => {
-            least.offer_if(!is_in_handler, CheckName::CompOutsideHandler, *at);
-            Ok(())
-        }
-        Process::InnerHandler(at) => {
-            least.offer_if(!is_in_handler, CheckName::ChOutsideHandler, *at);
-            Ok(())
-        }
-        Process::Block(block) => block_refused(block, is_in_handler, alloc, surroundings, least),
-        Process::Sequence(statements) => {
-            processes_refused(
-                statements.as_slice(),
-                is_in_handler,
-                alloc,
-                surroundings,
-                least,
-            )
-        }
-        Process::Parallel(members) => {
-            processes_refused(
-                members.as_slice(),
-                is_in_handler,
-                alloc,
-                surroundings,
-                least,
-            )
-        }
-    }
-}
-
-/// What is refused of several processes.
-#[cycle(process)]
-fn processes_refused(
-    processes: &[Process],
-    is_in_handler: bool,
-    alloc: Global,
-    surroundings: &Surroundings,
-    least: &mut Least,
-) -> Result<(), AllocError>
-    ensures { OnOk result (least.new ≡ joined least.old (processes_refused surroundings.now processes.now is_in_handler)) }
-{
-    for process in processes {
-        process_refused(process, is_in_handler, alloc, surroundings, least)?;
-    }
-    Ok(())
-}
-
-/// What is refused of what stands between braces.
-#[cycle(process)]
-#[tactic(auto, using(crate::proofs::ProcessForms::block_is))]
+/// What is refused of what stands between the braces of init or main.
 pub fn block_refused(
     block: &Block,
-    is_in_handler: bool,
     alloc: Global,
     surroundings: &Surroundings,
     least: &mut Least,
 ) -> Result<(), AllocError>
-    ensures { OnOk result (least.new ≡ joined least.old (block_refused surroundings.now block.now is_in_handler)) }
+    ensures { OnOk result (least.new ≡ joined least.old (block_refused surroundings.now block.now false)) }
 {
-    match &block.body {
-        Some(process) => process_refused(process.get(), is_in_handler, alloc, surroundings, least),
-        None => Ok(()),
-    }
-}
-
-/// What is refused of an `if`.
-#[cycle(process)]
-#[tactic(auto, using(check_base::proofs::Joined::joined_append, crate::proofs::ProcessForms::conditional_is))]
-fn conditional_refused(
-    conditional: &If,
-    is_in_handler: bool,
-    alloc: Global,
-    surroundings: &Surroundings,
-    least: &mut Least,
-) -> Result<(), AllocError>
-    ensures { OnOk result (least.new ≡ joined least.old (conditional_refused surroundings.now conditional.now is_in_handler)) }
-{
-    block_refused(&conditional.body, is_in_handler, alloc, surroundings, least)?;
-    otherwise_refused(
-        &conditional.otherwise,
-        is_in_handler,
+    let checker = Checker {
         alloc,
         surroundings,
-        least,
-    )
+        place: Where::Plain,
+    };
+    checker.block_refused(block, least)
 }
 
-/// What is refused of what an `if` does where its test fails.
-#[cycle(process)]
-#[tactic(auto, using(crate::proofs::ProcessForms::no_else_refused, crate::proofs::ProcessForms::else_if_refused, crate::proofs::ProcessForms::else_refused))]
-fn otherwise_refused(
-    otherwise: &Otherwise,
-    is_in_handler: bool,
-    alloc: Global,
-    surroundings: &Surroundings,
-    least: &mut Least,
-) -> Result<(), AllocError>
-    ensures { OnOk result (least.new ≡ joined least.old (otherwise_refused surroundings.now otherwise.now is_in_handler)) }
-{
-    match otherwise {
-        Otherwise::Nothing => Ok(()),
-        Otherwise::ElseIf(conditional) => {
-            conditional_refused(conditional.get(), is_in_handler, alloc, surroundings, least)
+/// Where a process stands.
+#[derive(Clone, Copy)]
+enum Where {
+    Plain,
+    Handler,
+}
+
+impl Where {
+    fn is_handler(self) -> bool
+        ensures { result ≡ in_handler self }
+    {
+        match self {
+            Where::Plain => false,
+            Where::Handler => true,
         }
-        Otherwise::Else(block) => block_refused(block, is_in_handler, alloc, surroundings, least),
     }
 }
 
-/// An input has to be of an operation of the input ports, with a reply exactly where the operation answers.
-#[cycle(process)]
-#[tactic(auto, using(check_base::proofs::Joined::joined_append, crate::proofs::ProcessForms::used_is))]
-fn input_refused(
-    input: &Input,
-    is_in_handler: bool,
+/// Checks processes that stand at one kind of place.
+#[derive(Clone, Copy)]
+struct Checker<'s, 'a> {
     alloc: Global,
-    surroundings: &Surroundings,
-    least: &mut Least,
-) -> Result<(), AllocError>
-    ensures { OnOk result (least.new ≡ joined least.old (input_refused surroundings.now input.now is_in_handler)) }
-{
-    let known = surroundings.inputs().answers(input.operation.text.as_str());
-    used_as(known, &input.operation, input.reply.is_some(), least);
-    wrong_if_written(&input.request, least);
-    reply_if_written(&input.reply, is_in_handler, alloc, surroundings, least)
+    surroundings: &'s Surroundings<'a>,
+    place: Where,
 }
 
-/// What is refused of a reply, if it is written.
-#[cycle(process)]
-fn reply_if_written(
-    reply: &Option<Reply>,
-    is_in_handler: bool,
-    alloc: Global,
-    surroundings: &Surroundings,
-    least: &mut Least,
-) -> Result<(), AllocError>
-    ensures { OnOk result (least.new ≡ joined least.old (reply_if_written surroundings.now reply.now is_in_handler)) }
-{
-    match reply {
-        Some(reply) => reply_refused(reply, is_in_handler, alloc, surroundings, least),
-        None => Ok(()),
+impl<'s, 'a> Checker<'s, 'a> {
+    /// Checks what stands in handlers.
+    fn in_handlers(&self) -> Checker<'s, 'a>
+        ensures surroundings { result.surroundings.now ≡ self.now.surroundings.now }
+        ensures place { result.place ≡ Where.Handler }
+    {
+        Checker {
+            alloc: self.alloc,
+            surroundings: self.surroundings,
+            place: Where::Handler,
+        }
     }
-}
 
-/// What is refused of a reply.
-#[cycle(process)]
-#[tactic(auto, using(check_base::proofs::Joined::joined_append))]
-fn reply_refused(
-    reply: &Reply,
-    is_in_handler: bool,
-    alloc: Global,
-    surroundings: &Surroundings,
-    least: &mut Least,
-) -> Result<(), AllocError>
-    ensures { OnOk result (least.new ≡ joined least.old (reply_refused surroundings.now reply.now is_in_handler)) }
-{
-    wrong_if_written(&reply.path, least);
-    block_refused(&reply.body, is_in_handler, alloc, surroundings, least)
-}
-
-/// No two branches of a choice are of one operation.
-#[cycle(process)]
-#[tactic(auto, using(check_base::proofs::Joined::joined_append))]
-fn choice_refused(
-    branches: &[Branch],
-    is_in_handler: bool,
-    alloc: Global,
-    surroundings: &Surroundings,
-    least: &mut Least,
-) -> Result<(), AllocError>
-    ensures { OnOk result (least.new ≡ joined least.old (choice_refused surroundings.now branches.now is_in_handler)) }
-{
-    let operations = branch_operations(alloc, branches)?;
-    repeated_refused(alloc, operations.as_slice(), least)?;
-    branches_refused(branches, is_in_handler, alloc, surroundings, least)
-}
-
-/// What is refused of branches one by one.
-#[cycle(process)]
-fn branches_refused(
-    branches: &[Branch],
-    is_in_handler: bool,
-    alloc: Global,
-    surroundings: &Surroundings,
-    least: &mut Least,
-) -> Result<(), AllocError>
-    ensures { OnOk result (least.new ≡ joined least.old (branches_refused surroundings.now branches.now is_in_handler)) }
-{
-    for branch in branches {
-        branch_refused(branch, is_in_handler, alloc, surroundings, least)?;
+    /// What is refused of a process.
+    #[cycle(process)]
+    #[tactic(auto, using(crate::proofs::ProcessForms::nothing_refused, crate::proofs::ProcessForms::assign_refused, crate::proofs::ProcessForms::undef_refused, crate::proofs::ProcessForms::correlate_refused, crate::proofs::ProcessForms::if_refused, crate::proofs::ProcessForms::while_refused, crate::proofs::ProcessForms::for_refused, crate::proofs::ProcessForms::input_alone_refused, crate::proofs::ProcessForms::choice_is_refused, crate::proofs::ProcessForms::output_is_refused, crate::proofs::ProcessForms::scope_refused, crate::proofs::ProcessForms::install_refused, crate::proofs::ProcessForms::throw_refused, crate::proofs::ProcessForms::compensate_refused, crate::proofs::ProcessForms::inner_handler_refused, crate::proofs::ProcessForms::block_alone_refused, crate::proofs::ProcessForms::sequence_refused, crate::proofs::ProcessForms::parallel_refused))]
+    fn process_refused(&self, process: &Process, least: &mut Least) -> Result<(), AllocError>
+        ensures { OnOk result (least.new ≡ joined least.old (process_refused self.now.surroundings.now process.now (in_handler self.now.place))) }
+    {
+        match process {
+            Process::Nothing(_) => Ok(()),
+            Process::Assign { .. } => Ok(()),
+            Process::Undef { .. } => Ok(()),
+            Process::Correlate { at, variable, .. } => {
+                lacks_variable(*at, variable, self.surroundings, least);
+                Ok(())
+            }
+            Process::If(conditional) => self.conditional_refused(conditional, least),
+            Process::While { body, .. } => self.block_refused(body, least),
+            Process::For { body, .. } => self.block_refused(body, least),
+            Process::Input(input) => self.input_refused(input, least),
+            Process::Choice { branches, .. } => self.choice_refused(branches.as_slice(), least),
+            Process::Output {
+                operation,
+                port,
+                answer,
+                ..
+            } => self.output_refused(operation, port, answer, least),
+            Process::Scope { body, .. } => self.block_refused(body, least),
+            Process::Install { handlers, .. } => self.handlers_refused(handlers.as_slice(), least),
+            Process::Throw { .. } => Ok(()),
+            Process::Compensate { at, .. } => {
+                self.outside_handler(CheckName::CompOutsideHandler, *at, least);
+                Ok(())
+            }
+            Process::InnerHandler(at) => {
+                self.outside_handler(CheckName::ChOutsideHandler, *at, least);
+                Ok(())
+            }
+            Process::Block(block) => self.block_refused(block, least),
+            Process::Sequence(statements) => self.processes_refused(statements.as_slice(), least),
+            Process::Parallel(members) => self.processes_refused(members.as_slice(), least),
+        }
     }
-    Ok(())
-}
 
-/// What is refused of a branch.
-#[cycle(process)]
-#[tactic(auto, using(check_base::proofs::Joined::joined_append))]
-fn branch_refused(
-    branch: &Branch,
-    is_in_handler: bool,
-    alloc: Global,
-    surroundings: &Surroundings,
-    least: &mut Least,
-) -> Result<(), AllocError>
-    ensures { OnOk result (least.new ≡ joined least.old (branch_refused surroundings.now branch.now is_in_handler)) }
-{
-    input_refused(&branch.input, is_in_handler, alloc, surroundings, least)?;
-    block_refused(&branch.after, is_in_handler, alloc, surroundings, least)
-}
-
-/// What is refused of an output.
-#[cycle(process)]
-#[tactic(auto, using(check_base::proofs::Joined::joined_append))]
-fn output_refused(
-    operation: &Name,
-    port: &Name,
-    answer: &Option<Answer>,
-    alloc: Global,
-    surroundings: &Surroundings,
-    least: &mut Least,
-) -> Result<(), AllocError>
-    ensures { OnOk result (least.new ≡ joined least.old (output_refused surroundings.now operation.now port.now answer.now)) }
-{
-    sends(operation, port, answer.is_some(), surroundings, least);
-    match answer {
-        Some(answer) => answer_refused(answer, alloc, surroundings, least),
-        None => Ok(()),
+    /// What may stand in handlers alone.
+    fn outside_handler(&self, cause: CheckName, at: u32, least: &mut Least)
+        ensures { least.new ≡ joined least.old (refused_if (not (in_handler self.now.place)) cause at) }
+    {
+        least.offer_if(!self.place.is_handler(), cause, at);
     }
-}
 
-/// What is refused of what an output awaits.
-#[cycle(process)]
-#[tactic(auto, using(check_base::proofs::Joined::joined_append))]
-fn answer_refused(
-    answer: &Answer,
-    alloc: Global,
-    surroundings: &Surroundings,
-    least: &mut Least,
-) -> Result<(), AllocError>
-    ensures { OnOk result (least.new ≡ joined least.old (answer_refused surroundings.now answer.now)) }
-{
-    wrong_if_written(&answer.path, least);
-    match &answer.handlers {
-        Some(handlers) => handlers_refused(handlers.as_slice(), alloc, surroundings, least),
-        None => Ok(()),
+    /// What is refused of several processes.
+    #[cycle(process)]
+    fn processes_refused(&self, processes: &[Process], least: &mut Least) -> Result<(), AllocError>
+        ensures { OnOk result (least.new ≡ joined least.old (processes_refused self.now.surroundings.now processes.now (in_handler self.now.place))) }
+    {
+        for process in processes {
+            self.process_refused(process, least)?;
+        }
+        Ok(())
     }
-}
 
-/// No two handlers of a list have one name.
-#[cycle(process)]
-#[tactic(auto, using(check_base::proofs::Joined::joined_append))]
-fn handlers_refused(
-    handlers: &[Handler],
-    alloc: Global,
-    surroundings: &Surroundings,
-    least: &mut Least,
-) -> Result<(), AllocError>
-    ensures { OnOk result (least.new ≡ joined least.old (handlers_refused surroundings.now handlers.now)) }
-{
-    let names = handler_names(alloc, handlers)?;
-    repeated_refused(alloc, names.as_slice(), least)?;
-    bodies_refused(handlers, alloc, surroundings, least)
-}
-
-/// What is refused in handlers one by one.
-#[cycle(process)]
-fn bodies_refused(
-    handlers: &[Handler],
-    alloc: Global,
-    surroundings: &Surroundings,
-    least: &mut Least,
-) -> Result<(), AllocError>
-    ensures { OnOk result (least.new ≡ joined least.old (bodies_refused surroundings.now handlers.now)) }
-{
-    for handler in handlers {
-        handler_refused(handler, alloc, surroundings, least)?;
+    /// What is refused of what stands between braces.
+    #[cycle(process)]
+    #[tactic(auto, using(crate::proofs::ProcessForms::block_is))]
+    fn block_refused(&self, block: &Block, least: &mut Least) -> Result<(), AllocError>
+        ensures { OnOk result (least.new ≡ joined least.old (block_refused self.now.surroundings.now block.now (in_handler self.now.place))) }
+    {
+        match &block.body {
+            Some(process) => self.process_refused(process.get(), least),
+            None => Ok(()),
+        }
     }
-    Ok(())
-}
 
-/// What is refused in a handler.
-#[cycle(process)]
-fn handler_refused(
-    handler: &Handler,
-    alloc: Global,
-    surroundings: &Surroundings,
-    least: &mut Least,
-) -> Result<(), AllocError>
-    ensures { OnOk result (least.new ≡ joined least.old (handler_refused surroundings.now handler.now)) }
-{
-    process_refused(&handler.body, true, alloc, surroundings, least)
+    /// What is refused of an `if`.
+    #[cycle(process)]
+    #[tactic(auto, using(check_base::proofs::Joined::joined_append, crate::proofs::ProcessForms::conditional_is))]
+    fn conditional_refused(&self, conditional: &If, least: &mut Least) -> Result<(), AllocError>
+        ensures { OnOk result (least.new ≡ joined least.old (conditional_refused self.now.surroundings.now conditional.now (in_handler self.now.place))) }
+    {
+        self.block_refused(&conditional.body, least)?;
+        self.otherwise_refused(&conditional.otherwise, least)
+    }
+
+    /// What is refused of what an `if` does where its test fails.
+    #[cycle(process)]
+    #[tactic(auto, using(crate::proofs::ProcessForms::no_else_refused, crate::proofs::ProcessForms::else_if_refused, crate::proofs::ProcessForms::else_refused))]
+    fn otherwise_refused(&self, otherwise: &Otherwise, least: &mut Least) -> Result<(), AllocError>
+        ensures { OnOk result (least.new ≡ joined least.old (otherwise_refused self.now.surroundings.now otherwise.now (in_handler self.now.place))) }
+    {
+        match otherwise {
+            Otherwise::Nothing => Ok(()),
+            Otherwise::ElseIf(conditional) => self.conditional_refused(conditional.get(), least),
+            Otherwise::Else(block) => self.block_refused(block, least),
+        }
+    }
+
+    /// An input has to be of an operation of the input ports, with a reply exactly where the operation answers.
+    #[cycle(process)]
+    #[tactic(auto, using(check_base::proofs::Joined::joined_append, crate::proofs::ProcessForms::used_is))]
+    fn input_refused(&self, input: &Input, least: &mut Least) -> Result<(), AllocError>
+        ensures { OnOk result (least.new ≡ joined least.old (input_refused self.now.surroundings.now input.now (in_handler self.now.place))) }
+    {
+        let inputs = self.surroundings.inputs();
+        let known = inputs.answers(input.operation.text.as_str());
+        used_as(known, &input.operation, input.reply.is_some(), least);
+        wrong_if_written(&input.request, least);
+        self.reply_if_written(&input.reply, least)
+    }
+
+    /// What is refused of a reply, if it is written.
+    #[cycle(process)]
+    fn reply_if_written(&self, reply: &Option<Reply>, least: &mut Least) -> Result<(), AllocError>
+        ensures { OnOk result (least.new ≡ joined least.old (reply_if_written self.now.surroundings.now reply.now (in_handler self.now.place))) }
+    {
+        match reply {
+            Some(reply) => self.reply_refused(reply, least),
+            None => Ok(()),
+        }
+    }
+
+    /// What is refused of a reply.
+    #[cycle(process)]
+    #[tactic(auto, using(check_base::proofs::Joined::joined_append))]
+    fn reply_refused(&self, reply: &Reply, least: &mut Least) -> Result<(), AllocError>
+        ensures { OnOk result (least.new ≡ joined least.old (reply_refused self.now.surroundings.now reply.now (in_handler self.now.place))) }
+    {
+        wrong_if_written(&reply.path, least);
+        self.block_refused(&reply.body, least)
+    }
+
+    /// No two branches of a choice are of one operation.
+    #[cycle(process)]
+    #[tactic(auto, using(check_base::proofs::Joined::joined_append))]
+    fn choice_refused(&self, branches: &[Branch], least: &mut Least) -> Result<(), AllocError>
+        ensures { OnOk result (least.new ≡ joined least.old (choice_refused self.now.surroundings.now branches.now (in_handler self.now.place))) }
+    {
+        let operations = branch_operations(self.alloc, branches)?;
+        repeated_refused(self.alloc, operations.as_slice(), least)?;
+        self.branches_refused(branches, least)
+    }
+
+    /// What is refused of branches one by one.
+    #[cycle(process)]
+    fn branches_refused(&self, branches: &[Branch], least: &mut Least) -> Result<(), AllocError>
+        ensures { OnOk result (least.new ≡ joined least.old (branches_refused self.now.surroundings.now branches.now (in_handler self.now.place))) }
+    {
+        for branch in branches {
+            self.branch_refused(branch, least)?;
+        }
+        Ok(())
+    }
+
+    /// What is refused of a branch.
+    #[cycle(process)]
+    #[tactic(auto, using(check_base::proofs::Joined::joined_append))]
+    fn branch_refused(&self, branch: &Branch, least: &mut Least) -> Result<(), AllocError>
+        ensures { OnOk result (least.new ≡ joined least.old (branch_refused self.now.surroundings.now branch.now (in_handler self.now.place))) }
+    {
+        self.input_refused(&branch.input, least)?;
+        self.block_refused(&branch.after, least)
+    }
+
+    /// What is refused of an output.
+    #[cycle(process)]
+    #[tactic(auto, using(check_base::proofs::Joined::joined_append))]
+    fn output_refused(
+        &self,
+        operation: &Name,
+        port: &Name,
+        answer: &Option<Answer>,
+        least: &mut Least,
+    ) -> Result<(), AllocError>
+        ensures { OnOk result (least.new ≡ joined least.old (output_refused self.now.surroundings.now operation.now port.now answer.now)) }
+    {
+        sends(operation, port, answer.is_some(), self.surroundings, least);
+        match answer {
+            Some(answer) => self.answer_refused(answer, least),
+            None => Ok(()),
+        }
+    }
+
+    /// What is refused of what an output awaits.
+    #[cycle(process)]
+    #[tactic(auto, using(check_base::proofs::Joined::joined_append))]
+    fn answer_refused(&self, answer: &Answer, least: &mut Least) -> Result<(), AllocError>
+        ensures { OnOk result (least.new ≡ joined least.old (answer_refused self.now.surroundings.now answer.now)) }
+    {
+        wrong_if_written(&answer.path, least);
+        match &answer.handlers {
+            Some(handlers) => self.handlers_refused(handlers.as_slice(), least),
+            None => Ok(()),
+        }
+    }
+
+    /// No two handlers of a list have one name.
+    #[cycle(process)]
+    #[tactic(auto, using(check_base::proofs::Joined::joined_append))]
+    fn handlers_refused(&self, handlers: &[Handler], least: &mut Least) -> Result<(), AllocError>
+        ensures { OnOk result (least.new ≡ joined least.old (handlers_refused self.now.surroundings.now handlers.now)) }
+    {
+        let names = handler_names(self.alloc, handlers)?;
+        repeated_refused(self.alloc, names.as_slice(), least)?;
+        self.bodies_refused(handlers, least)
+    }
+
+    /// What is refused in handlers one by one.
+    #[cycle(process)]
+    fn bodies_refused(&self, handlers: &[Handler], least: &mut Least) -> Result<(), AllocError>
+        ensures { OnOk result (least.new ≡ joined least.old (bodies_refused self.now.surroundings.now handlers.now)) }
+    {
+        for handler in handlers {
+            self.handler_refused(handler, least)?;
+        }
+        Ok(())
+    }
+
+    /// What is refused in a handler.
+    #[cycle(process)]
+    fn handler_refused(&self, handler: &Handler, least: &mut Least) -> Result<(), AllocError>
+        ensures { OnOk result (least.new ≡ joined least.old (handler_refused self.now.surroundings.now handler.now)) }
+    {
+        let inside = self.in_handlers();
+        inside.process_refused(&handler.body, least)
+    }
 }

@@ -7,8 +7,9 @@ use Rattle.jolie_ast.specs.declared.name.Name.{Name}
 use Rattle.jolie_ast.specs.declared.expression.Comparison.{Comparison}
 use Rattle.jolie_ast.specs.declared.expression.CastTarget.{CastTarget}
 use Rattle.jolie_ast.specs.declared.expression.ExprForm.TheOpen.{ExprForm-F}
-use Rattle.jolie_ast.specs.declared.expression.ExprForm.TheFolds.{fold-roll-Expr, fold-roll-ExprForm, fold-roll-Factor, fold-roll-Member, fold-roll-Path, fold-roll-Step, fold-roll-Term}
+use Rattle.jolie_ast.specs.declared.expression.ExprForm.TheFolds.{map-ExprForm, fold-roll-Expr, fold-roll-ExprForm, fold-roll-Factor, fold-roll-Member, fold-roll-Path, fold-roll-Step, fold-roll-Term}
 use Rattle.jolie_ast.specs.declared.expression.Expr.{Expr, out-Expr, roll-out-Expr}
+use Rattle.jolie_ast.specs.declared.expression.ExprForm.{ExprForm, roll-ExprForm}
 use Rattle.jolie_ast.specs.declared.expression.ExprForm.TheVariants as form
 use Rattle.jolie_ast.specs.declared.expression.Factor.{Factor, out-Factor, roll-out-Factor}
 use Rattle.jolie_ast.specs.declared.expression.Term.{Term, out-Term, roll-out-Term}
@@ -20,101 +21,59 @@ use Rattle.behaviour_tree.specs.Data.{PathTree, Exp}
 use Rattle.behaviour_tree.specs.View.{StepView, SumPartView, MulPartView, MemberView, path_of, exps_of, sum_parts_of, mul_parts_of, member_list_of}
 use Rattle.process_lowering.specs.Expressions.{sum_op, mul_op, compare_op, cast_kind, form_level, expr_level, factor_level, member_level, path_level, step_level, term_level, lowered_expr, lowered_form, lowered_factor, lowered_member, lowered_path, lowered_place, lowered_term}
 
-pub int_lowered : (n : ℤ) → lowered_form (form.Int n) ≡ plain.constant (root.Int n)
+-- what an expression means, by the form that it is made of
+form_made : (x : ExprForm-F ExprForm Expr Factor Member Path Step Term) {f : ExprForm} → roll-ExprForm x ≡ f
+    → lowered_form f ≡ form_level (map-ExprForm ExprForm Expr Factor Member Path Step Term Exp Exp MulPartView MemberView PathTree StepView SumPartView lowered_form lowered_expr lowered_factor lowered_member lowered_path lowered_place lowered_term x)
 unfolding lowered_expr lowered_form lowered_factor lowered_member lowered_path lowered_place lowered_term
-int_lowered n =
-    ap lowered_form (sym (form.rolls-Int n))
-    ∙ fold-roll-ExprForm Exp Exp MulPartView MemberView PathTree StepView SumPartView form_level expr_level factor_level member_level path_level step_level term_level (ExprForm-F.Int n)
+form_made x made = ap lowered_form (sym made) ∙ fold-roll-ExprForm Exp Exp MulPartView MemberView PathTree StepView SumPartView form_level expr_level factor_level member_level path_level step_level term_level x
+
+pub int_lowered : (n : ℤ) → lowered_form (form.Int n) ≡ plain.constant (root.Int n)
+int_lowered n = form_made (ExprForm-F.Int n) (form.rolls-Int n)
 
 pub long_lowered : (n : ℤ) → lowered_form (form.Long n) ≡ plain.constant (root.Long n)
-unfolding lowered_expr lowered_form lowered_factor lowered_member lowered_path lowered_place lowered_term
-long_lowered n =
-    ap lowered_form (sym (form.rolls-Long n))
-    ∙ fold-roll-ExprForm Exp Exp MulPartView MemberView PathTree StepView SumPartView form_level expr_level factor_level member_level path_level step_level term_level (ExprForm-F.Long n)
+long_lowered n = form_made (ExprForm-F.Long n) (form.rolls-Long n)
 
 pub text_lowered : (t : List ℕ) → lowered_form (form.Str t) ≡ plain.constant (root.Text t)
-unfolding lowered_expr lowered_form lowered_factor lowered_member lowered_path lowered_place lowered_term
-text_lowered t =
-    ap lowered_form (sym (form.rolls-Str t))
-    ∙ fold-roll-ExprForm Exp Exp MulPartView MemberView PathTree StepView SumPartView form_level expr_level factor_level member_level path_level step_level term_level (ExprForm-F.Str t)
+text_lowered t = form_made (ExprForm-F.Str t) (form.rolls-Str t)
 
 pub truth_lowered : (b : Bool) → lowered_form (form.Bool b) ≡ plain.constant (root.Bool b)
-unfolding lowered_expr lowered_form lowered_factor lowered_member lowered_path lowered_place lowered_term
-truth_lowered b =
-    ap lowered_form (sym (form.rolls-Bool b))
-    ∙ fold-roll-ExprForm Exp Exp MulPartView MemberView PathTree StepView SumPartView form_level expr_level factor_level member_level path_level step_level term_level (ExprForm-F.Bool b)
+truth_lowered b = form_made (ExprForm-F.Bool b) (form.rolls-Bool b)
 
 pub path_form_lowered : (path : Path) → lowered_form (form.Path path) ≡ plain.at_path (lowered_path path)
-unfolding lowered_expr lowered_form lowered_factor lowered_member lowered_path lowered_place lowered_term
-path_form_lowered path =
-    ap lowered_form (sym (form.rolls-Path path))
-    ∙ fold-roll-ExprForm Exp Exp MulPartView MemberView PathTree StepView SumPartView form_level expr_level factor_level member_level path_level step_level term_level (ExprForm-F.Path path)
+path_form_lowered path = form_made (ExprForm-F.Path path) (form.rolls-Path path)
 
 pub size_lowered : (path : Path) → lowered_form (form.Size path) ≡ plain.count_at (lowered_path path)
-unfolding lowered_expr lowered_form lowered_factor lowered_member lowered_path lowered_place lowered_term
-size_lowered path =
-    ap lowered_form (sym (form.rolls-Size path))
-    ∙ fold-roll-ExprForm Exp Exp MulPartView MemberView PathTree StepView SumPartView form_level expr_level factor_level member_level path_level step_level term_level (ExprForm-F.Size path)
+size_lowered path = form_made (ExprForm-F.Size path) (form.rolls-Size path)
 
 pub defined_lowered : (path : Path) → lowered_form (form.IsDefined path) ≡ plain.defined_at (lowered_path path)
-unfolding lowered_expr lowered_form lowered_factor lowered_member lowered_path lowered_place lowered_term
-defined_lowered path =
-    ap lowered_form (sym (form.rolls-IsDefined path))
-    ∙ fold-roll-ExprForm Exp Exp MulPartView MemberView PathTree StepView SumPartView form_level expr_level factor_level member_level path_level step_level term_level (ExprForm-F.IsDefined path)
+defined_lowered path = form_made (ExprForm-F.IsDefined path) (form.rolls-IsDefined path)
 
 pub cast_lowered : (to : CastTarget) (e : Expr) → lowered_form (form.Cast to e) ≡ plain.cast (cast_kind to) (lowered_expr e)
-unfolding lowered_expr lowered_form lowered_factor lowered_member lowered_path lowered_place lowered_term
-cast_lowered to e =
-    ap lowered_form (sym (form.rolls-Cast to e))
-    ∙ fold-roll-ExprForm Exp Exp MulPartView MemberView PathTree StepView SumPartView form_level expr_level factor_level member_level path_level step_level term_level (ExprForm-F.Cast to e)
+cast_lowered to e = form_made (ExprForm-F.Cast to e) (form.rolls-Cast to e)
 
 pub literal_lowered : (ms : List Member) → lowered_form (form.Literal ms) ≡ plain.literal (member_list_of (map lowered_member ms))
-unfolding lowered_expr lowered_form lowered_factor lowered_member lowered_path lowered_place lowered_term
-literal_lowered ms =
-    ap lowered_form (sym (form.rolls-Literal ms))
-    ∙ fold-roll-ExprForm Exp Exp MulPartView MemberView PathTree StepView SumPartView form_level expr_level factor_level member_level path_level step_level term_level (ExprForm-F.Literal ms)
+literal_lowered ms = form_made (ExprForm-F.Literal ms) (form.rolls-Literal ms)
 
 pub minus_lowered : (e : Expr) → lowered_form (form.Minus e) ≡ plain.minus (lowered_expr e)
-unfolding lowered_expr lowered_form lowered_factor lowered_member lowered_path lowered_place lowered_term
-minus_lowered e =
-    ap lowered_form (sym (form.rolls-Minus e))
-    ∙ fold-roll-ExprForm Exp Exp MulPartView MemberView PathTree StepView SumPartView form_level expr_level factor_level member_level path_level step_level term_level (ExprForm-F.Minus e)
+minus_lowered e = form_made (ExprForm-F.Minus e) (form.rolls-Minus e)
 
 pub not_lowered : (e : Expr) → lowered_form (form.Not e) ≡ plain.negation (lowered_expr e)
-unfolding lowered_expr lowered_form lowered_factor lowered_member lowered_path lowered_place lowered_term
-not_lowered e =
-    ap lowered_form (sym (form.rolls-Not e))
-    ∙ fold-roll-ExprForm Exp Exp MulPartView MemberView PathTree StepView SumPartView form_level expr_level factor_level member_level path_level step_level term_level (ExprForm-F.Not e)
+not_lowered e = form_made (ExprForm-F.Not e) (form.rolls-Not e)
 
 pub product_lowered : (e : Expr) (fs : List Factor) → lowered_form (form.Product e fs) ≡ plain.product (lowered_expr e) (mul_parts_of (map lowered_factor fs))
-unfolding lowered_expr lowered_form lowered_factor lowered_member lowered_path lowered_place lowered_term
-product_lowered e fs =
-    ap lowered_form (sym (form.rolls-Product e fs))
-    ∙ fold-roll-ExprForm Exp Exp MulPartView MemberView PathTree StepView SumPartView form_level expr_level factor_level member_level path_level step_level term_level (ExprForm-F.Product e fs)
+product_lowered e fs = form_made (ExprForm-F.Product e fs) (form.rolls-Product e fs)
 
 pub sum_lowered : (e : Expr) (ts : List Term) → lowered_form (form.Sum e ts) ≡ plain.sum (lowered_expr e) (sum_parts_of (map lowered_term ts))
-unfolding lowered_expr lowered_form lowered_factor lowered_member lowered_path lowered_place lowered_term
-sum_lowered e ts =
-    ap lowered_form (sym (form.rolls-Sum e ts))
-    ∙ fold-roll-ExprForm Exp Exp MulPartView MemberView PathTree StepView SumPartView form_level expr_level factor_level member_level path_level step_level term_level (ExprForm-F.Sum e ts)
+sum_lowered e ts = form_made (ExprForm-F.Sum e ts) (form.rolls-Sum e ts)
 
 pub compare_lowered : (l : Expr) (by : Comparison) (r : Expr) → lowered_form (form.Compare l by r) ≡ plain.compared (lowered_expr l) (compare_op by) (lowered_expr r)
-unfolding lowered_expr lowered_form lowered_factor lowered_member lowered_path lowered_place lowered_term
-compare_lowered l by r =
-    ap lowered_form (sym (form.rolls-Compare l by r))
-    ∙ fold-roll-ExprForm Exp Exp MulPartView MemberView PathTree StepView SumPartView form_level expr_level factor_level member_level path_level step_level term_level (ExprForm-F.Compare l by r)
+compare_lowered l by r = form_made (ExprForm-F.Compare l by r) (form.rolls-Compare l by r)
 
 pub and_lowered : (es : List Expr) → lowered_form (form.And es) ≡ plain.all_of (exps_of (map lowered_expr es))
-unfolding lowered_expr lowered_form lowered_factor lowered_member lowered_path lowered_place lowered_term
-and_lowered es =
-    ap lowered_form (sym (form.rolls-And es))
-    ∙ fold-roll-ExprForm Exp Exp MulPartView MemberView PathTree StepView SumPartView form_level expr_level factor_level member_level path_level step_level term_level (ExprForm-F.And es)
+and_lowered es = form_made (ExprForm-F.And es) (form.rolls-And es)
 
 pub or_lowered : (es : List Expr) → lowered_form (form.Or es) ≡ plain.any_of (exps_of (map lowered_expr es))
-unfolding lowered_expr lowered_form lowered_factor lowered_member lowered_path lowered_place lowered_term
-or_lowered es =
-    ap lowered_form (sym (form.rolls-Or es))
-    ∙ fold-roll-ExprForm Exp Exp MulPartView MemberView PathTree StepView SumPartView form_level expr_level factor_level member_level path_level step_level term_level (ExprForm-F.Or es)
+or_lowered es = form_made (ExprForm-F.Or es) (form.rolls-Or es)
 
 pub expr_is : (e : Expr) → lowered_expr e ≡ lowered_form (out-Expr e).form
 unfolding lowered_expr lowered_form lowered_factor lowered_member lowered_path lowered_place lowered_term

@@ -7,10 +7,11 @@ use Rattle.jolie_ast.specs.declared.expression.Path.{Path}
 use Rattle.jolie_ast.specs.declared.process.Assignment.{Assignment}
 use Rattle.jolie_ast.specs.declared.process.ForStep.{ForStep}
 use Rattle.jolie_ast.specs.declared.process.Otherwise.TheOpen.{Otherwise-F, Process-F}
-use Rattle.jolie_ast.specs.declared.process.Otherwise.TheFolds.{fold-roll-Answer, fold-roll-Block, fold-roll-Branch, fold-roll-Handler, fold-roll-If, fold-roll-Input, fold-roll-Otherwise, fold-roll-Process, fold-roll-Reply}
+use Rattle.jolie_ast.specs.declared.process.Otherwise.TheFolds.{map-Process, fold-roll-Answer, fold-roll-Block, fold-roll-Branch, fold-roll-Handler, fold-roll-If, fold-roll-Input, fold-roll-Otherwise, fold-roll-Process, fold-roll-Reply}
 use Rattle.jolie_ast.specs.declared.process.Otherwise.TheVariants as otherwise
 use Rattle.jolie_ast.specs.declared.process.Process.TheVariants as process
-use Rattle.jolie_ast.specs.declared.process.Process.{Process}
+use Rattle.jolie_ast.specs.declared.process.Process.{Process, roll-Process}
+use Rattle.jolie_ast.specs.declared.process.Otherwise.{Otherwise}
 use Rattle.jolie_ast.specs.declared.process.Answer.{Answer, out-Answer, roll-Answer, roll-out-Answer}
 use Rattle.jolie_ast.specs.declared.process.Block.{Block, out-Block, roll-Block, roll-out-Block}
 use Rattle.jolie_ast.specs.declared.process.Branch.{Branch, out-Branch, roll-out-Branch}
@@ -25,116 +26,66 @@ use Rattle.check_base.specs.Files.{place_in}
 use Rattle.process_lowering.specs.Expressions.{lowered_expr, lowered_path, lowered_if_written}
 use Rattle.process_lowering.specs.Behaviours.{Numbering, AnswerView, InputView, alone, branch_after, sent, lowered_port, lowered_assignment, lowered_for, lowered_step, lowered_key, otherwise_level, process_level, answer_level, block_level, branch_level, handler_level, if_level, input_level, reply_level, lowered_process, lowered_conditional, lowered_otherwise, lowered_input, lowered_reply, lowered_branch, lowered_answer, lowered_handler, lowered_block}
 
-pub nothing_lowered : (e : Numbering) (at : ℕ) → lowered_process e (process.Nothing at) ≡ plain.nothing
+-- what a process means, by the form that it is made of
+process_made : (e : Numbering) (x : Process-F Otherwise Process Answer Block Branch Handler If Input Reply) {p : Process} → roll-Process x ≡ p
+    → lowered_process e p ≡ process_level e (map-Process Otherwise Process Answer Block Branch Handler If Input Reply Proc Proc AnswerView Proc BranchView HandlerView Proc InputView ReplyView (lowered_otherwise e) (lowered_process e) (lowered_answer e) (lowered_block e) (lowered_branch e) (lowered_handler e) (lowered_conditional e) (lowered_input e) (lowered_reply e) x)
 unfolding lowered_process lowered_conditional lowered_otherwise lowered_input lowered_reply lowered_branch lowered_answer lowered_handler lowered_block
-nothing_lowered e at =
-    ap (lowered_process e) (sym (process.rolls-Nothing at))
-    ∙ fold-roll-Process Proc Proc AnswerView Proc BranchView HandlerView Proc InputView ReplyView otherwise_level (process_level e) answer_level block_level branch_level (handler_level e) if_level (input_level e) reply_level (Process-F.«Process::Nothing» at)
+process_made e x made = ap (lowered_process e) (sym made) ∙ fold-roll-Process Proc Proc AnswerView Proc BranchView HandlerView Proc InputView ReplyView otherwise_level (process_level e) answer_level block_level branch_level (handler_level e) if_level (input_level e) reply_level x
+
+pub nothing_lowered : (e : Numbering) (at : ℕ) → lowered_process e (process.Nothing at) ≡ plain.nothing
+nothing_lowered e at = process_made e (Process-F.«Process::Nothing» at) (process.rolls-Nothing at)
 
 pub assign_lowered : (e : Numbering) (path : Path) (a : Assignment) → lowered_process e (process.Assign path a) ≡ lowered_assignment (lowered_path path) a
-unfolding lowered_process lowered_conditional lowered_otherwise lowered_input lowered_reply lowered_branch lowered_answer lowered_handler lowered_block
-assign_lowered e path a =
-    ap (lowered_process e) (sym (process.rolls-Assign path a))
-    ∙ fold-roll-Process Proc Proc AnswerView Proc BranchView HandlerView Proc InputView ReplyView otherwise_level (process_level e) answer_level block_level branch_level (handler_level e) if_level (input_level e) reply_level (Process-F.Assign path a)
+assign_lowered e path a = process_made e (Process-F.Assign path a) (process.rolls-Assign path a)
 
 pub undef_lowered : (e : Numbering) (at : ℕ) (path : Path) → lowered_process e (process.Undef at path) ≡ plain.undef (lowered_path path)
-unfolding lowered_process lowered_conditional lowered_otherwise lowered_input lowered_reply lowered_branch lowered_answer lowered_handler lowered_block
-undef_lowered e at path =
-    ap (lowered_process e) (sym (process.rolls-Undef at path))
-    ∙ fold-roll-Process Proc Proc AnswerView Proc BranchView HandlerView Proc InputView ReplyView otherwise_level (process_level e) answer_level block_level branch_level (handler_level e) if_level (input_level e) reply_level (Process-F.Undef at path)
+undef_lowered e at path = process_made e (Process-F.Undef at path) (process.rolls-Undef at path)
 
 pub correlate_lowered : (e : Numbering) (at : ℕ) (variable : Name) (value : Expr) → lowered_process e (process.Correlate at variable value) ≡ plain.bind (place_in e.variables variable.text) (lowered_expr value)
-unfolding lowered_process lowered_conditional lowered_otherwise lowered_input lowered_reply lowered_branch lowered_answer lowered_handler lowered_block
-correlate_lowered e at variable value =
-    ap (lowered_process e) (sym (process.rolls-Correlate at variable value))
-    ∙ fold-roll-Process Proc Proc AnswerView Proc BranchView HandlerView Proc InputView ReplyView otherwise_level (process_level e) answer_level block_level branch_level (handler_level e) if_level (input_level e) reply_level (Process-F.Correlate at variable value)
+correlate_lowered e at variable value = process_made e (Process-F.Correlate at variable value) (process.rolls-Correlate at variable value)
 
 pub conditional_lowered : (e : Numbering) (i : If) → lowered_process e (process.If i) ≡ lowered_conditional e i
-unfolding lowered_process lowered_conditional lowered_otherwise lowered_input lowered_reply lowered_branch lowered_answer lowered_handler lowered_block
-conditional_lowered e i =
-    ap (lowered_process e) (sym (process.rolls-If i))
-    ∙ fold-roll-Process Proc Proc AnswerView Proc BranchView HandlerView Proc InputView ReplyView otherwise_level (process_level e) answer_level block_level branch_level (handler_level e) if_level (input_level e) reply_level (Process-F.If i)
+conditional_lowered e i = process_made e (Process-F.If i) (process.rolls-If i)
 
 pub while_lowered : (e : Numbering) (at : ℕ) (test : Expr) (body : Block) → lowered_process e (process.While at test body) ≡ plain.repeat (lowered_expr test) (lowered_block e body)
-unfolding lowered_process lowered_conditional lowered_otherwise lowered_input lowered_reply lowered_branch lowered_answer lowered_handler lowered_block
-while_lowered e at test body =
-    ap (lowered_process e) (sym (process.rolls-While at test body))
-    ∙ fold-roll-Process Proc Proc AnswerView Proc BranchView HandlerView Proc InputView ReplyView otherwise_level (process_level e) answer_level block_level branch_level (handler_level e) if_level (input_level e) reply_level (Process-F.While at test body)
+while_lowered e at test body = process_made e (Process-F.While at test body) (process.rolls-While at test body)
 
 pub for_lowered : (e : Numbering) (at : ℕ) (path : Path) (first test : Expr) (stepped : Path) (step : ForStep) (body : Block) → lowered_process e (process.For at path first test stepped step body) ≡ lowered_for (plain.assign (lowered_path path) (lowered_expr first)) (lowered_expr test) (lowered_block e body) (lowered_step (lowered_path stepped) step)
-unfolding lowered_process lowered_conditional lowered_otherwise lowered_input lowered_reply lowered_branch lowered_answer lowered_handler lowered_block
-for_lowered e at path first test stepped step body =
-    ap (lowered_process e) (sym (process.rolls-For at path first test stepped step body))
-    ∙ fold-roll-Process Proc Proc AnswerView Proc BranchView HandlerView Proc InputView ReplyView otherwise_level (process_level e) answer_level block_level branch_level (handler_level e) if_level (input_level e) reply_level (Process-F.For at path first test stepped step body)
+for_lowered e at path first test stepped step body = process_made e (Process-F.For at path first test stepped step body) (process.rolls-For at path first test stepped step body)
 
 pub input_form_lowered : (e : Numbering) (i : Input) → lowered_process e (process.Input i) ≡ alone (lowered_input e i)
-unfolding lowered_process lowered_conditional lowered_otherwise lowered_input lowered_reply lowered_branch lowered_answer lowered_handler lowered_block
-input_form_lowered e i =
-    ap (lowered_process e) (sym (process.rolls-Input i))
-    ∙ fold-roll-Process Proc Proc AnswerView Proc BranchView HandlerView Proc InputView ReplyView otherwise_level (process_level e) answer_level block_level branch_level (handler_level e) if_level (input_level e) reply_level (Process-F.Input i)
+input_form_lowered e i = process_made e (Process-F.Input i) (process.rolls-Input i)
 
 pub choice_lowered : (e : Numbering) (at : ℕ) (branches : List Branch) → lowered_process e (process.Choice at branches) ≡ plain.choice (branches_of (map (lowered_branch e) branches))
-unfolding lowered_process lowered_conditional lowered_otherwise lowered_input lowered_reply lowered_branch lowered_answer lowered_handler lowered_block
-choice_lowered e at branches =
-    ap (lowered_process e) (sym (process.rolls-Choice at branches))
-    ∙ fold-roll-Process Proc Proc AnswerView Proc BranchView HandlerView Proc InputView ReplyView otherwise_level (process_level e) answer_level block_level branch_level (handler_level e) if_level (input_level e) reply_level (Process-F.Choice at branches)
+choice_lowered e at branches = process_made e (Process-F.Choice at branches) (process.rolls-Choice at branches)
 
 pub output_lowered : (e : Numbering) (operation port : Name) (value : Option Expr) (answer : Option Answer) → lowered_process e (process.Output operation port value answer) ≡ sent (lowered_port e port.text).number (place_in (lowered_port e port.text).operations operation.text) (lowered_if_written value) (option_map (lowered_answer e) answer)
-unfolding lowered_process lowered_conditional lowered_otherwise lowered_input lowered_reply lowered_branch lowered_answer lowered_handler lowered_block
-output_lowered e operation port value None =
-    ap (lowered_process e) (sym (process.rolls-Output operation port value None))
-    ∙ fold-roll-Process Proc Proc AnswerView Proc BranchView HandlerView Proc InputView ReplyView otherwise_level (process_level e) answer_level block_level branch_level (handler_level e) if_level (input_level e) reply_level (Process-F.Output operation port value None)
-output_lowered e operation port value (Some it) =
-    ap (lowered_process e) (sym (process.rolls-Output operation port value (Some it)))
-    ∙ fold-roll-Process Proc Proc AnswerView Proc BranchView HandlerView Proc InputView ReplyView otherwise_level (process_level e) answer_level block_level branch_level (handler_level e) if_level (input_level e) reply_level (Process-F.Output operation port value (Some it))
+output_lowered e operation port value None = process_made e (Process-F.Output operation port value None) (process.rolls-Output operation port value None)
+output_lowered e operation port value (Some it) = process_made e (Process-F.Output operation port value (Some it)) (process.rolls-Output operation port value (Some it))
 
 pub scope_lowered : (e : Numbering) (at : ℕ) (name : Name) (body : Block) → lowered_process e (process.Scope at name body) ≡ plain.scope (place_in e.names name.text) (lowered_block e body)
-unfolding lowered_process lowered_conditional lowered_otherwise lowered_input lowered_reply lowered_branch lowered_answer lowered_handler lowered_block
-scope_lowered e at name body =
-    ap (lowered_process e) (sym (process.rolls-Scope at name body))
-    ∙ fold-roll-Process Proc Proc AnswerView Proc BranchView HandlerView Proc InputView ReplyView otherwise_level (process_level e) answer_level block_level branch_level (handler_level e) if_level (input_level e) reply_level (Process-F.Scope at name body)
+scope_lowered e at name body = process_made e (Process-F.Scope at name body) (process.rolls-Scope at name body)
 
 pub install_lowered : (e : Numbering) (at : ℕ) (handlers : List Handler) → lowered_process e (process.Install at handlers) ≡ plain.install (handlers_of (map (lowered_handler e) handlers))
-unfolding lowered_process lowered_conditional lowered_otherwise lowered_input lowered_reply lowered_branch lowered_answer lowered_handler lowered_block
-install_lowered e at handlers =
-    ap (lowered_process e) (sym (process.rolls-Install at handlers))
-    ∙ fold-roll-Process Proc Proc AnswerView Proc BranchView HandlerView Proc InputView ReplyView otherwise_level (process_level e) answer_level block_level branch_level (handler_level e) if_level (input_level e) reply_level (Process-F.Install at handlers)
+install_lowered e at handlers = process_made e (Process-F.Install at handlers) (process.rolls-Install at handlers)
 
 pub throw_lowered : (e : Numbering) (at : ℕ) (fault : Name) (value : Option Expr) → lowered_process e (process.Throw at fault value) ≡ plain.throw (place_in e.names fault.text) (lowered_if_written value)
-unfolding lowered_process lowered_conditional lowered_otherwise lowered_input lowered_reply lowered_branch lowered_answer lowered_handler lowered_block
-throw_lowered e at fault value =
-    ap (lowered_process e) (sym (process.rolls-Throw at fault value))
-    ∙ fold-roll-Process Proc Proc AnswerView Proc BranchView HandlerView Proc InputView ReplyView otherwise_level (process_level e) answer_level block_level branch_level (handler_level e) if_level (input_level e) reply_level (Process-F.Throw at fault value)
+throw_lowered e at fault value = process_made e (Process-F.Throw at fault value) (process.rolls-Throw at fault value)
 
 pub compensate_lowered : (e : Numbering) (at : ℕ) (scope : Name) → lowered_process e (process.Compensate at scope) ≡ plain.comp (place_in e.names scope.text)
-unfolding lowered_process lowered_conditional lowered_otherwise lowered_input lowered_reply lowered_branch lowered_answer lowered_handler lowered_block
-compensate_lowered e at scope =
-    ap (lowered_process e) (sym (process.rolls-Compensate at scope))
-    ∙ fold-roll-Process Proc Proc AnswerView Proc BranchView HandlerView Proc InputView ReplyView otherwise_level (process_level e) answer_level block_level branch_level (handler_level e) if_level (input_level e) reply_level (Process-F.Compensate at scope)
+compensate_lowered e at scope = process_made e (Process-F.Compensate at scope) (process.rolls-Compensate at scope)
 
 pub inner_handler_lowered : (e : Numbering) (at : ℕ) → lowered_process e (process.InnerHandler at) ≡ plain.inner_handler
-unfolding lowered_process lowered_conditional lowered_otherwise lowered_input lowered_reply lowered_branch lowered_answer lowered_handler lowered_block
-inner_handler_lowered e at =
-    ap (lowered_process e) (sym (process.rolls-InnerHandler at))
-    ∙ fold-roll-Process Proc Proc AnswerView Proc BranchView HandlerView Proc InputView ReplyView otherwise_level (process_level e) answer_level block_level branch_level (handler_level e) if_level (input_level e) reply_level (Process-F.InnerHandler at)
+inner_handler_lowered e at = process_made e (Process-F.InnerHandler at) (process.rolls-InnerHandler at)
 
 pub block_form_lowered : (e : Numbering) (b : Block) → lowered_process e (process.Block b) ≡ plain.block (lowered_block e b)
-unfolding lowered_process lowered_conditional lowered_otherwise lowered_input lowered_reply lowered_branch lowered_answer lowered_handler lowered_block
-block_form_lowered e b =
-    ap (lowered_process e) (sym (process.rolls-Block b))
-    ∙ fold-roll-Process Proc Proc AnswerView Proc BranchView HandlerView Proc InputView ReplyView otherwise_level (process_level e) answer_level block_level branch_level (handler_level e) if_level (input_level e) reply_level (Process-F.Block b)
+block_form_lowered e b = process_made e (Process-F.Block b) (process.rolls-Block b)
 
 pub sequence_lowered : (e : Numbering) (ps : List Process) → lowered_process e (process.Sequence ps) ≡ plain.sequence (procs_of (map (lowered_process e) ps))
-unfolding lowered_process lowered_conditional lowered_otherwise lowered_input lowered_reply lowered_branch lowered_answer lowered_handler lowered_block
-sequence_lowered e ps =
-    ap (lowered_process e) (sym (process.rolls-Sequence ps))
-    ∙ fold-roll-Process Proc Proc AnswerView Proc BranchView HandlerView Proc InputView ReplyView otherwise_level (process_level e) answer_level block_level branch_level (handler_level e) if_level (input_level e) reply_level (Process-F.Sequence ps)
+sequence_lowered e ps = process_made e (Process-F.Sequence ps) (process.rolls-Sequence ps)
 
 pub parallel_lowered : (e : Numbering) (ps : List Process) → lowered_process e (process.Parallel ps) ≡ plain.parallel (procs_of (map (lowered_process e) ps))
-unfolding lowered_process lowered_conditional lowered_otherwise lowered_input lowered_reply lowered_branch lowered_answer lowered_handler lowered_block
-parallel_lowered e ps =
-    ap (lowered_process e) (sym (process.rolls-Parallel ps))
-    ∙ fold-roll-Process Proc Proc AnswerView Proc BranchView HandlerView Proc InputView ReplyView otherwise_level (process_level e) answer_level block_level branch_level (handler_level e) if_level (input_level e) reply_level (Process-F.Parallel ps)
+parallel_lowered e ps = process_made e (Process-F.Parallel ps) (process.rolls-Parallel ps)
 
 -- ---- what an `if` does where its test fails
 

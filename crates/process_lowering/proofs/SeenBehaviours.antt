@@ -4,10 +4,10 @@ use Rattle.std.specs.Prelude.{option_map}
 use Rattle.behaviour_tree.specs.declared.expr.Expr.{Expr}
 use Rattle.behaviour_tree.specs.declared.expr.PathExpr.{PathExpr}
 use Rattle.behaviour_tree.specs.declared.behaviour.HandlerKey.{HandlerKey}
-use Rattle.behaviour_tree.specs.declared.behaviour.Behaviour.{Behaviour}
+use Rattle.behaviour_tree.specs.declared.behaviour.Behaviour.{Behaviour, roll-Behaviour}
 use Rattle.behaviour_tree.specs.declared.behaviour.Behaviour.TheVariants as form
 use Rattle.behaviour_tree.specs.declared.behaviour.Behaviour.TheOpen.{Behaviour-F}
-use Rattle.behaviour_tree.specs.declared.behaviour.Behaviour.TheFolds.{fold-roll-Behaviour, fold-roll-Branch, fold-roll-Handler, fold-roll-Handlers, fold-roll-ReplyPart}
+use Rattle.behaviour_tree.specs.declared.behaviour.Behaviour.TheFolds.{map-Behaviour, fold-roll-Behaviour, fold-roll-Branch, fold-roll-Handler, fold-roll-Handlers, fold-roll-ReplyPart}
 use Rattle.behaviour_tree.specs.declared.behaviour.Branch.{Branch, roll-Branch}
 use Rattle.behaviour_tree.specs.declared.behaviour.Handler.{Handler, roll-Handler}
 use Rattle.behaviour_tree.specs.declared.behaviour.Handlers.{Handlers, roll-Handlers}
@@ -16,59 +16,64 @@ use Rattle.behaviour_tree.specs.Data as plain
 use Rattle.behaviour_tree.specs.Data.{Proc, HandlerList}
 use Rattle.behaviour_tree.specs.View.{BranchView, HandlerView, ReplyView, procs_of, branches_of, handlers_of, behaviour_level, branch_level, handler_level, handlers_level, reply_level, expr_view, path_view, behaviour_view, branch_view, handler_view, handlers_view, reply_view}
 
+-- what a behaviour stands for, by the form that it is made of
+behaviour_made : (x : Behaviour-F Behaviour Branch Handler Handlers ReplyPart) {b : Behaviour} → roll-Behaviour x ≡ b
+    → behaviour_view b ≡ behaviour_level (map-Behaviour Behaviour Branch Handler Handlers ReplyPart Proc BranchView HandlerView HandlerList ReplyView behaviour_view branch_view handler_view handlers_view reply_view x)
+behaviour_made x made = ap behaviour_view (sym made) ∙ fold-roll-Behaviour Proc BranchView HandlerView HandlerList ReplyView behaviour_level branch_level handler_level handlers_level reply_level x
+
 pub nothing_seen : behaviour_view form.Nothing ≡ plain.nothing
-nothing_seen = ap behaviour_view (sym form.rolls-Nothing) ∙ fold-roll-Behaviour Proc BranchView HandlerView HandlerList ReplyView behaviour_level branch_level handler_level handlers_level reply_level Behaviour-F.Nothing
+nothing_seen = behaviour_made Behaviour-F.Nothing form.rolls-Nothing
 
 pub assign_seen : (p : PathExpr) (e : Expr) → behaviour_view (form.Assign p e) ≡ plain.assign (path_view p) (expr_view e)
-assign_seen p e = ap behaviour_view (sym (form.rolls-Assign p e)) ∙ fold-roll-Behaviour Proc BranchView HandlerView HandlerList ReplyView behaviour_level branch_level handler_level handlers_level reply_level (Behaviour-F.Assign p e)
+assign_seen p e = behaviour_made (Behaviour-F.Assign p e) (form.rolls-Assign p e)
 
 pub undef_seen : (p : PathExpr) → behaviour_view (form.Undef p) ≡ plain.undef (path_view p)
-undef_seen p = ap behaviour_view (sym (form.rolls-Undef p)) ∙ fold-roll-Behaviour Proc BranchView HandlerView HandlerList ReplyView behaviour_level branch_level handler_level handlers_level reply_level (Behaviour-F.Undef p)
+undef_seen p = behaviour_made (Behaviour-F.Undef p) (form.rolls-Undef p)
 
 pub copy_seen : (p : PathExpr) (e : Expr) → behaviour_view (form.Copy p e) ≡ plain.copy (path_view p) (expr_view e)
-copy_seen p e = ap behaviour_view (sym (form.rolls-Copy p e)) ∙ fold-roll-Behaviour Proc BranchView HandlerView HandlerList ReplyView behaviour_level branch_level handler_level handlers_level reply_level (Behaviour-F.Copy p e)
+copy_seen p e = behaviour_made (Behaviour-F.Copy p e) (form.rolls-Copy p e)
 
 pub bind_seen : (v : ℕ) (e : Expr) → behaviour_view (form.Bind v e) ≡ plain.bind v (expr_view e)
-bind_seen v e = ap behaviour_view (sym (form.rolls-Bind v e)) ∙ fold-roll-Behaviour Proc BranchView HandlerView HandlerList ReplyView behaviour_level branch_level handler_level handlers_level reply_level (Behaviour-F.Bind v e)
+bind_seen v e = behaviour_made (Behaviour-F.Bind v e) (form.rolls-Bind v e)
 
 pub sequence_seen : (ps : Vec Behaviour Global) → behaviour_view (form.Sequence ps) ≡ plain.sequence (procs_of (map behaviour_view ps.items))
-sequence_seen ps = ap behaviour_view (sym (form.rolls-Sequence ps)) ∙ fold-roll-Behaviour Proc BranchView HandlerView HandlerList ReplyView behaviour_level branch_level handler_level handlers_level reply_level (Behaviour-F.Sequence ps)
+sequence_seen ps = behaviour_made (Behaviour-F.Sequence ps) (form.rolls-Sequence ps)
 
 pub parallel_seen : (ps : Vec Behaviour Global) → behaviour_view (form.Parallel ps) ≡ plain.parallel (procs_of (map behaviour_view ps.items))
-parallel_seen ps = ap behaviour_view (sym (form.rolls-Parallel ps)) ∙ fold-roll-Behaviour Proc BranchView HandlerView HandlerList ReplyView behaviour_level branch_level handler_level handlers_level reply_level (Behaviour-F.Parallel ps)
+parallel_seen ps = behaviour_made (Behaviour-F.Parallel ps) (form.rolls-Parallel ps)
 
 pub if_seen : (e : Expr) (p q : Box Behaviour Global) → behaviour_view (form.If e p q) ≡ plain.choose (expr_view e) (behaviour_view p.value) (behaviour_view q.value)
-if_seen e p q = ap behaviour_view (sym (form.rolls-If e p q)) ∙ fold-roll-Behaviour Proc BranchView HandlerView HandlerList ReplyView behaviour_level branch_level handler_level handlers_level reply_level (Behaviour-F.If e p q)
+if_seen e p q = behaviour_made (Behaviour-F.If e p q) (form.rolls-If e p q)
 
 pub while_seen : (e : Expr) (p : Box Behaviour Global) → behaviour_view (form.While e p) ≡ plain.repeat (expr_view e) (behaviour_view p.value)
-while_seen e p = ap behaviour_view (sym (form.rolls-While e p)) ∙ fold-roll-Behaviour Proc BranchView HandlerView HandlerList ReplyView behaviour_level branch_level handler_level handlers_level reply_level (Behaviour-F.While e p)
+while_seen e p = behaviour_made (Behaviour-F.While e p) (form.rolls-While e p)
 
 pub choice_seen : (bs : Vec Branch Global) → behaviour_view (form.Choice bs) ≡ plain.choice (branches_of (map branch_view bs.items))
-choice_seen bs = ap behaviour_view (sym (form.rolls-Choice bs)) ∙ fold-roll-Behaviour Proc BranchView HandlerView HandlerList ReplyView behaviour_level branch_level handler_level handlers_level reply_level (Behaviour-F.Choice bs)
+choice_seen bs = behaviour_made (Behaviour-F.Choice bs) (form.rolls-Choice bs)
 
 pub notify_seen : (port op : ℕ) (e : Expr) → behaviour_view (form.Notify port op e) ≡ plain.notify port op (expr_view e)
-notify_seen port op e = ap behaviour_view (sym (form.rolls-Notify port op e)) ∙ fold-roll-Behaviour Proc BranchView HandlerView HandlerList ReplyView behaviour_level branch_level handler_level handlers_level reply_level (Behaviour-F.Notify port op e)
+notify_seen port op e = behaviour_made (Behaviour-F.Notify port op e) (form.rolls-Notify port op e)
 
 pub solicit_seen : (port op : ℕ) (e : Expr) (target : Option PathExpr) (hs : Handlers) → behaviour_view (form.Solicit port op e target hs) ≡ plain.solicit port op (expr_view e) (option_map path_view target) (handlers_view hs)
-solicit_seen port op e target hs = ap behaviour_view (sym (form.rolls-Solicit port op e target hs)) ∙ fold-roll-Behaviour Proc BranchView HandlerView HandlerList ReplyView behaviour_level branch_level handler_level handlers_level reply_level (Behaviour-F.Solicit port op e target hs)
+solicit_seen port op e target hs = behaviour_made (Behaviour-F.Solicit port op e target hs) (form.rolls-Solicit port op e target hs)
 
 pub install_seen : (hs : Handlers) → behaviour_view (form.Install hs) ≡ plain.install (handlers_view hs)
-install_seen hs = ap behaviour_view (sym (form.rolls-Install hs)) ∙ fold-roll-Behaviour Proc BranchView HandlerView HandlerList ReplyView behaviour_level branch_level handler_level handlers_level reply_level (Behaviour-F.Install hs)
+install_seen hs = behaviour_made (Behaviour-F.Install hs) (form.rolls-Install hs)
 
 pub throw_seen : (f : ℕ) (e : Expr) → behaviour_view (form.Throw f e) ≡ plain.throw f (expr_view e)
-throw_seen f e = ap behaviour_view (sym (form.rolls-Throw f e)) ∙ fold-roll-Behaviour Proc BranchView HandlerView HandlerList ReplyView behaviour_level branch_level handler_level handlers_level reply_level (Behaviour-F.Throw f e)
+throw_seen f e = behaviour_made (Behaviour-F.Throw f e) (form.rolls-Throw f e)
 
 pub comp_seen : (s : ℕ) → behaviour_view (form.Comp s) ≡ plain.comp s
-comp_seen s = ap behaviour_view (sym (form.rolls-Comp s)) ∙ fold-roll-Behaviour Proc BranchView HandlerView HandlerList ReplyView behaviour_level branch_level handler_level handlers_level reply_level (Behaviour-F.Comp s)
+comp_seen s = behaviour_made (Behaviour-F.Comp s) (form.rolls-Comp s)
 
 pub inner_handler_seen : behaviour_view form.InnerHandler ≡ plain.inner_handler
-inner_handler_seen = ap behaviour_view (sym form.rolls-InnerHandler) ∙ fold-roll-Behaviour Proc BranchView HandlerView HandlerList ReplyView behaviour_level branch_level handler_level handlers_level reply_level Behaviour-F.InnerHandler
+inner_handler_seen = behaviour_made Behaviour-F.InnerHandler form.rolls-InnerHandler
 
 pub scope_seen : (s : ℕ) (p : Box Behaviour Global) → behaviour_view (form.Scope s p) ≡ plain.scope s (behaviour_view p.value)
-scope_seen s p = ap behaviour_view (sym (form.rolls-Scope s p)) ∙ fold-roll-Behaviour Proc BranchView HandlerView HandlerList ReplyView behaviour_level branch_level handler_level handlers_level reply_level (Behaviour-F.Scope s p)
+scope_seen s p = behaviour_made (Behaviour-F.Scope s p) (form.rolls-Scope s p)
 
 pub block_seen : (p : Box Behaviour Global) → behaviour_view (form.Block p) ≡ plain.block (behaviour_view p.value)
-block_seen p = ap behaviour_view (sym (form.rolls-Block p)) ∙ fold-roll-Behaviour Proc BranchView HandlerView HandlerList ReplyView behaviour_level branch_level handler_level handlers_level reply_level (Behaviour-F.Block p)
+block_seen p = behaviour_made (Behaviour-F.Block p) (form.rolls-Block p)
 
 pub handler_seen : (key : HandlerKey) (body : Behaviour) → handler_view (roll-Handler (record { key = key; body = body })) ≡ record { key = key; body = behaviour_view body }
 handler_seen key body = fold-roll-Handler Proc BranchView HandlerView HandlerList ReplyView behaviour_level branch_level handler_level handlers_level reply_level (record { key = key; body = body })

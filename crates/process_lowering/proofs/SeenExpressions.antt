@@ -5,10 +5,10 @@ use Rattle.behaviour_tree.specs.declared.expr.SumOp.{SumOp}
 use Rattle.behaviour_tree.specs.declared.expr.MulOp.{MulOp}
 use Rattle.behaviour_tree.specs.declared.expr.CompareOp.{CompareOp}
 use Rattle.behaviour_tree.specs.declared.expr.CastKind.{CastKind}
-use Rattle.behaviour_tree.specs.declared.expr.Expr.{Expr}
+use Rattle.behaviour_tree.specs.declared.expr.Expr.{Expr, roll-Expr}
 use Rattle.behaviour_tree.specs.declared.expr.Expr.TheVariants as form
 use Rattle.behaviour_tree.specs.declared.expr.Expr.TheOpen.{Expr-F}
-use Rattle.behaviour_tree.specs.declared.expr.Expr.TheFolds.{fold-roll-Expr, fold-roll-Member, fold-roll-MulPart, fold-roll-PathExpr, fold-roll-PathStep, fold-roll-SumPart}
+use Rattle.behaviour_tree.specs.declared.expr.Expr.TheFolds.{map-Expr, fold-roll-Expr, fold-roll-Member, fold-roll-MulPart, fold-roll-PathExpr, fold-roll-PathStep, fold-roll-SumPart}
 use Rattle.behaviour_tree.specs.declared.expr.Member.{Member, roll-Member}
 use Rattle.behaviour_tree.specs.declared.expr.MulPart.{MulPart, roll-MulPart}
 use Rattle.behaviour_tree.specs.declared.expr.PathExpr.{PathExpr, roll-PathExpr}
@@ -18,44 +18,49 @@ use Rattle.behaviour_tree.specs.Data as plain
 use Rattle.behaviour_tree.specs.Data.{PathTree, Exp}
 use Rattle.behaviour_tree.specs.View.{StepView, SumPartView, MulPartView, MemberView, path_of, exps_of, sum_parts_of, mul_parts_of, member_list_of, expr_level, member_level, mul_part_level, path_level, step_level, sum_part_level, expr_view, member_view, mul_part_view, path_view, step_view, sum_part_view}
 
+-- what an expression stands for, by the form that it is made of
+expression_made : (x : Expr-F Expr Member MulPart PathExpr PathStep SumPart) {e : Expr} → roll-Expr x ≡ e
+    → expr_view e ≡ expr_level (map-Expr Expr Member MulPart PathExpr PathStep SumPart Exp MemberView MulPartView PathTree StepView SumPartView expr_view member_view mul_part_view path_view step_view sum_part_view x)
+expression_made x made = ap expr_view (sym made) ∙ fold-roll-Expr Exp MemberView MulPartView PathTree StepView SumPartView expr_level member_level mul_part_level path_level step_level sum_part_level x
+
 pub value_seen : (r : Root) → expr_view (form.Value r) ≡ plain.constant r
-value_seen r = ap expr_view (sym (form.rolls-Value r)) ∙ fold-roll-Expr Exp MemberView MulPartView PathTree StepView SumPartView expr_level member_level mul_part_level path_level step_level sum_part_level (Expr-F.Value r)
+value_seen r = expression_made (Expr-F.Value r) (form.rolls-Value r)
 
 pub path_form_seen : (p : PathExpr) → expr_view (form.Path p) ≡ plain.at_path (path_view p)
-path_form_seen p = ap expr_view (sym (form.rolls-Path p)) ∙ fold-roll-Expr Exp MemberView MulPartView PathTree StepView SumPartView expr_level member_level mul_part_level path_level step_level sum_part_level (Expr-F.Path p)
+path_form_seen p = expression_made (Expr-F.Path p) (form.rolls-Path p)
 
 pub count_seen : (p : PathExpr) → expr_view (form.Count p) ≡ plain.count_at (path_view p)
-count_seen p = ap expr_view (sym (form.rolls-Count p)) ∙ fold-roll-Expr Exp MemberView MulPartView PathTree StepView SumPartView expr_level member_level mul_part_level path_level step_level sum_part_level (Expr-F.Count p)
+count_seen p = expression_made (Expr-F.Count p) (form.rolls-Count p)
 
 pub defined_seen : (p : PathExpr) → expr_view (form.IsDefined p) ≡ plain.defined_at (path_view p)
-defined_seen p = ap expr_view (sym (form.rolls-IsDefined p)) ∙ fold-roll-Expr Exp MemberView MulPartView PathTree StepView SumPartView expr_level member_level mul_part_level path_level step_level sum_part_level (Expr-F.IsDefined p)
+defined_seen p = expression_made (Expr-F.IsDefined p) (form.rolls-IsDefined p)
 
 pub literal_seen : (ms : Vec Member Global) → expr_view (form.Literal ms) ≡ plain.literal (member_list_of (map member_view ms.items))
-literal_seen ms = ap expr_view (sym (form.rolls-Literal ms)) ∙ fold-roll-Expr Exp MemberView MulPartView PathTree StepView SumPartView expr_level member_level mul_part_level path_level step_level sum_part_level (Expr-F.Literal ms)
+literal_seen ms = expression_made (Expr-F.Literal ms) (form.rolls-Literal ms)
 
 pub or_seen : (es : Vec Expr Global) → expr_view (form.Or es) ≡ plain.any_of (exps_of (map expr_view es.items))
-or_seen es = ap expr_view (sym (form.rolls-Or es)) ∙ fold-roll-Expr Exp MemberView MulPartView PathTree StepView SumPartView expr_level member_level mul_part_level path_level step_level sum_part_level (Expr-F.Or es)
+or_seen es = expression_made (Expr-F.Or es) (form.rolls-Or es)
 
 pub and_seen : (es : Vec Expr Global) → expr_view (form.And es) ≡ plain.all_of (exps_of (map expr_view es.items))
-and_seen es = ap expr_view (sym (form.rolls-And es)) ∙ fold-roll-Expr Exp MemberView MulPartView PathTree StepView SumPartView expr_level member_level mul_part_level path_level step_level sum_part_level (Expr-F.And es)
+and_seen es = expression_made (Expr-F.And es) (form.rolls-And es)
 
 pub compare_seen : (l : Box Expr Global) (by : CompareOp) (r : Box Expr Global) → expr_view (form.Compare l by r) ≡ plain.compared (expr_view l.value) by (expr_view r.value)
-compare_seen l by r = ap expr_view (sym (form.rolls-Compare l by r)) ∙ fold-roll-Expr Exp MemberView MulPartView PathTree StepView SumPartView expr_level member_level mul_part_level path_level step_level sum_part_level (Expr-F.Compare l by r)
+compare_seen l by r = expression_made (Expr-F.Compare l by r) (form.rolls-Compare l by r)
 
 pub sum_seen : (e : Box Expr Global) (ps : Vec SumPart Global) → expr_view (form.Sum e ps) ≡ plain.sum (expr_view e.value) (sum_parts_of (map sum_part_view ps.items))
-sum_seen e ps = ap expr_view (sym (form.rolls-Sum e ps)) ∙ fold-roll-Expr Exp MemberView MulPartView PathTree StepView SumPartView expr_level member_level mul_part_level path_level step_level sum_part_level (Expr-F.Sum e ps)
+sum_seen e ps = expression_made (Expr-F.Sum e ps) (form.rolls-Sum e ps)
 
 pub product_seen : (e : Box Expr Global) (ps : Vec MulPart Global) → expr_view (form.Product e ps) ≡ plain.product (expr_view e.value) (mul_parts_of (map mul_part_view ps.items))
-product_seen e ps = ap expr_view (sym (form.rolls-Product e ps)) ∙ fold-roll-Expr Exp MemberView MulPartView PathTree StepView SumPartView expr_level member_level mul_part_level path_level step_level sum_part_level (Expr-F.Product e ps)
+product_seen e ps = expression_made (Expr-F.Product e ps) (form.rolls-Product e ps)
 
 pub minus_seen : (e : Box Expr Global) → expr_view (form.Minus e) ≡ plain.minus (expr_view e.value)
-minus_seen e = ap expr_view (sym (form.rolls-Minus e)) ∙ fold-roll-Expr Exp MemberView MulPartView PathTree StepView SumPartView expr_level member_level mul_part_level path_level step_level sum_part_level (Expr-F.Minus e)
+minus_seen e = expression_made (Expr-F.Minus e) (form.rolls-Minus e)
 
 pub not_seen : (e : Box Expr Global) → expr_view (form.Not e) ≡ plain.negation (expr_view e.value)
-not_seen e = ap expr_view (sym (form.rolls-Not e)) ∙ fold-roll-Expr Exp MemberView MulPartView PathTree StepView SumPartView expr_level member_level mul_part_level path_level step_level sum_part_level (Expr-F.Not e)
+not_seen e = expression_made (Expr-F.Not e) (form.rolls-Not e)
 
 pub cast_seen : (to : CastKind) (e : Box Expr Global) → expr_view (form.Cast to e) ≡ plain.cast to (expr_view e.value)
-cast_seen to e = ap expr_view (sym (form.rolls-Cast to e)) ∙ fold-roll-Expr Exp MemberView MulPartView PathTree StepView SumPartView expr_level member_level mul_part_level path_level step_level sum_part_level (Expr-F.Cast to e)
+cast_seen to e = expression_made (Expr-F.Cast to e) (form.rolls-Cast to e)
 
 pub member_seen : (name : List ℕ) (value : Expr) → member_view (roll-Member (record { name = name; value = value })) ≡ record { name = name; value = expr_view value }
 member_seen name value = fold-roll-Member Exp MemberView MulPartView PathTree StepView SumPartView expr_level member_level mul_part_level path_level step_level sum_part_level (record { name = name; value = value })

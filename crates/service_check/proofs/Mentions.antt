@@ -9,11 +9,11 @@ use Rattle.jolie_ast.specs.declared.expression.Path.{Path}
 use Rattle.jolie_ast.specs.declared.process.Assignment.{Assignment}
 use Rattle.jolie_ast.specs.declared.process.ForStep.{ForStep}
 use Rattle.jolie_ast.specs.declared.process.Otherwise.TheOpen.{Otherwise-F, Process-F}
-use Rattle.jolie_ast.specs.declared.process.Otherwise.TheFolds.{fold-roll-Answer, fold-roll-Block, fold-roll-Branch, fold-roll-Handler, fold-roll-If, fold-roll-Input, fold-roll-Otherwise, fold-roll-Process, fold-roll-Reply}
+use Rattle.jolie_ast.specs.declared.process.Otherwise.TheFolds.{map-Process, fold-roll-Answer, fold-roll-Block, fold-roll-Branch, fold-roll-Handler, fold-roll-If, fold-roll-Input, fold-roll-Otherwise, fold-roll-Process, fold-roll-Reply}
 use Rattle.jolie_ast.specs.declared.process.Otherwise.{Otherwise}
 use Rattle.jolie_ast.specs.declared.process.Otherwise.TheVariants as otherwise
 use Rattle.jolie_ast.specs.declared.process.Process.TheVariants as process
-use Rattle.jolie_ast.specs.declared.process.Process.{Process}
+use Rattle.jolie_ast.specs.declared.process.Process.{Process, roll-Process}
 use Rattle.jolie_ast.specs.declared.process.Answer.{Answer, out-Answer, roll-Answer, roll-out-Answer}
 use Rattle.jolie_ast.specs.declared.process.Block.{Block, out-Block, roll-Block, roll-out-Block}
 use Rattle.jolie_ast.specs.declared.process.Branch.{Branch, out-Branch, roll-out-Branch}
@@ -69,78 +69,66 @@ all_mapped f (x ∷ xs) = ap (λ ts. f x ++ ts) (all_mapped f xs)
 
 -- ---- processes
 
-pub nothing_mentions : (at : ℕ) → process_texts (process.Nothing at) ≡ []
+-- what a process mentions, by the form that it is made of
+process_made : (x : Process-F Otherwise Process Answer Block Branch Handler If Input Reply) {p : Process} → roll-Process x ≡ p
+    → process_texts p ≡ process_level (map-Process Otherwise Process Answer Block Branch Handler If Input Reply Texts Texts Texts Texts Texts Texts Texts Texts Texts otherwise_texts process_texts answer_texts block_texts branch_texts handler_texts conditional_texts input_texts reply_texts x)
 unfolding process_texts conditional_texts otherwise_texts input_texts reply_texts branch_texts answer_texts handler_texts block_texts
-nothing_mentions at = ap process_texts (sym (process.rolls-Nothing at)) ∙ fold-roll-Process Texts Texts Texts Texts Texts Texts Texts Texts Texts otherwise_level process_level answer_level block_level branch_level handler_level if_level input_level reply_level (Process-F.«Process::Nothing» at)
+process_made x made = ap process_texts (sym made) ∙ fold-roll-Process Texts Texts Texts Texts Texts Texts Texts Texts Texts otherwise_level process_level answer_level block_level branch_level handler_level if_level input_level reply_level x
+
+pub nothing_mentions : (at : ℕ) → process_texts (process.Nothing at) ≡ []
+nothing_mentions at = process_made (Process-F.«Process::Nothing» at) (process.rolls-Nothing at)
 
 pub assign_mentions : (path : Path) (a : Assignment) → process_texts (process.Assign path a) ≡ []
-unfolding process_texts conditional_texts otherwise_texts input_texts reply_texts branch_texts answer_texts handler_texts block_texts
-assign_mentions path a = ap process_texts (sym (process.rolls-Assign path a)) ∙ fold-roll-Process Texts Texts Texts Texts Texts Texts Texts Texts Texts otherwise_level process_level answer_level block_level branch_level handler_level if_level input_level reply_level (Process-F.Assign path a)
+assign_mentions path a = process_made (Process-F.Assign path a) (process.rolls-Assign path a)
 
 pub undef_mentions : (at : ℕ) (path : Path) → process_texts (process.Undef at path) ≡ []
-unfolding process_texts conditional_texts otherwise_texts input_texts reply_texts branch_texts answer_texts handler_texts block_texts
-undef_mentions at path = ap process_texts (sym (process.rolls-Undef at path)) ∙ fold-roll-Process Texts Texts Texts Texts Texts Texts Texts Texts Texts otherwise_level process_level answer_level block_level branch_level handler_level if_level input_level reply_level (Process-F.Undef at path)
+undef_mentions at path = process_made (Process-F.Undef at path) (process.rolls-Undef at path)
 
 pub correlate_mentions : (at : ℕ) (variable : Name) (value : Expr) → process_texts (process.Correlate at variable value) ≡ []
-unfolding process_texts conditional_texts otherwise_texts input_texts reply_texts branch_texts answer_texts handler_texts block_texts
-correlate_mentions at variable value = ap process_texts (sym (process.rolls-Correlate at variable value)) ∙ fold-roll-Process Texts Texts Texts Texts Texts Texts Texts Texts Texts otherwise_level process_level answer_level block_level branch_level handler_level if_level input_level reply_level (Process-F.Correlate at variable value)
+correlate_mentions at variable value = process_made (Process-F.Correlate at variable value) (process.rolls-Correlate at variable value)
 
 pub conditional_mentions : (i : If) → process_texts (process.If i) ≡ conditional_texts i
-unfolding process_texts conditional_texts otherwise_texts input_texts reply_texts branch_texts answer_texts handler_texts block_texts
-conditional_mentions i = ap process_texts (sym (process.rolls-If i)) ∙ fold-roll-Process Texts Texts Texts Texts Texts Texts Texts Texts Texts otherwise_level process_level answer_level block_level branch_level handler_level if_level input_level reply_level (Process-F.If i)
+conditional_mentions i = process_made (Process-F.If i) (process.rolls-If i)
 
 pub while_mentions : (at : ℕ) (test : Expr) (body : Block) → process_texts (process.While at test body) ≡ block_texts body
-unfolding process_texts conditional_texts otherwise_texts input_texts reply_texts branch_texts answer_texts handler_texts block_texts
-while_mentions at test body = ap process_texts (sym (process.rolls-While at test body)) ∙ fold-roll-Process Texts Texts Texts Texts Texts Texts Texts Texts Texts otherwise_level process_level answer_level block_level branch_level handler_level if_level input_level reply_level (Process-F.While at test body)
+while_mentions at test body = process_made (Process-F.While at test body) (process.rolls-While at test body)
 
 pub for_mentions : (at : ℕ) (path : Path) (first test : Expr) (stepped : Path) (step : ForStep) (body : Block) → process_texts (process.For at path first test stepped step body) ≡ block_texts body
-unfolding process_texts conditional_texts otherwise_texts input_texts reply_texts branch_texts answer_texts handler_texts block_texts
-for_mentions at path first test stepped step body = ap process_texts (sym (process.rolls-For at path first test stepped step body)) ∙ fold-roll-Process Texts Texts Texts Texts Texts Texts Texts Texts Texts otherwise_level process_level answer_level block_level branch_level handler_level if_level input_level reply_level (Process-F.For at path first test stepped step body)
+for_mentions at path first test stepped step body = process_made (Process-F.For at path first test stepped step body) (process.rolls-For at path first test stepped step body)
 
 pub input_form_mentions : (i : Input) → process_texts (process.Input i) ≡ input_texts i
-unfolding process_texts conditional_texts otherwise_texts input_texts reply_texts branch_texts answer_texts handler_texts block_texts
-input_form_mentions i = ap process_texts (sym (process.rolls-Input i)) ∙ fold-roll-Process Texts Texts Texts Texts Texts Texts Texts Texts Texts otherwise_level process_level answer_level block_level branch_level handler_level if_level input_level reply_level (Process-F.Input i)
+input_form_mentions i = process_made (Process-F.Input i) (process.rolls-Input i)
 
 pub choice_mentions : (at : ℕ) (bs : List Branch) → process_texts (process.Choice at bs) ≡ flat_map branch_texts bs
-unfolding process_texts conditional_texts otherwise_texts input_texts reply_texts branch_texts answer_texts handler_texts block_texts
-choice_mentions at bs = ap process_texts (sym (process.rolls-Choice at bs)) ∙ fold-roll-Process Texts Texts Texts Texts Texts Texts Texts Texts Texts otherwise_level process_level answer_level block_level branch_level handler_level if_level input_level reply_level (Process-F.Choice at bs) ∙ all_mapped branch_texts bs
+choice_mentions at bs = process_made (Process-F.Choice at bs) (process.rolls-Choice at bs) ∙ all_mapped branch_texts bs
 
 pub output_mentions : (operation port : Name) (value : Option Expr) (answer : Option Answer) → process_texts (process.Output operation port value answer) ≡ maybe (option_map answer_texts answer)
-unfolding process_texts conditional_texts otherwise_texts input_texts reply_texts branch_texts answer_texts handler_texts block_texts
-output_mentions operation port value None = ap process_texts (sym (process.rolls-Output operation port value None)) ∙ fold-roll-Process Texts Texts Texts Texts Texts Texts Texts Texts Texts otherwise_level process_level answer_level block_level branch_level handler_level if_level input_level reply_level (Process-F.Output operation port value None)
-output_mentions operation port value (Some it) = ap process_texts (sym (process.rolls-Output operation port value (Some it))) ∙ fold-roll-Process Texts Texts Texts Texts Texts Texts Texts Texts Texts otherwise_level process_level answer_level block_level branch_level handler_level if_level input_level reply_level (Process-F.Output operation port value (Some it))
+output_mentions operation port value None = process_made (Process-F.Output operation port value None) (process.rolls-Output operation port value None)
+output_mentions operation port value (Some it) = process_made (Process-F.Output operation port value (Some it)) (process.rolls-Output operation port value (Some it))
 
 pub scope_mentions : (at : ℕ) (name : Name) (body : Block) → process_texts (process.Scope at name body) ≡ name.text ∷ block_texts body
-unfolding process_texts conditional_texts otherwise_texts input_texts reply_texts branch_texts answer_texts handler_texts block_texts
-scope_mentions at name body = ap process_texts (sym (process.rolls-Scope at name body)) ∙ fold-roll-Process Texts Texts Texts Texts Texts Texts Texts Texts Texts otherwise_level process_level answer_level block_level branch_level handler_level if_level input_level reply_level (Process-F.Scope at name body)
+scope_mentions at name body = process_made (Process-F.Scope at name body) (process.rolls-Scope at name body)
 
 pub install_mentions : (at : ℕ) (hs : List Handler) → process_texts (process.Install at hs) ≡ flat_map handler_texts hs
-unfolding process_texts conditional_texts otherwise_texts input_texts reply_texts branch_texts answer_texts handler_texts block_texts
-install_mentions at hs = ap process_texts (sym (process.rolls-Install at hs)) ∙ fold-roll-Process Texts Texts Texts Texts Texts Texts Texts Texts Texts otherwise_level process_level answer_level block_level branch_level handler_level if_level input_level reply_level (Process-F.Install at hs) ∙ all_mapped handler_texts hs
+install_mentions at hs = process_made (Process-F.Install at hs) (process.rolls-Install at hs) ∙ all_mapped handler_texts hs
 
 pub throw_mentions : (at : ℕ) (fault : Name) (value : Option Expr) → process_texts (process.Throw at fault value) ≡ fault.text ∷ []
-unfolding process_texts conditional_texts otherwise_texts input_texts reply_texts branch_texts answer_texts handler_texts block_texts
-throw_mentions at fault value = ap process_texts (sym (process.rolls-Throw at fault value)) ∙ fold-roll-Process Texts Texts Texts Texts Texts Texts Texts Texts Texts otherwise_level process_level answer_level block_level branch_level handler_level if_level input_level reply_level (Process-F.Throw at fault value)
+throw_mentions at fault value = process_made (Process-F.Throw at fault value) (process.rolls-Throw at fault value)
 
 pub compensate_mentions : (at : ℕ) (scope : Name) → process_texts (process.Compensate at scope) ≡ scope.text ∷ []
-unfolding process_texts conditional_texts otherwise_texts input_texts reply_texts branch_texts answer_texts handler_texts block_texts
-compensate_mentions at scope = ap process_texts (sym (process.rolls-Compensate at scope)) ∙ fold-roll-Process Texts Texts Texts Texts Texts Texts Texts Texts Texts otherwise_level process_level answer_level block_level branch_level handler_level if_level input_level reply_level (Process-F.Compensate at scope)
+compensate_mentions at scope = process_made (Process-F.Compensate at scope) (process.rolls-Compensate at scope)
 
 pub inner_handler_mentions : (at : ℕ) → process_texts (process.InnerHandler at) ≡ []
-unfolding process_texts conditional_texts otherwise_texts input_texts reply_texts branch_texts answer_texts handler_texts block_texts
-inner_handler_mentions at = ap process_texts (sym (process.rolls-InnerHandler at)) ∙ fold-roll-Process Texts Texts Texts Texts Texts Texts Texts Texts Texts otherwise_level process_level answer_level block_level branch_level handler_level if_level input_level reply_level (Process-F.InnerHandler at)
+inner_handler_mentions at = process_made (Process-F.InnerHandler at) (process.rolls-InnerHandler at)
 
 pub block_form_mentions : (b : Block) → process_texts (process.Block b) ≡ block_texts b
-unfolding process_texts conditional_texts otherwise_texts input_texts reply_texts branch_texts answer_texts handler_texts block_texts
-block_form_mentions b = ap process_texts (sym (process.rolls-Block b)) ∙ fold-roll-Process Texts Texts Texts Texts Texts Texts Texts Texts Texts otherwise_level process_level answer_level block_level branch_level handler_level if_level input_level reply_level (Process-F.Block b)
+block_form_mentions b = process_made (Process-F.Block b) (process.rolls-Block b)
 
 pub sequence_mentions : (ps : List Process) → process_texts (process.Sequence ps) ≡ flat_map process_texts ps
-unfolding process_texts conditional_texts otherwise_texts input_texts reply_texts branch_texts answer_texts handler_texts block_texts
-sequence_mentions ps = ap process_texts (sym (process.rolls-Sequence ps)) ∙ fold-roll-Process Texts Texts Texts Texts Texts Texts Texts Texts Texts otherwise_level process_level answer_level block_level branch_level handler_level if_level input_level reply_level (Process-F.Sequence ps) ∙ all_mapped process_texts ps
+sequence_mentions ps = process_made (Process-F.Sequence ps) (process.rolls-Sequence ps) ∙ all_mapped process_texts ps
 
 pub parallel_mentions : (ps : List Process) → process_texts (process.Parallel ps) ≡ flat_map process_texts ps
-unfolding process_texts conditional_texts otherwise_texts input_texts reply_texts branch_texts answer_texts handler_texts block_texts
-parallel_mentions ps = ap process_texts (sym (process.rolls-Parallel ps)) ∙ fold-roll-Process Texts Texts Texts Texts Texts Texts Texts Texts Texts otherwise_level process_level answer_level block_level branch_level handler_level if_level input_level reply_level (Process-F.Parallel ps) ∙ all_mapped process_texts ps
+parallel_mentions ps = process_made (Process-F.Parallel ps) (process.rolls-Parallel ps) ∙ all_mapped process_texts ps
 
 -- what processes mention, at each form
 pub ruleset of_processes = (nothing_mentions, assign_mentions, undef_mentions, correlate_mentions, conditional_mentions, while_mentions, for_mentions, input_form_mentions, choice_mentions, output_mentions, scope_mentions, install_mentions, throw_mentions, compensate_mentions, inner_handler_mentions, block_form_mentions, sequence_mentions, parallel_mentions)

@@ -1,6 +1,6 @@
 -- The aliases of correlation variables lead to values by the numbers of types as they do by their names.
-use Rattle.std.proofs.Common.{◌≡◌, ℕ, zero, suc, ℤ, pos, negsuc, Bool, true, false, List, [], ◌∷◌, map, length, Option, None, Some, slice_get, refl, ap, sym, ◌∙◌, bytes_eq}
-use Rattle.std.specs.Prelude.{◌&&◌, ◌==◌, is_some, if◌then◌else◌, option_map, option_and_then, unwrap_or}
+use Rattle.std.proofs.Common.{◌≡◌, ℕ, zero, suc, ℤ, pos, negsuc, Bool, true, false, List, [], ◌∷◌, map, length, Option, None, Some, cond, slice_get, refl, ap, sym, ◌∙◌, bytes_eq}
+use Rattle.std.specs.Prelude.{◌&&◌, ◌==◌, find, not, is_some, if◌then◌else◌, option_map, option_and_then, unwrap_or}
 use Rattle.std.specs.Ordering.{int_eq}
 use Rattle.std.proofs.lemmas.Bool.{and_right, eq-eqb, eqb-true, false≢true}
 use Rattle.std.proofs.lemmas.Bool.Decides.{Decides-int_eq}
@@ -25,7 +25,10 @@ use Rattle.behaviour_tree.specs.FormedSets.{fields_of, once_at, is_alias}
 use Rattle.behaviour_tree.specs.Distinct.{is_in}
 use Rattle.check_base.specs.declared.refusal.CheckName.TheVariants.{UnknownType}
 use Rattle.check_base.specs.Files.{place_in, type_named, type_names, body_of, name_in}
-use Rattle.port_checks.specs.SetRules.{is_once, field_named, behind_names, is_value_kind, fields_in, is_value, once_in, leads_to_value, alias_type, wrong_alias}
+use Rattle.check_base.specs.TypeNames.{next_body, is_no_name, behind_names}
+use Rattle.behaviour_tree.proofs.Leading.{from_there}
+use Rattle.port_checks.proofs.Behind.{behind, behind_by}
+use Rattle.port_checks.specs.SetRules.{is_once, field_named, is_value_kind, fields_in, is_value, once_in, leads_to_value, alias_type, wrong_alias}
 use Rattle.type_lowering.specs.LoweredTypes.{natural, least_of, most_of, lowered_kind, lowered_body, lowered_field, lowered_definition}
 use Rattle.service_check.specs.Programs.{lowered_alias}
 use Rattle.service_check.proofs.Emptied.{holds}
@@ -78,12 +81,34 @@ if_no_name x b = elim (name_in b) as (λ _. Option TypeBody) [ None ↦ Some x |
 
 -- a body, or the one behind its name
 abbrev pub behind_form : List TypeDefinition → ℕ → TypeBody → TypeBody-F TypeBody Field → Option TypeBody
-behind_form types n x b = elim (name_in b) as (λ _. Option TypeBody) [ None ↦ Some x | Some name ↦ elim (type_named types name) as (λ _. Option TypeBody) [ None ↦ None | Some ty ↦ behind_names types n (body_of ty.body) ] ]
+behind_form types n x b = elim (name_in b) as (λ _. Option TypeBody) [ None ↦ Some x | Some name ↦ elim (type_named types name) as (λ _. Option TypeBody) [ None ↦ None | Some ty ↦ behind types n (body_of ty.body) ] ]
+
+end_turn : (x : TypeBody) (o : Option (List ℕ)) → cond (not (is_some o)) (Some x) None ≡ (elim o as (λ _. Option TypeBody) [ None ↦ Some x | Some name ↦ None ])
+end_turn x None = refl
+end_turn x (Some name) = refl
+
+-- a body behind no names, where no more names are followed
+behind_at_end : (types : List TypeDefinition) (x : TypeBody) → behind types zero x ≡ if_no_name x (out-TypeBody x)
+behind_at_end types x = end_turn x (name_in (out-TypeBody x))
+
+named_turn : (types : List TypeDefinition) (n : ℕ) (o : Option TypeDefinition)
+    → find is_no_name (from_there (next_body types) n (option_map (λ (ty : TypeDefinition). body_of ty.body) o)) ≡ (elim o as (λ _. Option TypeBody) [ None ↦ None | Some ty ↦ behind types n (body_of ty.body) ])
+named_turn types n None = refl
+named_turn types n (Some ty) = refl
+
+further_turn : (types : List TypeDefinition) (n : ℕ) (x : TypeBody) (o : Option (List ℕ))
+    → behind_by types n x o ≡ (elim o as (λ _. Option TypeBody) [ None ↦ Some x | Some name ↦ elim (type_named types name) as (λ _. Option TypeBody) [ None ↦ None | Some ty ↦ behind types n (body_of ty.body) ] ])
+further_turn types n x None = refl
+further_turn types n x (Some name) = named_turn types n (type_named types name)
+
+-- a body, or the one behind its name, where one name more is followed
+behind_further : (types : List TypeDefinition) (n : ℕ) (x : TypeBody) → behind types (suc n) x ≡ behind_form types n x (out-TypeBody x)
+behind_further types n x = further_turn types n x (name_in (out-TypeBody x))
 
 behind_there : (types : List TypeDefinition) (n : ℕ) (o : Option TypeDefinition)
-    → ((x : TypeBody) → shape (lowered_types types) n (lowered_body (type_names types) x) ≡ option_map (lowered_body (type_names types)) (behind_names types n x))
+    → ((x : TypeBody) → shape (lowered_types types) n (lowered_body (type_names types) x) ≡ option_map (lowered_body (type_names types)) (behind types n x))
     → option_and_then (shape (lowered_types types) n) (option_map (lowered_definition (type_names types)) o)
-    ≡ option_map (lowered_body (type_names types)) (elim o as (λ _. Option TypeBody) [ None ↦ None | Some ty ↦ behind_names types n (body_of ty.body) ])
+    ≡ option_map (lowered_body (type_names types)) (elim o as (λ _. Option TypeBody) [ None ↦ None | Some ty ↦ behind types n (body_of ty.body) ])
 behind_there types n None same = refl
 behind_there types n (Some ty) same = same (body_of ty.body)
 
@@ -99,7 +124,7 @@ shape_at_end types x (TypeBody-F.Undefined at) form =
     ap (shape (lowered_types types) zero) means ∙ ap Some (sym means)
 
 shape_further : (types : List TypeDefinition) (n : ℕ) (x : TypeBody) (b : TypeBody-F TypeBody Field) → out-TypeBody x ≡ b
-    → ((y : TypeBody) → shape (lowered_types types) n (lowered_body (type_names types) y) ≡ option_map (lowered_body (type_names types)) (behind_names types n y))
+    → ((y : TypeBody) → shape (lowered_types types) n (lowered_body (type_names types) y) ≡ option_map (lowered_body (type_names types)) (behind types n y))
     → shape (lowered_types types) (suc n) (lowered_body (type_names types) x) ≡ option_map (lowered_body (type_names types)) (behind_form types n x b)
 shape_further types n x (TypeBody-F.Root at kind fields) form same =
     let means : lowered_body (type_names types) x ≡ plain.plain (lowered_kind kind) (type_fields_of (map (lowered_field (type_names types)) (unwrap_or fields []))) =
@@ -114,9 +139,9 @@ shape_further types n x (TypeBody-F.Undefined at) form same =
     ap (shape (lowered_types types) (suc n)) means ∙ ap Some (sym means)
 
 -- the type behind the numbers of a body is that behind its names
-pub shape_is : (types : List TypeDefinition) (n : ℕ) (x : TypeBody) → shape (lowered_types types) n (lowered_body (type_names types) x) ≡ option_map (lowered_body (type_names types)) (behind_names types n x)
-shape_is types zero x = shape_at_end types x (out-TypeBody x) refl
-shape_is types (suc n) x = shape_further types n x (out-TypeBody x) refl (shape_is types n)
+pub shape_is : (types : List TypeDefinition) (n : ℕ) (x : TypeBody) → shape (lowered_types types) n (lowered_body (type_names types) x) ≡ option_map (lowered_body (type_names types)) (behind types n x)
+shape_is types zero x = shape_at_end types x (out-TypeBody x) refl ∙ ap (option_map (lowered_body (type_names types))) (sym (behind_at_end types x))
+shape_is types (suc n) x = shape_further types n x (out-TypeBody x) refl (shape_is types n) ∙ ap (option_map (lowered_body (type_names types))) (sym (behind_further types n x))
 
 -- ---- chains of fields
 
@@ -166,12 +191,12 @@ field_found types (f ∷ fields) name =
     ∙ ap (λ b. if bytes_eq (out-Field f).name.text name then (if b then Some (lowered_body types (out-Field f).body) else None) else rest) (stands_once (out-Field f).cardinality)
     ∙ found_turn types (bytes_eq (out-Field f).name.text name) f (field_named fields name) rest (field_found types fields name)
 
-behind_if : (types : List TypeDefinition) (n : ℕ) (b : Bool) (x : TypeBody) → option_and_then (shape (lowered_types types) n) (if b then Some (lowered_body (type_names types) x) else None) ≡ option_map (lowered_body (type_names types)) (if b then behind_names types n x else None)
+behind_if : (types : List TypeDefinition) (n : ℕ) (b : Bool) (x : TypeBody) → option_and_then (shape (lowered_types types) n) (if b then Some (lowered_body (type_names types) x) else None) ≡ option_map (lowered_body (type_names types)) (if b then behind types n x else None)
 behind_if types n true x = shape_is types n x
 behind_if types n false x = refl
 
 once_there : (types : List TypeDefinition) (n : ℕ) (o : Option Field) → option_and_then (shape (lowered_types types) n) (option_and_then (if_once (type_names types)) o)
-    ≡ option_map (lowered_body (type_names types)) (option_and_then (λ (f : Field). if is_once (out-Field f).cardinality then behind_names types n (out-Field f).body else None) o)
+    ≡ option_map (lowered_body (type_names types)) (option_and_then (λ (f : Field). if is_once (out-Field f).cardinality then behind types n (out-Field f).body else None) o)
 once_there types n None = refl
 once_there types n (Some f) = behind_if types n (is_once (out-Field f).cardinality) (out-Field f).body
 
@@ -194,7 +219,7 @@ leads_alike types (Some x) (n ∷ path) =
 -- ---- aliases
 
 alias_there : (types : List TypeDefinition) (n : ℕ) (o : Option TypeDefinition) → option_and_then (shape (lowered_types types) n) (option_map (lowered_definition (type_names types)) o)
-    ≡ option_map (lowered_body (type_names types)) (option_and_then (λ (ty : TypeDefinition). behind_names types n (body_of ty.body)) o)
+    ≡ option_map (lowered_body (type_names types)) (option_and_then (λ (ty : TypeDefinition). behind types n (body_of ty.body)) o)
 alias_there types n None = refl
 alias_there types n (Some ty) = shape_is types n (body_of ty.body)
 
@@ -207,7 +232,7 @@ alias_formed types a e =
     ∙ leads_alike types (alias_type types a) (a.first ∷ a.rest)
     ∙ holds (leads_to_value types (alias_type types a) (a.first ∷ a.rest)) UnknownType a.ty.at e
 
-known_by : (types : List TypeDefinition) (path : List Name) (o : Option TypeDefinition) → leads_to_value types (option_and_then (λ (ty : TypeDefinition). behind_names types (length types) (body_of ty.body)) o) path ≡ true → is_some o ≡ true
+known_by : (types : List TypeDefinition) (path : List Name) (o : Option TypeDefinition) → leads_to_value types (option_and_then (λ (ty : TypeDefinition). behind_names types (body_of ty.body)) o) path ≡ true → is_some o ≡ true
 known_by types path None e = absurd (false≢true e)
 known_by types path (Some ty) e = refl
 

@@ -21,7 +21,7 @@ use Rattle.check_base.specs.declared.refusal.Refusal.{Refusal}
 use Rattle.check_base.specs.Least.{refused, refused_if}
 use Rattle.process_lowering.specs.Behaviours.{NumberedPort, port_among}
 use Rattle.check_base.specs.Files.{Operation, each_once, operation_named, operations_named, output_port_in, place_in, port_in, port_operations, texts_of, interface_names}
-use Rattle.port_checks.specs.PortRules.{brought, output_port_refused}
+use Rattle.port_checks.specs.PortRules.{brought, operations_repeated}
 use Rattle.process_checks.specs.ProcessRules.{agree, outlet_named, used}
 use Rattle.type_lowering.specs.LoweredInterfaces.{lowered_interface, lowered_operation}
 use Rattle.type_lowering.specs.LoweredTypes.{lowered_type}
@@ -79,7 +79,7 @@ once_is : (os : List Operation) → texts_differ (texts_of os) ≡ true → each
 once_is os differ = ap each_once (sym (append-nil os)) ∙ new_taken [] os [] differ (λ x h. refl) ∙ append-nil os
 
 -- the operations that are sent to an output port are its own
-pub sent_operations : (types names : List (List ℕ)) (is : List Interface) (p : Port) → output_port_refused is p ≡ []
+pub sent_operations : (types names : List (List ℕ)) (is : List Interface) (p : Port) → operations_repeated is p ≡ []
     → formed_ports.port_operations (map (lowered_interface types names) is) (record { name = p.name.text; input = false; location = p.location.text; interfaces = map (λ (n : Name). place_in (interface_names is) n.text) p.interfaces }) ≡ map (lowered_operation types names) (port_operations is p)
 sent_operations types names is p e =
     let os : List Operation = flat_map (operations_named is) (port_names p) in
@@ -116,18 +116,18 @@ output_turn types names is false p all n operation port answers found rest there
 
 -- an output to a port of a service without a refusal reaches an operation
 pub output_reaches : (types names : List (List ℕ)) (is : List Interface) (clauses : List Clause) (n : ℕ) (all : List (List OperationPart)) (none : NumberedPort) (operation port : Name) (answers : Bool)
-    → flat_map (output_port_refused is) (filter_map output_port_in clauses) ≡ [] → StandFrom types names is clauses n all
+    → flat_map (operations_repeated is) (filter_map output_port_in clauses) ≡ [] → StandFrom types names is clauses n all
     → output_of (outlet_named (map (outlet is) (filter_map output_port_in clauses)) port.text) operation port answers ≡ []
     → reaches all operation answers (port_among (numbered_from is n (filter_map port_in clauses)) none port.text) ≡ true
 output_reaches types names is [] n all none operation port answers once stand e = cc
 output_reaches types names is (clause.OutputPort p ∷ clauses) n all none operation port answers once stand e =
     let here : n + 0 ≡ n = omega arith in
-    let mine : output_port_refused is p ≡ [] = left_empty (output_port_refused is p) (flat_map (output_port_refused is) (filter_map output_port_in clauses)) once in
+    let mine : operations_repeated is p ≡ [] = left_empty (operations_repeated is p) (flat_map (operations_repeated is) (filter_map output_port_in clauses)) once in
     let rest : List PortPart = ports_of (interface_names is) clauses in
     let first : List OperationPart = formed_ports.port_operations (map (lowered_interface types names) is) (record { name = p.name.text; input = false; location = p.location.text; interfaces = map (λ (n : Name). place_in (interface_names is) n.text) p.interfaces }) in
     output_turn types names is (bytes_eq p.name.text port.text) p all n operation port answers (outlet_named (map (outlet is) (filter_map output_port_in clauses)) port.text) (port_among (numbered_from is (suc n) (filter_map port_in clauses)) none port.text)
     (subst (λ k. slice_get all k ≡ Some first) here (stand 0 first refl) ∙ ap Some (sent_operations types names is p mine)) e
-    (λ h. output_reaches types names is clauses (suc n) all none operation port answers (right_empty (output_port_refused is p) (flat_map (output_port_refused is) (filter_map output_port_in clauses)) once)
+    (λ h. output_reaches types names is clauses (suc n) all none operation port answers (right_empty (operations_repeated is p) (flat_map (operations_repeated is) (filter_map output_port_in clauses)) once)
     (stand_further first (map (sent_to (map (lowered_interface types names) is)) rest) n all stand) h)
 output_reaches types names is (clause.InputPort p ∷ clauses) n all none operation port answers once stand e =
     output_reaches types names is clauses (suc n) all none operation port answers once (stand_further [] (map (sent_to (map (lowered_interface types names) is)) (ports_of (interface_names is) clauses)) n all stand) e

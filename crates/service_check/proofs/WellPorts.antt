@@ -2,7 +2,8 @@
 use Rattle.std.proofs.Common.{◌≡◌, ℕ, zero, suc, Bool, true, false, List, [], ◌∷◌, ◌++◌, map, flat_map, length, Option, None, Some, slice_get, refl, ap, sym, ◌∙◌, bytes_eq}
 use Rattle.std.specs.Prelude.{not, ◌&&◌, ◌||◌, is_some, nat_lt, if◌then◌else◌, option_map, unwrap_or}
 use Rattle.std.specs.List.{filter_map, list_all}
-use Rattle.std.proofs.lemmas.Bool.{and_from, and_parts, or_right, not_from_false, false≢true, not-true}
+use Rattle.std.proofs.lemmas.Bool.{and_from, or_left, or_right, not_from_false, false≢true}
+use Rattle.std.proofs.lemmas.Slice.Eq.{bytes_eq-Decides}
 use Rattle.std.proofs.lemmas.Grind.{flat_map-append}
 use Rattle.std.proofs.lemmas.List.{length-map, map-append}
 use Rattle.std.proofs.lemmas.List.Folds.{list_all-append, list_any-append, flat_map-map}
@@ -16,20 +17,20 @@ use Rattle.behaviour_tree.specs.Locations.{is_local, is_socket}
 use Rattle.behaviour_tree.specs.Operations as plain
 use Rattle.behaviour_tree.specs.Operations.{mentions, input_interfaces, operations_of}
 use Rattle.behaviour_tree.specs.FormedPorts as formed_ports
-use Rattle.behaviour_tree.specs.Distinct.{texts_differ, numbers_differ, is_in}
-use Rattle.behaviour_tree.specs.FormedPorts.{operation_names, is_port, names_once, has_once, is_met}
+use Rattle.behaviour_tree.specs.Distinct.{texts_differ, is_in}
+use Rattle.behaviour_tree.specs.FormedPorts.{operation_names, is_port, has_once, is_met}
 use Rattle.check_base.specs.declared.refusal.CheckName.TheVariants.{DuplicateName, UnknownType, UnknownPort, WrongKind}
 use Rattle.check_base.specs.declared.refusal.Refusal.{Refusal}
 use Rattle.check_base.specs.Least.{refused, refused_if}
 use Rattle.check_base.specs.Repeated.{firsts_after, repeated}
 use Rattle.check_base.specs.Files.{Operation, each_once, interface_named, operations_in, operations_named, place_in, port_in, input_port_in, output_port_in, texts_of, interface_names}
-use Rattle.port_checks.specs.PortRules.{unknown_interface, operation_at, brought_by, brought_unless, brought, brought_in, interfaces_repeated, output_port_refused, wrong_location, wrong_protocol, port_refused, sided_refused, unmet}
+use Rattle.port_checks.specs.PortRules.{unknown_interface, operation_at, brought_by, brought_unless, brought, brought_in, operations_repeated, wrong_location, wrong_protocol, port_refused, sided_refused, unmet}
 use Rattle.check_base.specs.Console.{console}
 use Rattle.type_lowering.specs.LoweredInterfaces.{lowered_operation, lowered_interface}
 use Rattle.service_check.specs.Programs.{lowered_port_part}
-use Rattle.service_check.proofs.Emptied.{all_four, left_empty, right_empty, fails, holds, mapped_empty, has_place, another_text, in_first, names_differ}
-use Rattle.service_check.proofs.OnceEach.{passed, among_passed, firsts_of_two, first_places, texts_under, taken_by_interface}
-use Rattle.service_check.proofs.WellInterfaces.{all_in, places_differ}
+use Rattle.service_check.proofs.Emptied.{left_empty, right_empty, fails, holds, mapped_empty, has_place, in_first, in_last, names_differ}
+use Rattle.service_check.proofs.OnceEach.{passed, among_passed, firsts_of_two, first_places, second_differ, two_apart, texts_under, taken_by_interface}
+use Rattle.service_check.proofs.WellInterfaces.{all_in}
 use Rattle.check_base.proofs.Loops.{mapped_each, mapped_twice}
 
 -- ---- interfaces by their names
@@ -90,36 +91,96 @@ brought_texts is earlier (n ∷ ns) =
     ∙ ap (λ ts. ts ++ map (λ (m : Name). m.text) (brought is earlier ns)) (unless_turn is (is_in n.text earlier) n)
     ∙ ap (λ ts. unless is earlier n.text ++ ts) (brought_texts is earlier ns)
 
-once_turn : (is : List Interface) (b c : Bool) (t : List ℕ) (ts rest : List (List ℕ)) → b ≡ c → ts ≡ texts_under (operations_named is) rest
-    → (if b then [] else texts_of (operations_named is t)) ++ ts ≡ texts_under (operations_named is) ((if c then [] else t ∷ []) ++ rest)
-once_turn is true true t ts rest same e = e
-once_turn is true false t ts rest same e = absurd (false≢true (sym same))
-once_turn is false true t ts rest same e = absurd (false≢true same)
-once_turn is false false t ts rest same e = ap (λ us. texts_of (operations_named is t) ++ us) e
+abbrev has_some : List (List ℕ) → Bool
+has_some [] = false
+has_some (u ∷ us) = true
 
--- interfaces that a port names once each
-brought_once : (is : List Interface) (earlier before ts : List (List ℕ)) → texts_differ ts ≡ true → ((x : List ℕ) → is_in x ts ≡ true → is_in x earlier ≡ is_in x before)
+-- whether an interface has operations
+abbrev brings : List Interface → List ℕ → Bool
+brings is t = has_some (texts_of (operations_named is t))
+
+-- an interface that is passed on one side is passed on the other, or has no operation
+abbrev Alike : List Interface → List (List ℕ) → List (List ℕ) → List ℕ → Type 0
+Alike is earlier before t = brings is t ≡ true → is_in t earlier ≡ is_in t before
+
+nothing_brought : (us : List (List ℕ)) → has_some us ≡ false → us ≡ []
+nothing_brought [] e = refl
+nothing_brought (u ∷ us) e = absurd (false≢true (sym e))
+
+something_brought : (us : List (List ℕ)) (P : Type 0) → has_some us ≡ true → ((u : List ℕ) → is_in u us ≡ true → P) → P
+something_brought [] P e first = absurd (false≢true e)
+something_brought (u ∷ us) P e first = first u (in_first u us)
+
+passed_over : (c : Bool) (under : List ℕ → List Operation) (t : List ℕ) (rest : List (List ℕ)) → texts_of (under t) ≡ [] → texts_under under rest ≡ texts_under under ((if c then [] else t ∷ []) ++ rest)
+passed_over true under t rest none = refl
+passed_over false under t rest none = ap (λ us. us ++ texts_under under rest) (sym none)
+
+once_none : (is : List Interface) (b c : Bool) (t : List ℕ) (ts rest : List (List ℕ)) → texts_of (operations_named is t) ≡ [] → ts ≡ texts_under (operations_named is) rest
+    → (if b then [] else texts_of (operations_named is t)) ++ ts ≡ texts_under (operations_named is) ((if c then [] else t ∷ []) ++ rest)
+once_none is true c t ts rest none e = e ∙ passed_over c (operations_named is) t rest none
+once_none is false c t ts rest none e = ap (λ us. us ++ ts) none ∙ e ∙ passed_over c (operations_named is) t rest none
+
+once_same : (is : List Interface) (b c : Bool) (t : List ℕ) (ts rest : List (List ℕ)) → b ≡ c → ts ≡ texts_under (operations_named is) rest
+    → (if b then [] else texts_of (operations_named is t)) ++ ts ≡ texts_under (operations_named is) ((if c then [] else t ∷ []) ++ rest)
+once_same is true true t ts rest same e = e
+once_same is true false t ts rest same e = absurd (false≢true (sym same))
+once_same is false true t ts rest same e = absurd (false≢true same)
+once_same is false false t ts rest same e = ap (λ us. texts_of (operations_named is t) ++ us) e
+
+once_turn : (is : List Interface) (some b c : Bool) (t : List ℕ) (ts rest : List (List ℕ)) → brings is t ≡ some → (some ≡ true → b ≡ c) → ts ≡ texts_under (operations_named is) rest
+    → (if b then [] else texts_of (operations_named is t)) ++ ts ≡ texts_under (operations_named is) ((if c then [] else t ∷ []) ++ rest)
+once_turn is true b c t ts rest has same e = once_same is b c t ts rest (same refl) e
+once_turn is false b c t ts rest has same e = once_none is b c t ts rest (nothing_brought (texts_of (operations_named is t)) has) e
+
+-- the operations of one interface of some are among those of all
+among_all : (b : Bool) (is : List Interface) (t x u : List ℕ) (ts : List (List ℕ)) → bytes_eq t x ≡ b → (is_in x ts ≡ true → is_in u (texts_under (operations_named is) ts) ≡ true) → (b || is_in x ts) ≡ true
+    → is_in u (texts_of (operations_named is x)) ≡ true → is_in u (texts_of (operations_named is t) ++ texts_under (operations_named is) ts) ≡ true
+among_all true is t x u ts same further there has =
+    list_any-append (λ s. bytes_eq s u) (texts_of (operations_named is t)) (texts_under (operations_named is) ts)
+    ∙ or_left (is_in u (texts_of (operations_named is t))) (is_in u (texts_under (operations_named is) ts)) (ap (λ y. is_in u (texts_of (operations_named is y))) ((bytes_eq-Decides t x).0 same) ∙ has)
+among_all false is t x u ts other further there has =
+    in_last u (texts_of (operations_named is t)) (texts_under (operations_named is) ts) (further there)
+
+in_all : (is : List Interface) (x u : List ℕ) (ts : List (List ℕ)) → is_in x ts ≡ true → is_in u (texts_of (operations_named is x)) ≡ true → is_in u (texts_under (operations_named is) ts) ≡ true
+in_all is x u [] there has = absurd (false≢true there)
+in_all is x u (t ∷ ts) there has = among_all (bytes_eq t x) is t x u ts refl (λ later. in_all is x u ts later has) there has
+
+-- of interfaces whose operations differ, one that stands again has none
+not_again : (b : Bool) (is : List Interface) (t x : List ℕ) (ts : List (List ℕ)) → bytes_eq t x ≡ b → texts_differ (texts_of (operations_named is t) ++ texts_under (operations_named is) ts) ≡ true
+    → is_in x ts ≡ true → brings is x ≡ true → b ≡ false
+not_again false is t x ts other differ there has = refl
+not_again true is t x ts same differ there has =
+    something_brought (texts_of (operations_named is x)) (true ≡ false) has
+    (λ u h. sym (ap (λ y. is_in u (texts_of (operations_named is y))) ((bytes_eq-Decides t x).0 same) ∙ h)
+    ∙ two_apart u (texts_of (operations_named is t)) (texts_under (operations_named is) ts) differ (in_all is x u ts there h))
+
+-- interfaces of a port that has no operation twice
+brought_once : (is : List Interface) (earlier before ts : List (List ℕ)) → texts_differ (texts_under (operations_named is) ts) ≡ true → ((x : List ℕ) → is_in x ts ≡ true → Alike is earlier before x)
     → flat_map (unless is earlier) ts ≡ texts_under (operations_named is) (firsts_after before ts)
 brought_once is earlier before [] differ same = refl
 brought_once is earlier before (t ∷ ts) differ same =
-    let parts : (not (is_in t ts) ≡ true) × (texts_differ ts ≡ true) = and_parts (not (is_in t ts)) (texts_differ ts) differ in
-    once_turn is (is_in t earlier) (is_in t before) t (flat_map (unless is earlier) ts) (firsts_after (t ∷ before) ts) (same t (in_first t ts))
-    (brought_once is earlier (t ∷ before) ts parts.1
-    (λ x there. same x (or_right (bytes_eq t x) (is_in x ts) there) ∙ ap (λ b. b || is_in x before) (sym (another_text (bytes_eq t x) t x ts refl (not-true (is_in t ts) parts.0) there))))
+    once_turn is (brings is t) (is_in t earlier) (is_in t before) t (flat_map (unless is earlier) ts) (firsts_after (t ∷ before) ts) refl (same t (in_first t ts))
+    (brought_once is earlier (t ∷ before) ts (second_differ (texts_of (operations_named is t)) (texts_under (operations_named is) ts) differ)
+    (λ x there has. same x (or_right (bytes_eq t x) (is_in x ts) there) has ∙ ap (λ b. b || is_in x before) (sym (not_again (bytes_eq t x) is t x ts refl differ there has))))
 
--- what input ports bring by name, where each names its interfaces once
-pub all_brought : (is : List Interface) (earlier before : List (List ℕ)) (ports : List Port) → flat_map interfaces_repeated ports ≡ [] → ((x : List ℕ) → is_in x earlier ≡ is_in x before)
+-- the operations of a port differ
+pub operations_differ : (is : List Interface) (p : Port) → operations_repeated is p ≡ [] → texts_differ (texts_under (operations_named is) (port_names p)) ≡ true
+operations_differ is p once =
+    ap texts_differ (sym (brought_texts is [] p.interfaces)) ∙ names_differ DuplicateName (brought is [] p.interfaces) once
+
+-- what input ports bring by name, where none has an operation twice
+pub all_brought : (is : List Interface) (earlier before : List (List ℕ)) (ports : List Port) → flat_map (operations_repeated is) ports ≡ [] → ((x : List ℕ) → is_in x earlier ≡ is_in x before)
     → map (λ (m : Name). m.text) (brought_in is earlier ports) ≡ texts_under (operations_named is) (firsts_after before (flat_map port_names ports))
 all_brought is earlier before [] once same = refl
 all_brought is earlier before (p ∷ ports) once same =
     let ts : List (List ℕ) = port_names p in
     let later : List (List ℕ) = flat_map port_names ports in
     let rest : List Name = brought_in is (earlier ++ ts) ports in
-    let differ : texts_differ ts ≡ true = names_differ DuplicateName p.interfaces (left_empty (interfaces_repeated p) (flat_map interfaces_repeated ports) once) in
+    let differ : texts_differ (texts_under (operations_named is) ts) ≡ true = operations_differ is p (left_empty (operations_repeated is p) (flat_map (operations_repeated is) ports) once) in
     map-append (λ (m : Name). m.text) (brought is earlier p.interfaces) rest
-    ∙ ap (λ us. us ++ map (λ (m : Name). m.text) rest) (brought_texts is earlier p.interfaces ∙ brought_once is earlier before ts differ (λ x there. same x))
+    ∙ ap (λ us. us ++ map (λ (m : Name). m.text) rest) (brought_texts is earlier p.interfaces ∙ brought_once is earlier before ts differ (λ x there has. same x))
     ∙ ap (λ us. texts_under (operations_named is) (firsts_after before ts) ++ us)
-    (all_brought is (earlier ++ ts) (passed before ts) ports (right_empty (interfaces_repeated p) (flat_map interfaces_repeated ports) once)
+    (all_brought is (earlier ++ ts) (passed before ts) ports (right_empty (operations_repeated is p) (flat_map (operations_repeated is) ports) once)
     (λ x. list_any-append (λ t. bytes_eq t x) earlier ts ∙ ap (λ b. b || is_in x ts) (same x) ∙ sym (among_passed x before ts)))
     ∙ sym (flat_map-append (λ t. texts_of (operations_named is t)) (firsts_after before ts) (firsts_after (passed before ts) later))
     ∙ ap (texts_under (operations_named is)) (sym (firsts_of_two before ts later))
@@ -159,14 +220,14 @@ listed_by_name is (p ∷ ports) =
     ∙ sym (flat_map-append (operations_named is) (port_names p) (flat_map port_names ports))
 
 -- the names of the operations of the interfaces that input ports name differ
-pub taken_names_differ : (is : List Interface) (ports : List Port) → flat_map interfaces_repeated ports ≡ [] → refused DuplicateName (repeated (brought_in is [] ports)) ≡ []
+pub taken_names_differ : (is : List Interface) (ports : List Port) → flat_map (operations_repeated is) ports ≡ [] → refused DuplicateName (repeated (brought_in is [] ports)) ≡ []
     → texts_differ (texts_under (operations_named is) (firsts_after [] (flat_map port_names ports))) ≡ true
 taken_names_differ is ports once none =
     ap texts_differ (sym (all_brought is [] [] ports once (λ x. refl))) ∙ names_differ DuplicateName (brought_in is [] ports) none
 
 -- the operations of a service are its input operations in order
 pub service_operations_are : (types names : List (List ℕ)) (is : List Interface) (clauses : List Clause) → all_in (interface_names is) (names_taken clauses) ≡ true
-    → flat_map interfaces_repeated (filter_map input_port_in clauses) ≡ [] → refused DuplicateName (repeated (brought_in is [] (filter_map input_port_in clauses))) ≡ []
+    → flat_map (operations_repeated is) (filter_map input_port_in clauses) ≡ [] → refused DuplicateName (repeated (brought_in is [] (filter_map input_port_in clauses))) ≡ []
     → operations_of (map (lowered_interface types names) is) (input_interfaces (ports_of (interface_names is) clauses)) ≡ map (lowered_operation types names) (each_once (operations_listed is (filter_map input_port_in clauses)))
 service_operations_are types names is clauses known once none =
     let ts : List (List ℕ) = names_taken clauses in
@@ -187,7 +248,7 @@ names_by_interface types names is ts =
 
 -- the names of the operations of a service differ
 pub service_operations_differ : (types names : List (List ℕ)) (is : List Interface) (clauses : List Clause) → all_in (interface_names is) (names_taken clauses) ≡ true
-    → flat_map interfaces_repeated (filter_map input_port_in clauses) ≡ [] → refused DuplicateName (repeated (brought_in is [] (filter_map input_port_in clauses))) ≡ []
+    → flat_map (operations_repeated is) (filter_map input_port_in clauses) ≡ [] → refused DuplicateName (repeated (brought_in is [] (filter_map input_port_in clauses))) ≡ []
     → texts_differ (operation_names (operations_of (map (lowered_interface types names) is) (input_interfaces (ports_of (interface_names is) clauses)))) ≡ true
 service_operations_differ types names is clauses known once none =
     let ts : List (List ℕ) = names_taken clauses in
@@ -231,17 +292,25 @@ port_by_itself is p m size e =
     (holds (is_local p.location.text || is_socket p.location.text) WrongKind p.location.at (right_empty named (wrong_location p) front)))
     (port_numbers is p m size e)
 
+-- the operations of a port, as the program has them
+port_has_once : (types names : List (List ℕ)) (is : List Interface) (p : Port) → operations_repeated is p ≡ []
+    → texts_differ (operation_names (operations_of (map (lowered_interface types names) is) (map (λ (n : Name). place_in (interface_names is) n.text) p.interfaces))) ≡ true
+port_has_once types names is p once =
+    ap (λ ns. texts_differ (operation_names (operations_of (map (lowered_interface types names) is) ns))) (sym (mapped_twice (place_in (interface_names is)) (λ (n : Name). n.text) p.interfaces))
+    ∙ ap texts_differ (names_by_interface types names is (port_names p))
+    ∙ operations_differ is p once
+
 -- an input port
-input_port_formed : (types names : List (List ℕ)) (is : List Interface) (locations : List (List ℕ)) (p : Port) → port_refused is p ≡ [] → interfaces_repeated p ≡ []
+input_port_formed : (types names : List (List ℕ)) (is : List Interface) (locations : List (List ℕ)) (p : Port) → port_refused is p ≡ [] → operations_repeated is p ≡ []
     → is_port (map (lowered_interface types names) is) locations (lowered_port_part (interface_names is) (record { input = true; port = p })) ≡ true
 input_port_formed types names is locations p e once =
     let pis : List InterfacePart = map (lowered_interface types names) is in
     let part : PortPart = lowered_port_part (interface_names is) (record { input = true; port = p }) in
     let size : length pis ≡ length (interface_names is) = length-map is (lowered_interface types names) ∙ sym (length-map is (λ (i : Interface). i.name.text)) in
-    all_four (not (bytes_eq p.name.text formed_ports.console) && (is_local p.location.text || is_socket p.location.text) && list_all (λ n. nat_lt n (length pis)) part.interfaces) (names_once part) (has_once pis part) (is_met locations part)
-    (port_by_itself is p (length pis) size e)
-    (ap numbers_differ (sym (mapped_twice (place_in (interface_names is)) (λ (n : Name). n.text) p.interfaces)) ∙ places_differ (interface_names is) (port_names p) (names_differ DuplicateName p.interfaces once) (port_known is p e))
-    refl refl
+    let itself : Bool = not (bytes_eq p.name.text formed_ports.console) && (is_local p.location.text || is_socket p.location.text) && list_all (λ n. nat_lt n (length pis)) part.interfaces in
+    and_from (itself && has_once pis part) (is_met locations part)
+    (and_from itself (has_once pis part) (port_by_itself is p (length pis) size e) (port_has_once types names is p once))
+    refl
 
 met : (a b : Bool) → (a && not b) ≡ false → (not a || b) ≡ true
 met true true e = refl
@@ -249,34 +318,31 @@ met true false e = absurd (false≢true (sym e))
 met false b e = refl
 
 -- an output port
-output_port_formed : (types names : List (List ℕ)) (is : List Interface) (locations : List (List ℕ)) (p : Port) → port_refused is p ≡ [] → output_port_refused is p ≡ [] → unmet locations p ≡ []
+output_port_formed : (types names : List (List ℕ)) (is : List Interface) (locations : List (List ℕ)) (p : Port) → port_refused is p ≡ [] → operations_repeated is p ≡ [] → unmet locations p ≡ []
     → is_port (map (lowered_interface types names) is) locations (lowered_port_part (interface_names is) (record { input = false; port = p })) ≡ true
 output_port_formed types names is locations p e once near =
     let pis : List InterfacePart = map (lowered_interface types names) is in
     let part : PortPart = lowered_port_part (interface_names is) (record { input = false; port = p }) in
     let size : length pis ≡ length (interface_names is) = length-map is (lowered_interface types names) ∙ sym (length-map is (λ (i : Interface). i.name.text)) in
-    all_four (not (bytes_eq p.name.text formed_ports.console) && (is_local p.location.text || is_socket p.location.text) && list_all (λ n. nat_lt n (length pis)) part.interfaces) (names_once part) (has_once pis part) (is_met locations part)
-    (port_by_itself is p (length pis) size e)
-    refl
-    (ap (λ ns. texts_differ (operation_names (operations_of pis ns))) (sym (mapped_twice (place_in (interface_names is)) (λ (n : Name). n.text) p.interfaces))
-    ∙ ap texts_differ (names_by_interface types names is (port_names p) ∙ sym (brought_texts is [] p.interfaces))
-    ∙ names_differ DuplicateName (brought is [] p.interfaces) once)
+    let itself : Bool = not (bytes_eq p.name.text formed_ports.console) && (is_local p.location.text || is_socket p.location.text) && list_all (λ n. nat_lt n (length pis)) part.interfaces in
+    and_from (itself && has_once pis part) (is_met locations part)
+    (and_from itself (has_once pis part) (port_by_itself is p (length pis) size e) (port_has_once types names is p once))
     (met (is_local p.location.text) (is_in p.location.text locations) (fails (is_local p.location.text && not (is_in p.location.text locations)) UnknownPort p.location.at near))
 
 -- the ports of clauses of which nothing is refused
 pub each_port_formed : (types names : List (List ℕ)) (is : List Interface) (locations : List (List ℕ)) (clauses : List Clause)
-    → flat_map (sided_refused is) (filter_map port_in clauses) ≡ [] → flat_map interfaces_repeated (filter_map input_port_in clauses) ≡ []
-    → flat_map (output_port_refused is) (filter_map output_port_in clauses) ≡ [] → flat_map (unmet locations) (filter_map output_port_in clauses) ≡ []
+    → flat_map (sided_refused is) (filter_map port_in clauses) ≡ [] → flat_map (operations_repeated is) (filter_map input_port_in clauses) ≡ []
+    → flat_map (operations_repeated is) (filter_map output_port_in clauses) ≡ [] → flat_map (unmet locations) (filter_map output_port_in clauses) ≡ []
     → list_all (is_port (map (lowered_interface types names) is) locations) (ports_of (interface_names is) clauses) ≡ true
 each_port_formed types names is locations [] e once out near = refl
 each_port_formed types names is locations (clause.InputPort p ∷ clauses) e once out near =
     and_from (is_port (map (lowered_interface types names) is) locations (lowered_port_part (interface_names is) (record { input = true; port = p }))) (list_all (is_port (map (lowered_interface types names) is) locations) (ports_of (interface_names is) clauses))
-    (input_port_formed types names is locations p (left_empty (port_refused is p) (flat_map (sided_refused is) (filter_map port_in clauses)) e) (left_empty (interfaces_repeated p) (flat_map interfaces_repeated (filter_map input_port_in clauses)) once))
-    (each_port_formed types names is locations clauses (right_empty (port_refused is p) (flat_map (sided_refused is) (filter_map port_in clauses)) e) (right_empty (interfaces_repeated p) (flat_map interfaces_repeated (filter_map input_port_in clauses)) once) out near)
+    (input_port_formed types names is locations p (left_empty (port_refused is p) (flat_map (sided_refused is) (filter_map port_in clauses)) e) (left_empty (operations_repeated is p) (flat_map (operations_repeated is) (filter_map input_port_in clauses)) once))
+    (each_port_formed types names is locations clauses (right_empty (port_refused is p) (flat_map (sided_refused is) (filter_map port_in clauses)) e) (right_empty (operations_repeated is p) (flat_map (operations_repeated is) (filter_map input_port_in clauses)) once) out near)
 each_port_formed types names is locations (clause.OutputPort p ∷ clauses) e once out near =
     and_from (is_port (map (lowered_interface types names) is) locations (lowered_port_part (interface_names is) (record { input = false; port = p }))) (list_all (is_port (map (lowered_interface types names) is) locations) (ports_of (interface_names is) clauses))
-    (output_port_formed types names is locations p (left_empty (port_refused is p) (flat_map (sided_refused is) (filter_map port_in clauses)) e) (left_empty (output_port_refused is p) (flat_map (output_port_refused is) (filter_map output_port_in clauses)) out) (left_empty (unmet locations p) (flat_map (unmet locations) (filter_map output_port_in clauses)) near))
-    (each_port_formed types names is locations clauses (right_empty (port_refused is p) (flat_map (sided_refused is) (filter_map port_in clauses)) e) once (right_empty (output_port_refused is p) (flat_map (output_port_refused is) (filter_map output_port_in clauses)) out) (right_empty (unmet locations p) (flat_map (unmet locations) (filter_map output_port_in clauses)) near))
+    (output_port_formed types names is locations p (left_empty (port_refused is p) (flat_map (sided_refused is) (filter_map port_in clauses)) e) (left_empty (operations_repeated is p) (flat_map (operations_repeated is) (filter_map output_port_in clauses)) out) (left_empty (unmet locations p) (flat_map (unmet locations) (filter_map output_port_in clauses)) near))
+    (each_port_formed types names is locations clauses (right_empty (port_refused is p) (flat_map (sided_refused is) (filter_map port_in clauses)) e) once (right_empty (operations_repeated is p) (flat_map (operations_repeated is) (filter_map output_port_in clauses)) out) (right_empty (unmet locations p) (flat_map (unmet locations) (filter_map output_port_in clauses)) near))
 each_port_formed types names is locations (clause.Execution at execution ∷ clauses) e once out near = each_port_formed types names is locations clauses e once out near
 each_port_formed types names is locations (clause.CorrelationSet at variables ∷ clauses) e once out near = each_port_formed types names is locations clauses e once out near
 each_port_formed types names is locations (clause.Init at body ∷ clauses) e once out near = each_port_formed types names is locations clauses e once out near

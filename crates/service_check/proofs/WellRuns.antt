@@ -26,7 +26,7 @@ use Rattle.process_lowering.specs.Behaviours.{Numbering, console_port, lowered_i
 use Rattle.check_base.specs.Repeated.{Texts}
 use Rattle.service_check.specs.Mentioned.{block_texts, clause_texts}
 use Rattle.check_base.specs.Console.{console, println}
-use Rattle.port_checks.specs.PortRules.{output_port_refused}
+use Rattle.port_checks.specs.PortRules.{operations_repeated}
 use Rattle.process_checks.specs.Surroundings.{Surroundings, outlet, surroundings}
 use Rattle.process_checks.specs.ProcessRules.{agree, block_refused, outlet_named, used}
 use Rattle.type_lowering.specs.LoweredInterfaces.{lowered_interface, lowered_operation}
@@ -76,7 +76,7 @@ abbrev all_outputs : List InterfacePart → List (List ℕ) → List Clause → 
 all_outputs interfaces names clauses = map (sent_to interfaces) (ports_of names clauses) ++ (formed_services.println ∷ []) ∷ []
 
 sent_there : (types names : List (List ℕ)) (is : List Interface) (s : Service) (b : Bool) (operation port : Name) (answers : Bool)
-    → flat_map (output_port_refused is) (output_ports s) ≡ []
+    → flat_map (operations_repeated is) (output_ports s) ≡ []
     → output_of (if b then Some (println ∷ []) else outlet_named (map (outlet is) (output_ports s)) port.text) operation port answers ≡ []
     → reaches (all_outputs (map (lowered_interface types names) is) (interface_names is) s.clauses) operation answers (if b then console_port (numbering is names s) else port_among (numbered_from is zero (filter_map port_in s.clauses)) (console_port (numbering is names s)) port.text) ≡ true
 sent_there types names is s true operation port answers once e =
@@ -108,7 +108,7 @@ variables_size : (types : List (List ℕ)) (s : Service) → length (map (λ (n 
 variables_size types s = ap length (sym (variable_names types (sets_of s))) ∙ length-map (formed_sets.variables_of (map (lowered_set types) (sets_of s))) (λ (v : VariablePart). v.name)
 
 -- the numbers of a service meet what its processes may name
-pub service_meets : (types names : List (List ℕ)) (is : List Interface) (s : Service) (inputs : List OperationPart) → inputs ≡ map (lowered_operation types names) (input_operations is s) → flat_map (output_port_refused is) (output_ports s) ≡ []
+pub service_meets : (types names : List (List ℕ)) (is : List Interface) (s : Service) (inputs : List OperationPart) → inputs ≡ map (lowered_operation types names) (input_operations is s) → flat_map (operations_repeated is) (output_ports s) ≡ []
     → Meets (surroundings is s) (numbering is names s) (reach_by types names is s inputs)
 service_meets types names is s inputs same once = record {
   inputs = λ n answers e. ap (λ os. has_operation os (place_in (texts_of (input_operations is s)) n.text) answers) same ∙ operation_used types names (input_operations is s) n answers e;

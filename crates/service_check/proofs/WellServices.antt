@@ -22,7 +22,7 @@ use Rattle.check_base.specs.declared.refusal.Refusal.{Refusal}
 use Rattle.check_base.specs.Least.{refused}
 use Rattle.check_base.specs.Repeated.{as_name, repeated}
 use Rattle.check_base.specs.Files.{execution_of, input_port_in, input_ports, is_concurrent, output_ports, port_in, sets_of, type_names, interface_names, variables_of}
-use Rattle.port_checks.specs.PortRules.{brought_in, input_locations, input_ports_refused, interfaces_repeated, output_port_refused, port_name, ports_refused, service_locations, sided_refused, unmet}
+use Rattle.port_checks.specs.PortRules.{brought_in, input_locations, input_ports_refused, operations_repeated, port_name, ports_refused, service_locations, sided_refused, unmet}
 use Rattle.type_lowering.specs.LoweredInterfaces.{lowered_interface}
 use Rattle.service_check.specs.Programs.{lowered_port_part, lowered_service}
 use Rattle.service_check.specs.ServiceRules.{clause_refused, execution_place, init_place, main_place, no_start, second, service_refused, uncorrelated}
@@ -66,8 +66,8 @@ pub record NothingOfPorts (is : List Interface) (locations : List (List ℕ)) (s
   pub names : refused DuplicateName (repeated (map port_name (filter_map port_in s.clauses))) ≡ []
   pub each : flat_map (sided_refused is) (filter_map port_in s.clauses) ≡ []
   pub operations : refused DuplicateName (repeated (brought_in is [] (input_ports s))) ≡ []
-  pub interfaces : flat_map interfaces_repeated (input_ports s) ≡ []
-  pub outputs : flat_map (output_port_refused is) (output_ports s) ≡ []
+  pub interfaces : flat_map (operations_repeated is) (input_ports s) ≡ []
+  pub outputs : flat_map (operations_repeated is) (output_ports s) ≡ []
   pub near : flat_map (unmet locations) (output_ports s) ≡ []
 
 pub ports_by_part : (is : List Interface) (locations : List (List ℕ)) (s : Service) → ports_refused is locations s ≡ [] → NothingOfPorts is locations s
@@ -75,10 +75,10 @@ ports_by_part is locations s e =
     let names : List Refusal = refused DuplicateName (repeated (map port_name (filter_map port_in s.clauses))) in
     let each : List Refusal = flat_map (sided_refused is) (filter_map port_in s.clauses) in
     let inputs : List Refusal = input_ports_refused is (input_ports s) in
-    let outputs : List Refusal = flat_map (output_port_refused is) (output_ports s) in
+    let outputs : List Refusal = flat_map (operations_repeated is) (output_ports s) in
     let far : List Refusal = flat_map (unmet locations) (output_ports s) in
     let operations : List Refusal = refused DuplicateName (repeated (brought_in is [] (input_ports s))) in
-    let again : List Refusal = flat_map interfaces_repeated (input_ports s) in
+    let again : List Refusal = flat_map (operations_repeated is) (input_ports s) in
     let four : names ++ each ++ inputs ++ outputs ≡ [] = left_empty (names ++ each ++ inputs ++ outputs) far e in
     let three : names ++ each ++ inputs ≡ [] = left_empty (names ++ each ++ inputs) outputs four in
     let two : names ++ each ≡ [] = left_empty (names ++ each) inputs three in
@@ -160,7 +160,7 @@ service_sets is types names s e =
     let twice : List Refusal = refused DuplicateName (repeated (variables_of s)) in
     let each : List Refusal = flat_map (set_refused types) (sets_of s) in
     let single : List Refusal = flat_map (set_of_single (is_concurrent (execution_of s))) s.clauses in
-    let three : twice ++ each ++ two_sets [] (sets_of s) ≡ [] = left_empty (twice ++ each ++ two_sets [] (sets_of s)) single e in
-    let two : twice ++ each ≡ [] = left_empty (twice ++ each) (two_sets [] (sets_of s)) three in
-    sets_formed types (execution_of s) s.clauses (left_empty twice each two) (right_empty twice each two) (right_empty (twice ++ each) (two_sets [] (sets_of s)) three)
-    (right_empty (twice ++ each ++ two_sets [] (sets_of s)) single e)
+    let three : twice ++ each ++ two_sets (sets_of s) ≡ [] = left_empty (twice ++ each ++ two_sets (sets_of s)) single e in
+    let two : twice ++ each ≡ [] = left_empty (twice ++ each) (two_sets (sets_of s)) three in
+    sets_formed types (execution_of s) s.clauses (left_empty twice each two) (right_empty twice each two) (right_empty (twice ++ each) (two_sets (sets_of s)) three)
+    (right_empty (twice ++ each ++ two_sets (sets_of s)) single e)

@@ -2,7 +2,7 @@
 use Rattle.std.proofs.Common.{◌≡◌, ℕ, Bool, true, false, List, [], ◌∷◌, ◌++◌, map, flat_map, length, refl, ap, sym, ◌∙◌, bytes_eq}
 use Rattle.std.specs.Prelude.{not, ◌&&◌, ◌||◌, ◌==◌, if◌then◌else◌}
 use Rattle.std.specs.List.{filter_map, list_all, list_any}
-use Rattle.std.proofs.lemmas.Bool.{and_from, and_parts, or_left, or_right, or_from, not_from_false, false≢true, not-true}
+use Rattle.std.proofs.lemmas.Bool.{and_from, and_parts, or_left, or_right, or_from, not_from_false, false≢true}
 use Rattle.std.proofs.lemmas.List.{map-append}
 use Rattle.std.proofs.lemmas.List.Folds.{list_all-append, list_all-map, list_any-append}
 use Rattle.std.proofs.lemmas.Slice.Eq.{bytes_eq-Decides}
@@ -24,9 +24,10 @@ use Rattle.check_base.specs.declared.refusal.Refusal.{Refusal}
 use Rattle.check_base.specs.Least.{refused}
 use Rattle.check_base.specs.Repeated.{firsts_after, first_names_after, repeated}
 use Rattle.check_base.specs.Files.{is_concurrent, place_in, set_in, type_names, set_names}
-use Rattle.port_checks.specs.SetRules.{alias_names, alias_texts, set_types, set_texts, all_have, partly, wrong_alias, variable_refused, set_refused, in_earlier, two_sets, set_of_single}
+use Rattle.port_checks.specs.SetRules.{alias_names, alias_texts, set_types, set_texts, all_have, partly, wrong_alias, variable_refused, set_refused, two_sets, types_in_sets, set_of_single}
 use Rattle.service_check.specs.Programs.{lowered_alias, lowered_variable, lowered_set, lowered_execution}
-use Rattle.service_check.proofs.Emptied.{left_empty, right_empty, fails, holds, mapped_empty, in_first, names_differ}
+use Rattle.service_check.proofs.Emptied.{left_empty, right_empty, holds, mapped_empty, in_first, names_differ}
+use Rattle.service_check.proofs.OnceEach.{second_differ, two_apart}
 use Rattle.service_check.proofs.WellAliases.{alias_formed, alias_known}
 use Rattle.service_check.proofs.WellInterfaces.{all_in, front_in, back_in, place_among, places_differ}
 use Rattle.service_check.proofs.WellNames.{is_taken}
@@ -172,25 +173,26 @@ sets_known types (set ∷ sets) e =
     (set_known types set (left_empty (flat_map (variable_refused types) set) (flat_map (partly set) (set_types set)) (left_empty (set_refused types set) (flat_map (set_refused types) sets) e)))
     (sets_known types sets (right_empty (set_refused types set) (flat_map (set_refused types) sets) e))
 
-not_earlier : (b : Bool) (x : List ℕ) (earlier : List (List ℕ)) (set : List CorrelationVariable) → is_in x (all_texts set) ≡ b → flat_map (in_earlier earlier) (set_types set) ≡ [] → is_in x earlier ≡ true → is_in x (all_texts set) ≡ false
-not_earlier false x earlier set e none before = e
-not_earlier true x earlier set e none before =
-    let new : not (is_in x earlier) ≡ true =
-    one_passes (λ t. not (is_in t earlier)) (set_texts set) x
-    (mapped_empty (in_earlier earlier) (λ (n : Name). n.text) (λ t. not (is_in t earlier)) (set_types set) (λ n h. not_from_false (is_in n.text earlier) (fails (is_in n.text earlier) TwoSets n.at h)) none)
-    (in_set_texts set x e) in
-    absurd (false≢true (sym (not-true (is_in x earlier) new) ∙ before))
+one_set_or_more : (b : Bool) (set : List CorrelationVariable) (sets : List (List CorrelationVariable)) (x : List ℕ) → is_in x (all_texts set) ≡ b → (is_in x (texts_in_all sets) ≡ true → is_in x (types_in_sets sets) ≡ true)
+    → (b || is_in x (texts_in_all sets)) ≡ true → (is_in x (set_texts set) || is_in x (types_in_sets sets)) ≡ true
+one_set_or_more true set sets x here rest there = or_left (is_in x (set_texts set)) (is_in x (types_in_sets sets)) (in_set_texts set x here)
+one_set_or_more false set sets x here rest there = or_right (is_in x (set_texts set)) (is_in x (types_in_sets sets)) (rest there)
 
--- a type of an earlier set is in no later one
-pub not_later : (x : List ℕ) (earlier : List (List ℕ)) (sets : List (List CorrelationVariable)) → two_sets earlier sets ≡ [] → is_in x earlier ≡ true → is_in x (texts_in_all sets) ≡ false
-not_later x earlier [] e before = refl
-not_later x earlier (set ∷ sets) e before =
-    let here : List Refusal = flat_map (in_earlier earlier) (set_types set) in
-    list_any-append (λ t. bytes_eq t x) (all_texts set) (texts_in_all sets)
-    ∙ or_from (is_in x (all_texts set)) (is_in x (texts_in_all sets))
-    (not_earlier (is_in x (all_texts set)) x earlier set refl (left_empty here (two_sets (set_texts set ++ earlier) sets) e) before)
-    (not_later x (set_texts set ++ earlier) sets (right_empty here (two_sets (set_texts set ++ earlier) sets) e)
-    (list_any-append (λ t. bytes_eq t x) (set_texts set) earlier ∙ or_right (is_in x (set_texts set)) (is_in x earlier) before))
+-- they are among those that each set names once
+in_sets_texts : (sets : List (List CorrelationVariable)) (x : List ℕ) → is_in x (texts_in_all sets) ≡ true → is_in x (types_in_sets sets) ≡ true
+in_sets_texts [] x there = absurd (false≢true there)
+in_sets_texts (set ∷ sets) x there =
+    list_any-append (λ t. bytes_eq t x) (set_texts set) (types_in_sets sets)
+    ∙ one_set_or_more (is_in x (all_texts set)) set sets x refl (in_sets_texts sets x) (sym (list_any-append (λ t. bytes_eq t x) (all_texts set) (texts_in_all sets)) ∙ there)
+
+-- the types of sets of which none is in two differ
+two_sets_differ : (sets : List (List CorrelationVariable)) → two_sets sets ≡ [] → texts_differ (types_in_sets sets) ≡ true
+two_sets_differ sets e = ap texts_differ (sym (mapped_each (λ (n : Name). n.text) set_types sets)) ∙ names_differ TwoSets (flat_map set_types sets) e
+
+not_later : (b : Bool) (x : List ℕ) (set : List CorrelationVariable) (sets : List (List CorrelationVariable)) → is_in x (texts_in_all sets) ≡ b → texts_differ (set_texts set ++ types_in_sets sets) ≡ true
+    → is_in x (all_texts set) ≡ true → b ≡ false
+not_later false x set sets e differ here = refl
+not_later true x set sets e differ here = sym (in_set_texts set x here) ∙ two_apart x (set_texts set) (types_in_sets sets) differ (in_sets_texts sets x e)
 
 -- the numbers of the types of sets
 pub sets_numbers : (types : List (List ℕ)) (sets : List (List CorrelationVariable)) → flat_map formed_sets.set_types (map (lowered_set types) sets) ≡ map (place_in types) (texts_in_all sets)
@@ -201,12 +203,10 @@ sets_numbers types (set ∷ sets) =
     ∙ sym (map-append (place_in types) (all_texts set) (texts_in_all sets))
 
 -- no type is in two of the sets
-pub sets_apart : (types earlier : List (List ℕ)) (sets : List (List CorrelationVariable)) → all_in types (texts_in_all sets) ≡ true → two_sets earlier sets ≡ [] → types_are_apart (map (lowered_set types) sets) ≡ true
-sets_apart types earlier [] known e = refl
-sets_apart types earlier (set ∷ sets) known e =
+pub sets_apart : (types : List (List ℕ)) (sets : List (List CorrelationVariable)) → all_in types (texts_in_all sets) ≡ true → texts_differ (types_in_sets sets) ≡ true → types_are_apart (map (lowered_set types) sets) ≡ true
+sets_apart types [] known differ = refl
+sets_apart types (set ∷ sets) known differ =
     let later : List ℕ = flat_map formed_sets.set_types (map (lowered_set types) sets) in
-    let here : List Refusal = flat_map (in_earlier earlier) (set_types set) in
-    let rest : two_sets (set_texts set ++ earlier) sets ≡ [] = right_empty here (two_sets (set_texts set ++ earlier) sets) e in
     and_from (not (list_any (λ t. is_among later t) (formed_sets.set_types (lowered_set types set)))) (types_are_apart (map (lowered_set types) sets))
     (not_from_false (list_any (λ t. is_among later t) (formed_sets.set_types (lowered_set types set)))
     (ap (λ ns. list_any (λ t. is_among ns t) (formed_sets.set_types (lowered_set types set))) (sets_numbers types sets)
@@ -214,8 +214,8 @@ sets_apart types earlier (set ∷ sets) known e =
     ∙ none_passes (λ t. is_among (map (place_in types) (texts_in_all sets)) t) (place_in types) (all_texts set)
     (λ x there.
     place_among types (texts_in_all sets) x (one_passes (λ t. is_in t types) (all_texts set) x (front_in types (all_texts set) (texts_in_all sets) known) there) (back_in types (all_texts set) (texts_in_all sets) known)
-    ∙ not_later x (set_texts set ++ earlier) sets rest (list_any-append (λ t. bytes_eq t x) (set_texts set) earlier ∙ or_left (is_in x (set_texts set)) (is_in x earlier) (in_set_texts set x there)))))
-    (sets_apart types (set_texts set ++ earlier) sets (back_in types (all_texts set) (texts_in_all sets) known) rest)
+    ∙ not_later (is_in x (texts_in_all sets)) x set sets refl differ there)))
+    (sets_apart types sets (back_in types (all_texts set) (texts_in_all sets) known) (second_differ (set_texts set) (types_in_sets sets) differ))
 
 -- the variables of sets keep their names
 pub variable_names : (types : List (List ℕ)) (sets : List (List CorrelationVariable)) → map (λ (v : VariablePart). v.name) (formed_sets.variables_of (map (lowered_set types) sets)) ≡ map (λ (n : Name). n.text) (flat_map set_names sets)
@@ -245,7 +245,7 @@ has_sets types said.Single clauses e = ap (λ sets. length (map (lowered_set typ
 
 -- the sets of clauses of which nothing is refused
 pub sets_formed : (types : List TypeDefinition) (execution : Execution) (clauses : List Clause) → refused DuplicateName (repeated (flat_map set_names (filter_map set_in clauses))) ≡ []
-    → flat_map (set_refused types) (filter_map set_in clauses) ≡ [] → two_sets [] (filter_map set_in clauses) ≡ [] → flat_map (set_of_single (is_concurrent execution)) clauses ≡ []
+    → flat_map (set_refused types) (filter_map set_in clauses) ≡ [] → two_sets (filter_map set_in clauses) ≡ [] → flat_map (set_of_single (is_concurrent execution)) clauses ≡ []
     → ((formed_sets.is_concurrent (lowered_execution execution) || (length (map (lowered_set (type_names types)) (filter_map set_in clauses)) == 0))
     && texts_differ (map (λ (v : VariablePart). v.name) (formed_sets.variables_of (map (lowered_set (type_names types)) (filter_map set_in clauses))))
     && list_all (has_variables types) (map (lowered_set (type_names types)) (filter_map set_in clauses))
@@ -259,4 +259,4 @@ sets_formed types execution clauses names each apart single =
     (and_from one two (has_sets (type_names types) execution clauses single)
     (ap texts_differ (variable_names (type_names types) (filter_map set_in clauses)) ∙ names_differ DuplicateName (flat_map set_names (filter_map set_in clauses)) names))
     (mapped_empty (set_refused types) (lowered_set (type_names types)) (has_variables types) (filter_map set_in clauses) (set_formed types) each))
-    (sets_apart (type_names types) [] (filter_map set_in clauses) (sets_known types (filter_map set_in clauses) each) apart)
+    (sets_apart (type_names types) (filter_map set_in clauses) (sets_known types (filter_map set_in clauses) each) (two_sets_differ (filter_map set_in clauses) apart))

@@ -1,6 +1,6 @@
 -- The types of a file are well formed where nothing is refused of them.
 use Rattle.std.proofs.Common.{◌≡◌, ℕ, zero, suc, ◌+◌, Bool, true, false, arith, List, [], ◌∷◌, ◌++◌, map, flat_map, length, Option, None, Some, slice_get, refl, ap, sym, subst, ◌∙◌, bytes_eq}
-use Rattle.std.specs.Prelude.{not, ◌||◌, ◌==◌, is_some, if◌then◌else◌, option_map, option_and_then}
+use Rattle.std.specs.Prelude.{not, ◌||◌, is_some, if◌then◌else◌, option_map, option_and_then}
 use Rattle.std.specs.List.{list_all}
 use Rattle.std.proofs.lemmas.Bool.{and_from, and_parts, not-true, not_from_false, or_left, or_right, false≢true}
 use Rattle.std.proofs.lemmas.List.{length-map}
@@ -18,20 +18,23 @@ use Rattle.jolie_ast.specs.declared.types.Field.{Field, out-Field, roll-Field}
 use Rattle.behaviour_tree.specs.Data.{TypeTree}
 use Rattle.behaviour_tree.specs.View.{FieldView, type_fields_of}
 use Rattle.behaviour_tree.specs.Distinct.{texts_differ, is_in}
-use Rattle.behaviour_tree.specs.FormedTypes.{field_names, is_type, are_fields, number_in, next_number, leads_to, none_leads_back, are_types}
+use Rattle.behaviour_tree.specs.Leading.{led_to}
+use Rattle.behaviour_tree.specs.Operations.{is_among}
+use Rattle.behaviour_tree.specs.FormedTypes.{field_names, is_type, are_fields, number_in, next_number, number_leads_back, none_leads_back, are_types}
 use Rattle.check_base.specs.declared.refusal.CheckName.TheVariants.{DuplicateName, UnknownType}
 use Rattle.check_base.specs.declared.refusal.Refusal.{Refusal}
 use Rattle.check_base.specs.Repeated.{place_of}
 use Rattle.check_base.specs.Files.{place_in, type_named, type_names, body_of, name_in}
 use Rattle.type_checks.specs.TypeRules as rule
-use Rattle.type_checks.specs.TypeRules.{FieldFound, unknown_type, body_refused, field_refused, field_names_refused, leads_back, circle, type_refused}
-use Rattle.type_checks.specs.Circles.{name_of, next_place, place_leads_back}
+use Rattle.type_checks.specs.TypeRules.{FieldFound, unknown_type, body_refused, field_refused, field_names_refused, circle, type_refused}
+use Rattle.check_base.specs.TypeNames.{leads_back}
+use Rattle.type_checks.specs.Circles.{name_of, next_place}
 use Rattle.type_lowering.specs.LoweredTypes.{body_level, field_level, lowered_body, lowered_field, lowered_definition}
 use Rattle.type_checks.proofs.BodyRules as rules
 use Rattle.service_check.proofs.Emptied.{left_empty, right_empty, fails, holds, mapped_empty, place_empty, another_text, has_place, names_differ}
 use Rattle.type_checks.proofs.Leading.{leads_by_place}
 use Rattle.type_lowering.proofs.LoweredTypes.{root_lowered, named_lowered, undefined_lowered, field_is}
-use Rattle.type_checks.proofs.Steps.{back_to}
+use Rattle.behaviour_tree.proofs.Leading.{led_alike}
 
 -- ---- types by their names
 
@@ -184,37 +187,23 @@ number_leads types e q =
     ap (option_and_then number_in) (slice_get-map (lowered_definition (type_names types)) types q)
     ∙ number_there types (slice_get types q) (λ ty there. left_empty (body_refused types (body_of ty.body)) (circle types ty) (place_empty (type_refused types) types q ty e there))
 
--- whether what may follow is the start or leads to it
-abbrev to_from : (ℕ → Option ℕ) → ℕ → ℕ → Option ℕ → Bool
-to_from next n start None = false
-to_from next n start (Some m) = (m == start) || leads_to next n start m
-
-follow_alike : (f g : ℕ → Option ℕ) (n start : ℕ) → ((p : ℕ) → leads_to f n start p ≡ place_leads_back g n start p) → (o : Option ℕ) → to_from f n start o ≡ back_to g n start o
-follow_alike f g n start rest None = refl
-follow_alike f g n start rest (Some m) = ap (λ b. (m == start) || b) (rest m)
-
--- what leads alike leads to the same
-pub leads_alike : (f g : ℕ → Option ℕ) → ((q : ℕ) → f q ≡ g q) → (n start p : ℕ) → leads_to f n start p ≡ place_leads_back g n start p
-leads_alike f g same zero start p = refl
-leads_alike f g same (suc n) start p = ap (to_from f n start) (same p) ∙ follow_alike f g n start (leads_alike f g same n start) (g p)
-
 -- a type whose name does not lead back: its number does not
 no_way_back : (types : List TypeDefinition) (j : ℕ) (ty : TypeDefinition) → flat_map (type_refused types) types ≡ [] → texts_differ (type_names types) ≡ true → slice_get types j ≡ Some ty
-    → leads_to (next_number (lowered_types types)) (length types) j j ≡ false
+    → is_among (led_to (next_number (lowered_types types)) (length types) j) j ≡ false
 no_way_back types j ty e differ there =
     let place : place_of (type_names types) ty.name.text ≡ Some j = own_place (type_names types) j ty.name.text differ (slice_get-map (λ (t : TypeDefinition). t.name.text) types j ∙ ap (option_map (λ (t : TypeDefinition). t.name.text)) there) in
-    leads_alike (next_number (lowered_types types)) (next_place types) (number_leads types e) (length types) j j
+    ap (λ ns. is_among ns j) (led_alike (next_number (lowered_types types)) (next_place types) (number_leads types e) (length types) j)
     ∙ sym (leads_by_place types (length types) j j ty.name.text ty.name.text place place)
-    ∙ fails (leads_back types (length types) ty.name.text ty.name.text) UnknownType ty.name.at (right_empty (body_refused types (body_of ty.body)) (circle types ty) (place_empty (type_refused types) types j ty e there))
+    ∙ fails (leads_back types ty.name.text) UnknownType ty.name.at (right_empty (body_refused types (body_of ty.body)) (circle types ty) (place_empty (type_refused types) types j ty e there))
 
-none_back : (all : List TypeTree) (m : TypeDefinition → TypeTree) (n : ℕ) (rest : List TypeDefinition) → ((j : ℕ) (ty : TypeDefinition) → slice_get rest j ≡ Some ty → leads_to (next_number all) (length all) (n + j) (n + j) ≡ false)
+none_back : (all : List TypeTree) (m : TypeDefinition → TypeTree) (n : ℕ) (rest : List TypeDefinition) → ((j : ℕ) (ty : TypeDefinition) → slice_get rest j ≡ Some ty → number_leads_back all (n + j) ≡ false)
     → none_leads_back all n (map m rest) ≡ true
 none_back all m n [] h = refl
 none_back all m n (ty ∷ rest) h =
     let here : n + 0 ≡ n = omega arith in
-    and_from (not (leads_to (next_number all) (length all) n n)) (none_leads_back all (suc n) (map m rest))
-    (not_from_false (leads_to (next_number all) (length all) n n) (subst (λ k. leads_to (next_number all) (length all) k k ≡ false) here (h 0 ty refl)))
-    (none_back all m (suc n) rest (λ j t there. let further : n + suc j ≡ suc n + j = omega arith in subst (λ k. leads_to (next_number all) (length all) k k ≡ false) further (h (suc j) t there)))
+    and_from (not (number_leads_back all n)) (none_leads_back all (suc n) (map m rest))
+    (not_from_false (number_leads_back all n) (subst (λ k. number_leads_back all k ≡ false) here (h 0 ty refl)))
+    (none_back all m (suc n) rest (λ j t there. let further : n + suc j ≡ suc n + j = omega arith in subst (λ k. number_leads_back all k ≡ false) further (h (suc j) t there)))
 
 -- ---- the types of a file
 
@@ -229,5 +218,5 @@ types_formed types differ e =
     (λ ty h. body_formed types (body_of ty.body) (left_empty (body_refused types (body_of ty.body)) (circle types ty) h)) e)
     (none_back (lowered_types types) (lowered_definition (type_names types)) 0 types
     (λ j ty there. let place : j ≡ 0 + j = omega arith in
-    subst (λ k. leads_to (next_number (lowered_types types)) (length (lowered_types types)) k k ≡ false) place
-    (ap (λ n. leads_to (next_number (lowered_types types)) n j j) size ∙ no_way_back types j ty e differ there)))
+    subst (λ k. number_leads_back (lowered_types types) k ≡ false) place
+    (ap (λ n. is_among (led_to (next_number (lowered_types types)) n j) j) size ∙ no_way_back types j ty e differ there)))

@@ -123,11 +123,11 @@ fn clause_refused(
 {
     match clause {
         Clause::Init { body, .. } => {
-            block_refused(body, false, alloc, surroundings, least)?;
+            block_refused(body, alloc, surroundings, least)?;
             init_refused(body, least);
             Ok(())
         }
-        Clause::Main { body, .. } => block_refused(body, false, alloc, surroundings, least),
+        Clause::Main { body, .. } => block_refused(body, alloc, surroundings, least),
         _ => Ok(()),
     }
 }

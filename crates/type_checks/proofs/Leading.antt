@@ -6,16 +6,22 @@ use Rattle.std.proofs.lemmas.Bool.Decides.{eqb_tells}
 use Rattle.std.proofs.lemmas.Slice.Eq.{bytes_eq-Decides}
 use Rattle.jolie_ast.specs.declared.types.TypeDefinition.{TypeDefinition}
 use Rattle.check_base.specs.Repeated.{place_of}
-use Rattle.type_checks.specs.TypeRules.{leads_back, next_name}
+use Rattle.behaviour_tree.specs.Distinct.{is_in}
+use Rattle.behaviour_tree.specs.Leading.{led_to}
+use Rattle.behaviour_tree.proofs.Leading.{from_there}
+use Rattle.check_base.specs.TypeNames.{next_name}
 use Rattle.type_checks.specs.Circles.{name_of, next_place, place_leads_back}
 use Rattle.check_base.specs.Files.{type_names}
 use Rattle.check_base.proofs.Found.{item_at, item_is, type_at}
 use Rattle.type_checks.proofs.Steps.{back_to}
 
+-- whether the names that one leads to have the start among them
+abbrev pub name_leads_back : List TypeDefinition → ℕ → List ℕ → List ℕ → Bool
+name_leads_back types n start name = is_in start (led_to (next_name types) n name)
+
 -- whether the name that follows, if one does, is the start or leads to it
 abbrev pub back_from : List TypeDefinition → ℕ → List ℕ → Option (List ℕ) → Bool
-back_from types n start None = false
-back_from types n start (Some next) = bytes_eq next start || leads_back types n start next
+back_from types n start o = is_in start (from_there (next_name types) n o)
 
 -- the name that follows that of a place
 pub next_at : (types : List TypeDefinition) (name : List ℕ) (q : ℕ) → place_of (type_names types) name ≡ Some q → next_name types name ≡ option_and_then name_of (slice_get types q)
@@ -25,7 +31,7 @@ next_at types name q place = ap (option_and_then name_of) (type_at types name �
 pub next_of_none : (types : List TypeDefinition) (name : List ℕ) → place_of (type_names types) name ≡ None → next_name types name ≡ None
 next_of_none types name place = ap (option_and_then name_of) (type_at types name ∙ ap (λ o. item_at o types) place)
 
-pub leads_from_none : (types : List TypeDefinition) (n : ℕ) (start name : List ℕ) → place_of (type_names types) name ≡ None → leads_back types n start name ≡ false
+pub leads_from_none : (types : List TypeDefinition) (n : ℕ) (start name : List ℕ) → place_of (type_names types) name ≡ None → name_leads_back types n start name ≡ false
 leads_from_none types zero start name place = refl
 leads_from_none types (suc n) start name place = ap (back_from types n start) (next_of_none types name place)
 
@@ -61,21 +67,21 @@ same_place ts a s r p false e here there =
 
 -- what follows by its name, and by its place
 pub by_place : (types : List TypeDefinition) (n p : ℕ) (start name : List ℕ) (o : Option ℕ) → place_of (type_names types) start ≡ Some p → place_of (type_names types) name ≡ o
-    → ((r : ℕ) → o ≡ Some r → leads_back types n start name ≡ place_leads_back (next_place types) n p r) → back_from types n start (Some name) ≡ back_to (next_place types) n p o
+    → ((r : ℕ) → o ≡ Some r → name_leads_back types n start name ≡ place_leads_back (next_place types) n p r) → back_from types n start (Some name) ≡ back_to (next_place types) n p o
 by_place types n p start name None begin place rest =
-    ap (λ b. b || leads_back types n start name) (other_text (type_names types) name start p (bytes_eq name start) refl place begin) ∙ leads_from_none types n start name place
+    ap (λ b. b || name_leads_back types n start name) (other_text (type_names types) name start p (bytes_eq name start) refl place begin) ∙ leads_from_none types n start name place
 by_place types n p start name (Some r) begin place rest =
-    ap (λ b. b || leads_back types n start name) (same_place (type_names types) name start r p (bytes_eq name start) refl place begin) ∙ ap (λ b. (r == p) || b) (rest r refl)
+    ap (λ b. b || name_leads_back types n start name) (same_place (type_names types) name start r p (bytes_eq name start) refl place begin) ∙ ap (λ b. (r == p) || b) (rest r refl)
 
 pub followed_by_place : (types : List TypeDefinition) (n p : ℕ) (start : List ℕ) (o : Option (List ℕ)) → place_of (type_names types) start ≡ Some p
-    → ((name : List ℕ) (r : ℕ) → place_of (type_names types) name ≡ Some r → leads_back types n start name ≡ place_leads_back (next_place types) n p r)
+    → ((name : List ℕ) (r : ℕ) → place_of (type_names types) name ≡ Some r → name_leads_back types n start name ≡ place_leads_back (next_place types) n p r)
     → back_from types n start o ≡ back_to (next_place types) n p (option_and_then (place_of (type_names types)) o)
 followed_by_place types n p start None begin rest = refl
 followed_by_place types n p start (Some name) begin rest = by_place types n p start name (place_of (type_names types) name) begin refl (λ r h. rest name r h)
 
 -- names lead to the start as their places do
 pub leads_by_place : (types : List TypeDefinition) (n p q : ℕ) (start name : List ℕ) → place_of (type_names types) start ≡ Some p → place_of (type_names types) name ≡ Some q
-    → leads_back types n start name ≡ place_leads_back (next_place types) n p q
+    → name_leads_back types n start name ≡ place_leads_back (next_place types) n p q
 leads_by_place types zero p q start name begin place = refl
 leads_by_place types (suc n) p q start name begin place =
     ap (back_from types n start) (next_at types name q place)

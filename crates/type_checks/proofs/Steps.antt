@@ -1,13 +1,14 @@
 -- Laws of steps from place to place.
-use Rattle.std.proofs.Common.{◌≡◌, ℕ, zero, suc, Bool, true, false, ◌+◌, ◌-◌, ◌<◌, ◌≤◌, arith, Option, Some, None, refl, ap, sym, ◌∙◌}
+use Rattle.std.proofs.Common.{◌≡◌, ℕ, zero, suc, Bool, true, ◌+◌, ◌-◌, ◌<◌, ◌≤◌, arith, Option, Some, None, refl, ap, sym, ◌∙◌}
 use Rattle.std.specs.Prelude.{◌||◌, ◌==◌, option_and_then}
 use Rattle.std.proofs.lemmas.Bool.{eq-eqb, or_right}
+use Rattle.behaviour_tree.specs.Operations.{is_among}
+use Rattle.behaviour_tree.proofs.Leading.{from_there}
 use Rattle.type_checks.specs.Circles.{place_leads_back, steps_on}
 
 -- whether a place that may follow is the start or leads to it
 abbrev pub back_to : (ℕ → Option ℕ) → ℕ → ℕ → Option ℕ → Bool
-back_to next n start None = false
-back_to next n start (Some q) = (q == start) || place_leads_back next n start q
+back_to next n start o = is_among (from_there next n o) start
 
 -- what may follow, followed by itself
 pub then_some : (o : Option ℕ) → option_and_then (λ p. Some p) o ≡ o

@@ -1,11 +1,13 @@
 -- These definitions serve the proofs alone: no promise speaks of them.
 -- Types that lead to types, place by place, and what is known of them while they are walked over.
-use Rattle.std.specs.Prelude.{◌≡◌, ℕ, zero, suc, Bool, true, false, ◌||◌, ◌==◌, ◌-◌, ◌<◌, ◌⊎◌, List, sum_by, slice_get}
+use Rattle.std.specs.Prelude.{◌≡◌, ℕ, zero, suc, Bool, true, false, ◌-◌, ◌<◌, ◌⊎◌, List, sum_by, slice_get}
 use Rattle.std.specs.Prelude.{slice_index_or, Option, None, Some, option_and_then}
 use Rattle.jolie_ast.specs.declared.types.TypeDefinition.{TypeDefinition}
 use Rattle.jolie_ast.specs.declared.types.TypeBody.{out-TypeBody}
 use Rattle.type_checks.specs.declared.circles.Mark.{Mark}
 use Rattle.type_checks.specs.declared.circles.Mark.TheVariants.{Unseen, Walked, Circle}
+use Rattle.behaviour_tree.specs.Leading.{led_to}
+use Rattle.behaviour_tree.specs.Operations.{is_among}
 use Rattle.check_base.specs.Repeated.{place_of}
 use Rattle.check_base.specs.Files.{type_names, body_of, name_in}
 
@@ -19,11 +21,9 @@ name_of ty = name_in (out-TypeBody (body_of ty.body))
 abbrev pub next_place : List TypeDefinition → ℕ → Option ℕ
 next_place types place = option_and_then (place_of (type_names types)) (option_and_then name_of (slice_get types place))
 
--- whether the places from one on lead to the start within n steps
+-- whether the places that one leads to have the start among them
 abbrev pub place_leads_back : (ℕ → Option ℕ) → ℕ → ℕ → ℕ → Bool
-place_leads_back next zero start p = false
-place_leads_back next (suc n) start p =
-    elim (next p) [ None ↦ false | Some q ↦ (q == start) || place_leads_back next n start q ]
+place_leads_back next n start p = is_among (led_to next n p) start
 
 -- where n steps from a place on lead to
 abbrev pub steps_on : (ℕ → Option ℕ) → ℕ → ℕ → Option ℕ

@@ -1,9 +1,8 @@
 -- What is refused of types.
-use Rattle.std.specs.Prelude.{ℕ, zero, suc, Bool, false, not, ◌||◌, List, [], ◌++◌, length, map, flat_map, bytes_eq}
-use Rattle.std.specs.Prelude.{Option, None, Some, is_some}
+use Rattle.std.specs.Prelude.{not, List, [], ◌++◌, map, flat_map, Option, None, Some, is_some}
 use Rattle.jolie_ast.specs.declared.name.Name.{Name}
 use Rattle.jolie_ast.specs.declared.types.TypeDefinition.{TypeDefinition}
-use Rattle.jolie_ast.specs.declared.types.TypeBody.{TypeBody, out-TypeBody}
+use Rattle.jolie_ast.specs.declared.types.TypeBody.{TypeBody}
 use Rattle.jolie_ast.specs.declared.types.TypeBody.TheOpen.{TypeBody-F, Field-F}
 use Rattle.jolie_ast.specs.declared.types.TypeBody.TheFolds.{fold-TypeBody}
 use Rattle.jolie_ast.specs.declared.types.Field.{Field, out-Field}
@@ -13,7 +12,8 @@ use Rattle.check_base.specs.declared.refusal.CheckName.TheVariants.{DuplicateNam
 use Rattle.check_base.specs.declared.refusal.Refusal.{Refusal}
 use Rattle.check_base.specs.Repeated.{repeated}
 use Rattle.check_base.specs.Least.{refused, refused_if}
-use Rattle.check_base.specs.Files.{type_named, body_of, name_in}
+use Rattle.check_base.specs.Files.{type_named, body_of}
+use Rattle.check_base.specs.TypeNames.{leads_back}
 
 -- a name of a type that is not there
 abbrev pub unknown_type : List TypeDefinition → Name → List Refusal
@@ -58,19 +58,9 @@ field_refused types f = body_refused types (out-Field f).body
 abbrev pub field_names_refused : List Field → List Refusal
 field_names_refused fields = refused DuplicateName (repeated (map (λ (f : Field). (out-Field f).name) fields))
 
--- the name that the type of a name is defined as, if it is one
-abbrev pub next_name : List TypeDefinition → List ℕ → Option (List ℕ)
-next_name types name = elim (type_named types name) [ None ↦ None | Some ty ↦ name_in (out-TypeBody (body_of ty.body)) ]
-
--- whether the names from one on lead to the start within n steps
-abbrev pub leads_back : List TypeDefinition → ℕ → List ℕ → List ℕ → Bool
-leads_back types zero start name = false
-leads_back types (suc n) start name =
-    elim (next_name types name) [ None ↦ false | Some next ↦ bytes_eq next start || leads_back types n start next ]
-
 -- a type whose names lead back to itself
 abbrev pub circle : List TypeDefinition → TypeDefinition → List Refusal
-circle types ty = refused_if (leads_back types (length types) ty.name.text ty.name.text) UnknownType ty.name.at
+circle types ty = refused_if (leads_back types ty.name.text) UnknownType ty.name.at
 
 -- what is refused of a type of the file
 abbrev pub type_refused : List TypeDefinition → TypeDefinition → List Refusal

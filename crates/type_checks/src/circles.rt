@@ -4,7 +4,7 @@ ghost use Rattle.jolie_ast.specs.declared.types.TypeBody.{out-TypeBody};
 ghost use Rattle.type_checks.specs.declared.circles.Mark.TheVariants.{Unseen};
 ghost use Rattle.type_checks.specs.Circles.{AllSeen, Came, Known, KnownOnRound, KnownOnWalk, OnlyCircles, StaysSeen, WalksBelow, is_circle, is_unseen, mark_at, next_place, steps_on, unseen};
 ghost use Rattle.check_base.specs.Files.{body_of, name_in};
-ghost use Rattle.type_checks.specs.TypeRules.{leads_back};
+ghost use Rattle.check_base.specs.TypeNames.{leads_back};
 
 use check_base::Types;
 use jolie_ast::{DefinedType, TypeBody};
@@ -90,7 +90,7 @@ impl<'t, 'a> Circles<'t, 'a> {
 
     /// Whether the names from one on lead back to it.
     pub fn leads_back(&self, name: &str) -> bool
-        ensures { result ≡ leads_back self.now (length self.now) name.now name.now }
+        ensures { result ≡ leads_back self.now name.now }
     {
         match self.types.names().place(name) {
             Some(place) => self.marks[place].is_circle(),

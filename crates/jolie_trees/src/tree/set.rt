@@ -2,7 +2,9 @@ ghost use Rattle.std.specs.Prelude.{◌≡◌, OnOk, OnErr, Some};
 ghost use Rattle.jolie_trees.specs.Data.{Tree as Plain};
 ghost use Rattle.jolie_trees.specs.Trees as spec;
 ghost use Rattle.jolie_trees.specs.Extents.{extent_of, at_or_void};
+ghost use Rattle.jolie_trees.specs.Limits.{is_store};
 ghost use Rattle.jolie_trees.specs.Refusals.{KeepsLimits};
+ghost use Rattle.jolie_trees.specs.declared.root.Root.{Root as PlainRoot};
 
 use super::Tree;
 use super::change::Change;
@@ -58,6 +60,21 @@ impl Tree {
         self.set(to, value)
     }
 
+    /// Whether the tree would keep the limits with that value at a path.
+    pub fn fits_set(&self, path: &Path, value: &Tree) -> bool
+        ensures { result ≡ is_store (spec.set path.now.steps value.now self.now) }
+    {
+        is_within_limits(self.extent_with(path.steps.as_slice(), value.extent()))
+    }
+
+    /// Whether the tree would keep the limits with a root at a path, which one it be.
+    pub fn fits_root(&self, path: &Path) -> bool
+        ensures { (r : PlainRoot) → result ≡ is_store (spec.set_root path.now.steps r self.now) }
+    {
+        let steps = path.steps.as_slice();
+        is_within_limits(self.extent_with(steps, self.extent_at(steps)))
+    }
+
     /// The extent of the node that the steps lead to, a missing one being void.
     fn extent_at(&self, steps: &[Step]) -> Extent
         ensures { result ≡ extent_of (at_or_void steps.now (Some self.now)) }
@@ -79,4 +96,10 @@ fn check_limits(extent: Extent) -> Result<(), SetError>
         return Err(SetError::TooDeep(extent.levels));
     }
     Ok(())
+}
+
+fn is_within_limits(extent: Extent) -> bool
+    ensures { (tree : Plain) → extent ≡ extent_of tree → result ≡ is_store tree }
+{
+    extent.nodes <= MOST_NODES && extent.levels <= MOST_LEVELS
 }

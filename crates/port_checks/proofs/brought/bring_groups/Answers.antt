@@ -4,4 +4,4 @@ use Rattle.port_checks.proofs.brought.bring_groups.Goals as goal
 
 pub loop-group-preserved : goal.loop-group-preserved
 loop-group-preserved c =
-    adding_turn (group_at c.args.at) c.args.mentions.now.items c.loop-group.mentions.items c.bring_group.new.mentions.items c.args.groups.now c.loop-group.group-index c.group-item.result c.loop-group-test.true c.group-item.is c.loop-group.invariant (c.in_ok-bring_group.ensures)
+    adding_turn (group_at c.args.at) c.args.mentions.now.items _ _ _ _ _ c.loop-group-test.true c.group-item.is c.loop-group.invariant c.in_ok-bring_group.ensures

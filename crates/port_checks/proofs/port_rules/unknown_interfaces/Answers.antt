@@ -4,4 +4,4 @@ use Rattle.port_checks.proofs.port_rules.unknown_interfaces.Goals as goal
 
 pub loop-name-preserved : goal.loop-name-preserved
 loop-name-preserved c =
-    turn_of (unknown_interface c.args.interfaces.now) c.args.least.now c.loop-name.least c.unknown_interface.new.least c.args.names.now c.loop-name.name-index c.name-item.result c.loop-name-test.true c.name-item.is c.loop-name.invariant c.unknown_interface.ensures
+    turn_of (unknown_interface c.args.interfaces.now) _ _ _ _ _ _ c.loop-name-test.true c.name-item.is c.loop-name.invariant c.unknown_interface.ensures

@@ -4,4 +4,4 @@ use Rattle.port_checks.proofs.set_rules.each_partly.Goals as goal
 
 pub loop-ty-preserved : goal.loop-ty-preserved
 loop-ty-preserved c =
-    nows_turn (partly_among c.args.tables.now) c.args.least.now c.loop-ty.least c.partly.new.least c.args.types.now c.loop-ty.ty-index c.ty-item.result c.loop-ty-test.true c.ty-item.is c.loop-ty.invariant c.partly.ensures
+    nows_turn (partly_among c.args.tables.now) _ _ _ _ _ _ c.loop-ty-test.true c.ty-item.is c.loop-ty.invariant c.partly.ensures

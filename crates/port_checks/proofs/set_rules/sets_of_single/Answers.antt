@@ -4,4 +4,4 @@ use Rattle.port_checks.proofs.set_rules.sets_of_single.Goals as goal
 
 pub loop-clause-preserved : goal.loop-clause-preserved
 loop-clause-preserved c =
-    turn_of (set_of_single c.args.is_concurrent) c.args.least.now c.loop-clause.least c.set_of_single.new.least c.args.clauses.now c.loop-clause.clause-index c.clause-item.result c.loop-clause-test.true c.clause-item.is c.loop-clause.invariant c.set_of_single.ensures
+    turn_of (set_of_single c.args.is_concurrent) _ _ _ _ _ _ c.loop-clause-test.true c.clause-item.is c.loop-clause.invariant c.set_of_single.ensures

@@ -4,4 +4,4 @@ use Rattle.port_checks.proofs.set_rules.wrong_aliases.Goals as goal
 
 pub loop-alias-preserved : goal.loop-alias-preserved
 loop-alias-preserved c =
-    turn_of (wrong_alias c.args.types.now) c.args.least.now c.loop-alias.least c.wrong_alias.new.least c.args.aliases.now c.loop-alias.alias-index c.alias-item.result c.loop-alias-test.true c.alias-item.is c.loop-alias.invariant c.wrong_alias.ensures
+    turn_of (wrong_alias c.args.types.now) _ _ _ _ _ _ c.loop-alias-test.true c.alias-item.is c.loop-alias.invariant c.wrong_alias.ensures

@@ -8,7 +8,7 @@ use Rattle.process_checks.proofs.first_inputs.names_of_branches.Goals as goal
 
 pub loop-branch-preserved : goal.loop-branch-preserved
 loop-branch-preserved c =
-    mapping_turn (λ (b : Branch). (branch_operation b).text) [] c.loop-branch.names c.add.new.self c.args.branches.now c.loop-branch.branch-index c.branch-item.result c.loop-branch-test.true c.branch-item.is c.loop-branch.invariant (search rules)
+    mapping_turn (λ (b : Branch). (branch_operation b).text) [] _ _ _ _ _ c.loop-branch-test.true c.branch-item.is c.loop-branch.invariant (search rules)
 
 pub returns : goal.returns
 returns c =

@@ -4,4 +4,4 @@ use Rattle.process_checks.proofs.process_part_rules.wrong_steps.Goals as goal
 
 pub loop-step-preserved : goal.loop-step-preserved
 loop-step-preserved c =
-    turn_of wrong_step c.args.least.now c.loop-step.least c.wrong_step.new.least c.args.steps.now c.loop-step.step-index c.step-item.result c.loop-step-test.true c.step-item.is c.loop-step.invariant c.wrong_step.ensures
+    turn_of wrong_step _ _ _ _ _ _ c.loop-step-test.true c.step-item.is c.loop-step.invariant c.wrong_step.ensures

@@ -9,7 +9,7 @@ use Rattle.process_checks.proofs.surroundings.outlets_of.Goals as goal
 
 pub loop-clause-preserved : goal.loop-clause-preserved
 loop-clause-preserved c =
-    adding_turn (λ x. map (outlet c.args.interfaces.now) (option_to_list (output_port_in x))) [] c.loop-clause.outlets c.in_ok-outlets.outlets c.as_slice-clause-items.result.now c.loop-clause.clause-index c.clause-item.result c.loop-clause-test.true c.clause-item.is c.loop-clause.invariant c.in_ok-outlets.ensures
+    adding_turn (λ x. map (outlet c.args.interfaces.now) (option_to_list (output_port_in x))) [] _ _ _ _ _ c.loop-clause-test.true c.clause-item.is c.loop-clause.invariant c.in_ok-outlets.ensures
 
 pub returns : goal.returns
 returns c =

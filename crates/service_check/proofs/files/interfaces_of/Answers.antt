@@ -7,7 +7,7 @@ use Rattle.service_check.proofs.files.interfaces_of.Goals as goal
 
 pub loop-definition-preserved : goal.loop-definition-preserved
 loop-definition-preserved c =
-    adding_turn (λ d. option_to_list (interface_in d)) [] c.loop-definition.interfaces c.in_ok-interfaces.interfaces c.args.file.now c.loop-definition.definition-index c.definition-item.result c.loop-definition-test.true c.definition-item.is c.loop-definition.invariant c.in_ok-interfaces.ensures
+    adding_turn (λ d. option_to_list (interface_in d)) [] _ _ _ _ _ c.loop-definition-test.true c.definition-item.is c.loop-definition.invariant c.in_ok-interfaces.ensures
 
 pub returns : goal.returns
 returns c =

@@ -7,7 +7,7 @@ use Rattle.service_check.proofs.files.types_of.Goals as goal
 
 pub loop-definition-preserved : goal.loop-definition-preserved
 loop-definition-preserved c =
-    adding_turn (λ d. option_to_list (type_in d)) [] c.loop-definition.types c.in_ok-types.types c.args.file.now c.loop-definition.definition-index c.definition-item.result c.loop-definition-test.true c.definition-item.is c.loop-definition.invariant c.in_ok-types.ensures
+    adding_turn (λ d. option_to_list (type_in d)) [] _ _ _ _ _ c.loop-definition-test.true c.definition-item.is c.loop-definition.invariant c.in_ok-types.ensures
 
 pub returns : goal.returns
 returns c =

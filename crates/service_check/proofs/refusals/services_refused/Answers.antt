@@ -8,7 +8,7 @@ use Rattle.service_check.proofs.refusals.services_refused.Goals as goal
 
 pub loop-definition-preserved : goal.loop-definition-preserved
 loop-definition-preserved c =
-    turn_of (definition_refused c.args.types.now c.args.interfaces.now c.args.locations.now) c.args.least.now c.loop-definition.least c.definition_refused.new.least c.args.file.now c.loop-definition.definition-index c.definition-item.result c.loop-definition-test.true c.definition-item.is c.loop-definition.invariant (c.in_ok-definition_refused.ensures)
+    turn_of (definition_refused c.args.types.now c.args.interfaces.now c.args.locations.now) _ _ _ _ _ _ c.loop-definition-test.true c.definition-item.is c.loop-definition.invariant c.in_ok-definition_refused.ensures
 
 pub returns : goal.returns
 returns c =

@@ -8,7 +8,7 @@ use Rattle.service_check.proofs.service_numbers.numbered_ports.Goals as goal
 
 pub loop-place-preserved : goal.loop-place-preserved
 loop-place-preserved c = record {
-  names = adding_turn (λ s. kept_names (sided s)) [] c.loop-place.ports.names c.add_port.new.ports.names c.args.sides.now c.loop-place.place c.index-sides-place.result c.loop-place-test.true c.index-sides-place.is c.loop-place.invariant.names c.in_ok-add_port.ensures.names;
+  names = adding_turn (λ s. kept_names (sided s)) [] _ _ _ _ _ c.loop-place-test.true c.index-sides-place.is c.loop-place.invariant.names c.in_ok-add_port.ensures.names;
   numbered = kept_turn c.args.interfaces.now c.loop-place.ports.numbered.items c.add_port.new.ports.numbered.items c.args.sides.now c.loop-place.place c.index-sides-place.result c.loop-place-test.true c.index-sides-place.is c.loop-place.invariant.numbered c.in_ok-add_port.ensures.numbered;
 }
 

@@ -4,4 +4,4 @@ use Rattle.service_check.proofs.service_rules.clauses_refused.Goals as goal
 
 pub loop-clause-preserved : goal.loop-clause-preserved
 loop-clause-preserved c =
-    turn_of (clause_refused c.args.surroundings.now) c.args.least.now c.loop-clause.least c.clause_refused.new.least c.args.clauses.now c.loop-clause.clause-index c.clause-item.result c.loop-clause-test.true c.clause-item.is c.loop-clause.invariant c.in_ok-clause_refused.ensures
+    turn_of (clause_refused c.args.surroundings.now) _ _ _ _ _ _ c.loop-clause-test.true c.clause-item.is c.loop-clause.invariant c.in_ok-clause_refused.ensures

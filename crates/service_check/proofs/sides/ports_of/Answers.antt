@@ -1,14 +1,13 @@
-use Rattle.std.proofs.Common.{rules, [], map, flat_map, ap, ◌∙◌}
+use Rattle.std.proofs.Common.{rules, [], flat_map, ap, ◌∙◌}
 use Rattle.std.specs.Option.{option_to_list}
 use Rattle.std.proofs.lemmas.List.{take_all}
 use Rattle.check_base.specs.Files.{port_in}
-use Rattle.service_check.specs.KeptPorts.{sided}
 use Rattle.check_base.proofs.Loops.{adding_turn, all_found}
 use Rattle.service_check.proofs.sides.ports_of.Goals as goal
 
 pub loop-clause-preserved : goal.loop-clause-preserved
 loop-clause-preserved c =
-    adding_turn (λ x. option_to_list (port_in x)) [] (map sided c.loop-clause.ports.items) (map sided c.add_port.new.ports.items) c.args.clauses.now c.loop-clause.clause-index c.clause-item.result c.loop-clause-test.true c.clause-item.is c.loop-clause.invariant c.in_ok-add_port.ensures
+    adding_turn (λ x. option_to_list (port_in x)) [] _ _ _ _ _ c.loop-clause-test.true c.clause-item.is c.loop-clause.invariant c.in_ok-add_port.ensures
 
 pub returns : goal.returns
 returns c =

@@ -10,7 +10,7 @@ use Rattle.type_checks.proofs.file_rules.interfaces_refused.Goals as goal
 
 pub loop-definition-preserved : goal.loop-definition-preserved
 loop-definition-preserved c =
-    turn_of (λ d. flat_map (interface_refused c.args.types.now) (option_to_list (interface_in d))) c.args.least.now c.loop-definition.least c.defined_interface_refused.new.least c.args.file.now c.loop-definition.definition-index c.definition-item.result c.loop-definition-test.true c.definition-item.is c.loop-definition.invariant c.in_ok-defined_interface_refused.ensures
+    turn_of (λ d. flat_map (interface_refused c.args.types.now) (option_to_list (interface_in d))) _ _ _ _ _ _ c.loop-definition-test.true c.definition-item.is c.loop-definition.invariant c.in_ok-defined_interface_refused.ensures
 
 pub returns : goal.returns
 returns c =

@@ -4,4 +4,4 @@ use Rattle.type_checks.proofs.interface_rules.all_silent_refused.Goals as goal
 
 pub loop-operation-preserved : goal.loop-operation-preserved
 loop-operation-preserved c =
-    turn_of (silent_refused c.args.types.now) c.args.least.now c.loop-operation.least c.silent_refused.new.least c.args.operations.now c.loop-operation.operation-index c.operation-item.result c.loop-operation-test.true c.operation-item.is c.loop-operation.invariant (c.silent_refused.ensures)
+    turn_of (silent_refused c.args.types.now) _ _ _ _ _ _ c.loop-operation-test.true c.operation-item.is c.loop-operation.invariant c.silent_refused.ensures

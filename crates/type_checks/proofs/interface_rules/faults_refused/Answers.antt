@@ -4,4 +4,4 @@ use Rattle.type_checks.proofs.interface_rules.faults_refused.Goals as goal
 
 pub loop-fault-preserved : goal.loop-fault-preserved
 loop-fault-preserved c =
-    turn_of (fault_refused c.args.types.now) c.args.least.now c.loop-fault.least c.unknown_if_written.new.least c.args.faults.now c.loop-fault.fault-index c.fault-item.result c.loop-fault-test.true c.fault-item.is c.loop-fault.invariant (c.unknown_if_written.ensures)
+    turn_of (fault_refused c.args.types.now) _ _ _ _ _ _ c.loop-fault-test.true c.fault-item.is c.loop-fault.invariant c.unknown_if_written.ensures

@@ -4,4 +4,4 @@ use Rattle.type_checks.proofs.type_rules.+types.Goals as goal
 
 pub fields_refused-loop-field-preserved : goal.fields_refused-loop-field-preserved
 fields_refused-loop-field-preserved t c =
-    turn_of (field_refused c.args.types.now) c.args.least.now c.loop-field.least c.field_refused.new.least c.args.fields.now c.loop-field.field-index c.field-item.result c.loop-field-test.true c.field-item.is c.loop-field.invariant (c.in_ok-field_refused.ensures)
+    turn_of (field_refused c.args.types.now) _ _ _ _ _ _ c.loop-field-test.true c.field-item.is c.loop-field.invariant c.in_ok-field_refused.ensures

@@ -7,7 +7,7 @@ use Rattle.type_lowering.proofs.program_interfaces.lowered_interfaces.Goals as g
 
 pub loop-definition-preserved : goal.loop-definition-preserved
 loop-definition-preserved c =
-    gathering_turn (lowered_interface c.args.types.now c.args.names.now) interface_in (map interface_view c.loop-definition.lowered.items) (map interface_view c.add_interface.new.lowered.items) c.args.file.now c.loop-definition.definition-index c.definition-item.result c.loop-definition-test.true c.definition-item.is c.loop-definition.invariant c.in_ok-add_interface.ensures
+    gathering_turn (lowered_interface c.args.types.now c.args.names.now) interface_in _ _ _ _ _ c.loop-definition-test.true c.definition-item.is c.loop-definition.invariant c.in_ok-add_interface.ensures
 
 pub returns : goal.returns
 returns c = gathered (lowered_interface c.args.types.now c.args.names.now) interface_in (map interface_view c.loop-definition.lowered.items) c.args.file.now c.loop-definition.definition-index c.loop-definition.invariant (search rules)

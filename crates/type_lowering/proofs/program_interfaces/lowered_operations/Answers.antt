@@ -1,6 +1,5 @@
 use Rattle.std.proofs.Common.{rules, [], map, flat_map, ap, sym, ◌∙◌}
 use Rattle.std.proofs.lemmas.List.{take_all}
-use Rattle.behaviour_tree.specs.PartsView.{operation_view}
 use Rattle.check_base.specs.Files.{group_operations}
 use Rattle.type_lowering.specs.LoweredInterfaces.{lowered_operation}
 use Rattle.check_base.proofs.Loops.{adding_turn, mapped_each}
@@ -8,7 +7,7 @@ use Rattle.type_lowering.proofs.program_interfaces.lowered_operations.Goals as g
 
 pub loop-group-preserved : goal.loop-group-preserved
 loop-group-preserved c =
-    adding_turn (λ g. map (lowered_operation c.args.types.now c.args.names.now) (group_operations g)) [] (map operation_view c.loop-group.operations.items) (map operation_view c.add_group.new.lowered.items) c.args.groups.now c.loop-group.group-index c.group-item.result c.loop-group-test.true c.group-item.is c.loop-group.invariant c.in_ok-add_group.ensures
+    adding_turn (λ g. map (lowered_operation c.args.types.now c.args.names.now) (group_operations g)) [] _ _ _ _ _ c.loop-group-test.true c.group-item.is c.loop-group.invariant c.in_ok-add_group.ensures
 
 pub returns : goal.returns
 returns c =

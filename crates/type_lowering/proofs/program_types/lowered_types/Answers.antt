@@ -7,7 +7,7 @@ use Rattle.type_lowering.proofs.program_types.lowered_types.Goals as goal
 
 pub loop-definition-preserved : goal.loop-definition-preserved
 loop-definition-preserved c =
-    gathering_turn (lowered_definition c.args.types.now) type_in (map type_view c.loop-definition.lowered.items) (map type_view c.add_type.new.lowered.items) c.args.file.now c.loop-definition.definition-index c.definition-item.result c.loop-definition-test.true c.definition-item.is c.loop-definition.invariant c.in_ok-add_type.ensures
+    gathering_turn (lowered_definition c.args.types.now) type_in _ _ _ _ _ c.loop-definition-test.true c.definition-item.is c.loop-definition.invariant c.in_ok-add_type.ensures
 
 pub returns : goal.returns
 returns c = gathered (lowered_definition c.args.types.now) type_in (map type_view c.loop-definition.lowered.items) c.args.file.now c.loop-definition.definition-index c.loop-definition.invariant (search rules)

@@ -3,7 +3,7 @@ use Rattle.std.proofs.lemmas.List.{get_or_read, length-map}
 use Rattle.jolie_ast.specs.declared.types.TypeDefinition.{TypeDefinition}
 use Rattle.type_checks.specs.declared.circles.Mark.TheVariants.{Unseen}
 use Rattle.check_base.specs.Repeated.{place_of}
-use Rattle.type_checks.specs.TypeRules.{leads_back}
+use Rattle.check_base.specs.TypeNames.{leads_back}
 use Rattle.type_checks.specs.Circles.{is_circle, next_place}
 use Rattle.check_base.specs.Files.{type_names}
 use Rattle.type_checks.proofs.Leading.{leads_by_place, leads_from_none}
@@ -23,11 +23,11 @@ returns-in-Some c =
     ∙ ap is_circle (get_or_read marks place c.index.result.now within_marks c.index.ensures Unseen)
     ∙ mark_tells (next_place types) (length types) marks c.self.invariant.1 place (c.self.invariant.2 place within)
     ∙ sym (leads_by_place types (length types) place place name name found found)
-    ∙ ap (λ ts. leads_back ts (length ts) name name) (search rules)
+    ∙ ap (λ ts. leads_back ts name) (search rules)
 
 pub returns-in-None : goal.returns-in-None
 returns-in-None c =
     let types = c.self.inside.types.now in
     let name = c.args.name.now in
     sym (leads_from_none types (length types) name name (ap (λ ts. place_of ts name) (sym c.names.ensures) ∙ sym c.in-None.ensures.place))
-    ∙ ap (λ ts. leads_back ts (length ts) name name) (search rules)
+    ∙ ap (λ ts. leads_back ts name) (search rules)
