@@ -13,13 +13,13 @@ ghost use Rattle.jolie_main.specs.Sessions.{Call, asks};
 ghost use Rattle.jolie_main.specs.Stages.{Stage, to_take, to_end, StandsAt, HasEnded, Came, HasTaken, AsksFor};
 ghost use Rattle.jolie_main.specs.Starting.{starting_operations};
 ghost use Rattle.jolie_main.specs.Turns.{ending, IsLived, IsWholeRun};
-ghost use Rattle.term_session.specs.Sessions.{config_of, service_of};
+ghost use Rattle.first_session.specs.Sessions.{config_of, service_of};
 
 use behaviour_tree::{Events, Given, Need, Outcome, Program};
+use first_session::{StepError, TermSession};
 use jolie_trees::Tree;
 use sqlite_items::Items;
 use std::alloc::{AllocError, Global};
-use term_session::{StepError, TermSession};
 
 /// How a session went from its start to its end.
 #[derive(Drop)]

@@ -4,16 +4,16 @@ ghost use Rattle.std.specs.Prelude.{◌≡◌};
 ghost use Rattle.behaviour_tree.specs.PartsView.{parts_of};
 ghost use Rattle.behaviour_tree.specs.Built.{IsBuiltService};
 ghost use Rattle.jolie_main.specs.BuiltPrograms.{IsBuiltProgram};
-ghost use Rattle.term_session.specs.Sessions.{service_of};
+ghost use Rattle.first_session.specs.Sessions.{service_of};
 
 use crate::objects::{files, notes, output, source, words};
 use behaviour_tree::{Event, Events, Given, Program};
+use first_session::TermSession;
 use jolie_main::{Ended, one_service_is_built, program_in, run};
 use jolie_trees::Tree;
 use outside_traits::{ScriptedFiles, ScriptedSink, ScriptedSource};
 use sqlite_items::Items;
 use std::alloc::{AllocError, Global};
-use term_session::TermSession;
 use test_rows::Row;
 use test_values::read_tree;
 

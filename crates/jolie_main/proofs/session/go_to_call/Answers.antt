@@ -4,7 +4,7 @@ use Rattle.behaviour_tree.specs.PartsView.{parts_of}
 use Rattle.jolie_main.specs.Stages.{AsksFor}
 use Rattle.jolie_main.proofs.Runs.{some_next, next_quietly, has_next, still_there, less_left}
 use Rattle.jolie_main.proofs.session.go_to_call.Goals as goal
-use Rattle.term_session.specs.Sessions.{config_of}
+use Rattle.first_session.specs.Sessions.{config_of}
 
 pub next_need-requires-clause-awaits : goal.next_need-requires-clause-awaits
 next_need-requires-clause-awaits c = let s = c.loop-session.invariant.some in some_next s.0 s.2

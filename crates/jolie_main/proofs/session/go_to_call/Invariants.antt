@@ -5,7 +5,7 @@ use Rattle.jolie_main.specs.Sessions.{Call}
 use Rattle.jolie_main.specs.Stages.{Stage, StandsAt, Came}
 use Rattle.jolie_main.proofs.Runs.{left_in}
 use Rattle.jolie_main.proofs.session.go_to_call.Given as goal
-use Rattle.term_session.specs.Sessions.{config_of, service_of}
+use Rattle.first_session.specs.Sessions.{config_of, service_of}
 
 abbrev pub invariant-loop-session : goal.invariant-loop-session
 invariant-loop-session l = record {

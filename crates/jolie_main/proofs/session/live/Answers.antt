@@ -9,7 +9,7 @@ use Rattle.jolie_main.specs.Stages.{to_take, AsksFor, HasTaken}
 use Rattle.jolie_main.specs.Turns.{IsLived, IsWholeRun}
 use Rattle.jolie_main.proofs.CallsMade.{take_enabled, took, untaken_enabled, untaken_whole, nothing_else_next}
 use Rattle.jolie_main.proofs.session.live.Goals as goal
-use Rattle.term_session.specs.Sessions.{config_of}
+use Rattle.first_session.specs.Sessions.{config_of}
 
 pub go_on-requires-clause-enabled : goal.go_on-requires-clause-enabled
 go_on-requires-clause-enabled c =

@@ -5,7 +5,7 @@ use Rattle.jolie_main.specs.Stages.{AsksFor}
 use Rattle.jolie_main.specs.Turns.{taking, answering}
 use Rattle.jolie_main.proofs.CallsMade.{taken_on, reply_enabled, its_request, reply_came, replied_whole, end_enabled, its_silence, silent_whole, no_more}
 use Rattle.jolie_main.proofs.session.live_on.Goals as goal
-use Rattle.term_session.specs.Sessions.{config_of}
+use Rattle.first_session.specs.Sessions.{config_of}
 
 pub go_on-requires-clause-enabled : goal.go_on-requires-clause-enabled
 go_on-requires-clause-enabled c =

@@ -2,7 +2,7 @@
 use Rattle.behaviour_tree.specs.PartsView.{parts_of}
 use Rattle.jolie_main.proofs.NeedsTold.{something_needed, asked_as_told}
 use Rattle.jolie_main.proofs.session.next_need.Goals as goal
-use Rattle.term_session.specs.Sessions.{config_of, service_of}
+use Rattle.first_session.specs.Sessions.{config_of, service_of}
 
 pub unreachable-requires : goal.unreachable-requires
 unreachable-requires c =

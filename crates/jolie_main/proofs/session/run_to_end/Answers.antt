@@ -10,7 +10,7 @@ use Rattle.jolie_main.specs.Turns.{ending}
 use Rattle.jolie_main.proofs.CallsMade.{ends_next, ends_there}
 use Rattle.jolie_main.proofs.Runs.{has_next}
 use Rattle.jolie_main.proofs.session.run_to_end.Goals as goal
-use Rattle.term_session.specs.Sessions.{config_of}
+use Rattle.first_session.specs.Sessions.{config_of}
 
 pub go_on-requires-clause-enabled : goal.go_on-requires-clause-enabled
 go_on-requires-clause-enabled c =

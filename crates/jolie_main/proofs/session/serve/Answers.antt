@@ -1,7 +1,7 @@
 -- A session of the program begins with its message still to come.
 use Rattle.std.proofs.Common.{◌∙◌, ap}
 use Rattle.behaviour_tree.specs.PartsView.{parts_of}
-use Rattle.term_session.specs.Sessions.{config_of}
+use Rattle.first_session.specs.Sessions.{config_of}
 use Rattle.jolie_main.proofs.CallsMade.{came_first}
 use Rattle.jolie_main.proofs.ServedProgram.{first_built}
 use Rattle.jolie_main.proofs.session.serve.Goals as goal

@@ -1,0 +1,14 @@
+pub mod Arrivals
+pub mod Asks
+pub mod Begins
+pub mod Branches
+pub mod Enabled
+pub mod Events
+pub mod Histories
+pub mod KeptOpen
+pub mod Moving
+pub mod NormalForms
+pub mod Options
+pub mod Paths
+pub mod Stores
+pub mod Upward

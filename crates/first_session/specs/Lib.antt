@@ -1,0 +1,5 @@
+pub mod Moves
+pub mod Needs
+pub mod Rests
+pub mod Sessions
+pub mod View

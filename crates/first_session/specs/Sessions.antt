@@ -1,0 +1,13 @@
+-- What a session is at a moment, and which service it is of.
+use Rattle.std.specs.Prelude.{ℕ, Option, option_map}
+use Rattle.behaviour_tree.specs.After.{Config}
+use Rattle.first_session.specs.Moves.{config_view}
+use Rattle.first_session.specs.declared.session.TermSession.{TermSession}
+
+-- the configuration of a session, none once memory ran out in a step
+abbrev pub config_of : TermSession → Option Config
+config_of s = option_map config_view s.config
+
+-- the number of its service
+abbrev pub service_of : TermSession → ℕ
+service_of s = s.service
