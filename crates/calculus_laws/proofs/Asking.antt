@@ -20,7 +20,7 @@ use Rattle.calculus_laws.proofs.Moving.{NotDone, Writes, coming, Keeps, keeps-mo
 use Rattle.calculus_laws.proofs.Events.{of_event}
 
 -- what is seen where the office gives nothing
-abbrev blind : Seen → Seen
+abbrev pub blind : Seen → Seen
 blind s = record s { gift = given.Nothing }
 
 -- what a behaviour asks of the office
@@ -141,7 +141,7 @@ fault-member false x x' y y' e e' = e'
 
 mutual
   -- nor does the fault in a form
-  fault-blind : (s : Seen) (k : ℕ) (t : Term) → fault_in s k t ≡ fault_in (blind s) k t
+  pub fault-blind : (s : Seen) (k : ℕ) (t : Term) → fault_in s k t ≡ fault_in (blind s) k t
   fault-blind s k (place p) = ap (λ o. if nat_eq s.strand k then o else None) (fault_of-blind s p)
   fault-blind s k (thrown f) = refl
   fault-blind s k (seq t rest) = fault-blind s k t

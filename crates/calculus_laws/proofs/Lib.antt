@@ -1,21 +1,21 @@
-mod Adding
-mod Answering
-mod Asking
-mod Carrying
-mod Compensating
-mod Counting
-mod Drawing
-mod Entries
-mod Events
-mod Fresh
-mod Handlers
-mod Moving
-mod Normal
-mod Options
-mod Putting
-mod SameStrands
-mod Sending
-mod Settling
-mod Shapes
-mod Sounding
-mod Walks
+pub mod Adding
+pub mod Answering
+pub mod Asking
+pub mod Carrying
+pub mod Compensating
+pub mod Counting
+pub mod Drawing
+pub mod Entries
+pub mod Events
+pub mod Fresh
+pub mod Handlers
+pub mod Moving
+pub mod Normal
+pub mod Options
+pub mod Putting
+pub mod SameStrands
+pub mod Sending
+pub mod Settling
+pub mod Shapes
+pub mod Sounding
+pub mod Walks

@@ -10,5 +10,6 @@ mod throws;
 
 pub use decision::Decision;
 pub use kills::kill;
+pub use places::place_of;
 pub use ready::least_ready;
 pub use throws::{carry, decided};
