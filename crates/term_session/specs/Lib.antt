@@ -1,5 +1,8 @@
-pub mod Moves
+pub mod Asks
+pub mod Configs
+pub mod Looks
 pub mod Needs
-pub mod Rests
+pub mod Raised
 pub mod Sessions
-pub mod View
+pub mod Turns
+pub mod Walks

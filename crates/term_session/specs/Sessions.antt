@@ -1,7 +1,7 @@
 -- What a session is at a moment, and which service it is of.
 use Rattle.std.specs.Prelude.{ℕ, Option, option_map}
-use Rattle.behaviour_tree.specs.After.{Config}
-use Rattle.term_session.specs.Moves.{config_view}
+use Rattle.calculus.specs.After.{Config}
+use Rattle.term_session.specs.Configs.{config_view}
 use Rattle.term_session.specs.declared.session.TermSession.{TermSession}
 
 -- the configuration of a session, none once memory ran out in a step

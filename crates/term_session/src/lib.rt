@@ -1,23 +1,17 @@
-//! A session of the calculus over terms, proved to follow its definitions event by event.
+//! A session of the calculus over terms, for the whole language.
 #![tactic(auto)]
 
-mod after;
-mod answer;
-mod comes;
+mod act;
+mod act_here;
 mod config;
-mod effect;
-mod evaluate;
-mod fault;
-mod first;
+mod enabled;
+mod held;
 mod laws;
-mod moves;
-mod needs;
-mod normal;
-mod rest;
+mod look;
+mod needed;
 mod session;
-mod start;
-mod term;
-mod throw;
+mod step;
+mod turn;
 
-pub use laws::runs_keep_their_promises;
+pub use laws::needs_are_what_events_ask;
 pub use session::{StepError, TermSession};

@@ -1,19 +1,24 @@
-ghost use Rattle.std.specs.Prelude.{◌≡◌, ◌<◌, ◌↔◌, ℕ, false, None, Some, Contains, IfOk, IfSome, IsErr, MatchOption, length};
+ghost use Rattle.std.specs.Prelude.{◌≡◌, ◌<◌, ◌↔◌, ℕ, false, nat_eq, None, Some, Contains, IfOk, IfSome, IsErr, MatchOption, length};
+ghost use Rattle.std.specs.List.{dedup};
 ghost use Rattle.std.specs.List.Sorted.{IsStrictlyIncreasing};
-ghost use Rattle.behaviour_tree.specs.After.{Done as DoneEvent, HasEvent, after as after_of};
-ghost use Rattle.behaviour_tree.specs.Built.{IsBuiltService};
 ghost use Rattle.behaviour_tree.specs.PartsView.{parts_of};
-ghost use Rattle.behaviour_tree.specs.Runs.{start_of};
 ghost use Rattle.behaviour_tree.specs.declared.words.Given.{Given as Gift};
+ghost use Rattle.calculus.specs.After.{Done as DoneEvent, HasEvent, after as after_of};
+ghost use Rattle.calculus.specs.Open as held;
+ghost use Rattle.calculus.specs.Ready.{rising};
+ghost use Rattle.calculus.specs.Runs.{start_of};
 ghost use Rattle.term_session.specs.Sessions.{config_of, service_of};
 ghost use Rattle.term_session.specs.declared.session.StepError.TheVariants.{Memory};
 
-use crate::after::after;
-use crate::config::{Config, Done};
-use crate::first::first_config;
-use crate::needs::needed;
-use behaviour_tree::{Event, Given, Need, Program, Strands};
-use sqlite_items::Items;
+use crate::config::{Config, first_config};
+use crate::enabled::enabled;
+use crate::held::each_once;
+use crate::needed::need_of;
+use crate::step::step;
+use crate::turn::Turn;
+use behaviour_tree::{Event, Given, Need, Numbers, Program, Strands};
+use place_values::Actor;
+use running_terms::{open_requests, waiting};
 use std::alloc::{AllocError, Global};
 use thiserror::Error;
 
@@ -45,7 +50,6 @@ pub struct TermSession {
 impl TermSession {
     pub fn start(alloc: Global, program: &Program, service: u32) -> Result<TermSession, AllocError>
         requires known { service < length (parts_of program.now).services }
-        requires built { IsBuiltService (parts_of program.now) service }
         ensures { IfOk result (λ s. (service_of s ≡ service) × (config_of s ≡ start_of (parts_of program.now) service)) }
     {
         let config = first_config(alloc, &program.parts().services[service as usize])?;
@@ -58,7 +62,6 @@ impl TermSession {
 
     /// The strands that have an event for some gift.
     pub fn enabled(&self, program: &Program) -> Result<Strands, AllocError>
-        requires built { IsBuiltService (parts_of program.now) (service_of self.now) }
         ensures exact { IfOk result (λ strands. IfSome (config_of self.now) (λ c. (n : ℕ) → Contains strands n ↔ HasEvent (parts_of program.now) (service_of self.now) c n)) }
         ensures rising { IfOk result IsStrictlyIncreasing }
         ensures spent { config_of self.now ≡ None → IsErr result }
@@ -66,19 +69,11 @@ impl TermSession {
         let Some(config) = &self.config else {
             return Err(AllocError);
         };
-        let mut strands = Items::new(self.alloc);
-        match needed(program, self.service, config, 0)? {
-            None => Ok(strands),
-            Some(_) => {
-                strands.push(0)?;
-                Ok(strands)
-            }
-        }
+        enabled(self.alloc, config, program, self.service)
     }
 
     /// What the event of a strand asks for, or none where the strand has no event.
     pub fn need(&self, program: &Program, strand: u64) -> Result<Option<Need>, AllocError>
-        requires built { IsBuiltService (parts_of program.now) (service_of self.now) }
         ensures exact { IfOk result (λ o. IfSome (config_of self.now) (λ c. MatchOption o (¬ HasEvent (parts_of program.now) (service_of self.now) c strand)
             (λ need. HasEvent (parts_of program.now) (service_of self.now) c strand × ((g : Gift) (d : DoneEvent) → after_of (parts_of program.now) (service_of self.now) c strand g ≡ Some d → d.need ≡ need)))) }
         ensures spent { config_of self.now ≡ None → IsErr result }
@@ -86,31 +81,39 @@ impl TermSession {
         let Some(config) = &self.config else {
             return Err(AllocError);
         };
-        needed(program, self.service, config, strand)
+        let actor = Actor {
+            program,
+            service: self.service,
+            strand,
+        };
+        need_of(self.alloc, config, actor)
     }
 
     /// Does the event of a strand for a gift.
+    #[tactic(auto, using(crate::proofs::Stepping::stepped_some, crate::proofs::Stepping::stepped_none))]
     pub fn step(&mut self, program: &Program, strand: u64, given: Given) -> Result<Event, StepError>
-        requires built { IsBuiltService (parts_of program.now) (service_of self.old) }
         ensures done { IfOk result (λ event. IfSome (config_of self.old) (λ c. (d : DoneEvent) × (after_of (parts_of program.now) (service_of self.old) c strand given ≡ Some d) × (event ≡ d.event) × (config_of self.new ≡ Some d.config))) }
         ensures refused { (k : ℕ) → result ≡ Err (StepError.NotEnabled k) → (k ≡ strand) × (config_of self.new ≡ config_of self.old) × IfSome (config_of self.old) (λ c. after_of (parts_of program.now) (service_of self.old) c strand given ≡ None) }
         ensures memory { (a : AllocError) → result ≡ Err (StepError.Memory a) → config_of self.new ≡ None }
         ensures spent { config_of self.old ≡ None → (a : AllocError) × (result ≡ Err (StepError.Memory a)) }
         ensures service { service_of self.new ≡ service_of self.old }
     {
-        let Some(config) = &self.config else {
+        let Some(config) = &mut self.config else {
             return Err(StepError::Memory(AllocError));
         };
-        match after(program, self.service, config, strand, &given) {
-            Ok(Some(done)) => {
-                let Done {
-                    config,
-                    event,
-                    need: _,
-                } = done;
-                self.config = Some(config);
-                Ok(event)
-            }
+        let actor = Actor {
+            program,
+            service: self.service,
+            strand,
+        };
+        let turn = Turn {
+            actor,
+            given: &given,
+        };
+        let stepped = step(self.alloc, config, turn);
+        drop(given);
+        match stepped {
+            Ok(Some(event)) => Ok(event),
             Ok(None) => Err(StepError::NotEnabled(strand)),
             Err(error) => {
                 self.config = None;
@@ -128,5 +131,29 @@ impl TermSession {
             Some(config) => config.ended,
             None => false,
         }
+    }
+
+    /// The messages of the requests that are still to be answered, in rising order and each once.
+    pub fn open_calls(&self) -> Result<Numbers, AllocError>
+        ensures exact { IfOk result (λ messages. IfSome (config_of self.now) (λ c. messages ≡ dedup nat_eq (rising (held.open_requests c.form)))) }
+        ensures spent { config_of self.now ≡ None → IsErr result }
+    {
+        let Some(config) = &self.config else {
+            return Err(AllocError);
+        };
+        let messages = open_requests(self.alloc, &config.form)?;
+        each_once(self.alloc, messages.as_slice())
+    }
+
+    /// The calls whose answers the session waits for, in rising order and each once.
+    pub fn waiting(&self) -> Result<Numbers, AllocError>
+        ensures exact { IfOk result (λ calls. IfSome (config_of self.now) (λ c. calls ≡ dedup nat_eq (rising (held.waiting c.form)))) }
+        ensures spent { config_of self.now ≡ None → IsErr result }
+    {
+        let Some(config) = &self.config else {
+            return Err(AllocError);
+        };
+        let calls = waiting(self.alloc, &config.form)?;
+        each_once(self.alloc, calls.as_slice())
     }
 }

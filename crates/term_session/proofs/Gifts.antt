@@ -1,0 +1,92 @@
+-- What there is no event for, where the office gave something.
+use Rattle.std.proofs.Common.{◌≡◌, ℕ, zero, suc, true, false, None, Some, Option, option_map, is_some, refl, sym, ap, ◌∙◌}
+use Rattle.std.specs.Prelude.{IfNone}
+use Rattle.std.proofs.lemmas.Bool.{false≢true}
+use Rattle.behaviour_tree.specs.declared.words.Given.{Given}
+use Rattle.behaviour_tree.specs.declared.words.Given.TheVariants as given
+use Rattle.calculus.specs.Tables.{Table}
+use Rattle.calculus.specs.Terms.{Fault, Term, State, live, caught, term, last, zombie}
+use Rattle.calculus.specs.Moves.{Seen, Move, ungiven}
+use Rattle.calculus.specs.Scopes.{scope_acts, ends, handles_fault, handles_end}
+use Rattle.calculus.specs.After.{Config, Done, finish_event, finishes, raises}
+use Rattle.term_session.specs.Asks.{asked_of_scope}
+use Rattle.term_session.specs.Configs.{stepped, stepped_by}
+use Rattle.term_session.specs.Walks.{scope_event}
+
+-- whatever is there for nothing alone is not there for a gift
+for_nothing : {A : Type 0} (g : Given) (o : Option A) → (g ≡ given.Nothing → ⊥)
+    → ◌≡◌ {A = Option A} (elim g [ given.Nothing ↦ o | _ ↦ None ]) None
+for_nothing given.Nothing o h = absurd (h refl)
+for_nothing (given.Mail m o v) x h = refl
+for_nothing (given.Answer o) x h = refl
+for_nothing given.Bound x h = refl
+for_nothing (given.Held t) x h = refl
+for_nothing given.Fixed x h = refl
+
+pub ungiven_none : (s : Seen) (m : Move Term) → (s.gift ≡ given.Nothing → ⊥) → ungiven s m ≡ None
+ungiven_none s m h = for_nothing s.gift (Some m) h
+
+pub ungiven_some : (s : Seen) (m : Move Term) → s.gift ≡ given.Nothing → ungiven s m ≡ Some m
+ungiven_some s m h = rw h refl
+
+-- a scope has no event for a gift
+pub no_scope_event : (s : Seen) (q : ℕ) (h : Table) (u : State) → (s.gift ≡ given.Nothing → ⊥) → scope_event s q h u ≡ None
+no_scope_event s q h live g = ungiven_none s (ends s q h) g
+no_scope_event s q h (caught f) g = ungiven_none s (handles_fault s q h f) g
+no_scope_event s q h term g = ungiven_none s (handles_end s q h) g
+no_scope_event s q h last g = refl
+no_scope_event s q h zombie g = refl
+
+-- for nothing it has the event that it has of itself
+pub own_scope_event : (s : Seen) (q : ℕ) (h : Table) (u : State) → s.gift ≡ given.Nothing
+    → scope_event s q h u ≡ scope_acts (record s { gift = given.Nothing }) q h u
+own_scope_event s q h live g = ungiven_some s (ends s q h) g
+own_scope_event s q h (caught f) g = ungiven_some s (handles_fault s q h f) g
+own_scope_event s q h term g = ungiven_some s (handles_end s q h) g
+own_scope_event s q h last g = refl
+own_scope_event s q h zombie g = refl
+
+-- one whose last handler is through, or that a fault left, has none
+pub no_event_over : (s : Seen) (q : ℕ) (h : Table) (u : State) → is_some (asked_of_scope u) ≡ false → scope_event s q h u ≡ None
+no_event_over s q h live e = absurd (false≢true (sym e))
+no_event_over s q h (caught f) e = absurd (false≢true (sym e))
+no_event_over s q h term e = absurd (false≢true (sym e))
+no_event_over s q h last e = refl
+no_event_over s q h zombie e = refl
+
+-- any other has one
+pub some_scope_acts : (s : Seen) (q : ℕ) (h : Table) (u : State) → is_some (asked_of_scope u) ≡ true → is_some (scope_acts s q h u) ≡ true
+some_scope_acts s q h live e = refl
+some_scope_acts s q h (caught f) e = refl
+some_scope_acts s q h term e = refl
+some_scope_acts s q h last e = absurd (false≢true e)
+some_scope_acts s q h zombie e = absurd (false≢true e)
+
+-- where there is an event nothing is asked of the case without
+pub with_event : {A B : Type 0} (r : Option A) (f : A → B) (o : Option B) (P : Type 0) → option_map f r ≡ o → is_some o ≡ true
+    → IfNone r P
+with_event None f o P e some = absurd (false≢true (ap is_some e ∙ some))
+with_event (Some x) f o P e some = tt
+
+pub raises_none : (c : Config) (n : ℕ) (g : Given) (f : Fault) → (g ≡ given.Nothing → ⊥) → stepped c None ≡ stepped_by c (raises c n g f)
+raises_none c n given.Nothing f h = absurd (h refl)
+raises_none c n (given.Mail m o v) f h = refl
+raises_none c n (given.Answer o) f h = refl
+raises_none c n given.Bound f h = refl
+raises_none c n (given.Held t) f h = refl
+raises_none c n given.Fixed f h = refl
+
+-- the end is for strand 0 alone, and for no gift
+pub finishes_none : (c : Config) (n : ℕ) (g : Given) → ((n ≡ 0) → (g ≡ given.Nothing) → ⊥)
+    → stepped c None ≡ stepped_by c (finishes c n g)
+finishes_none c zero given.Nothing h = absurd (h refl refl)
+finishes_none c zero (given.Mail m o v) h = refl
+finishes_none c zero (given.Answer o) h = refl
+finishes_none c zero given.Bound h = refl
+finishes_none c zero (given.Held t) h = refl
+finishes_none c zero given.Fixed h = refl
+finishes_none c (suc n) g h = refl
+
+pub finishes_now : (c : Config) (n : ℕ) (g : Given) → n ≡ 0 → g ≡ given.Nothing
+    → stepped (record c { ended = true }) (Some finish_event) ≡ stepped_by c (finishes c n g)
+finishes_now c n g e h = rw (e, h) refl
