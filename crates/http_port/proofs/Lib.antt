@@ -6,5 +6,6 @@ pub mod PlaceLemmas
 pub mod ReadingLemmas
 pub mod TalkLemmas
 pub mod TurnLemmas
+pub mod CallLemmas
 pub mod ServingLemmas
 pub mod HasReading

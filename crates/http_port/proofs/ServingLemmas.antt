@@ -7,6 +7,9 @@ use Rattle.std.proofs.KnownBytes.{Appends-nil, Appends-trans, Consumes-nil, Cons
 use Rattle.std.proofs.Math.Logic.{∥∥₁_map, ∥∥₁_elim, ∥∥₁_prop}
 use Rattle.std.proofs.Math.Seq.{take-append_seam}
 use Rattle.std.proofs.lemmas.List.Folds.{concat-append}
+use Rattle.outside_traits.specs.Calls.{Notes}
+use Rattle.outside_traits.specs.declared.calls.WireCall.{WireCall}
+use Rattle.outside_traits.specs.declared.calls.WireCall.TheVariants.{Read}
 use Rattle.http_port.specs.declared.head_reader.Fed.{Fed}
 use Rattle.http_port.specs.declared.head_reader.Fed.TheVariants.{NotYet}
 use Rattle.http_port.specs.declared.serve.Said.{Said}
@@ -18,10 +21,12 @@ use Rattle.http_port.specs.Feeding.{Place, Open, Over, Spent, Feeds}
 use Rattle.http_port.specs.Walks.{Asks, AsksWhereGiven}
 use Rattle.http_port.specs.Connections.{Reading, RequestRead, given, Run, without_waits}
 use Rattle.http_port.specs.Serving.{Service, Demand, texts, to_write, AllAtOnce, HandsOn, IsServed, IsCutOff, EndsSo, demand_of, Serves, bodies_in, IsLastGiven, IsFed}
-use Rattle.http_port.specs.Turns.{Reacts}
+use Rattle.http_port.specs.Prompt.{IsPrompt}
+use Rattle.http_port.specs.Turns.{Reacts, IsWritten}
 use Rattle.http_port.proofs.ReadingLemmas.{still, Went, shown, asks_grow, step, run_goes, quiet}
 use Rattle.http_port.proofs.TalkLemmas.{spoken, ended, CallsFor, calls_for}
-use Rattle.http_port.proofs.TurnLemmas.{Spoke, spoke-append, waiting_turn, spoken_on, ended_on, bodies_on, bodies-append, count_said, said_at_once, Begins, starts_with, begins_behind, spoken_before, EndsWhole, EndsCut, LastTurn, last_turn, last_given}
+use Rattle.http_port.proofs.TurnLemmas.{Spoke, spoke-append, waiting_turn, spoken_on, ended_on, bodies_on, bodies-append, count_said, said_at_once, Begins, starts_with, begins_behind, spoken_before, EndsWhole, EndsCut, LastTurn, last_turn, last_given, spoke_turn, spoke_waiting}
+use Rattle.http_port.proofs.CallLemmas.{done, Called, called_first, called_turn, called_read, is_prompt}
 
 -- what was done, by what the reader gave
 abbrev pub service : List ℕ → List Fed → List Said → List ℕ → Service
@@ -237,6 +242,7 @@ pub record Told : Type 0 where
   pub given : Option (List ℕ)
   pub left : Option (List ℕ)
   pub taken : Option (List ℕ)
+  pub calls : Option (List WireCall)
   pub heard : Option (List (List ℕ))
   pub said : Option (List Said)
 
@@ -246,11 +252,13 @@ pub record Going (was : Place) (before : Told) (now : Place) (after : Told) (pie
   pub feds : List Fed
   pub said : List Said
   pub went : List ℕ
+  pub calls : List WireCall
   pub run : Run was pieces feds now
   pub spoke : Spoke feds said went
   pub given : Appends before.given after.given (concat pieces ++ piece)
   pub left : Consumes before.left after.left (concat pieces ++ piece)
   pub taken : Appends before.taken after.taken went
+  pub called : Called was before.calls after.calls (service (concat pieces ++ piece) feds said went) calls
   pub heard : Grows before.heard after.heard (bodies_in feds)
   pub told : Grows before.said after.said said
 
@@ -263,6 +271,7 @@ pub record Turned (mid : Place) (at : Told) (piece : List ℕ) (now : Place) (af
   pub given : after.given ≡ at.given
   pub left : after.left ≡ at.left
   pub taken : Appends at.taken after.taken went
+  pub written : IsWritten at.calls after.calls went
   pub heard : Grows at.heard after.heard (bodies_in (fed ∷ []))
   pub told : Grows at.said after.said said
 
@@ -273,11 +282,13 @@ going_first was before = record {
   feds = [];
   said = [];
   went = [];
+  calls = [];
   run = refl;
   spoke = (refl, refl);
   given = Appends-nil before.given;
   left = Consumes-nil before.left;
   taken = Appends-nil before.taken;
+  called = called_first was before.calls;
   heard = Grows-nil before.heard;
   told = Grows-nil before.said;
 }
@@ -323,11 +334,59 @@ joined was before mid at piece g now turned t after next r = record {
       (Grows-trans before.said at.said turned.said g.said t.said g.told t.told);
 }
 
+-- what was done with one turn more
+abbrev done_with : (was : Place) (before : Told) (mid : Place) (at : Told) (piece : List ℕ) → Going was before mid at piece
+    → (now : Place) (turned : Told) → Turned mid at piece now turned → List ℕ → Service
+done_with was before mid at piece g now turned t next = service (concat g.pieces ++ piece ++ next) (g.feds ++ t.fed ∷ []) (g.said ++ t.said) (g.went ++ t.went)
+
+-- the calls of the wire with one turn more
+turn_calls : (was : Place) (before : Told) (mid : Place) (at : Told) (piece : List ℕ) → (g : Going was before mid at piece)
+    → (now : Place) (turned : Told) → (t : Turned mid at piece now turned)
+    → Called was before.calls turned.calls (done (concat g.pieces ++ piece) (bodies_in (g.feds ++ t.fed ∷ [])) (g.said ++ t.said) (g.went ++ t.went)) (g.calls ++ t.written.calls)
+turn_calls was before mid at piece g now turned t =
+    subst (λ l. Called was before.calls turned.calls (done (concat g.pieces ++ piece) l (g.said ++ t.said) (g.went ++ t.went)) (g.calls ++ t.written.calls))
+    (sym (bodies-append g.feds (t.fed ∷ [])))
+    (called_turn was before.calls at.calls turned.calls (concat g.pieces ++ piece) (bodies_in g.feds) g.said g.went g.calls g.called
+    (bodies_in (t.fed ∷ [])) t.said t.went t.written)
+
+-- the same, where nothing was read
+turn_alone : (was : Place) (before : Told) (mid : Place) (at : Told) (piece : List ℕ) → (g : Going was before mid at piece)
+    → (now : Place) (turned : Told) → (t : Turned mid at piece now turned)
+    → Called was before.calls turned.calls (done_with was before mid at piece g now turned t []) (g.calls ++ t.written.calls)
+turn_alone was before mid at piece g now turned t =
+    subst (λ l. Called was before.calls turned.calls (done l (bodies_in (g.feds ++ t.fed ∷ [])) (g.said ++ t.said) (g.went ++ t.went)) (g.calls ++ t.written.calls))
+    (sym (append-nil (concat g.pieces ++ piece)))
+    (turn_calls was before mid at piece g now turned t)
+
+-- serving could have ended with this turn
+could_end : (was : Place) → AsksWhereGiven was → (before : Told) (mid : Place) (at : Told) (piece : List ℕ) → (g : Going was before mid at piece)
+    → (now : Place) (turned : Told) → (t : Turned mid at piece now turned) → Reacts t.fed t.said t.went Turns.Waits → (end : WireEnd) → IsRead end
+    → Serves was (service (concat g.pieces ++ piece) (g.feds ++ t.fed ∷ []) (g.said ++ t.said) (g.went ++ t.went)) end
+could_end was asks before mid at piece g now turned t reacts end at_end =
+    let waits = waiting_turn t.fed t.said t.went reacts in
+    subst (λ f. Serves was (service (concat g.pieces ++ piece) (g.feds ++ f ∷ []) (g.said ++ t.said) (g.went ++ t.went)) end) (sym waits.0)
+    (serves_read was mid now g.pieces g.feds g.said g.went piece t.said t.went end asks g.run g.spoke
+    (subst (λ f. Feeds mid piece f now) waits.0 t.feeds) waits.1 waits.2 at_end)
+
+-- the calls of the wire with one turn more and a read of these bytes
+read_calls : (was : Place) → AsksWhereGiven was → (before : Told) (mid : Place) (at : Told) (piece : List ℕ) → (g : Going was before mid at piece)
+    → (now : Place) (turned : Told) → (t : Turned mid at piece now turned) → Reacts t.fed t.said t.went Turns.Waits
+    → (after : Told) (next : List ℕ) (n : ℕ) → Notes turned.calls after.calls (Read n ∷ []) → n ≡ length next
+    → Called was before.calls after.calls (done_with was before mid at piece g now turned t next) (g.calls ++ t.written.calls ++ Read n ∷ [])
+read_calls was asks before mid at piece g now turned t reacts after next n noted count =
+    called_read was before.calls turned.calls after.calls (concat g.pieces ++ piece) (bodies_in (g.feds ++ t.fed ∷ [])) (g.said ++ t.said) (g.went ++ t.went) (g.calls ++ t.written.calls)
+    (turn_calls was before mid at piece g now turned t)
+    (sym (count_said (g.feds ++ t.fed ∷ []) (g.said ++ t.said) (g.went ++ t.went)
+    (spoke-append g.feds (t.fed ∷ []) g.said t.said g.went t.went g.spoke (spoke_waiting t.fed t.said t.went reacts))))
+    (could_end was asks before mid at piece g now turned t reacts Ends.Ended tt)
+    next n noted count
+
 -- one turn more, and a piece that is read then
-pub going_on : (was : Place) (before : Told) (mid : Place) (at : Told) (piece : List ℕ) → (g : Going was before mid at piece)
+going_on : (was : Place) (before : Told) (mid : Place) (at : Told) (piece : List ℕ) → (g : Going was before mid at piece)
     → (now : Place) (turned : Told) → (t : Turned mid at piece now turned) → Spoke (t.fed ∷ []) t.said t.went
-    → (after : Told) (next : List ℕ) → ReadOn turned after next → Going was before now after next
-going_on was before mid at piece g now turned t spoke after next r =
+    → (after : Told) (next : List ℕ) → ReadOn turned after next
+    → (calls : List WireCall) → Called was before.calls after.calls (done_with was before mid at piece g now turned t next) calls → Going was before now after next
+going_on was before mid at piece g now turned t spoke after next r calls called =
     let whole = concat_last g.pieces piece in
     let j = joined was before mid at piece g now turned t after next r in
     record {
@@ -335,36 +394,61 @@ going_on was before mid at piece g now turned t spoke after next r =
       feds = g.feds ++ t.fed ∷ [];
       said = g.said ++ t.said;
       went = g.went ++ t.went;
+      calls = calls;
       run = run-append g.pieces g.feds was mid now piece t.fed g.run t.feeds;
       spoke = spoke-append g.feds (t.fed ∷ []) g.said t.said g.went t.went g.spoke spoke;
       given = subst (λ l. Appends before.given after.given (l ++ next)) (sym whole) j.given;
       left = subst (λ l. Consumes before.left after.left (l ++ next)) (sym whole) j.left;
       taken = j.taken;
+      called = subst (λ l. Called was before.calls after.calls (done (l ++ next) (bodies_in (g.feds ++ t.fed ∷ [])) (g.said ++ t.said) (g.went ++ t.went)) calls) (sym whole) called;
       heard = j.heard;
       told = j.told;
     }
 
+-- a turn that goes on
+pub go_on : (was : Place) (before : Told) (mid : Place) (at : Told) (piece : List ℕ) → (g : Going was before mid at piece)
+    → (now : Place) (turned : Told) → (t : Turned mid at piece now turned) → Reacts t.fed t.said t.went Turns.GoesOn → Going was before now turned []
+go_on was before mid at piece g now turned t reacts =
+    going_on was before mid at piece g now turned t (spoke_turn t.fed t.said t.went reacts) turned [] (read_nothing turned)
+    (g.calls ++ t.written.calls) (turn_alone was before mid at piece g now turned t)
+
+-- a turn that waits, and what is read then
+pub read_on : (was : Place) → AsksWhereGiven was → (before : Told) (mid : Place) (at : Told) (piece : List ℕ) → (g : Going was before mid at piece)
+    → (now : Place) (turned : Told) → (t : Turned mid at piece now turned) → Reacts t.fed t.said t.went Turns.Waits
+    → (after : Told) (next : List ℕ) → ReadOn turned after next → (n : ℕ) → Notes turned.calls after.calls (Read n ∷ []) → n ≡ length next
+    → Going was before now after next
+read_on was asks before mid at piece g now turned t reacts after next r n noted count =
+    going_on was before mid at piece g now turned t (spoke_waiting t.fed t.said t.went reacts) after next r
+    (g.calls ++ t.written.calls ++ Read n ∷ []) (read_calls was asks before mid at piece g now turned t reacts after next n noted count)
+
 -- what serving that ended so did
 abbrev pub Finished : Place → Told → Place → Told → WireEnd → Type 0
-Finished was before now after end = (did : Service)
+Finished was before now after end = (did : Service) × (calls : List WireCall)
     × Appends before.given after.given did.came
     × Consumes before.left after.left did.came
     × Appends before.taken after.taken did.went
+    × Notes before.calls after.calls calls
     × Grows before.heard after.heard did.bodies
     × Grows before.said after.said did.said
     × IsFed was did end now
+    × IsPrompt was did calls
     × Serves was did end
 
 finished : (was : Place) (before : Told) (mid : Place) (at : Told) (piece : List ℕ) → (g : Going was before mid at piece)
     → (now : Place) (turned : Told) → (t : Turned mid at piece now turned) → (after : Told) → ReadOn turned after [] → (end : WireEnd) → IsLastGiven end t.fed
+    → (calls : List WireCall) → Called was before.calls after.calls (done_with was before mid at piece g now turned t []) calls
     → Serves was (service (concat g.pieces ++ piece) (g.feds ++ t.fed ∷ []) (g.said ++ t.said) (g.went ++ t.went)) end
     → Finished was before now after end
-finished was before mid at piece g now turned t after r end ends serves =
-    let j = joined was before mid at piece g now turned t after [] r in (
+finished was before mid at piece g now turned t after r end ends calls more serves =
+    let j = joined was before mid at piece g now turned t after [] r in
+    let called = subst (λ l. Called was before.calls after.calls (done l (bodies_in (g.feds ++ t.fed ∷ [])) (g.said ++ t.said) (g.went ++ t.went)) calls)
+    (append-nil (concat g.pieces ++ piece)) more in (
       service (concat g.pieces ++ piece) (g.feds ++ t.fed ∷ []) (g.said ++ t.said) (g.went ++ t.went),
+      calls,
       subst (Appends before.given after.given) (append-nil (concat g.pieces ++ piece)) j.given,
       subst (Consumes before.left after.left) (append-nil (concat g.pieces ++ piece)) j.left,
       j.taken,
+      called.noted,
       j.heard,
       j.told,
       record {
@@ -376,6 +460,7 @@ finished was before mid at piece g now turned t after r end ends serves =
         bodies = refl;
         ends = ends;
       },
+      is_prompt was (service (concat g.pieces ++ piece) (g.feds ++ t.fed ∷ []) (g.said ++ t.said) (g.went ++ t.went)) calls called.stops,
       serves,
     )
 
@@ -385,6 +470,7 @@ pub finish_turn : (was : Place) → AsksWhereGiven was → (before : Told) (mid 
     → Finished was before now turned end
 finish_turn was asks before mid at piece g now turned t end reacts =
     finished was before mid at piece g now turned t turned (read_nothing turned) end (last_given t.fed t.said t.went end reacts)
+    (g.calls ++ t.written.calls) (turn_alone was before mid at piece g now turned t)
     (serves_turn was mid now g.pieces g.feds g.said g.went piece t.fed t.said t.went end asks g.run g.spoke t.feeds reacts)
 
 given_nothing : (end : WireEnd) → IsRead end → (fed : Fed) → fed ≡ NotYet → IsLastGiven end fed
@@ -396,10 +482,9 @@ given_nothing (Ends.Later close) at fed e = absurd at
 -- serving ends where more is to be read
 pub finish_read : (was : Place) → AsksWhereGiven was → (before : Told) (mid : Place) (at : Told) (piece : List ℕ) → (g : Going was before mid at piece)
     → (now : Place) (turned : Told) → (t : Turned mid at piece now turned) → Reacts t.fed t.said t.went Turns.Waits
-    → (after : Told) → ReadOn turned after [] → (end : WireEnd) → IsRead end → Finished was before now after end
-finish_read was asks before mid at piece g now turned t reacts after r end at_end =
+    → (after : Told) → ReadOn turned after [] → Notes turned.calls after.calls (Read 0 ∷ []) → (end : WireEnd) → IsRead end → Finished was before now after end
+finish_read was asks before mid at piece g now turned t reacts after r noted end at_end =
     let waits = waiting_turn t.fed t.said t.went reacts in
     finished was before mid at piece g now turned t after r end (given_nothing end at_end t.fed waits.0)
-    (subst (λ f. Serves was (service (concat g.pieces ++ piece) (g.feds ++ f ∷ []) (g.said ++ t.said) (g.went ++ t.went)) end) (sym waits.0)
-    (serves_read was mid now g.pieces g.feds g.said g.went piece t.said t.went end asks g.run g.spoke
-    (subst (λ f. Feeds mid piece f now) waits.0 t.feeds) waits.1 waits.2 at_end))
+    (g.calls ++ t.written.calls ++ Read 0 ∷ []) (read_calls was asks before mid at piece g now turned t reacts after [] 0 noted refl)
+    (could_end was asks before mid at piece g now turned t reacts end at_end)

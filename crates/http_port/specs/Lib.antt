@@ -9,4 +9,5 @@ pub mod Talk
 pub mod Laws
 pub mod Asking
 pub mod Serving
+pub mod Prompt
 pub mod Turns

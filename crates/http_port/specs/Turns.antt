@@ -1,9 +1,13 @@
 -- These definitions serve the proofs alone: no promise of a public call speaks of them.
 -- What serving does turn by turn.
-use Rattle.std.specs.Prelude.{◌≡◌, ℕ, ◌⊎◌, Bool, true, if◌then◌else◌, None, Some, List, [], ◌∷◌, take}
+use Rattle.std.specs.Prelude.{◌≡◌, ℕ, ◌⊎◌, Bool, true, if◌then◌else◌, Option, None, Some, List, [], ◌∷◌, length, take}
+use Rattle.outside_traits.specs.Calls.{Notes}
+use Rattle.outside_traits.specs.declared.calls.WireCall.{WireCall}
+use Rattle.outside_traits.specs.declared.calls.WireCall.TheVariants.{Read, Wrote}
 use Rattle.http_port.specs.Responses.{interim, response}
 use Rattle.http_port.specs.Talk.{answer}
 use Rattle.http_port.specs.Serving.{CountsFault}
+use Rattle.http_port.specs.Prompt.{written_in}
 use Rattle.http_port.specs.declared.head_reader.Fed.{Fed}
 use Rattle.http_port.specs.declared.head_reader.Fed.TheVariants.{NotYet, Interim, Request, Refused}
 use Rattle.http_port.specs.declared.serve.Said.{Said}
@@ -39,3 +43,16 @@ abbrev pub TurnCounts : Turn → ℕ → ℕ → Type 0
 TurnCounts Turns.GoesOn before now = now ≡ before
 TurnCounts Turns.Waits before now = now ≡ before
 TurnCounts (Turns.Ends end) before now = CountsFault end before now
+
+-- none of these calls is a read
+abbrev pub AreWrites : List WireCall → Type 0
+AreWrites [] = Unit {0}
+AreWrites (Read count ∷ more) = ⊥
+AreWrites (Wrote count ∷ more) = AreWrites more
+
+-- a wire that tells its calls so was called to write these bytes, and for nothing else
+pub record IsWritten (before now : Option (List WireCall)) (went : List ℕ) : Type 0 where
+  pub calls : List WireCall
+  pub noted : Notes before now calls
+  pub writes : AreWrites calls
+  pub count : written_in calls ≡ length went

@@ -1,9 +1,12 @@
 //! Serving a connection.
-ghost use Rattle.std.specs.Prelude.{◌≡◌, IfOk, OnErr, MatchResult};
+ghost use Rattle.std.specs.Prelude.{◌≡◌, List, IfOk, OnErr, MatchResult};
 ghost use Rattle.std.specs.Io.KnownBytes.{Appends, Consumes, IsAtEnd};
 ghost use Rattle.http_port.specs.Asking.{Grows};
 ghost use Rattle.http_port.specs.Feeding.{Spent};
 ghost use Rattle.http_port.specs.Serving.{Service, IsFed, Serves, CountsFault};
+ghost use Rattle.http_port.specs.Prompt.{IsPrompt};
+ghost use Rattle.outside_traits.specs.Calls.{Notes};
+ghost use Rattle.outside_traits.specs.declared.calls.WireCall.{WireCall};
 
 use crate::head_reader::HeadReader;
 use crate::serve::Serve;
@@ -34,13 +37,15 @@ pub fn serve_wire<W: Wire, S: Serve>(
     reader: &mut HeadReader,
     serve: &mut S,
 ) -> Result<WireEnd, AllocError>
-    ensures serves { IfOk result (λ end. (did : Service)
+    ensures serves { IfOk result (λ end. (did : Service) × (calls : List WireCall)
         × Appends (W.given wire.old) (W.given wire.new) did.came
         × Consumes (W.left wire.old) (W.left wire.new) did.came
         × Appends (W.taken wire.old) (W.taken wire.new) did.went
+        × Notes (W.calls wire.old) (W.calls wire.new) calls
         × Grows (S.heard serve.old) (S.heard serve.new) did.bodies
         × Grows (S.said serve.old) (S.said serve.new) did.said
         × IsFed reader.old did end reader.new
+        × IsPrompt reader.old did calls
         × Serves reader.old did end) }
     ensures ended { result ≡ Ok WireEnd.Ended → IsAtEnd (W.left wire.new) }
     ensures counts { MatchResult result (λ end. CountsFault end (W.faults wire.old) (W.faults wire.new)) (λ _. W.faults wire.new ≡ W.faults wire.old) }
@@ -61,13 +66,15 @@ fn serve_each<W: Wire, S: Serve>(
     reader: &mut HeadReader,
     serve: &mut S,
 ) -> Result<WireEnd, AllocError>
-    ensures serves { IfOk result (λ end. (did : Service)
+    ensures serves { IfOk result (λ end. (did : Service) × (calls : List WireCall)
         × Appends (W.given wire.old) (W.given wire.new) did.came
         × Consumes (W.left wire.old) (W.left wire.new) did.came
         × Appends (W.taken wire.old) (W.taken wire.new) did.went
+        × Notes (W.calls wire.old) (W.calls wire.new) calls
         × Grows (S.heard serve.old) (S.heard serve.new) did.bodies
         × Grows (S.said serve.old) (S.said serve.new) did.said
         × IsFed reader.old did end reader.new
+        × IsPrompt reader.old did calls
         × Serves reader.old did end) }
     ensures ended { result ≡ Ok WireEnd.Ended → IsAtEnd (W.left wire.new) }
     ensures counts { MatchResult result (λ end. CountsFault end (W.faults wire.old) (W.faults wire.new)) (λ _. W.faults wire.new ≡ W.faults wire.old) }

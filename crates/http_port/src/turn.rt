@@ -6,7 +6,7 @@ ghost use Rattle.http_port.specs.Asking.{Grows};
 ghost use Rattle.http_port.specs.Feeding.{Feeds};
 ghost use Rattle.http_port.specs.Responses.{interim, response};
 ghost use Rattle.http_port.specs.Serving.{bodies_in};
-ghost use Rattle.http_port.specs.Turns.{turn_behind, Writes, Answers, Reacts, TurnCounts};
+ghost use Rattle.http_port.specs.Turns.{turn_behind, Writes, Answers, Reacts, TurnCounts, IsWritten};
 ghost use Rattle.http_port.specs.declared.head_reader.Fed.{Fed};
 ghost use Rattle.http_port.specs.declared.serve.Said.{Said};
 
@@ -33,6 +33,7 @@ pub(crate) enum Turn {
 const INTERIM: &[u8] = b"HTTP/1.1 100 Continue\r\n\r\n";
 
 /// Feeds the reader a piece, and does what that calls for.
+#[tactic(auto, using(crate::proofs::CallLemmas::nothing_written))]
 pub(crate) fn take_turn<W: Wire, S: Serve>(
     alloc: Global,
     wire: &mut W,
@@ -44,6 +45,7 @@ pub(crate) fn take_turn<W: Wire, S: Serve>(
         × Feeds reader.old piece.now fed reader.new
         × Reacts fed said went turn
         × Appends (W.taken wire.old) (W.taken wire.new) went
+        × IsWritten (W.calls wire.old) (W.calls wire.new) went
         × Grows (S.heard serve.old) (S.heard serve.new) (bodies_in (fed ∷ []))
         × Grows (S.said serve.old) (S.said serve.new) said) }
     ensures counts { MatchResult result (λ turn. TurnCounts turn (W.faults wire.old) (W.faults wire.new)) (λ _. W.faults wire.new ≡ W.faults wire.old) }
@@ -70,6 +72,7 @@ fn answer<W: Wire, S: Serve>(
     ensures answers { IfOk result (λ turn. (first : Said) × (went : List ℕ)
         × Answers first close went turn
         × Appends (W.taken wire.old) (W.taken wire.new) went
+        × IsWritten (W.calls wire.old) (W.calls wire.new) went
         × Grows (S.heard serve.old) (S.heard serve.new) (body.now ∷ [])
         × Grows (S.said serve.old) (S.said serve.new) (first ∷ [])) }
     ensures counts { MatchResult result (λ turn. TurnCounts turn (W.faults wire.old) (W.faults wire.new)) (λ _. W.faults wire.new ≡ W.faults wire.old) }
@@ -82,10 +85,12 @@ fn answer<W: Wire, S: Serve>(
 }
 
 /// Writes what was said to a request, unless it comes later.
+#[tactic(auto, using(crate::proofs::CallLemmas::nothing_written))]
 fn reply<W: Wire>(alloc: Global, wire: &mut W, said: &Said, close: bool) -> Result<Turn, AllocError>
     ensures answers { IfOk result (λ turn. (went : List ℕ)
         × Answers said.now close went turn
-        × Appends (W.taken wire.old) (W.taken wire.new) went) }
+        × Appends (W.taken wire.old) (W.taken wire.new) went
+        × IsWritten (W.calls wire.old) (W.calls wire.new) went) }
     ensures counts { MatchResult result (λ turn. TurnCounts turn (W.faults wire.old) (W.faults wire.new)) (λ _. W.faults wire.new ≡ W.faults wire.old) }
     ensures given { W.given wire.new ≡ W.given wire.old }
     ensures left { W.left wire.new ≡ W.left wire.old }
@@ -108,7 +113,8 @@ fn respond<W: Wire>(
 ) -> Result<Turn, AllocError>
     ensures writes { IfOk result (λ turn. (went : List ℕ)
         × Writes (response status body.now close) (turn_behind close) went turn
-        × Appends (W.taken wire.old) (W.taken wire.new) went) }
+        × Appends (W.taken wire.old) (W.taken wire.new) went
+        × IsWritten (W.calls wire.old) (W.calls wire.new) went) }
     ensures counts { MatchResult result (λ turn. TurnCounts turn (W.faults wire.old) (W.faults wire.new)) (λ _. W.faults wire.new ≡ W.faults wire.old) }
     ensures given { W.given wire.new ≡ W.given wire.old }
     ensures left { W.left wire.new ≡ W.left wire.old }
@@ -131,7 +137,10 @@ fn turn_behind(close: bool) -> Turn
 
 /// Writes a text and then goes on so, or ends where the wire fails.
 fn write<W: Wire>(wire: &mut W, text: &[u8], next: Turn) -> Turn
-    ensures writes { (went : List ℕ) × Writes text.now next went result × Appends (W.taken wire.old) (W.taken wire.new) went }
+    ensures writes { (went : List ℕ)
+        × Writes text.now next went result
+        × Appends (W.taken wire.old) (W.taken wire.new) went
+        × IsWritten (W.calls wire.old) (W.calls wire.new) went }
     ensures counts { TurnCounts next (W.faults wire.old) (W.faults wire.old) → TurnCounts result (W.faults wire.old) (W.faults wire.new) }
     ensures given { W.given wire.new ≡ W.given wire.old }
     ensures left { W.left wire.new ≡ W.left wire.old }
@@ -144,8 +153,11 @@ fn write<W: Wire>(wire: &mut W, text: &[u8], next: Turn) -> Turn
 }
 
 /// Writes all of the bytes, or a front of them where the wire fails.
+#[tactic(auto, using(crate::proofs::CallLemmas::nothing_written, crate::proofs::CallLemmas::written_still))]
 fn write_all<W: Wire>(wire: &mut W, bytes: &[u8]) -> Result<(), Failed>
-    ensures writes { MatchResult result (λ _. Appends (W.taken wire.old) (W.taken wire.new) bytes.now) (λ _. (count : ℕ) × Appends (W.taken wire.old) (W.taken wire.new) (take count bytes.now)) }
+    ensures writes { MatchResult result
+        (λ _. Appends (W.taken wire.old) (W.taken wire.new) bytes.now × IsWritten (W.calls wire.old) (W.calls wire.new) bytes.now)
+        (λ _. (count : ℕ) × Appends (W.taken wire.old) (W.taken wire.new) (take count bytes.now) × IsWritten (W.calls wire.old) (W.calls wire.new) (take count bytes.now)) }
     ensures cause { HasCause (W.faults wire.old) (W.faults wire.new) result }
     ensures given { W.given wire.new ≡ W.given wire.old }
     ensures left { W.left wire.new ≡ W.left wire.old }

@@ -3,19 +3,37 @@
 use crate::answers::Answers;
 use crate::stream::stream_of;
 use http_port::{HeadReader, WireEnd, serve_wire};
-use outside_traits::{CalmWire, Script, ScriptedWire};
+use outside_traits::{CalmWire, Script, ScriptedWire, WireCall};
 use std::alloc::{AllocError, Global};
 use test_rows::{Row, TableError};
 
 /// For how many bytes a wire has room.
 const ROOM: usize = 1000;
 
-/// What the row expects: how serving ends, what is asked and what is written.
+/// How a connection is served, and the calls of its wire.
+#[derive(Drop)]
+struct Served {
+    outcome: String,
+    calls: String,
+}
+
+/// What the row expects: how serving ends, what is asked and what is written; and in which order the wire is called, where it says so.
 pub(crate) fn expected(alloc: Global, row: &Row<'_>) -> Result<String, TableError> {
     let end = row.text(alloc, "end")?;
     let asked = row.text(alloc, "asked")?;
     let written = row.text(alloc, "written")?;
-    Ok(lines(alloc, end.as_str(), asked.as_str(), written.as_str())?)
+    let outcome = lines(alloc, end.as_str(), asked.as_str(), written.as_str())?;
+    if !row.has("calls") {
+        return Ok(outcome);
+    }
+    let calls = row.text(alloc, "calls")?;
+    Ok(with_calls(alloc, &Served { outcome, calls })?)
+}
+
+fn with_calls(alloc: Global, served: &Served) -> Result<String, AllocError> {
+    let outcome = served.outcome.as_str();
+    let calls = served.calls.as_str();
+    format!(in alloc; "{outcome}\n{calls}")
 }
 
 fn lines(alloc: Global, end: &str, asked: &str, written: &str) -> Result<String, AllocError> {
@@ -48,10 +66,12 @@ pub(crate) fn given(alloc: Global, row: &Row<'_>) -> Result<String, TableError> 
     let stream = stream.as_slice();
     let says = row.text(alloc, "says")?;
     let says = says.as_str();
-    if row.has("fails") {
-        let failing = u64::from(row.number(alloc, "fails")?);
-        let piece = row.number(alloc, "piece")? as usize;
-        return Ok(scripted(alloc, stream, says, piece, &[failing])?);
+    if row.has("piece") {
+        return by_script(alloc, row, stream, says);
+    }
+    if row.has("calls") {
+        let served = calm(alloc, stream, says)?;
+        return Ok(with_calls(alloc, &served)?);
     }
     let mut whole = in_pieces(alloc, &[stream], says)?;
     let is_same = is_same_in_pieces(alloc, stream, says, whole.as_str())?
@@ -62,6 +82,25 @@ pub(crate) fn given(alloc: Global, row: &Row<'_>) -> Result<String, TableError> 
     Ok(whole)
 }
 
+/// By a wire that gives and takes as many bytes a call as the row says, and fails where it says so.
+fn by_script(
+    alloc: Global,
+    row: &Row<'_>,
+    stream: &[u8],
+    says: &str,
+) -> Result<String, TableError> {
+    let piece = row.number(alloc, "piece")? as usize;
+    let mut failing = Vec::new(alloc);
+    if row.has("fails") {
+        failing.push(u64::from(row.number(alloc, "fails")?))?;
+    }
+    let served = scripted(alloc, stream, says, piece, failing.as_slice())?;
+    if row.has("calls") {
+        return Ok(with_calls(alloc, &served)?);
+    }
+    Ok(served.outcome)
+}
+
 /// By a wire that gives and takes so many bytes a call, and fails at these calls.
 fn scripted(
     alloc: Global,
@@ -69,13 +108,43 @@ fn scripted(
     says: &str,
     piece: usize,
     failing: &[u64],
-) -> Result<String, AllocError> {
+) -> Result<Served, AllocError> {
     let script = Script::new(alloc, failing)?;
     let mut wire = ScriptedWire::new(alloc, stream, ROOM, piece.max(1), script)?;
     let mut reader = HeadReader::new(alloc);
     let mut answers = Answers::new(alloc, says)?;
     let end = serve_wire(alloc, &mut wire, &mut reader, &mut answers)?;
-    outcome(alloc, end, &answers, wire.taken())
+    Ok(Served {
+        outcome: outcome(alloc, end, &answers, wire.taken())?,
+        calls: listed(alloc, wire.calls())?,
+    })
+}
+
+/// By a wire that gives and takes all at once.
+fn calm(alloc: Global, stream: &[u8], says: &str) -> Result<Served, AllocError> {
+    let mut wire = CalmWire::new(alloc, stream, ROOM)?;
+    let mut reader = HeadReader::new(alloc);
+    let mut answers = Answers::new(alloc, says)?;
+    let end = serve_wire(alloc, &mut wire, &mut reader, &mut answers)?;
+    Ok(Served {
+        outcome: outcome(alloc, end, &answers, wire.taken())?,
+        calls: listed(alloc, wire.calls())?,
+    })
+}
+
+/// The calls of a wire, in order.
+fn listed(alloc: Global, calls: &[WireCall]) -> Result<String, AllocError> {
+    let mut text = String::new(alloc);
+    for call in calls {
+        if !text.is_empty() {
+            text.push_str(", ")?;
+        }
+        match *call {
+            WireCall::Read(count) => write!(text, "read {count}")?,
+            WireCall::Wrote(count) => write!(text, "wrote {count}")?,
+        }
+    }
+    Ok(text)
 }
 
 /// By a wire for each piece.
@@ -108,7 +177,7 @@ fn is_same_in_pieces(
             return Ok(false);
         }
     }
-    Ok(scripted(alloc, stream, says, 1, &[])?.as_str() == whole)
+    Ok(scripted(alloc, stream, says, 1, &[])?.outcome.as_str() == whole)
 }
 
 /// Whether serving comes to the same where the stream is cut at each two places.

@@ -1,4 +1,5 @@
 pub mod Adapted
+pub mod Calls
 pub mod Causes
 pub mod Memory
 pub mod Wires

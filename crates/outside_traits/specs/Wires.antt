@@ -1,16 +1,18 @@
 -- What a contract sees of the wires in memory.
-use Rattle.std.specs.Prelude.{ℕ, Bool, if◌then◌else◌, List, []}
+use Rattle.std.specs.Prelude.{ℕ, Bool, if◌then◌else◌, List, [], Option}
 use Rattle.outside_traits.specs.Memory.{Plan, Shelved}
+use Rattle.outside_traits.specs.declared.calls.WireCall.{WireCall}
 
 -- bytes that are given away from the front: those that were given, and those that are left
 pub record Taped : Type 0 where
   pub given : List ℕ
   pub left : List ℕ
 
--- a wire that fails only for want of room, or because it is closed
+-- a wire that fails only for want of room, or because it is closed; its calls are told while there is memory for them
 pub record CalmLine : Type 0 where
   pub tape : Taped
   pub shelf : Shelved
+  pub calls : Option (List WireCall)
   pub faults : ℕ
   pub closed : Bool
 
@@ -19,6 +21,7 @@ pub record ScriptedLine : Type 0 where
   pub script : Plan
   pub tape : Taped
   pub shelf : Shelved
+  pub calls : Option (List WireCall)
   pub piece : ℕ
   pub closed : Bool
 

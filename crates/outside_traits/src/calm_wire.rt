@@ -1,10 +1,13 @@
-ghost use Rattle.std.specs.Prelude.{◌≡◌, ◌<◌, ◌≤◌, ◌↔◌, ◌⊎◌, [], true, false, Ok, Some, IsTrue, IsErr, IfOk, length, min};
+ghost use Rattle.std.specs.Prelude.{◌≡◌, ◌<◌, ◌≤◌, ◌↔◌, ◌⊎◌, [], ◌∷◌, true, false, Ok, Some, IsTrue, IsErr, IfOk, IfSome, length, min};
 ghost use Rattle.std.specs.Io.{ReadsAtMost, WritesAtMost};
 ghost use Rattle.std.specs.Io.KnownBytes.{ReadConsumes, WriteAppends};
+ghost use Rattle.outside_traits.specs.Calls.{Notes, moved};
+ghost use Rattle.outside_traits.specs.declared.calls.WireCall.TheVariants.{Read, Wrote};
 ghost use Rattle.outside_traits.specs.Causes.{Rose, HasCause};
 ghost use Rattle.outside_traits.specs.Memory.{room_left};
 ghost use Rattle.outside_traits.specs.Wires.{readable};
 
+use crate::calls::{Calls, WireCall};
 use crate::errors::Failed;
 use crate::memory::Shelf;
 use crate::tape::Tape;
@@ -17,6 +20,7 @@ use std::marker::Model;
 pub struct CalmWire {
     tape: Tape,
     shelf: Shelf,
+    calls: Calls,
     faults: u64,
     closed: bool,
 }
@@ -26,7 +30,7 @@ impl Model for CalmWire {
 
     ghost Value = { CalmLine };
 
-    ghost view = { λ w. record { tape = w.tape; shelf = w.shelf; faults = w.faults; closed = w.closed } };
+    ghost view = { λ w. record { tape = w.tape; shelf = w.shelf; calls = w.calls; faults = w.faults; closed = w.closed } };
 }
 
 impl CalmWire {
@@ -36,6 +40,7 @@ impl CalmWire {
         ensures left { IfOk result (λ wire. wire.tape.left ≡ bytes.now) }
         ensures taken { IfOk result (λ wire. wire.shelf.taken ≡ []) }
         ensures room { IfOk result (λ wire. wire.shelf.room ≡ room) }
+        ensures calls { IfOk result (λ wire. wire.calls ≡ Some []) }
         ensures faults { IfOk result (λ wire. wire.faults ≡ 0) }
         ensures closed { IfOk result (λ wire. wire.closed ≡ false) }
     {
@@ -44,6 +49,7 @@ impl CalmWire {
         Ok(CalmWire {
             tape,
             shelf,
+            calls: Calls::new(alloc),
             faults: 0,
             closed: false,
         })
@@ -63,15 +69,24 @@ impl CalmWire {
         self.shelf.bytes()
     }
 
-    /// Counts a failure.
+    /// The reads and writes in order: all, where they are told.
+    pub fn calls(&self) -> &[WireCall]
+        ensures { IfSome self.now.calls (λ calls. result.now ≡ calls) }
+    {
+        self.calls.noted()
+    }
+
+    /// Counts a write that failed.
     fn fail(&mut self) -> Result<usize, Failed>
         ensures failed { IsErr result }
         ensures rose { Rose self.old.faults self.new.faults }
         ensures later { self.old.faults ≤ self.new.faults }
         ensures tape { self.new.tape ≡ self.old.tape }
         ensures shelf { self.new.shelf ≡ self.old.shelf }
+        ensures calls { Notes self.old.calls self.new.calls (Wrote 0 ∷ []) }
         ensures closed { self.new.closed ≡ self.old.closed }
     {
+        self.calls.note(WireCall::Wrote(0));
         self.faults = self.faults.saturating_add(1);
         Err(Failed)
     }
@@ -84,6 +99,8 @@ impl Wire for CalmWire {
 
     ghost taken = { λ w. Some w.shelf.taken };
 
+    ghost calls = { λ w. w.calls };
+
     ghost faults = { λ w. w.faults };
 
     ghost closed = { λ w. w.closed };
@@ -95,14 +112,18 @@ impl Wire for CalmWire {
         ensures bytes { ReadConsumes (Some (readable self.old.closed self.old.tape)) (Some (readable self.new.closed self.new.tape)) result into.new }
         ensures given { WriteAppends (Some self.old.tape.given) (Some self.new.tape.given) result into.new }
         ensures taken { Some self.new.shelf.taken ≡ Some self.old.shelf.taken }
+        ensures calls { Notes self.old.calls self.new.calls (Read (moved result) ∷ []) }
         ensures closed { self.new.closed ≡ self.old.closed }
         ensures shut { IsTrue self.old.closed → result ≡ Ok 0 }
         ensures cause { HasCause self.old.faults self.new.faults result }
     {
         if self.closed {
+            self.calls.note(WireCall::Read(0));
             return Ok(0);
         }
-        Ok(self.tape.give(into.len(), into))
+        let count = self.tape.give(into.len(), into);
+        self.calls.note(WireCall::Read(count));
+        Ok(count)
     }
 
     fn write(&mut self, from: &[u8]) -> Result<usize, Failed>
@@ -114,6 +135,7 @@ impl Wire for CalmWire {
         ensures bytes { WriteAppends (Some self.old.shelf.taken) (Some self.new.shelf.taken) result from.now }
         ensures given { Some self.new.tape.given ≡ Some self.old.tape.given }
         ensures left { Some (readable self.new.closed self.new.tape) ≡ Some (readable self.old.closed self.old.tape) }
+        ensures calls { Notes self.old.calls self.new.calls (Wrote (moved result) ∷ []) }
         ensures closed { self.new.closed ≡ self.old.closed }
         ensures shut { IsTrue self.old.closed → IsErr result }
         ensures cause { HasCause self.old.faults self.new.faults result }
@@ -125,6 +147,7 @@ impl Wire for CalmWire {
         if count == 0 && !from.is_empty() {
             return self.fail();
         }
+        self.calls.note(WireCall::Wrote(count));
         Ok(count)
     }
 

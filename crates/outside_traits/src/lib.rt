@@ -3,6 +3,7 @@
 //! Beside the traits stand objects in memory for tests, scripted to fail or calm, and the adapters to the real world.
 #![tactic(auto)]
 
+mod calls;
 mod calm;
 mod calm_wire;
 mod errors;
@@ -14,6 +15,7 @@ mod system;
 mod tape;
 mod traits;
 
+pub use calls::WireCall;
 pub use calm::{CalmFiles, CalmSink, CalmSource};
 pub use calm_wire::CalmWire;
 pub use errors::{CallError, Failed};

@@ -1,10 +1,13 @@
-ghost use Rattle.std.specs.Prelude.{◌≡◌, ◌<◌, ◌↔◌, ◌⊎◌, [], true, false, Ok, Some, IsTrue, IsErr, IfOk, Contains, length, min};
+ghost use Rattle.std.specs.Prelude.{◌≡◌, ◌<◌, ◌↔◌, ◌⊎◌, [], ◌∷◌, true, false, Ok, Some, IsTrue, IsErr, IfOk, IfSome, Contains, length, min};
 ghost use Rattle.std.specs.Io.{ReadsAtMost, WritesAtMost};
 ghost use Rattle.std.specs.Io.KnownBytes.{ReadConsumes, WriteAppends};
+ghost use Rattle.outside_traits.specs.Calls.{Notes, moved};
+ghost use Rattle.outside_traits.specs.declared.calls.WireCall.TheVariants.{Read, Wrote};
 ghost use Rattle.outside_traits.specs.Causes.{HasCause};
 ghost use Rattle.outside_traits.specs.Memory.{room_left, IsNext};
 ghost use Rattle.outside_traits.specs.Wires.{readable};
 
+use crate::calls::{Calls, WireCall};
 use crate::errors::Failed;
 use crate::memory::Shelf;
 use crate::script::Script;
@@ -19,6 +22,7 @@ pub struct ScriptedWire {
     script: Script,
     tape: Tape,
     shelf: Shelf,
+    calls: Calls,
     piece: usize,
     closed: bool,
 }
@@ -29,7 +33,7 @@ impl Model for ScriptedWire {
 
     ghost Value = { ScriptedLine };
 
-    ghost view = { λ w. record { script = w.script; tape = w.tape; shelf = w.shelf; piece = w.piece; closed = w.closed } };
+    ghost view = { λ w. record { script = w.script; tape = w.tape; shelf = w.shelf; calls = w.calls; piece = w.piece; closed = w.closed } };
 
     ghost invariant = { λ w. 0 < w.piece };
 }
@@ -49,6 +53,7 @@ impl ScriptedWire {
         ensures left { IfOk result (λ wire. wire.tape.left ≡ bytes.now) }
         ensures taken { IfOk result (λ wire. wire.shelf.taken ≡ []) }
         ensures room { IfOk result (λ wire. wire.shelf.room ≡ room) }
+        ensures calls { IfOk result (λ wire. wire.calls ≡ Some []) }
         ensures piece { IfOk result (λ wire. wire.piece ≡ piece) }
         ensures closed { IfOk result (λ wire. wire.closed ≡ false) }
     {
@@ -58,6 +63,7 @@ impl ScriptedWire {
             script,
             tape,
             shelf,
+            calls: Calls::new(alloc),
             piece,
             closed: false,
         })
@@ -76,6 +82,13 @@ impl ScriptedWire {
     {
         self.shelf.bytes()
     }
+
+    /// The reads and writes in order: all, where they are told.
+    pub fn calls(&self) -> &[WireCall]
+        ensures { IfSome self.now.calls (λ calls. result.now ≡ calls) }
+    {
+        self.calls.noted()
+    }
 }
 
 impl Wire for ScriptedWire {
@@ -84,6 +97,8 @@ impl Wire for ScriptedWire {
     ghost left = { λ w. Some (readable w.closed w.tape) };
 
     ghost taken = { λ w. Some w.shelf.taken };
+
+    ghost calls = { λ w. w.calls };
 
     ghost faults = { λ w. w.script.faults };
 
@@ -94,24 +109,29 @@ impl Wire for ScriptedWire {
         ensures scripted { self.old.closed ≡ false → (IsErr result ↔ Contains self.old.script.failing self.old.script.call) }
         ensures count { IfOk result (λ count. count ≡ min (length (readable self.old.closed self.old.tape)) (min self.old.piece (length into.old))) }
         ensures script { self.old.closed ≡ false → IsNext self.old.script self.new.script }
-        ensures kept { IsTrue self.old.closed → self.new ≡ self.old }
+        ensures kept { IsTrue self.old.closed → self.new ≡ record self.old { calls = self.new.calls } }
         ensures shelf { self.new.shelf ≡ self.old.shelf }
         ensures piece { self.new.piece ≡ self.old.piece }
         ensures bound { ReadsAtMost result into.new }
         ensures bytes { ReadConsumes (Some (readable self.old.closed self.old.tape)) (Some (readable self.new.closed self.new.tape)) result into.new }
         ensures given { WriteAppends (Some self.old.tape.given) (Some self.new.tape.given) result into.new }
         ensures taken { Some self.new.shelf.taken ≡ Some self.old.shelf.taken }
+        ensures calls { Notes self.old.calls self.new.calls (Read (moved result) ∷ []) }
         ensures closed { self.new.closed ≡ self.old.closed }
         ensures shut { IsTrue self.old.closed → result ≡ Ok 0 }
         ensures cause { HasCause self.old.script.faults self.new.script.faults result }
     {
         if self.closed {
+            self.calls.note(WireCall::Read(0));
             return Ok(0);
         }
         if self.script.fails() {
+            self.calls.note(WireCall::Read(0));
             return Err(Failed);
         }
-        Ok(self.tape.give(self.piece, into))
+        let count = self.tape.give(self.piece, into);
+        self.calls.note(WireCall::Read(count));
+        Ok(count)
     }
 
     fn write(&mut self, from: &[u8]) -> Result<usize, Failed>
@@ -126,18 +146,22 @@ impl Wire for ScriptedWire {
         ensures bytes { WriteAppends (Some self.old.shelf.taken) (Some self.new.shelf.taken) result from.now }
         ensures given { Some self.new.tape.given ≡ Some self.old.tape.given }
         ensures left { Some (readable self.new.closed self.new.tape) ≡ Some (readable self.old.closed self.old.tape) }
+        ensures calls { Notes self.old.calls self.new.calls (Wrote (moved result) ∷ []) }
         ensures closed { self.new.closed ≡ self.old.closed }
         ensures shut { IsTrue self.old.closed → IsErr result }
         ensures cause { HasCause self.old.script.faults self.new.script.faults result }
     {
         if self.closed {
+            self.calls.note(WireCall::Wrote(0));
             self.script.count_fault();
             return Err(Failed);
         }
         if self.script.fails() {
+            self.calls.note(WireCall::Wrote(0));
             return Err(Failed);
         }
         let count = self.shelf.keep(self.piece, from);
+        self.calls.note(WireCall::Wrote(count));
         if count == 0 && !from.is_empty() {
             self.script.count_fault();
             return Err(Failed);

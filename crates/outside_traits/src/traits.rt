@@ -1,7 +1,10 @@
-ghost use Rattle.std.specs.Prelude.{◌≡◌, ◌<◌, ◌≤◌, List, ℕ, Bool, true, length, take, Ok, IsTrue, IsErr, IfOk, IfSome};
+ghost use Rattle.std.specs.Prelude.{◌≡◌, ◌<◌, ◌≤◌, List, [], ◌∷◌, ℕ, Bool, true, length, take, Ok, IsTrue, IsErr, IfOk, IfSome};
 ghost use Rattle.std.specs.declared.option.Option.{Option};
 ghost use Rattle.std.specs.Io.{ReadsAtMost, WritesAtMost};
 ghost use Rattle.std.specs.Io.KnownBytes.{ReadConsumes, WriteAppends, IsAtEnd};
+ghost use Rattle.outside_traits.specs.Calls.{Notes, moved};
+ghost use Rattle.outside_traits.specs.declared.calls.WireCall.{WireCall};
+ghost use Rattle.outside_traits.specs.declared.calls.WireCall.TheVariants.{Read, Wrote};
 ghost use Rattle.outside_traits.specs.Causes.{HasCause, HasCallCause};
 
 use crate::errors::{CallError, Failed};
@@ -64,6 +67,9 @@ pub trait Wire {
     /// The bytes that were written, where they are told.
     ghost taken: { Self → Option (List ℕ) };
 
+    /// Its reads and writes in order, where they are told.
+    ghost calls: { Self → Option (List WireCall) };
+
     /// How often a call has failed.
     ghost faults: { Self → ℕ };
 
@@ -77,6 +83,7 @@ pub trait Wire {
         // What was read grows by the bytes that this call gave.
         ensures given { WriteAppends (given self.old) (given self.new) result into.new }
         ensures taken { taken self.new ≡ taken self.old }
+        ensures calls { Notes (calls self.old) (calls self.new) (Read (moved result) ∷ []) }
         ensures closed { closed self.new ≡ closed self.old }
         ensures shut { IsTrue (closed self.old) → result ≡ Ok 0 }
         ensures cause { HasCause (faults self.old) (faults self.new) result };
@@ -88,6 +95,7 @@ pub trait Wire {
         ensures bytes { WriteAppends (taken self.old) (taken self.new) result from.now }
         ensures given { given self.new ≡ given self.old }
         ensures left { left self.new ≡ left self.old }
+        ensures calls { Notes (calls self.old) (calls self.new) (Wrote (moved result) ∷ []) }
         ensures closed { closed self.new ≡ closed self.old }
         ensures shut { IsTrue (closed self.old) → IsErr result }
         ensures cause { HasCause (faults self.old) (faults self.new) result };
@@ -98,5 +106,6 @@ pub trait Wire {
         ensures left { IsAtEnd (left self.new) }
         ensures given { given self.new ≡ given self.old }
         ensures taken { taken self.new ≡ taken self.old }
+        ensures calls { calls self.new ≡ calls self.old }
         ensures faults { faults self.new ≡ faults self.old };
 }

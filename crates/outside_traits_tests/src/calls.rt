@@ -1,9 +1,10 @@
 //! What the calls of a row gave.
 
+use outside_traits::WireCall;
 use std::alloc::{AllocError, Global};
 use test_rows::{Row, TableError};
 
-/// The counts that calls gave, the numbers of those that failed, and the bytes that came or went.
+/// The counts that calls gave, the numbers of those that failed, the bytes that came or went, and what a wire tells of its calls.
 #[derive(Drop)]
 pub struct Calls {
     alloc: Global,
@@ -11,6 +12,7 @@ pub struct Calls {
     failed: String,
     bytes: String,
     written: String,
+    told: String,
 }
 
 impl Calls {
@@ -21,6 +23,7 @@ impl Calls {
             failed: String::new(alloc),
             bytes: String::new(alloc),
             written: String::new(alloc),
+            told: String::new(alloc),
         }
     }
 
@@ -48,11 +51,26 @@ impl Calls {
         self.written.push_str(text.as_str())
     }
 
+    /// A wire told its calls.
+    pub fn told(&mut self, calls: &[WireCall]) -> Result<(), AllocError> {
+        for call in calls {
+            if !self.told.as_str().is_empty() {
+                self.told.push_str(", ")?;
+            }
+            match *call {
+                WireCall::Read(count) => write!(self.told, "read {count}")?,
+                WireCall::Wrote(count) => write!(self.told, "wrote {count}")?,
+            }
+        }
+        Ok(())
+    }
+
     pub fn aspect(&self, name: &str) -> &str {
         match name {
             "bytes" => self.bytes.as_str(),
             "counts" => self.counts.as_str(),
             "written" => self.written.as_str(),
+            "told" => self.told.as_str(),
             _ => self.failed.as_str(),
         }
     }

@@ -13,7 +13,7 @@ use std::io;
 use test_rows::{Report, Row, TableError, rows, tables};
 
 /// What a row may expect.
-const ASPECTS: [&str; 4] = ["bytes", "counts", "failed", "written"];
+const ASPECTS: [&str; 5] = ["bytes", "counts", "failed", "written", "told"];
 
 fn main(rt: HostRuntime) -> anyhow::Result<()> {
     let text = tables(&rt)?;

@@ -31,14 +31,16 @@ fn scripted(
     let mut wire = ScriptedWire::new(alloc, content, ROOM, 2, script)?;
     do_each(&mut wire, does, calls)?;
     calls.moved(wire.given())?;
-    calls.went(wire.taken())
+    calls.went(wire.taken())?;
+    calls.told(wire.calls())
 }
 
 fn calm(alloc: Global, content: &[u8], does: &str, calls: &mut Calls) -> Result<(), AllocError> {
     let mut wire = CalmWire::new(alloc, content, ROOM)?;
     do_each(&mut wire, does, calls)?;
     calls.moved(wire.given())?;
-    calls.went(wire.taken())
+    calls.went(wire.taken())?;
+    calls.told(wire.calls())
 }
 
 fn do_each<W: Wire>(wire: &mut W, does: &str, calls: &mut Calls) -> Result<(), AllocError> {

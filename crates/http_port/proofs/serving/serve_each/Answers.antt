@@ -1,10 +1,11 @@
-use Rattle.std.proofs.Common.{[], take, refl, ◌∙◌, subst, arith}
+use Rattle.std.proofs.Common.{[], ◌∷◌, take, refl, ◌∙◌, subst, arith}
 use Rattle.std.specs.Io.KnownBytes.{Appends, Consumes}
 use Rattle.std.proofs.KnownBytes.{Appends-nil, Appends-kept, Consumes-nil, Consumes-kept}
+use Rattle.outside_traits.specs.Calls.{Notes}
+use Rattle.outside_traits.specs.declared.calls.WireCall.TheVariants.{Read}
 use Rattle.http_port.specs.Turns.{Reacts, TurnCounts}
 use Rattle.http_port.specs.declared.serving.WireEnd.TheVariants as Ends
-use Rattle.http_port.proofs.TurnLemmas.{spoke_turn, spoke_waiting}
-use Rattle.http_port.proofs.ServingLemmas.{Told, Turned, ReadOn, read_nothing, going_first, going_on, finish_turn, finish_read}
+use Rattle.http_port.proofs.ServingLemmas.{Told, Turned, ReadOn, going_first, go_on, read_on, finish_turn, finish_read}
 use Rattle.http_port.proofs.serving.serve_each.Goals as goal
 use Rattle.http_port.proofs.serving.serve_each.Goals.{in-GoesOn, in-Waits+in-Ok}
 
@@ -12,16 +13,16 @@ pub loop-init : goal.loop-init
 loop-init g c = record {
   asks = c.asks_where_given.ensures;
   within = omega arith;
-  going = going_first c.args.reader.now (record { given = g.W.Wire.given c.args.wire.now; left = g.W.Wire.left c.args.wire.now; taken = g.W.Wire.taken c.args.wire.now; heard = g.S.Serve.heard c.args.serve.now; said = g.S.Serve.said c.args.serve.now });
+  going = going_first c.args.reader.now (record { given = g.W.Wire.given c.args.wire.now; left = g.W.Wire.left c.args.wire.now; taken = g.W.Wire.taken c.args.wire.now; calls = g.W.Wire.calls c.args.wire.now; heard = g.S.Serve.heard c.args.serve.now; said = g.S.Serve.said c.args.serve.now });
   faults = refl;
   closed = refl;
 }
 
 pub returns-in-Ends-clause-serves : goal.returns-in-Ends-clause-serves
 returns-in-Ends-clause-serves g c =
-    let before : Told = record { given = g.W.Wire.given c.args.wire.now; left = g.W.Wire.left c.args.wire.now; taken = g.W.Wire.taken c.args.wire.now; heard = g.S.Serve.heard c.args.serve.now; said = g.S.Serve.said c.args.serve.now } in
-    let at : Told = record { given = g.W.Wire.given c.loop.wire; left = g.W.Wire.left c.loop.wire; taken = g.W.Wire.taken c.loop.wire; heard = g.S.Serve.heard c.loop.serve; said = g.S.Serve.said c.loop.serve } in
-    let turned : Told = record { given = g.W.Wire.given c.take_turn.new.wire; left = g.W.Wire.left c.take_turn.new.wire; taken = g.W.Wire.taken c.take_turn.new.wire; heard = g.S.Serve.heard c.take_turn.new.serve; said = g.S.Serve.said c.take_turn.new.serve } in
+    let before : Told = record { given = g.W.Wire.given c.args.wire.now; left = g.W.Wire.left c.args.wire.now; taken = g.W.Wire.taken c.args.wire.now; calls = g.W.Wire.calls c.args.wire.now; heard = g.S.Serve.heard c.args.serve.now; said = g.S.Serve.said c.args.serve.now } in
+    let at : Told = record { given = g.W.Wire.given c.loop.wire; left = g.W.Wire.left c.loop.wire; taken = g.W.Wire.taken c.loop.wire; calls = g.W.Wire.calls c.loop.wire; heard = g.S.Serve.heard c.loop.serve; said = g.S.Serve.said c.loop.serve } in
+    let turned : Told = record { given = g.W.Wire.given c.take_turn.new.wire; left = g.W.Wire.left c.take_turn.new.wire; taken = g.W.Wire.taken c.take_turn.new.wire; calls = g.W.Wire.calls c.take_turn.new.wire; heard = g.S.Serve.heard c.take_turn.new.serve; said = g.S.Serve.said c.take_turn.new.serve } in
     let turn = c.in_ok-take_turn.ensures.reacts in
     let t : Turned c.loop.reader at (take c.loop.count c.loop.chunk) c.take_turn.new.reader turned = record {
       fed = turn.0;
@@ -31,17 +32,18 @@ returns-in-Ends-clause-serves g c =
       given = c.in_ok-take_turn.ensures.given;
       left = c.in_ok-take_turn.ensures.left;
       taken = turn.5;
-      heard = turn.6;
-      told = turn.7;
+      written = turn.6;
+      heard = turn.7;
+      told = turn.8;
     } in
     finish_turn c.args.reader.now c.loop.invariant.asks before c.loop.reader at (take c.loop.count c.loop.chunk) c.loop.invariant.going c.take_turn.new.reader turned t c.in-Ends.end
     (subst (Reacts turn.0 turn.1 turn.2) c.in-Ends.is turn.4)
 
 pub returns-in-Ok-eq0-clause-serves : goal.returns-in-Ok-eq0-clause-serves
 returns-in-Ok-eq0-clause-serves g c =
-    let before : Told = record { given = g.W.Wire.given c.args.wire.now; left = g.W.Wire.left c.args.wire.now; taken = g.W.Wire.taken c.args.wire.now; heard = g.S.Serve.heard c.args.serve.now; said = g.S.Serve.said c.args.serve.now } in
-    let at : Told = record { given = g.W.Wire.given c.loop.wire; left = g.W.Wire.left c.loop.wire; taken = g.W.Wire.taken c.loop.wire; heard = g.S.Serve.heard c.loop.serve; said = g.S.Serve.said c.loop.serve } in
-    let turned : Told = record { given = g.W.Wire.given c.take_turn.new.wire; left = g.W.Wire.left c.take_turn.new.wire; taken = g.W.Wire.taken c.take_turn.new.wire; heard = g.S.Serve.heard c.take_turn.new.serve; said = g.S.Serve.said c.take_turn.new.serve } in
+    let before : Told = record { given = g.W.Wire.given c.args.wire.now; left = g.W.Wire.left c.args.wire.now; taken = g.W.Wire.taken c.args.wire.now; calls = g.W.Wire.calls c.args.wire.now; heard = g.S.Serve.heard c.args.serve.now; said = g.S.Serve.said c.args.serve.now } in
+    let at : Told = record { given = g.W.Wire.given c.loop.wire; left = g.W.Wire.left c.loop.wire; taken = g.W.Wire.taken c.loop.wire; calls = g.W.Wire.calls c.loop.wire; heard = g.S.Serve.heard c.loop.serve; said = g.S.Serve.said c.loop.serve } in
+    let turned : Told = record { given = g.W.Wire.given c.take_turn.new.wire; left = g.W.Wire.left c.take_turn.new.wire; taken = g.W.Wire.taken c.take_turn.new.wire; calls = g.W.Wire.calls c.take_turn.new.wire; heard = g.S.Serve.heard c.take_turn.new.serve; said = g.S.Serve.said c.take_turn.new.serve } in
     let turn = c.in_ok-take_turn.ensures.reacts in
     let t : Turned c.loop.reader at (take c.loop.count c.loop.chunk) c.take_turn.new.reader turned = record {
       fed = turn.0;
@@ -51,10 +53,11 @@ returns-in-Ok-eq0-clause-serves g c =
       given = c.in_ok-take_turn.ensures.given;
       left = c.in_ok-take_turn.ensures.left;
       taken = turn.5;
-      heard = turn.6;
-      told = turn.7;
+      written = turn.6;
+      heard = turn.7;
+      told = turn.8;
     } in
-    let after : Told = record { given = g.W.Wire.given c.read.new.self; left = g.W.Wire.left c.read.new.self; taken = g.W.Wire.taken c.read.new.self; heard = g.S.Serve.heard c.take_turn.new.serve; said = g.S.Serve.said c.take_turn.new.serve } in
+    let after : Told = record { given = g.W.Wire.given c.read.new.self; left = g.W.Wire.left c.read.new.self; taken = g.W.Wire.taken c.read.new.self; calls = g.W.Wire.calls c.read.new.self; heard = g.S.Serve.heard c.take_turn.new.serve; said = g.S.Serve.said c.take_turn.new.serve } in
     let read : ReadOn turned after [] = record {
       given = subst (λ n. Appends turned.given after.given (take n c.read.new.into)) c.in-Ok-eq0.field-0-test c.in-Ok-eq0.ensures.given;
       left = subst (λ n. Consumes turned.left after.left (take n c.read.new.into)) c.in-Ok-eq0.field-0-test c.in-Ok-eq0.ensures.bytes.0;
@@ -63,13 +66,14 @@ returns-in-Ok-eq0-clause-serves g c =
       told = refl;
     } in
     finish_read c.args.reader.now c.loop.invariant.asks before c.loop.reader at (take c.loop.count c.loop.chunk) c.loop.invariant.going c.take_turn.new.reader turned t
-    (subst (Reacts turn.0 turn.1 turn.2) c.in-Waits.is turn.4) after read Ends.Ended tt
+    (subst (Reacts turn.0 turn.1 turn.2) c.in-Waits.is turn.4) after read
+    (subst (λ n. Notes turned.calls after.calls (Read n ∷ [])) c.in-Ok-eq0.field-0-test c.in-Ok-eq0.ensures.calls) Ends.Ended tt
 
 pub returns-in-Err-clause-serves : goal.returns-in-Err-clause-serves
 returns-in-Err-clause-serves g c =
-    let before : Told = record { given = g.W.Wire.given c.args.wire.now; left = g.W.Wire.left c.args.wire.now; taken = g.W.Wire.taken c.args.wire.now; heard = g.S.Serve.heard c.args.serve.now; said = g.S.Serve.said c.args.serve.now } in
-    let at : Told = record { given = g.W.Wire.given c.loop.wire; left = g.W.Wire.left c.loop.wire; taken = g.W.Wire.taken c.loop.wire; heard = g.S.Serve.heard c.loop.serve; said = g.S.Serve.said c.loop.serve } in
-    let turned : Told = record { given = g.W.Wire.given c.take_turn.new.wire; left = g.W.Wire.left c.take_turn.new.wire; taken = g.W.Wire.taken c.take_turn.new.wire; heard = g.S.Serve.heard c.take_turn.new.serve; said = g.S.Serve.said c.take_turn.new.serve } in
+    let before : Told = record { given = g.W.Wire.given c.args.wire.now; left = g.W.Wire.left c.args.wire.now; taken = g.W.Wire.taken c.args.wire.now; calls = g.W.Wire.calls c.args.wire.now; heard = g.S.Serve.heard c.args.serve.now; said = g.S.Serve.said c.args.serve.now } in
+    let at : Told = record { given = g.W.Wire.given c.loop.wire; left = g.W.Wire.left c.loop.wire; taken = g.W.Wire.taken c.loop.wire; calls = g.W.Wire.calls c.loop.wire; heard = g.S.Serve.heard c.loop.serve; said = g.S.Serve.said c.loop.serve } in
+    let turned : Told = record { given = g.W.Wire.given c.take_turn.new.wire; left = g.W.Wire.left c.take_turn.new.wire; taken = g.W.Wire.taken c.take_turn.new.wire; calls = g.W.Wire.calls c.take_turn.new.wire; heard = g.S.Serve.heard c.take_turn.new.serve; said = g.S.Serve.said c.take_turn.new.serve } in
     let turn = c.in_ok-take_turn.ensures.reacts in
     let t : Turned c.loop.reader at (take c.loop.count c.loop.chunk) c.take_turn.new.reader turned = record {
       fed = turn.0;
@@ -79,10 +83,11 @@ returns-in-Err-clause-serves g c =
       given = c.in_ok-take_turn.ensures.given;
       left = c.in_ok-take_turn.ensures.left;
       taken = turn.5;
-      heard = turn.6;
-      told = turn.7;
+      written = turn.6;
+      heard = turn.7;
+      told = turn.8;
     } in
-    let after : Told = record { given = g.W.Wire.given c.read.new.self; left = g.W.Wire.left c.read.new.self; taken = g.W.Wire.taken c.read.new.self; heard = g.S.Serve.heard c.take_turn.new.serve; said = g.S.Serve.said c.take_turn.new.serve } in
+    let after : Told = record { given = g.W.Wire.given c.read.new.self; left = g.W.Wire.left c.read.new.self; taken = g.W.Wire.taken c.read.new.self; calls = g.W.Wire.calls c.read.new.self; heard = g.S.Serve.heard c.take_turn.new.serve; said = g.S.Serve.said c.take_turn.new.serve } in
     let read : ReadOn turned after [] = record {
       given = Appends-kept turned.given turned.given after.given [] (Appends-nil turned.given) c.in-Err.ensures.given;
       left = Consumes-kept turned.left turned.left after.left [] (Consumes-nil turned.left) c.in-Err.ensures.bytes;
@@ -91,13 +96,13 @@ returns-in-Err-clause-serves g c =
       told = refl;
     } in
     finish_read c.args.reader.now c.loop.invariant.asks before c.loop.reader at (take c.loop.count c.loop.chunk) c.loop.invariant.going c.take_turn.new.reader turned t
-    (subst (Reacts turn.0 turn.1 turn.2) c.in-Waits.is turn.4) after read Ends.Faulted tt
+    (subst (Reacts turn.0 turn.1 turn.2) c.in-Waits.is turn.4) after read c.in-Err.ensures.calls Ends.Faulted tt
 
 pub loop-preserved : goal.loop-preserved
 loop-preserved g c =
-    let before : Told = record { given = g.W.Wire.given c.args.wire.now; left = g.W.Wire.left c.args.wire.now; taken = g.W.Wire.taken c.args.wire.now; heard = g.S.Serve.heard c.args.serve.now; said = g.S.Serve.said c.args.serve.now } in
-    let at : Told = record { given = g.W.Wire.given c.loop.wire; left = g.W.Wire.left c.loop.wire; taken = g.W.Wire.taken c.loop.wire; heard = g.S.Serve.heard c.loop.serve; said = g.S.Serve.said c.loop.serve } in
-    let turned : Told = record { given = g.W.Wire.given c.take_turn.new.wire; left = g.W.Wire.left c.take_turn.new.wire; taken = g.W.Wire.taken c.take_turn.new.wire; heard = g.S.Serve.heard c.take_turn.new.serve; said = g.S.Serve.said c.take_turn.new.serve } in
+    let before : Told = record { given = g.W.Wire.given c.args.wire.now; left = g.W.Wire.left c.args.wire.now; taken = g.W.Wire.taken c.args.wire.now; calls = g.W.Wire.calls c.args.wire.now; heard = g.S.Serve.heard c.args.serve.now; said = g.S.Serve.said c.args.serve.now } in
+    let at : Told = record { given = g.W.Wire.given c.loop.wire; left = g.W.Wire.left c.loop.wire; taken = g.W.Wire.taken c.loop.wire; calls = g.W.Wire.calls c.loop.wire; heard = g.S.Serve.heard c.loop.serve; said = g.S.Serve.said c.loop.serve } in
+    let turned : Told = record { given = g.W.Wire.given c.take_turn.new.wire; left = g.W.Wire.left c.take_turn.new.wire; taken = g.W.Wire.taken c.take_turn.new.wire; calls = g.W.Wire.calls c.take_turn.new.wire; heard = g.S.Serve.heard c.take_turn.new.serve; said = g.S.Serve.said c.take_turn.new.serve } in
     let turn = c.in_ok-take_turn.ensures.reacts in
     let t : Turned c.loop.reader at (take c.loop.count c.loop.chunk) c.take_turn.new.reader turned = record {
       fed = turn.0;
@@ -107,24 +112,25 @@ loop-preserved g c =
       given = c.in_ok-take_turn.ensures.given;
       left = c.in_ok-take_turn.ensures.left;
       taken = turn.5;
-      heard = turn.6;
-      told = turn.7;
+      written = turn.6;
+      heard = turn.7;
+      told = turn.8;
     } in
     elim c.match-branch-2.branch [
       | in-GoesOn w ↦
-          let spoke = spoke_turn turn.0 turn.1 turn.2 (subst (Reacts turn.0 turn.1 turn.2) w.in-GoesOn.is turn.4) in
+          let reacts = subst (Reacts turn.0 turn.1 turn.2) w.in-GoesOn.is turn.4 in
           let calm = subst (λ e. TurnCounts e (g.W.Wire.faults c.loop.wire) (g.W.Wire.faults c.take_turn.new.wire)) w.in-GoesOn.is c.in_ok-take_turn.ensures.counts in
           rw (w.wire-is, w.count-is) (record {
             asks = c.loop.invariant.asks;
             within = omega arith;
-            going = going_on c.args.reader.now before c.loop.reader at (take c.loop.count c.loop.chunk) c.loop.invariant.going c.take_turn.new.reader turned t spoke turned [] (read_nothing turned);
+            going = go_on c.args.reader.now before c.loop.reader at (take c.loop.count c.loop.chunk) c.loop.invariant.going c.take_turn.new.reader turned t reacts;
             faults = calm ∙ c.loop.invariant.faults;
             closed = c.in_ok-take_turn.ensures.closed ∙ c.loop.invariant.closed;
           })
       | in-Waits+in-Ok w ↦
-          let spoke = spoke_waiting turn.0 turn.1 turn.2 (subst (Reacts turn.0 turn.1 turn.2) w.in-Waits.is turn.4) in
+          let reacts = subst (Reacts turn.0 turn.1 turn.2) w.in-Waits.is turn.4 in
           let calm = subst (λ e. TurnCounts e (g.W.Wire.faults c.loop.wire) (g.W.Wire.faults c.take_turn.new.wire)) w.in-Waits.is c.in_ok-take_turn.ensures.counts in
-          let after : Told = record { given = g.W.Wire.given w.read.new.self; left = g.W.Wire.left w.read.new.self; taken = g.W.Wire.taken w.read.new.self; heard = g.S.Serve.heard c.take_turn.new.serve; said = g.S.Serve.said c.take_turn.new.serve } in
+          let after : Told = record { given = g.W.Wire.given w.read.new.self; left = g.W.Wire.left w.read.new.self; taken = g.W.Wire.taken w.read.new.self; calls = g.W.Wire.calls w.read.new.self; heard = g.S.Serve.heard c.take_turn.new.serve; said = g.S.Serve.said c.take_turn.new.serve } in
           let read : ReadOn turned after (take w.in-Ok.read w.read.new.into) = record {
             given = w.in-Ok.ensures.given;
             left = w.in-Ok.ensures.bytes.0;
@@ -135,7 +141,8 @@ loop-preserved g c =
           rw (w.wire-is, w.count-is, w.chunk-is) (record {
             asks = c.loop.invariant.asks;
             within = w.in-Ok.ensures.bound.0;
-            going = going_on c.args.reader.now before c.loop.reader at (take c.loop.count c.loop.chunk) c.loop.invariant.going c.take_turn.new.reader turned t spoke after (take w.in-Ok.read w.read.new.into) read;
+            going = read_on c.args.reader.now c.loop.invariant.asks before c.loop.reader at (take c.loop.count c.loop.chunk) c.loop.invariant.going c.take_turn.new.reader turned t reacts after (take w.in-Ok.read w.read.new.into) read
+                w.in-Ok.read w.in-Ok.ensures.calls w.in-Ok.ensures.bound.1;
             faults = w.in-Ok.ensures.cause.calm ∙ calm ∙ c.loop.invariant.faults;
             closed = w.in-Ok.ensures.closed ∙ c.in_ok-take_turn.ensures.closed ∙ c.loop.invariant.closed;
           })

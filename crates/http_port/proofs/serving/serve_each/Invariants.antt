@@ -8,9 +8,9 @@ invariant-loop g l = record {
   asks : AsksWhereGiven l.fn.reader;
   within : l.count ≤ length l.chunk;
   going : Going l.fn.reader
-      (record { given = g.W.Wire.given l.fn.wire; left = g.W.Wire.left l.fn.wire; taken = g.W.Wire.taken l.fn.wire; heard = g.S.Serve.heard l.fn.serve; said = g.S.Serve.said l.fn.serve })
+      (record { given = g.W.Wire.given l.fn.wire; left = g.W.Wire.left l.fn.wire; taken = g.W.Wire.taken l.fn.wire; calls = g.W.Wire.calls l.fn.wire; heard = g.S.Serve.heard l.fn.serve; said = g.S.Serve.said l.fn.serve })
       l.reader
-      (record { given = g.W.Wire.given l.wire; left = g.W.Wire.left l.wire; taken = g.W.Wire.taken l.wire; heard = g.S.Serve.heard l.serve; said = g.S.Serve.said l.serve })
+      (record { given = g.W.Wire.given l.wire; left = g.W.Wire.left l.wire; taken = g.W.Wire.taken l.wire; calls = g.W.Wire.calls l.wire; heard = g.S.Serve.heard l.serve; said = g.S.Serve.said l.serve })
       (take l.count l.chunk);
   faults : g.W.Wire.faults l.wire ≡ g.W.Wire.faults l.fn.wire;
   closed : g.W.Wire.closed l.wire ≡ g.W.Wire.closed l.fn.wire;
