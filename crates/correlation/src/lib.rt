@@ -2,5 +2,18 @@
 #![tactic(auto)]
 
 mod bind_reply;
+mod index;
+mod key;
+mod keys;
+mod rows;
+mod session;
+mod set_keys;
+mod steps;
 
 pub use bind_reply::BindReply;
+pub use key::{Key, KeyRow};
+pub use keys::Keys;
+pub use rows::Rows;
+pub use session::{Session, SetOf, Sets, Values, Variables, Written};
+pub use set_keys::SetKeys;
+pub use steps::Steps;

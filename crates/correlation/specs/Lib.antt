@@ -1,0 +1,6 @@
+pub mod Index
+pub mod Order
+pub mod Places
+pub mod Rows
+pub mod Sessions
+pub mod View
