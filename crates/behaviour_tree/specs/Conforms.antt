@@ -1,5 +1,6 @@
 -- When a tree is of a type, and the tree with its ints turned into longs where the type says so.
-use Rattle.std.specs.Prelude.{ℕ, zero, suc, Bool, true, false, ◌&&◌, List, nat_le, Option, None, Some, option_and_then, slice_get, length, if◌then◌else◌, bytes_eq}
+use Rattle.std.specs.Prelude.{ℕ, zero, suc, Bool, true, false, ◌&&◌, List, nat_le, Option, None}
+use Rattle.std.specs.Prelude.{Some, option_and_then, slice_get, length, if◌then◌else◌, bytes_eq}
 use Rattle.jolie_trees.specs.declared.root.Root.{Root}
 use Rattle.jolie_trees.specs.declared.root.Root.TheVariants as root
 use Rattle.jolie_trees.specs.Data.{Tree, node, Fields, no_fields, field, Trees, no_trees, tree}
@@ -35,7 +36,8 @@ at_most (Some most) n = nat_le n most
 abbrev pub counts_fit : Fields → TypeFields → Bool
 counts_fit children no_type_fields = true
 counts_fit children (type_field name least most ty rest) =
-    nat_le least (count_of (under name children)) && at_most most (count_of (under name children)) && counts_fit children rest
+    nat_le least (count_of (under name children)) && at_most most (count_of (under name children))
+    && counts_fit children rest
 
 -- the type of the field of a name
 abbrev pub field_type : List ℕ → TypeFields → Option TypeTree
@@ -58,7 +60,8 @@ abbrev mutual
   -- the members of each name fit that field
   pub children_fit : List TypeTree → Fields → TypeFields → Bool
   children_fit types no_fields fields = true
-  children_fit types (field name ts rest) fields = members_fit types ts (field_type name fields) && children_fit types rest fields
+  children_fit types (field name ts rest) fields =
+      members_fit types ts (field_type name fields) && children_fit types rest fields
 
   -- members of a name for which there is no field do not fit
   pub members_fit : List TypeTree → Trees → Option TypeTree → Bool
@@ -95,7 +98,8 @@ abbrev mutual
   -- the same of the children, by their fields
   pub wide_children : List TypeTree → Fields → TypeFields → Fields
   wide_children types no_fields fields = no_fields
-  wide_children types (field name ts rest) fields = field name (wide_members types ts (field_type name fields)) (wide_children types rest fields)
+  wide_children types (field name ts rest) fields =
+      field name (wide_members types ts (field_type name fields)) (wide_children types rest fields)
 
   -- the same of the members of one name
   pub wide_members : List TypeTree → Trees → Option TypeTree → Trees

@@ -1,13 +1,17 @@
 -- What well-formed behaviours are, and how many members their parallels have.
-use Rattle.std.specs.Prelude.{ℕ, suc, ◌+◌, Bool, true, false, not, ◌&&◌, nat_lt, nat_le, if◌then◌else◌, List, [], ◌∷◌, slice_get, None, Some, is_some, unwrap_or}
+use Rattle.std.specs.Prelude.{ℕ, suc, ◌+◌, Bool, true, false, not, ◌&&◌, nat_lt, nat_le}
+use Rattle.std.specs.Prelude.{if◌then◌else◌, List, [], ◌∷◌, slice_get, None, Some, is_some, unwrap_or}
 use Rattle.behaviour_tree.specs.declared.behaviour.HandlerKey.{HandlerKey}
 use Rattle.behaviour_tree.specs.declared.behaviour.HandlerKey.TheVariants as key
-use Rattle.behaviour_tree.specs.Data.{Proc, nothing, assign, undef, copy, bind, sequence, parallel, choose, repeat, choice, notify, solicit, install, throw, comp, inner_handler, scope, block, Procs, no_procs, proc, Branches, no_branches, one_way, request, HandlerList, no_handlers, handler, OperationPart}
+use Rattle.behaviour_tree.specs.Data.{Proc, nothing, assign, undef, copy, bind, sequence, parallel, choose}
+use Rattle.behaviour_tree.specs.Data.{repeat, choice, notify, solicit, install, throw, comp, inner_handler}
+use Rattle.behaviour_tree.specs.Data.{scope, block, Procs, no_procs, proc, Branches, no_branches, one_way}
+use Rattle.behaviour_tree.specs.Data.{request, HandlerList, no_handlers, handler, OperationPart}
 use Rattle.behaviour_tree.specs.Distinct.{is_some_list, numbers_differ}
 use Rattle.behaviour_tree.specs.FormedExpressions.{is_exp, is_path, is_target}
 
--- what behaviours may name by numbers: the operations of the input ports, those of the port of each number, where it is one
--- to which messages are sent, how many variables there are, and how many names
+-- what behaviours may name by numbers: the operations of the input ports, those of the port of each number, where it is
+-- one to which messages are sent, how many variables there are, and how many names
 pub record Reach : Type 0 where
   pub inputs : List OperationPart
   pub outputs : List (List OperationPart)
@@ -17,7 +21,10 @@ pub record Reach : Type 0 where
 -- an operation that is there, and has an answer or none
 abbrev pub has_operation : List OperationPart → ℕ → Bool → Bool
 has_operation operations op answers =
-    elim (slice_get operations op) [ None ↦ false | Some o ↦ if answers then is_some o.response else not (is_some o.response) ]
+    elim (slice_get operations op) [
+      | None ↦ false
+      | Some o ↦ if answers then is_some o.response else not (is_some o.response)
+    ]
 
 -- the operations of the port of a number
 abbrev pub outputs_at : Reach → ℕ → List OperationPart
@@ -66,7 +73,8 @@ abbrev mutual
   is_behaviour r inside (choose e p q) = is_exp e && is_behaviour r inside p && is_behaviour r inside q
   is_behaviour r inside (repeat e p) = is_exp e && is_behaviour r inside p
   is_behaviour r inside (choice branches) =
-      is_some_list (branch_operations branches) && numbers_differ (branch_operations branches) && are_branches r inside branches
+      is_some_list (branch_operations branches) && numbers_differ (branch_operations branches)
+      && are_branches r inside branches
   is_behaviour r inside (notify port op e) = has_operation (outputs_at r port) op false && is_exp e
   is_behaviour r inside (solicit port op e x list) =
       has_operation (outputs_at r port) op true && is_exp e && is_target x && keys_differ list && are_handlers r list
@@ -98,7 +106,8 @@ abbrev mutual
   are_branches r inside (one_way op x after branches) =
       has_operation r.inputs op false && is_target x && is_behaviour r inside after && are_branches r inside branches
   are_branches r inside (request op x y body after branches) =
-      has_operation r.inputs op true && is_target x && is_target y && is_behaviour r inside body && is_behaviour r inside after
+      has_operation r.inputs op true && is_target x && is_target y && is_behaviour r inside body
+      && is_behaviour r inside after
       && are_branches r inside branches
 
   -- handlers: each body stands in a handler
@@ -134,7 +143,8 @@ abbrev mutual
   pub members_of_branches : Branches → ℕ
   members_of_branches no_branches = 0
   members_of_branches (one_way op x after branches) = parallel_members after + members_of_branches branches
-  members_of_branches (request op x y body after branches) = parallel_members body + parallel_members after + members_of_branches branches
+  members_of_branches (request op x y body after branches) =
+      parallel_members body + parallel_members after + members_of_branches branches
 
   -- in handlers
   pub members_of_handlers : HandlerList → ℕ

@@ -1,7 +1,10 @@
 -- What well-formed expressions and paths are.
 use Rattle.std.specs.Prelude.{pos, int_le, Bool, true, false, ◌&&◌, Option, None, Some}
 use Rattle.jolie_trees.specs.declared.root.Root.TheVariants as root
-use Rattle.behaviour_tree.specs.Data.{PathTree, Exp, constant, at_path, count_at, defined_at, literal, any_of, all_of, compared, sum, product, minus, negation, cast, Exps, no_exps, exp, SumParts, no_sum_parts, sum_part, MulParts, no_mul_parts, mul_part, MemberList, no_member_list, member_of, here, step, step_at}
+use Rattle.behaviour_tree.specs.Data.{PathTree, Exp, constant, at_path, count_at, defined_at, literal}
+use Rattle.behaviour_tree.specs.Data.{any_of, all_of, compared, sum, product, minus, negation, cast, Exps}
+use Rattle.behaviour_tree.specs.Data.{no_exps, exp, SumParts, no_sum_parts, sum_part, MulParts, no_mul_parts}
+use Rattle.behaviour_tree.specs.Data.{mul_part, MemberList, no_member_list, member_of, here, step, step_at}
 
 abbrev mutual
   -- an expression: a level of `||` or of `&&` has two operands at least

@@ -1,8 +1,11 @@
 -- What well-formed services are.
-use Rattle.std.specs.Prelude.{ℕ, suc, ◌+◌, Bool, true, false, not, ◌&&◌, ◌||◌, nat_le, codes, if◌then◌else◌, List, [], ◌∷◌, ◌++◌, length, map, flat_map, Option, None, Some, is_some, unwrap_or}
+use Rattle.std.specs.Prelude.{ℕ, suc, ◌+◌, Bool, true, false, not, ◌&&◌, ◌||◌, nat_le, codes, if◌then◌else◌}
+use Rattle.std.specs.Prelude.{List, [], ◌∷◌, ◌++◌, length, map, flat_map, Option, None, Some, is_some, unwrap_or}
 use Rattle.std.specs.List.{list_all}
 use Rattle.behaviour_tree.specs.declared.types.RootKind.TheVariants as kind
-use Rattle.behaviour_tree.specs.Data.{TypeTree, plain, named, undefined, no_type_fields, Proc, nothing, assign, copy, sequence, choice, install, scope, block, Procs, no_procs, proc, OperationPart, InterfacePart, PortPart, SetPart, ServicePart, ProgramParts}
+use Rattle.behaviour_tree.specs.Data.{TypeTree, plain, named, undefined, no_type_fields, Proc, nothing, assign}
+use Rattle.behaviour_tree.specs.Data.{copy, sequence, choice, install, scope, block, Procs, no_procs, proc}
+use Rattle.behaviour_tree.specs.Data.{OperationPart, InterfacePart, PortPart, SetPart, ServicePart, ProgramParts}
 use Rattle.behaviour_tree.specs.Operations.{is_among, service_operations}
 use Rattle.behaviour_tree.specs.Distinct.{texts_differ}
 use Rattle.behaviour_tree.specs.FormedPorts.{operation_names, port_operations, is_port}
@@ -28,8 +31,8 @@ is_init nothing = true
 is_init p = assigns_alone p
 
 abbrev mutual
-  -- the operations of the first input of a behaviour, where it has one: a choice is its own, a sequence has that of its first
-  -- member that is no install, a scope and a block have that of what they hold
+  -- the operations of the first input of a behaviour, where it has one: a choice is its own, a sequence has that of its
+  -- first member that is no install, a scope and a block have that of what they hold
   pub first_input : Proc → Option (List ℕ)
   first_input (choice branches) = Some (branch_operations branches)
   first_input (sequence ps) = first_of_members ps
@@ -56,15 +59,23 @@ is_correlated sets undefined = false
 -- each operation starts a session or has a request of a type of a set
 abbrev pub all_reach : List SetPart → List ℕ → ℕ → List OperationPart → Bool
 all_reach sets starting n [] = true
-all_reach sets starting n (o ∷ os) = (is_among starting n || is_correlated sets o.request) && all_reach sets starting (suc n) os
+all_reach sets starting n (o ∷ os) =
+    (is_among starting n || is_correlated sets o.request) && all_reach sets starting (suc n) os
 
 -- a service whose sessions run beside each other has a first input, and each of its operations reaches a session
 abbrev pub has_start : List OperationPart → ServicePart → Bool
-has_start inputs s = not (is_concurrent s.execution) || (is_some (first_input s.main) && all_reach s.sets (unwrap_or (first_input s.main) []) 0 inputs)
+has_start inputs s =
+    not (is_concurrent s.execution)
+    || (is_some (first_input s.main) && all_reach s.sets (unwrap_or (first_input s.main) []) 0 inputs)
 
 -- the operation of the port that every service has
 abbrev pub println : OperationPart
-println = record { name = codes "println"; request = plain kind.Any no_type_fields; response = Some (plain kind.Void no_type_fields); throws = [] }
+println = record {
+  name = codes "println";
+  request = plain kind.Any no_type_fields;
+  response = Some (plain kind.Void no_type_fields);
+  throws = [];
+}
 
 -- the operations that can be sent to a port: none of an input port
 abbrev pub sent_to : List InterfacePart → PortPart → List OperationPart
@@ -87,7 +98,8 @@ are_ports parts locations s =
 
 -- the behaviours of a service; neither stands in a handler
 abbrev pub runs_well : ProgramParts → ServicePart → Bool
-runs_well parts s = is_init s.init && is_behaviour (reach_of parts s) false s.init && is_behaviour (reach_of parts s) false s.main
+runs_well parts s =
+    is_init s.init && is_behaviour (reach_of parts s) false s.init && is_behaviour (reach_of parts s) false s.main
 
 -- the parallels of a service, those in its handlers included, have few enough members in all
 abbrev pub has_few_members : ServicePart → Bool
@@ -96,4 +108,5 @@ has_few_members s = nat_le (parallel_members s.init + parallel_members s.main) 1
 -- a service
 abbrev pub is_service : ProgramParts → List (List ℕ) → ServicePart → Bool
 is_service parts locations s =
-    are_ports parts locations s && are_sets parts.types s && runs_well parts s && has_start (service_operations parts s) s && has_few_members s
+    are_ports parts locations s && are_sets parts.types s && runs_well parts s
+    && has_start (service_operations parts s) s && has_few_members s

@@ -1,11 +1,13 @@
 -- What well-formed correlation sets are.
-use Rattle.std.specs.Prelude.{ℕ, Bool, true, false, not, ◌&&◌, ◌||◌, ◌==◌, bytes_eq, if◌then◌else◌, List, [], ◌∷◌, length, map, flat_map, slice_get, Option, None, Some, option_and_then, unwrap_or}
+use Rattle.std.specs.Prelude.{ℕ, Bool, true, false, not, ◌&&◌, ◌||◌, ◌==◌, bytes_eq, if◌then◌else◌, List, [], ◌∷◌}
+use Rattle.std.specs.Prelude.{length, map, flat_map, slice_get, Option, None, Some, option_and_then, unwrap_or}
 use Rattle.std.specs.List.{list_any, list_all}
 use Rattle.behaviour_tree.specs.declared.types.RootKind.{RootKind}
 use Rattle.behaviour_tree.specs.declared.types.RootKind.TheVariants as kind
 use Rattle.behaviour_tree.specs.declared.program.Execution.{Execution}
 use Rattle.behaviour_tree.specs.declared.program.Execution.TheVariants as execution
-use Rattle.behaviour_tree.specs.Data.{TypeTree, plain, named, undefined, TypeFields, no_type_fields, type_field, AliasPart, VariablePart, SetPart, ServicePart}
+use Rattle.behaviour_tree.specs.Data.{TypeTree, plain, named, undefined, TypeFields, no_type_fields}
+use Rattle.behaviour_tree.specs.Data.{type_field, AliasPart, VariablePart, SetPart, ServicePart}
 use Rattle.behaviour_tree.specs.Conforms.{shape}
 use Rattle.behaviour_tree.specs.Operations.{is_among}
 use Rattle.behaviour_tree.specs.Distinct.{is_some_list, texts_differ, numbers_differ}
@@ -49,7 +51,9 @@ leads_to_value types (Some ty) (name ∷ path) = leads_to_value types (once_at t
 
 -- an alias: it leads from its type to a value, by one field at least
 abbrev pub is_alias : List TypeTree → AliasPart → Bool
-is_alias types a = is_some_list a.path && leads_to_value types (option_and_then (shape types (length types)) (slice_get types a.ty)) a.path
+is_alias types a =
+    is_some_list a.path
+    && leads_to_value types (option_and_then (shape types (length types)) (slice_get types a.ty)) a.path
 
 -- the types of the aliases of a variable
 abbrev pub alias_types : VariablePart → List ℕ
@@ -72,14 +76,16 @@ variables_of sets = flat_map (λ (set : SetPart). set.variables) sets
 -- no type is in two of the sets
 abbrev pub types_are_apart : List SetPart → Bool
 types_are_apart [] = true
-types_are_apart (set ∷ sets) = not (list_any (λ t. is_among (flat_map set_types sets) t) (set_types set)) && types_are_apart sets
+types_are_apart (set ∷ sets) =
+    not (list_any (λ t. is_among (flat_map set_types sets) t) (set_types set)) && types_are_apart sets
 
 -- whether sessions run beside each other
 abbrev pub is_concurrent : Execution → Bool
 is_concurrent execution.Concurrent = true
 is_concurrent execution.Single = false
 
--- the sets of a service: of one whose sessions run beside each other, with variables that differ, and no type in two of them
+-- the sets of a service: of one whose sessions run beside each other, with variables that differ, and no type in two of
+-- them
 abbrev pub are_sets : List TypeTree → ServicePart → Bool
 are_sets types s =
     (is_concurrent s.execution || (length s.sets == 0))

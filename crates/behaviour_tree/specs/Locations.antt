@@ -1,5 +1,6 @@
 -- Which texts are locations: `socket://host:port` with a path that may follow, and `local://name`.
-use Rattle.std.specs.Prelude.{ℕ, Bool, true, false, not, ◌&&◌, ◌||◌, ◌==◌, List, [], ◌∷◌, nat_le, codes, if◌then◌else◌, Option, None, Some}
+use Rattle.std.specs.Prelude.{ℕ, Bool, true, false, not, ◌&&◌, ◌||◌, ◌==◌, List, []}
+use Rattle.std.specs.Prelude.{◌∷◌, nat_le, codes, if◌then◌else◌, Option, None, Some}
 use Rattle.std.specs.Str.Parse.{digits_value}
 
 -- the bytes of a text behind a beginning, where it has it
@@ -34,7 +35,8 @@ is_digit b = nat_le 48 b && nat_le b 57
 
 -- an ASCII letter, a digit, `.`, `-` or `_`
 abbrev pub is_host_byte : ℕ → Bool
-is_host_byte b = (nat_le 65 b && nat_le b 90) || (nat_le 97 b && nat_le b 122) || is_digit b || b == 46 || b == 45 || b == 95
+is_host_byte b =
+    (nat_le 65 b && nat_le b 90) || (nat_le 97 b && nat_le b 122) || is_digit b || b == 46 || b == 45 || b == 95
 
 -- a byte from `!` to `~`
 abbrev pub is_visible : ℕ → Bool

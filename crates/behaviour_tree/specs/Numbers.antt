@@ -1,5 +1,6 @@
 -- Whole numbers without bound, and the roots that hold them where they are in range.
-use Rattle.std.specs.Prelude.{ℤ, pos, negsuc, ◌*ℤ◌, ◌-ℤ◌, int_le, int_div, zero, Bool, true, false, ◌&&◌, if◌then◌else◌, Option, None, Some}
+use Rattle.std.specs.Prelude.{ℤ, pos, negsuc, ◌*ℤ◌, ◌-ℤ◌, int_le, int_div, zero, Bool}
+use Rattle.std.specs.Prelude.{true, false, ◌&&◌, if◌then◌else◌, Option, None, Some}
 use Rattle.jolie_trees.specs.declared.root.Root.{Root}
 use Rattle.jolie_trees.specs.declared.root.Root.TheVariants as root
 
@@ -9,7 +10,8 @@ int_root z = if int_le (negsuc 2147483647) z && int_le z (pos 2147483647) then S
 
 -- a number as a long, where 64 bits hold it
 abbrev pub long_root : ℤ → Option Root
-long_root z = if int_le (negsuc 9223372036854775807) z && int_le z (pos 9223372036854775807) then Some (root.Long z) else None
+long_root z =
+    if int_le (negsuc 9223372036854775807) z && int_le z (pos 9223372036854775807) then Some (root.Long z) else None
 
 -- an operator on numbers: two ints give an int, an int and a long or two longs give a long, other kinds have no value
 abbrev pub on_numbers : (ℤ → ℤ → ℤ) → Root → Root → Option Root

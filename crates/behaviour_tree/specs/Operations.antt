@@ -1,5 +1,6 @@
 -- The operations of a service, numbered from 0.
-use Rattle.std.specs.Prelude.{ℕ, ◌+◌, ◌^◌, Bool, ◌==◌, nat_lt, if◌then◌else◌, bytes_eq, List, [], ◌∷◌, ◌++◌, map, take, drop, flat_map, slice_get, Option, Some, None, option_map, option_and_then, unwrap_or}
+use Rattle.std.specs.Prelude.{ℕ, ◌+◌, ◌^◌, Bool, ◌==◌, nat_lt, if◌then◌else◌, bytes_eq, List, [], ◌∷◌, ◌++◌, map, take}
+use Rattle.std.specs.Prelude.{drop, flat_map, slice_get, Option, Some, None, option_map, option_and_then, unwrap_or}
 use Rattle.std.specs.List.{list_any, position_from}
 use Rattle.behaviour_tree.specs.Data.{OperationPart, InterfacePart, PortPart, ServicePart, ProgramParts}
 use Rattle.behaviour_tree.specs.PartsSeen.{port_view}

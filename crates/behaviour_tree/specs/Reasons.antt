@@ -1,7 +1,8 @@
 -- The code and the text of a refusal in an answer.
 use Rattle.std.specs.Prelude.{ℕ, ℤ, pos, neg_ℤ, List, codes}
 use Rattle.behaviour_tree.specs.declared.words.Reason.{Reason}
-use Rattle.behaviour_tree.specs.declared.words.Reason.TheVariants.{UnknownOperation, NotConforming, Correlation, BoxFull, RunFull, Stopped, SessionEnded, Other}
+use Rattle.behaviour_tree.specs.declared.words.Reason.TheVariants.{UnknownOperation, NotConforming, Correlation}
+use Rattle.behaviour_tree.specs.declared.words.Reason.TheVariants.{BoxFull, RunFull, Stopped, SessionEnded, Other}
 
 -- the code of a refusal, a peer's own where a peer refused
 abbrev pub code_of : Reason → ℤ

@@ -1,5 +1,6 @@
 -- The texts of roots, and the numbers that texts write.
-use Rattle.std.specs.Prelude.{ℕ, ℤ, pos, neg_ℤ, Bool, true, false, ◌&&◌, ◌==◌, List, [], ◌∷◌, length, nat_le, if◌then◌else◌, Option, None, Some, option_map, codes}
+use Rattle.std.specs.Prelude.{ℕ, ℤ, pos, neg_ℤ, Bool, true, false, ◌&&◌, ◌==◌, List, [], ◌∷◌}
+use Rattle.std.specs.Prelude.{length, nat_le, if◌then◌else◌, Option, None, Some, option_map, codes}
 use Rattle.std.specs.Fmt.{signed_decimal}
 use Rattle.std.specs.Str.Parse.{digits_value}
 use Rattle.jolie_trees.specs.declared.root.Root.{Root}
@@ -34,4 +35,5 @@ digits_in (b ∷ bs) = if are_digits (b ∷ bs) then Some (digits_value 10 (b �
 -- the number that a text writes: digits with or without a minus in front
 abbrev pub number_in : List ℕ → Option ℤ
 number_in [] = None
-number_in (b ∷ bs) = if b == 45 then option_map (λ n. neg_ℤ (pos n)) (digits_in bs) else option_map pos (digits_in (b ∷ bs))
+number_in (b ∷ bs) =
+    if b == 45 then option_map (λ n. neg_ℤ (pos n)) (digits_in bs) else option_map pos (digits_in (b ∷ bs))

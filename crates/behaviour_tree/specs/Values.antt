@@ -1,5 +1,6 @@
 -- The value of an expression over a store: None is the fault ExprFault.
-use Rattle.std.specs.Prelude.{ℕ, pos, Bool, true, false, not, List, [], ◌∷◌, Option, None, Some, is_some, option_and_then, option_map, unwrap_or}
+use Rattle.std.specs.Prelude.{ℕ, pos, Bool, true, false, not, List, [], ◌∷◌, Option, None}
+use Rattle.std.specs.Prelude.{Some, is_some, option_and_then, option_map, unwrap_or}
 use Rattle.jolie_trees.specs.declared.root.Root.{Root}
 use Rattle.jolie_trees.specs.declared.root.Root.TheVariants as root
 use Rattle.jolie_trees.specs.declared.path.Step.{Step}
@@ -9,7 +10,8 @@ use Rattle.jolie_trees.specs.Trees.{void_tree, root_of, get, count, undef, push}
 use Rattle.behaviour_tree.specs.Data as plain
 use Rattle.behaviour_tree.specs.Data.{PathTree, Exp, Exps, SumParts, MulParts, MemberList}
 use Rattle.behaviour_tree.specs.Numbers.{int_root}
-use Rattle.behaviour_tree.specs.Operators.{sum_of_two, product_of_two, negated, truth_in, either, each, both, index_in, constant_root}
+use Rattle.behaviour_tree.specs.Operators.{sum_of_two, product_of_two, negated, truth_in}
+use Rattle.behaviour_tree.specs.Operators.{either, each, both, index_in, constant_root}
 use Rattle.behaviour_tree.specs.Comparisons.{compared_by}
 use Rattle.behaviour_tree.specs.Casts.{cast_to}
 
@@ -59,11 +61,14 @@ abbrev mutual
   value store (plain.literal ms) = literal_from store (Some void_tree) ms
   value store (plain.any_of es) = option_map alone (option_map root.Bool (any_from store es))
   value store (plain.all_of es) = option_map alone (option_map root.Bool (all_from store es))
-  value store (plain.compared a op b) = option_map alone (option_map root.Bool (both (compared_by op) (root_in (value store a)) (root_in (value store b))))
+  value store (plain.compared a op b) =
+      option_map alone
+      (option_map root.Bool (both (compared_by op) (root_in (value store a)) (root_in (value store b))))
   value store (plain.sum e es) = option_map alone (sum_from store (root_in (value store e)) es)
   value store (plain.product e es) = option_map alone (product_from store (root_in (value store e)) es)
   value store (plain.minus e) = option_map alone (option_and_then negated (root_in (value store e)))
-  value store (plain.negation e) = option_map alone (option_map root.Bool (option_map not (option_and_then truth_in (root_in (value store e)))))
+  value store (plain.negation e) =
+      option_map alone (option_map root.Bool (option_map not (option_and_then truth_in (root_in (value store e)))))
   value store (plain.cast to e) = option_map alone (option_and_then (cast_to to) (root_in (value store e)))
 
   -- the steps of a path, all indices being evaluated, or none where one of them is no int from 0
@@ -97,7 +102,8 @@ abbrev mutual
   -- what is multiplied and divided by, one by one from the left
   pub product_from : Tree → Option Root → MulParts → Option Root
   product_from store a plain.no_mul_parts = a
-  product_from store a (plain.mul_part op e es) = product_from store (both (product_of_two op) a (root_in (value store e))) es
+  product_from store a (plain.mul_part op e es) =
+      product_from store (both (product_of_two op) a (root_in (value store e))) es
 
 -- what an expression says where a bool is asked, as `if` and `while` ask it
 abbrev pub truth_of : Tree → Exp → Option Bool

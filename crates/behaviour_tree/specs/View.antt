@@ -1,7 +1,8 @@
 -- The plain data that the types, expressions and behaviours of Rust stand for.
 use Rattle.std.specs.Prelude.{ℕ, List, [], ◌∷◌, Option, Some, None, option_map}
 use Rattle.behaviour_tree.specs.Data as plain
-use Rattle.behaviour_tree.specs.Data.{TypeTree, TypeFields, PathTree, Exp, Exps, SumParts, MulParts, MemberList, Proc, Procs, Branches, HandlerList}
+use Rattle.behaviour_tree.specs.Data.{TypeTree, TypeFields, PathTree, Exp, Exps, SumParts}
+use Rattle.behaviour_tree.specs.Data.{MulParts, MemberList, Proc, Procs, Branches, HandlerList}
 use Rattle.behaviour_tree.specs.declared.types.TypeDef as type_def
 use Rattle.behaviour_tree.specs.declared.types.Field as field
 use Rattle.behaviour_tree.specs.declared.types.TypeDef.TheOpen.{Field-F, TypeDef-F}
@@ -14,16 +15,20 @@ use Rattle.behaviour_tree.specs.declared.expr.MulPart as mul_part
 use Rattle.behaviour_tree.specs.declared.expr.PathExpr as path
 use Rattle.behaviour_tree.specs.declared.expr.PathStep as path_step
 use Rattle.behaviour_tree.specs.declared.expr.SumPart as sum_part
-use Rattle.behaviour_tree.specs.declared.expr.Expr.TheOpen.{Expr-F, Member-F, MulPart-F, PathExpr-F, PathStep-F, SumPart-F}
-use Rattle.behaviour_tree.specs.declared.expr.Expr.TheFolds.{fold-Expr, fold-Member, fold-MulPart, fold-PathExpr, fold-PathStep, fold-SumPart}
+use Rattle.behaviour_tree.specs.declared.expr.Expr.TheOpen.{Expr-F, Member-F, MulPart-F}
+use Rattle.behaviour_tree.specs.declared.expr.Expr.TheOpen.{PathExpr-F, PathStep-F, SumPart-F}
+use Rattle.behaviour_tree.specs.declared.expr.Expr.TheFolds.{fold-Expr, fold-Member, fold-MulPart}
+use Rattle.behaviour_tree.specs.declared.expr.Expr.TheFolds.{fold-PathExpr, fold-PathStep, fold-SumPart}
 use Rattle.behaviour_tree.specs.declared.behaviour.HandlerKey.{HandlerKey}
 use Rattle.behaviour_tree.specs.declared.behaviour.Behaviour as behaviour
 use Rattle.behaviour_tree.specs.declared.behaviour.Branch as branch
 use Rattle.behaviour_tree.specs.declared.behaviour.Handler as handler
 use Rattle.behaviour_tree.specs.declared.behaviour.Handlers as handlers
 use Rattle.behaviour_tree.specs.declared.behaviour.ReplyPart as reply
-use Rattle.behaviour_tree.specs.declared.behaviour.Behaviour.TheOpen.{Behaviour-F, Branch-F, Handler-F, Handlers-F, ReplyPart-F}
-use Rattle.behaviour_tree.specs.declared.behaviour.Behaviour.TheFolds.{fold-Behaviour, fold-Branch, fold-Handler, fold-Handlers, fold-ReplyPart}
+use Rattle.behaviour_tree.specs.declared.behaviour.Behaviour.TheOpen.{Behaviour-F, Branch-F, Handler-F}
+use Rattle.behaviour_tree.specs.declared.behaviour.Behaviour.TheOpen.{Handlers-F, ReplyPart-F}
+use Rattle.behaviour_tree.specs.declared.behaviour.Behaviour.TheFolds.{fold-Behaviour, fold-Branch, fold-Handler}
+use Rattle.behaviour_tree.specs.declared.behaviour.Behaviour.TheFolds.{fold-Handlers, fold-ReplyPart}
 
 -- a field of a type, its own type already seen as plain data
 pub record FieldView : Type 0 where
@@ -143,27 +148,39 @@ sum_part_level p = record { op = p.op; value = p.value }
 
 -- the expression that a Rust expression stands for
 abbrev pub expr_view : expr.Expr → Exp
-expr_view = fold-Expr Exp MemberView MulPartView PathTree StepView SumPartView expr_level member_level mul_part_level path_level step_level sum_part_level
+expr_view =
+    fold-Expr Exp MemberView MulPartView PathTree StepView SumPartView
+    expr_level member_level mul_part_level path_level step_level sum_part_level
 
 -- the member that a Rust member stands for
 abbrev pub member_view : member.Member → MemberView
-member_view = fold-Member Exp MemberView MulPartView PathTree StepView SumPartView expr_level member_level mul_part_level path_level step_level sum_part_level
+member_view =
+    fold-Member Exp MemberView MulPartView PathTree StepView SumPartView
+    expr_level member_level mul_part_level path_level step_level sum_part_level
 
 -- the part of a product that a Rust part stands for
 abbrev pub mul_part_view : mul_part.MulPart → MulPartView
-mul_part_view = fold-MulPart Exp MemberView MulPartView PathTree StepView SumPartView expr_level member_level mul_part_level path_level step_level sum_part_level
+mul_part_view =
+    fold-MulPart Exp MemberView MulPartView PathTree StepView SumPartView
+    expr_level member_level mul_part_level path_level step_level sum_part_level
 
 -- the path that a Rust path stands for
 abbrev pub path_view : path.PathExpr → PathTree
-path_view = fold-PathExpr Exp MemberView MulPartView PathTree StepView SumPartView expr_level member_level mul_part_level path_level step_level sum_part_level
+path_view =
+    fold-PathExpr Exp MemberView MulPartView PathTree StepView SumPartView
+    expr_level member_level mul_part_level path_level step_level sum_part_level
 
 -- the step that a Rust step stands for
 abbrev pub step_view : path_step.PathStep → StepView
-step_view = fold-PathStep Exp MemberView MulPartView PathTree StepView SumPartView expr_level member_level mul_part_level path_level step_level sum_part_level
+step_view =
+    fold-PathStep Exp MemberView MulPartView PathTree StepView SumPartView
+    expr_level member_level mul_part_level path_level step_level sum_part_level
 
 -- the part of a sum that a Rust part stands for
 abbrev pub sum_part_view : sum_part.SumPart → SumPartView
-sum_part_view = fold-SumPart Exp MemberView MulPartView PathTree StepView SumPartView expr_level member_level mul_part_level path_level step_level sum_part_level
+sum_part_view =
+    fold-SumPart Exp MemberView MulPartView PathTree StepView SumPartView
+    expr_level member_level mul_part_level path_level step_level sum_part_level
 
 -- what a request-response branch has beside, its body already seen as plain data
 pub record ReplyView : Type 0 where
@@ -215,7 +232,8 @@ behaviour_level (Behaviour-F.If e p q) = plain.choose (expr_view e) p.value q.va
 behaviour_level (Behaviour-F.While e p) = plain.repeat (expr_view e) p.value
 behaviour_level (Behaviour-F.Choice bs) = plain.choice (branches_of bs.items)
 behaviour_level (Behaviour-F.Notify port op e) = plain.notify port op (expr_view e)
-behaviour_level (Behaviour-F.Solicit port op e target hs) = plain.solicit port op (expr_view e) (option_map path_view target) hs
+behaviour_level (Behaviour-F.Solicit port op e target hs) =
+    plain.solicit port op (expr_view e) (option_map path_view target) hs
 behaviour_level (Behaviour-F.Install hs) = plain.install hs
 behaviour_level (Behaviour-F.Throw f e) = plain.throw f (expr_view e)
 behaviour_level (Behaviour-F.Comp s) = plain.comp s
@@ -241,20 +259,30 @@ reply_level r = record { path = option_map path_view r.path; body = r.body }
 
 -- the behaviour that a Rust behaviour stands for
 abbrev pub behaviour_view : behaviour.Behaviour → Proc
-behaviour_view = fold-Behaviour Proc BranchView HandlerView HandlerList ReplyView behaviour_level branch_level handler_level handlers_level reply_level
+behaviour_view =
+    fold-Behaviour Proc BranchView HandlerView HandlerList ReplyView
+    behaviour_level branch_level handler_level handlers_level reply_level
 
 -- the branch that a Rust branch stands for
 abbrev pub branch_view : branch.Branch → BranchView
-branch_view = fold-Branch Proc BranchView HandlerView HandlerList ReplyView behaviour_level branch_level handler_level handlers_level reply_level
+branch_view =
+    fold-Branch Proc BranchView HandlerView HandlerList ReplyView
+    behaviour_level branch_level handler_level handlers_level reply_level
 
 -- the handler that a Rust handler stands for
 abbrev pub handler_view : handler.Handler → HandlerView
-handler_view = fold-Handler Proc BranchView HandlerView HandlerList ReplyView behaviour_level branch_level handler_level handlers_level reply_level
+handler_view =
+    fold-Handler Proc BranchView HandlerView HandlerList ReplyView
+    behaviour_level branch_level handler_level handlers_level reply_level
 
 -- the handlers that Rust handlers stand for
 abbrev pub handlers_view : handlers.Handlers → HandlerList
-handlers_view = fold-Handlers Proc BranchView HandlerView HandlerList ReplyView behaviour_level branch_level handler_level handlers_level reply_level
+handlers_view =
+    fold-Handlers Proc BranchView HandlerView HandlerList ReplyView
+    behaviour_level branch_level handler_level handlers_level reply_level
 
 -- the reply that a Rust reply stands for
 abbrev pub reply_view : reply.ReplyPart → ReplyView
-reply_view = fold-ReplyPart Proc BranchView HandlerView HandlerList ReplyView behaviour_level branch_level handler_level handlers_level reply_level
+reply_view =
+    fold-ReplyPart Proc BranchView HandlerView HandlerList ReplyView
+    behaviour_level branch_level handler_level handlers_level reply_level

@@ -12,7 +12,9 @@ use Rattle.behaviour_tree.specs.FormedServices.{is_service}
 
 -- the faults that every program knows, and the outermost scope
 abbrev pub standard_names : List (List ℕ)
-standard_names = codes "IOException" ∷ codes "TypeMismatch" ∷ codes "CorrelationError" ∷ codes "Refused" ∷ codes "UndeclaredFault" ∷ codes "ExprFault" ∷ codes "HandlerTooLarge" ∷ codes "StoreTooLarge" ∷ codes "main" ∷ []
+standard_names =
+    codes "IOException" ∷ codes "TypeMismatch" ∷ codes "CorrelationError" ∷ codes "Refused" ∷ codes "UndeclaredFault"
+    ∷ codes "ExprFault" ∷ codes "HandlerTooLarge" ∷ codes "StoreTooLarge" ∷ codes "main" ∷ []
 
 -- texts begin with these
 abbrev pub begin_with : List (List ℕ) → List (List ℕ) → Bool

@@ -1,5 +1,6 @@
 -- A value where a type is asked for, and the types that a service's operations ask for.
-use Rattle.std.specs.Prelude.{ℕ, List, [], ◌∷◌, ◌++◌, map, slice_get, Option, None, Some, option_and_then, option_map, unwrap_or, if◌then◌else◌, nat_eq}
+use Rattle.std.specs.Prelude.{ℕ, List, [], ◌∷◌, ◌++◌, map, slice_get, Option, None, Some}
+use Rattle.std.specs.Prelude.{option_and_then, option_map, unwrap_or, if◌then◌else◌, nat_eq}
 use Rattle.jolie_trees.specs.Data.{Tree}
 use Rattle.behaviour_tree.specs.Data.{TypeTree, ThrowsPart, OperationPart, ServicePart, ProgramParts}
 use Rattle.behaviour_tree.specs.Conforms.{conforms, wide}

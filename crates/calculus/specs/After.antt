@@ -8,14 +8,17 @@ use Rattle.behaviour_tree.specs.declared.words.Need.{Need}
 use Rattle.behaviour_tree.specs.declared.words.Need.TheVariants as need
 use Rattle.behaviour_tree.specs.declared.words.Given.{Given}
 use Rattle.behaviour_tree.specs.declared.words.Given.TheVariants as given
-use Rattle.behaviour_tree.specs.Data.{Exp, Proc, nothing, no_procs, proc, assign, undef, copy, bind, sequence, choose, repeat, choice, notify, solicit, install, comp, ProgramParts}
+use Rattle.behaviour_tree.specs.Data.{Exp, Proc, nothing, no_procs, proc, assign, undef, copy, bind, sequence}
+use Rattle.behaviour_tree.specs.Data.{choose, repeat, choice, notify, solicit, install, comp, ProgramParts}
 use Rattle.behaviour_tree.specs.Values.{truth_of}
 use Rattle.calculus.specs.Names.{main}
 use Rattle.calculus.specs.Tables.{empty}
-use Rattle.calculus.specs.Terms.{Fault, Term, Strands, done, place, seq, par, in_scope, exec, fail, wait, dead_wait, prot, no_strands, strand, live, stands_in}
+use Rattle.calculus.specs.Terms.{Fault, Term, Strands, done, place, seq, par, in_scope, exec}
+use Rattle.calculus.specs.Terms.{fail, wait, dead_wait, prot, no_strands, strand, live, stands_in}
 use Rattle.calculus.specs.Start.{begin, normal}
 use Rattle.calculus.specs.Throw.{Carried, up, caught_at, ended_at, blocked, absent, throw}
-use Rattle.calculus.specs.Moves.{Seen, Move, moved_to, within, quietly, starts, in_strand, ungiven, inside, in_its_scope}
+use Rattle.calculus.specs.Moves.{Seen, Move, moved_to, within, quietly, starts}
+use Rattle.calculus.specs.Moves.{in_strand, ungiven, inside, in_its_scope}
 use Rattle.calculus.specs.Effects.{Effect, faults, stores, effect_of, copied, effect_of_undef}
 use Rattle.calculus.specs.Faults.{binding, fault_in}
 use Rattle.calculus.specs.Inputs.{inputs}

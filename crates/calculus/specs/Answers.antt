@@ -13,7 +13,8 @@ use Rattle.behaviour_tree.specs.declared.words.Reason.TheVariants as reason
 use Rattle.behaviour_tree.specs.Data.{PathTree, HandlerList, ProgramParts}
 use Rattle.behaviour_tree.specs.Values.{alone}
 use Rattle.behaviour_tree.specs.Reasons.{code_of}
-use Rattle.calculus.specs.Names.{io_exception, type_mismatch, correlation_error, refused, undeclared_fault, handler_too_large}
+use Rattle.calculus.specs.Names.{io_exception, type_mismatch, correlation_error}
+use Rattle.calculus.specs.Names.{refused, undeclared_fault, handler_too_large}
 use Rattle.calculus.specs.Tables.{plus, fits}
 use Rattle.calculus.specs.Terms.{Fault, bare, Term, done, thrown}
 use Rattle.calculus.specs.Effects.{Effect, faults, stores, received}

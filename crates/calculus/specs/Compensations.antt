@@ -1,11 +1,13 @@
 -- Who a scope is, and where the handlers under scope names come from.
-use Rattle.std.specs.Prelude.{◌≡◌, ◌⊎◌, ℕ, suc, Bool, true, false, ◌&&◌, ◌||◌, nat_eq, List, [], ◌∷◌, Option, None, Some, if◌then◌else◌}
+use Rattle.std.specs.Prelude.{◌≡◌, ◌⊎◌, ℕ, suc, Bool, true, false, ◌&&◌, ◌||◌, nat_eq}
+use Rattle.std.specs.Prelude.{List, [], ◌∷◌, Option, None, Some, if◌then◌else◌}
 use Rattle.behaviour_tree.specs.declared.behaviour.HandlerKey.TheVariants as key
 use Rattle.behaviour_tree.specs.declared.words.Kind.TheVariants as kind
 use Rattle.behaviour_tree.specs.declared.words.Given.{Given}
 use Rattle.behaviour_tree.specs.Data.{Proc, install, HandlerList, no_handlers, handler, ProgramParts}
 use Rattle.calculus.specs.Tables.{Table, entry}
-use Rattle.calculus.specs.Terms.{Term, Strands, done, place, seq, par, in_scope, exec, fail, wait, dead_wait, prot, no_strands, strand, live, stands_in}
+use Rattle.calculus.specs.Terms.{Term, Strands, done, place, seq, par, in_scope, exec, fail}
+use Rattle.calculus.specs.Terms.{wait, dead_wait, prot, no_strands, strand, live, stands_in}
 use Rattle.calculus.specs.After.{Config, Done, after}
 use Rattle.calculus.specs.Runs.{TakenStep, start_of, RunsTo}
 use Rattle.calculus.specs.Sound.{strands_of, are_below}

@@ -4,11 +4,13 @@ use Rattle.jolie_trees.specs.declared.root.Root.{Root}
 use Rattle.jolie_trees.specs.declared.root.Root.TheVariants as root
 use Rattle.jolie_trees.specs.Data.{Tree}
 use Rattle.jolie_trees.specs.Trees.{root_of}
-use Rattle.behaviour_tree.specs.Data.{Exp, Proc, assign, undef, copy, bind, choose, repeat, notify, solicit, install, throw}
+use Rattle.behaviour_tree.specs.Data.{Exp, Proc, assign, undef, copy, bind, choose}
+use Rattle.behaviour_tree.specs.Data.{repeat, notify, solicit, install, throw}
 use Rattle.behaviour_tree.specs.Values.{value, truth_of}
 use Rattle.calculus.specs.Names.{type_mismatch, expr_fault, handler_too_large}
 use Rattle.calculus.specs.Tables.{fits}
-use Rattle.calculus.specs.Terms.{Fault, bare, Term, Strands, place, thrown, seq, par, in_scope, exec, prot, no_strands, strand, stands_in}
+use Rattle.calculus.specs.Terms.{Fault, bare, Term, Strands, place, thrown, seq, par}
+use Rattle.calculus.specs.Terms.{in_scope, exec, prot, no_strands, strand, stands_in}
 use Rattle.calculus.specs.Effects.{Effect, faults, stores, effect_of, copied, effect_of_undef}
 use Rattle.calculus.specs.Accepted.{accepted, request_sent}
 use Rattle.calculus.specs.Moves.{Seen, inside}

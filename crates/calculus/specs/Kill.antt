@@ -1,6 +1,7 @@
 -- What is left of a form that a fault beside it ends.
 use Rattle.behaviour_tree.specs.Data.{no_procs}
-use Rattle.calculus.specs.Terms.{Fault, Term, Strands, done, place, thrown, seq, par, in_scope, exec, fail, wait, dead_wait, prot, no_strands, strand, live, caught, term, last, zombie, seq_of}
+use Rattle.calculus.specs.Terms.{Fault, Term, Strands, done, place, thrown, seq, par, in_scope, exec, fail, wait}
+use Rattle.calculus.specs.Terms.{dead_wait, prot, no_strands, strand, live, caught, term, last, zombie, seq_of}
 
 abbrev mutual
   -- a form that fault f kills

@@ -1,5 +1,6 @@
 -- What holds of every event and of every run: requests and calls, and how a session ends.
-use Rattle.std.specs.Prelude.{◌≡◌, ℕ, ◌+◌, ◌≤◌, Bool, true, false, cond, ◌&&◌, List, [], ◌∷◌, ◌++◌, Option, None, Some, option_map, unwrap_or, if◌then◌else◌, nat_eq, count_by}
+use Rattle.std.specs.Prelude.{◌≡◌, ℕ, ◌+◌, ◌≤◌, Bool, true, false, cond, ◌&&◌, List, [], ◌∷◌, ◌++◌}
+use Rattle.std.specs.Prelude.{Option, None, Some, option_map, unwrap_or, if◌then◌else◌, nat_eq, count_by}
 use Rattle.behaviour_tree.specs.declared.words.Kind.{Kind}
 use Rattle.behaviour_tree.specs.declared.words.Kind.TheVariants as kind
 use Rattle.behaviour_tree.specs.declared.words.Given.{Given}

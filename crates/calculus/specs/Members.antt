@@ -5,7 +5,8 @@ use Rattle.behaviour_tree.specs.declared.words.Given.{Given}
 use Rattle.behaviour_tree.specs.Data.{Proc, Procs, no_procs, proc, ProgramParts}
 use Rattle.behaviour_tree.specs.FormedBehaviours.{parallel_members, members_within, members_of_handlers}
 use Rattle.calculus.specs.Tables.{Table, most_forms}
-use Rattle.calculus.specs.Terms.{Term, Strands, done, place, thrown, seq, par, in_scope, exec, fail, wait, dead_wait, prot, no_strands, strand}
+use Rattle.calculus.specs.Terms.{Term, Strands, done, place, thrown, seq, par, in_scope}
+use Rattle.calculus.specs.Terms.{exec, fail, wait, dead_wait, prot, no_strands, strand}
 use Rattle.calculus.specs.After.{Config, Done, after, first_config}
 use Rattle.calculus.specs.Runs.{TakenStep, Leads}
 

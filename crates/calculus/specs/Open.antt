@@ -1,6 +1,7 @@
 -- The requests that a term still has to answer, and the calls whose answers it waits for.
 use Rattle.std.specs.Prelude.{ℕ, List, [], ◌∷◌, ◌++◌}
-use Rattle.calculus.specs.Terms.{Term, Strands, done, place, thrown, seq, par, in_scope, exec, fail, wait, dead_wait, prot, no_strands, strand}
+use Rattle.calculus.specs.Terms.{Term, Strands, done, place, thrown, seq, par, in_scope}
+use Rattle.calculus.specs.Terms.{exec, fail, wait, dead_wait, prot, no_strands, strand}
 
 abbrev mutual
   -- what a term holds of its requests and of its calls, in order

@@ -4,7 +4,8 @@ use Rattle.behaviour_tree.specs.declared.words.Kind.TheVariants as kind
 use Rattle.behaviour_tree.specs.declared.words.Given.{Given}
 use Rattle.behaviour_tree.specs.Data.{ProgramParts}
 use Rattle.calculus.specs.Tables.{Table, entry}
-use Rattle.calculus.specs.Terms.{Fault, Term, Strands, seq, par, in_scope, exec, prot, no_strands, strand, State, live, last, stands_in}
+use Rattle.calculus.specs.Terms.{Fault, Term, Strands, seq, par, in_scope, exec, prot}
+use Rattle.calculus.specs.Terms.{no_strands, strand, State, live, last, stands_in}
 use Rattle.calculus.specs.Kill.{kill}
 use Rattle.calculus.specs.Ready.{ready}
 use Rattle.calculus.specs.Throw.{Carried, up, caught_at, ended_at, throw}

@@ -7,7 +7,8 @@ use Rattle.behaviour_tree.specs.declared.words.Given.TheVariants as given
 use Rattle.behaviour_tree.specs.Data.{Proc, ProgramParts}
 use Rattle.behaviour_tree.specs.Distinct.{numbers_differ}
 use Rattle.behaviour_tree.specs.Operations.{is_among}
-use Rattle.calculus.specs.Terms.{Fault, Term, Strands, done, seq, par, in_scope, exec, fail, dead_wait, prot, no_strands, strand, live, caught, term, last, zombie}
+use Rattle.calculus.specs.Terms.{Fault, Term, Strands, done, seq, par, in_scope, exec, fail, dead_wait}
+use Rattle.calculus.specs.Terms.{prot, no_strands, strand, live, caught, term, last, zombie}
 use Rattle.calculus.specs.Throw.{absent, throw}
 use Rattle.calculus.specs.Faults.{fault_in}
 use Rattle.calculus.specs.After.{Config, Done, after, first_config, seen_by}

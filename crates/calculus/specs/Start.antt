@@ -1,9 +1,11 @@
 -- How a form begins, and normal form. Starting a form draws its numbers first; then what is done makes way for its
 -- rests.
 use Rattle.std.specs.Prelude.{ℕ, ◌+◌, suc}
-use Rattle.behaviour_tree.specs.Data.{Proc, nothing, inner_handler, block, sequence, parallel, scope, Procs, no_procs, proc}
+use Rattle.behaviour_tree.specs.Data.{Proc, nothing, inner_handler, block, sequence}
+use Rattle.behaviour_tree.specs.Data.{parallel, scope, Procs, no_procs, proc}
 use Rattle.calculus.specs.Tables.{empty}
-use Rattle.calculus.specs.Terms.{Term, Strands, done, place, seq, par, in_scope, exec, fail, prot, no_strands, strand, live, seq_of, par_of, prot_of, scope_of}
+use Rattle.calculus.specs.Terms.{Term, Strands, done, place, seq, par, in_scope, exec, fail, prot}
+use Rattle.calculus.specs.Terms.{no_strands, strand, live, seq_of, par_of, prot_of, scope_of}
 
 -- a form, or the members of a parallel, that have begun, and the next strand
 pub record Begun (A : Type 0) : Type 0 where

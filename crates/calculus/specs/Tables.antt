@@ -1,11 +1,14 @@
 -- The handlers that are installed in a scope: two finite maps to behaviours, from faults and from scopes; and what
 -- installing, spending and ending a scope make of them.
-use Rattle.std.specs.Prelude.{ℕ, ◌+◌, suc, Bool, true, ◌&&◌, nat_le, nat_eq, max, List, [], ◌∷◌, Option, None, Some, if◌then◌else◌}
+use Rattle.std.specs.Prelude.{ℕ, ◌+◌, suc, Bool, true, ◌&&◌, nat_le, nat_eq, max}
+use Rattle.std.specs.Prelude.{List, [], ◌∷◌, Option, None, Some, if◌then◌else◌}
 use Rattle.std.specs.Ordering.{nat_cmp}
 use Rattle.std.specs.BTreeMap.{insert_entry}
 use Rattle.behaviour_tree.specs.declared.behaviour.HandlerKey.{HandlerKey}
 use Rattle.behaviour_tree.specs.declared.behaviour.HandlerKey.TheVariants as key
-use Rattle.behaviour_tree.specs.Data.{Proc, Procs, no_procs, proc, Branches, no_branches, one_way, request, HandlerList, no_handlers, handler, nothing, sequence, parallel, choose, repeat, choice, solicit, install, inner_handler, scope, block}
+use Rattle.behaviour_tree.specs.Data.{Proc, Procs, no_procs, proc, Branches, no_branches, one_way, request}
+use Rattle.behaviour_tree.specs.Data.{HandlerList, no_handlers, handler, nothing, sequence, parallel}
+use Rattle.behaviour_tree.specs.Data.{choose, repeat, choice, solicit, install, inner_handler, scope, block}
 
 -- behaviours by the number of a name, in rising order of the numbers
 abbrev pub Entries : Type 0

@@ -2,7 +2,8 @@
 use Rattle.std.specs.Prelude.{ℕ, true, false, List, [], ◌∷◌, Option, None, Some, if◌then◌else◌, nat_eq}
 use Rattle.behaviour_tree.specs.Data.{Proc}
 use Rattle.calculus.specs.Tables.{Table, entry}
-use Rattle.calculus.specs.Terms.{Fault, Term, Strands, done, place, thrown, seq, par, in_scope, exec, fail, prot, no_strands, strand, State, live, caught, last, zombie, stands_in}
+use Rattle.calculus.specs.Terms.{Fault, Term, Strands, done, place, thrown, seq, par, in_scope, exec, fail}
+use Rattle.calculus.specs.Terms.{prot, no_strands, strand, State, live, caught, last, zombie, stands_in}
 use Rattle.calculus.specs.Kill.{kill, kill_members}
 use Rattle.calculus.specs.Ready.{ready}
 

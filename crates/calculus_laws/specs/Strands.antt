@@ -5,8 +5,8 @@ use Rattle.calculus.specs.After.{Config}
 use Rattle.calculus.specs.Runs.{TakenStep, RunsTo}
 use Rattle.calculus.specs.Compensations.{StrandsDiffer}
 
--- In every run the strands differ, and are below the next. So what is claimed where strands differ holds at each event of
--- a run.
+-- In every run the strands differ, and are below the next. So what is claimed where strands differ holds at each event
+-- of a run.
 abbrev pub StrandsDifferInRuns : Type 0
 StrandsDifferInRuns =
     (parts : ProgramParts) (service : ℕ) (steps : List TakenStep) (last : Config)

@@ -8,9 +8,9 @@ use Rattle.jolie_ast.specs.declared.expression.Multiplicative.{Multiplicative}
 use Rattle.jolie_ast.specs.declared.expression.Comparison.{Comparison}
 use Rattle.jolie_ast.specs.declared.expression.CastTarget.{CastTarget}
 use Rattle.jolie_ast.specs.declared.expression.ExprForm.TheOpen.{ExprForm-F}
-use Rattle.jolie_ast.specs.declared.expression.ExprForm.TheFolds.{fold-roll-Expr, fold-roll-ExprForm, fold-roll-Factor, fold-roll-Member, fold-roll-Path, fold-roll-Step, fold-roll-Term}
+use Rattle.jolie_ast.specs.declared.expression.ExprForm.TheFolds.{map-ExprForm, fold-roll-Expr, fold-roll-ExprForm, fold-roll-Factor, fold-roll-Member, fold-roll-Path, fold-roll-Step, fold-roll-Term}
 use Rattle.jolie_ast.specs.declared.expression.Expr.{Expr, out-Expr, roll-Expr, roll-out-Expr}
-use Rattle.jolie_ast.specs.declared.expression.ExprForm.{ExprForm}
+use Rattle.jolie_ast.specs.declared.expression.ExprForm.{ExprForm, roll-ExprForm}
 use Rattle.jolie_ast.specs.declared.expression.ExprForm.TheVariants as form
 use Rattle.jolie_ast.specs.declared.expression.Factor.{Factor, roll-Factor}
 use Rattle.jolie_ast.specs.declared.expression.Term.{Term, roll-Term}
@@ -21,12 +21,12 @@ use Rattle.jolie_ast.specs.declared.process.Assignment.{Assignment}
 use Rattle.jolie_ast.specs.declared.process.ForStep.{ForStep}
 use Rattle.jolie_ast.specs.declared.process.HandlerKey.{HandlerKey}
 use Rattle.jolie_ast.specs.declared.process.Otherwise.TheOpen.{Otherwise-F, Process-F}
-use Rattle.jolie_ast.specs.declared.process.Otherwise.TheFolds.{fold-roll-Answer, fold-roll-Block, fold-roll-Branch, fold-roll-Handler, fold-roll-If, fold-roll-Input, fold-roll-Otherwise, fold-roll-Process, fold-roll-Reply}
-use Rattle.jolie_ast.specs.declared.process.Process.{Process}
+use Rattle.jolie_ast.specs.declared.process.Otherwise.TheFolds.{map-Otherwise, map-Process, fold-roll-Answer, fold-roll-Block, fold-roll-Branch, fold-roll-Handler, fold-roll-If, fold-roll-Input, fold-roll-Otherwise, fold-roll-Process, fold-roll-Reply}
+use Rattle.jolie_ast.specs.declared.process.Process.{Process, roll-Process}
 use Rattle.jolie_ast.specs.declared.process.Process.TheVariants as process
 use Rattle.jolie_ast.specs.declared.process.Block.{Block, roll-Block}
 use Rattle.jolie_ast.specs.declared.process.If.{If, roll-If}
-use Rattle.jolie_ast.specs.declared.process.Otherwise.{Otherwise}
+use Rattle.jolie_ast.specs.declared.process.Otherwise.{Otherwise, roll-Otherwise}
 use Rattle.jolie_ast.specs.declared.process.Otherwise.TheVariants as otherwise
 use Rattle.jolie_ast.specs.declared.process.Input.{Input, roll-Input}
 use Rattle.jolie_ast.specs.declared.process.Reply.{Reply, roll-Reply}
@@ -58,105 +58,68 @@ two_and_each test parts = ap (λ b. b && each (map test parts)) (has_two-map tes
 
 -- ---- expressions
 
+-- whether a form is formed, by the form that it is made of
+form_made : (x : ExprForm-F ExprForm Expr Factor Member Path Step Term) {f : ExprForm} → roll-ExprForm x ≡ f
+    → form_formed f ≡ form_level (map-ExprForm ExprForm Expr Factor Member Path Step Term Bool Bool Bool Bool Bool Bool Bool form_formed expr_formed factor_formed member_formed path_formed step_formed term_formed x)
+unfolding form_formed expr_formed factor_formed member_formed path_formed step_formed term_formed
+form_made x made = ap form_formed (sym made) ∙ fold-roll-ExprForm Bool Bool Bool Bool Bool Bool Bool form_level expr_level factor_level member_level path_level step_level term_level x
+
 pub int_forms : (n : ℤ) → form_formed (form.Int n) ≡ true
-unfolding expr_formed factor_formed form_formed member_formed path_formed step_formed term_formed
-int_forms n =
-    ap form_formed (sym (form.rolls-Int n))
-    ∙ fold-roll-ExprForm Bool Bool Bool Bool Bool Bool Bool form_level expr_level factor_level member_level path_level step_level term_level (ExprForm-F.Int n)
+int_forms n = form_made (ExprForm-F.Int n) (form.rolls-Int n)
 
 pub long_forms : (n : ℤ) → form_formed (form.Long n) ≡ true
-unfolding expr_formed factor_formed form_formed member_formed path_formed step_formed term_formed
-long_forms n =
-    ap form_formed (sym (form.rolls-Long n))
-    ∙ fold-roll-ExprForm Bool Bool Bool Bool Bool Bool Bool form_level expr_level factor_level member_level path_level step_level term_level (ExprForm-F.Long n)
+long_forms n = form_made (ExprForm-F.Long n) (form.rolls-Long n)
 
 pub text_forms : (t : List ℕ) → form_formed (form.Str t) ≡ true
-unfolding expr_formed factor_formed form_formed member_formed path_formed step_formed term_formed
-text_forms t =
-    ap form_formed (sym (form.rolls-Str t))
-    ∙ fold-roll-ExprForm Bool Bool Bool Bool Bool Bool Bool form_level expr_level factor_level member_level path_level step_level term_level (ExprForm-F.Str t)
+text_forms t = form_made (ExprForm-F.Str t) (form.rolls-Str t)
 
 pub truth_forms : (b : Bool) → form_formed (form.Bool b) ≡ true
-unfolding expr_formed factor_formed form_formed member_formed path_formed step_formed term_formed
-truth_forms b =
-    ap form_formed (sym (form.rolls-Bool b))
-    ∙ fold-roll-ExprForm Bool Bool Bool Bool Bool Bool Bool form_level expr_level factor_level member_level path_level step_level term_level (ExprForm-F.Bool b)
+truth_forms b = form_made (ExprForm-F.Bool b) (form.rolls-Bool b)
 
 pub path_form_forms : (path : Path) → form_formed (form.Path path) ≡ path_formed path
-unfolding expr_formed factor_formed form_formed member_formed path_formed step_formed term_formed
-path_form_forms path =
-    ap form_formed (sym (form.rolls-Path path))
-    ∙ fold-roll-ExprForm Bool Bool Bool Bool Bool Bool Bool form_level expr_level factor_level member_level path_level step_level term_level (ExprForm-F.Path path)
+path_form_forms path = form_made (ExprForm-F.Path path) (form.rolls-Path path)
 
 pub size_forms : (path : Path) → form_formed (form.Size path) ≡ path_formed path
-unfolding expr_formed factor_formed form_formed member_formed path_formed step_formed term_formed
-size_forms path =
-    ap form_formed (sym (form.rolls-Size path))
-    ∙ fold-roll-ExprForm Bool Bool Bool Bool Bool Bool Bool form_level expr_level factor_level member_level path_level step_level term_level (ExprForm-F.Size path)
+size_forms path = form_made (ExprForm-F.Size path) (form.rolls-Size path)
 
 pub defined_forms : (path : Path) → form_formed (form.IsDefined path) ≡ path_formed path
-unfolding expr_formed factor_formed form_formed member_formed path_formed step_formed term_formed
-defined_forms path =
-    ap form_formed (sym (form.rolls-IsDefined path))
-    ∙ fold-roll-ExprForm Bool Bool Bool Bool Bool Bool Bool form_level expr_level factor_level member_level path_level step_level term_level (ExprForm-F.IsDefined path)
+defined_forms path = form_made (ExprForm-F.IsDefined path) (form.rolls-IsDefined path)
 
 pub cast_forms : (to : CastTarget) (value : Expr) → form_formed (form.Cast to value) ≡ expr_formed value
-unfolding expr_formed factor_formed form_formed member_formed path_formed step_formed term_formed
-cast_forms to value =
-    ap form_formed (sym (form.rolls-Cast to value))
-    ∙ fold-roll-ExprForm Bool Bool Bool Bool Bool Bool Bool form_level expr_level factor_level member_level path_level step_level term_level (ExprForm-F.Cast to value)
+cast_forms to value = form_made (ExprForm-F.Cast to value) (form.rolls-Cast to value)
 
 pub literal_forms : (members : List Member) → form_formed (form.Literal members) ≡ list_all member_formed members
-unfolding expr_formed factor_formed form_formed member_formed path_formed step_formed term_formed
 literal_forms members =
-    ap form_formed (sym (form.rolls-Literal members))
-    ∙ fold-roll-ExprForm Bool Bool Bool Bool Bool Bool Bool form_level expr_level factor_level member_level path_level step_level term_level (ExprForm-F.Literal members)
+    form_made (ExprForm-F.Literal members) (form.rolls-Literal members)
     ∙ each-map member_formed members
 
 pub minus_forms : (value : Expr) → form_formed (form.Minus value) ≡ expr_formed value
-unfolding expr_formed factor_formed form_formed member_formed path_formed step_formed term_formed
-minus_forms value =
-    ap form_formed (sym (form.rolls-Minus value))
-    ∙ fold-roll-ExprForm Bool Bool Bool Bool Bool Bool Bool form_level expr_level factor_level member_level path_level step_level term_level (ExprForm-F.Minus value)
+minus_forms value = form_made (ExprForm-F.Minus value) (form.rolls-Minus value)
 
 pub not_forms : (value : Expr) → form_formed (form.Not value) ≡ expr_formed value
-unfolding expr_formed factor_formed form_formed member_formed path_formed step_formed term_formed
-not_forms value =
-    ap form_formed (sym (form.rolls-Not value))
-    ∙ fold-roll-ExprForm Bool Bool Bool Bool Bool Bool Bool form_level expr_level factor_level member_level path_level step_level term_level (ExprForm-F.Not value)
+not_forms value = form_made (ExprForm-F.Not value) (form.rolls-Not value)
 
 pub product_forms : (first : Expr) (rest : List Factor) → form_formed (form.Product first rest) ≡ expr_formed first && (has_one rest && list_all factor_formed rest)
-unfolding expr_formed factor_formed form_formed member_formed path_formed step_formed term_formed
 product_forms first rest =
-    ap form_formed (sym (form.rolls-Product first rest))
-    ∙ fold-roll-ExprForm Bool Bool Bool Bool Bool Bool Bool form_level expr_level factor_level member_level path_level step_level term_level (ExprForm-F.Product first rest)
+    form_made (ExprForm-F.Product first rest) (form.rolls-Product first rest)
     ∙ ap (λ b. expr_formed first && b) (one_and_each factor_formed rest)
 
 pub sum_forms : (first : Expr) (rest : List Term) → form_formed (form.Sum first rest) ≡ expr_formed first && (has_one rest && list_all term_formed rest)
-unfolding expr_formed factor_formed form_formed member_formed path_formed step_formed term_formed
 sum_forms first rest =
-    ap form_formed (sym (form.rolls-Sum first rest))
-    ∙ fold-roll-ExprForm Bool Bool Bool Bool Bool Bool Bool form_level expr_level factor_level member_level path_level step_level term_level (ExprForm-F.Sum first rest)
+    form_made (ExprForm-F.Sum first rest) (form.rolls-Sum first rest)
     ∙ ap (λ b. expr_formed first && b) (one_and_each term_formed rest)
 
 pub compare_forms : (left : Expr) (compared : Comparison) (right : Expr) → form_formed (form.Compare left compared right) ≡ expr_formed left && expr_formed right
-unfolding expr_formed factor_formed form_formed member_formed path_formed step_formed term_formed
-compare_forms left compared right =
-    ap form_formed (sym (form.rolls-Compare left compared right))
-    ∙ fold-roll-ExprForm Bool Bool Bool Bool Bool Bool Bool form_level expr_level factor_level member_level path_level step_level term_level (ExprForm-F.Compare left compared right)
+compare_forms left compared right = form_made (ExprForm-F.Compare left compared right) (form.rolls-Compare left compared right)
 
 pub and_forms : (values : List Expr) → form_formed (form.And values) ≡ has_two values && list_all expr_formed values
-unfolding expr_formed factor_formed form_formed member_formed path_formed step_formed term_formed
 and_forms values =
-    ap form_formed (sym (form.rolls-And values))
-    ∙ fold-roll-ExprForm Bool Bool Bool Bool Bool Bool Bool form_level expr_level factor_level member_level path_level step_level term_level (ExprForm-F.And values)
+    form_made (ExprForm-F.And values) (form.rolls-And values)
     ∙ two_and_each expr_formed values
 
 pub or_forms : (values : List Expr) → form_formed (form.Or values) ≡ has_two values && list_all expr_formed values
-unfolding expr_formed factor_formed form_formed member_formed path_formed step_formed term_formed
 or_forms values =
-    ap form_formed (sym (form.rolls-Or values))
-    ∙ fold-roll-ExprForm Bool Bool Bool Bool Bool Bool Bool form_level expr_level factor_level member_level path_level step_level term_level (ExprForm-F.Or values)
+    form_made (ExprForm-F.Or values) (form.rolls-Or values)
     ∙ two_and_each expr_formed values
 
 -- an expression is formed as its form is
@@ -195,140 +158,91 @@ step_forms name (Some e) = fold-roll-Step Bool Bool Bool Bool Bool Bool Bool for
 
 -- ---- processes
 
+-- whether a process is formed, by the form that it is made of
+process_made : (x : Process-F Otherwise Process Answer Block Branch Handler If Input Reply) {p : Process} → roll-Process x ≡ p
+    → process_formed p ≡ process_level (map-Process Otherwise Process Answer Block Branch Handler If Input Reply Bool Bool Bool Bool Bool Bool Bool Bool Bool otherwise_formed process_formed answer_formed block_formed branch_formed handler_formed if_formed input_formed reply_formed x)
+unfolding otherwise_formed process_formed answer_formed block_formed branch_formed handler_formed if_formed input_formed reply_formed
+process_made x made = ap process_formed (sym made) ∙ fold-roll-Process Bool Bool Bool Bool Bool Bool Bool Bool Bool otherwise_level process_level answer_level block_level branch_level handler_level if_level input_level reply_level x
+
 pub nothing_forms : (at : ℕ) → process_formed (process.Nothing at) ≡ true
-unfolding answer_formed block_formed branch_formed handler_formed if_formed input_formed otherwise_formed process_formed reply_formed
-nothing_forms at =
-    ap process_formed (sym (process.rolls-Nothing at))
-    ∙ fold-roll-Process Bool Bool Bool Bool Bool Bool Bool Bool Bool otherwise_level process_level answer_level block_level branch_level handler_level if_level input_level reply_level (Process-F.«Process::Nothing» at)
+nothing_forms at = process_made (Process-F.«Process::Nothing» at) (process.rolls-Nothing at)
 
 pub assign_forms : (path : Path) (assignment : Assignment) → process_formed (process.Assign path assignment) ≡ path_formed path && assignment_formed assignment
-unfolding answer_formed block_formed branch_formed handler_formed if_formed input_formed otherwise_formed process_formed reply_formed
-assign_forms path assignment =
-    ap process_formed (sym (process.rolls-Assign path assignment))
-    ∙ fold-roll-Process Bool Bool Bool Bool Bool Bool Bool Bool Bool otherwise_level process_level answer_level block_level branch_level handler_level if_level input_level reply_level (Process-F.Assign path assignment)
+assign_forms path assignment = process_made (Process-F.Assign path assignment) (process.rolls-Assign path assignment)
 
 pub undef_forms : (at : ℕ) (path : Path) → process_formed (process.Undef at path) ≡ path_formed path
-unfolding answer_formed block_formed branch_formed handler_formed if_formed input_formed otherwise_formed process_formed reply_formed
-undef_forms at path =
-    ap process_formed (sym (process.rolls-Undef at path))
-    ∙ fold-roll-Process Bool Bool Bool Bool Bool Bool Bool Bool Bool otherwise_level process_level answer_level block_level branch_level handler_level if_level input_level reply_level (Process-F.Undef at path)
+undef_forms at path = process_made (Process-F.Undef at path) (process.rolls-Undef at path)
 
 pub correlate_forms : (at : ℕ) (variable : Name) (value : Expr) → process_formed (process.Correlate at variable value) ≡ expr_formed value
-unfolding answer_formed block_formed branch_formed handler_formed if_formed input_formed otherwise_formed process_formed reply_formed
-correlate_forms at variable value =
-    ap process_formed (sym (process.rolls-Correlate at variable value))
-    ∙ fold-roll-Process Bool Bool Bool Bool Bool Bool Bool Bool Bool otherwise_level process_level answer_level block_level branch_level handler_level if_level input_level reply_level (Process-F.Correlate at variable value)
+correlate_forms at variable value = process_made (Process-F.Correlate at variable value) (process.rolls-Correlate at variable value)
 
 pub conditional_forms : (i : If) → process_formed (process.If i) ≡ if_formed i
-unfolding answer_formed block_formed branch_formed handler_formed if_formed input_formed otherwise_formed process_formed reply_formed
-conditional_forms i =
-    ap process_formed (sym (process.rolls-If i))
-    ∙ fold-roll-Process Bool Bool Bool Bool Bool Bool Bool Bool Bool otherwise_level process_level answer_level block_level branch_level handler_level if_level input_level reply_level (Process-F.If i)
+conditional_forms i = process_made (Process-F.If i) (process.rolls-If i)
 
 pub while_forms : (at : ℕ) (test : Expr) (body : Block) → process_formed (process.While at test body) ≡ expr_formed test && block_formed body
-unfolding answer_formed block_formed branch_formed handler_formed if_formed input_formed otherwise_formed process_formed reply_formed
-while_forms at test body =
-    ap process_formed (sym (process.rolls-While at test body))
-    ∙ fold-roll-Process Bool Bool Bool Bool Bool Bool Bool Bool Bool otherwise_level process_level answer_level block_level branch_level handler_level if_level input_level reply_level (Process-F.While at test body)
+while_forms at test body = process_made (Process-F.While at test body) (process.rolls-While at test body)
 
 pub for_forms : (at : ℕ) (path : Path) (first : Expr) (test : Expr) (stepped : Path) (step : ForStep) (body : Block) → process_formed (process.For at path first test stepped step body) ≡ path_formed path && (expr_formed first && (expr_formed test && (path_formed stepped && (for_step_formed step && block_formed body))))
-unfolding answer_formed block_formed branch_formed handler_formed if_formed input_formed otherwise_formed process_formed reply_formed
-for_forms at path first test stepped step body =
-    ap process_formed (sym (process.rolls-For at path first test stepped step body))
-    ∙ fold-roll-Process Bool Bool Bool Bool Bool Bool Bool Bool Bool otherwise_level process_level answer_level block_level branch_level handler_level if_level input_level reply_level (Process-F.For at path first test stepped step body)
+for_forms at path first test stepped step body = process_made (Process-F.For at path first test stepped step body) (process.rolls-For at path first test stepped step body)
 
 pub input_forms : (i : Input) → process_formed (process.Input i) ≡ input_formed i
-unfolding answer_formed block_formed branch_formed handler_formed if_formed input_formed otherwise_formed process_formed reply_formed
-input_forms i =
-    ap process_formed (sym (process.rolls-Input i))
-    ∙ fold-roll-Process Bool Bool Bool Bool Bool Bool Bool Bool Bool otherwise_level process_level answer_level block_level branch_level handler_level if_level input_level reply_level (Process-F.Input i)
+input_forms i = process_made (Process-F.Input i) (process.rolls-Input i)
 
 pub choice_forms : (at : ℕ) (branches : List Branch) → process_formed (process.Choice at branches) ≡ has_one branches && list_all branch_formed branches
-unfolding answer_formed block_formed branch_formed handler_formed if_formed input_formed otherwise_formed process_formed reply_formed
 choice_forms at branches =
-    ap process_formed (sym (process.rolls-Choice at branches))
-    ∙ fold-roll-Process Bool Bool Bool Bool Bool Bool Bool Bool Bool otherwise_level process_level answer_level block_level branch_level handler_level if_level input_level reply_level (Process-F.Choice at branches)
+    process_made (Process-F.Choice at branches) (process.rolls-Choice at branches)
     ∙ one_and_each branch_formed branches
 
 pub output_forms : (operation : Name) (port : Name) (value : Option Expr) (answer : Option Answer) → process_formed (process.Output operation port value answer) ≡ option_all expr_formed value && option_all answer_formed answer
-unfolding answer_formed block_formed branch_formed handler_formed if_formed input_formed otherwise_formed process_formed reply_formed
-output_forms operation port value None =
-    ap process_formed (sym (process.rolls-Output operation port value None))
-    ∙ fold-roll-Process Bool Bool Bool Bool Bool Bool Bool Bool Bool otherwise_level process_level answer_level block_level branch_level handler_level if_level input_level reply_level (Process-F.Output operation port value None)
-output_forms operation port value (Some it) =
-    ap process_formed (sym (process.rolls-Output operation port value (Some it)))
-    ∙ fold-roll-Process Bool Bool Bool Bool Bool Bool Bool Bool Bool otherwise_level process_level answer_level block_level branch_level handler_level if_level input_level reply_level (Process-F.Output operation port value (Some it))
+output_forms operation port value None = process_made (Process-F.Output operation port value None) (process.rolls-Output operation port value None)
+output_forms operation port value (Some it) = process_made (Process-F.Output operation port value (Some it)) (process.rolls-Output operation port value (Some it))
 
 pub scope_forms : (at : ℕ) (name : Name) (body : Block) → process_formed (process.Scope at name body) ≡ block_formed body
-unfolding answer_formed block_formed branch_formed handler_formed if_formed input_formed otherwise_formed process_formed reply_formed
-scope_forms at name body =
-    ap process_formed (sym (process.rolls-Scope at name body))
-    ∙ fold-roll-Process Bool Bool Bool Bool Bool Bool Bool Bool Bool otherwise_level process_level answer_level block_level branch_level handler_level if_level input_level reply_level (Process-F.Scope at name body)
+scope_forms at name body = process_made (Process-F.Scope at name body) (process.rolls-Scope at name body)
 
 pub install_forms : (at : ℕ) (handlers : List Handler) → process_formed (process.Install at handlers) ≡ list_all handler_formed handlers
-unfolding answer_formed block_formed branch_formed handler_formed if_formed input_formed otherwise_formed process_formed reply_formed
 install_forms at handlers =
-    ap process_formed (sym (process.rolls-Install at handlers))
-    ∙ fold-roll-Process Bool Bool Bool Bool Bool Bool Bool Bool Bool otherwise_level process_level answer_level block_level branch_level handler_level if_level input_level reply_level (Process-F.Install at handlers)
+    process_made (Process-F.Install at handlers) (process.rolls-Install at handlers)
     ∙ each-map handler_formed handlers
 
 pub throw_forms : (at : ℕ) (fault : Name) (value : Option Expr) → process_formed (process.Throw at fault value) ≡ option_all expr_formed value
-unfolding answer_formed block_formed branch_formed handler_formed if_formed input_formed otherwise_formed process_formed reply_formed
-throw_forms at fault value =
-    ap process_formed (sym (process.rolls-Throw at fault value))
-    ∙ fold-roll-Process Bool Bool Bool Bool Bool Bool Bool Bool Bool otherwise_level process_level answer_level block_level branch_level handler_level if_level input_level reply_level (Process-F.Throw at fault value)
+throw_forms at fault value = process_made (Process-F.Throw at fault value) (process.rolls-Throw at fault value)
 
 pub compensate_forms : (at : ℕ) (scope : Name) → process_formed (process.Compensate at scope) ≡ true
-unfolding answer_formed block_formed branch_formed handler_formed if_formed input_formed otherwise_formed process_formed reply_formed
-compensate_forms at scope =
-    ap process_formed (sym (process.rolls-Compensate at scope))
-    ∙ fold-roll-Process Bool Bool Bool Bool Bool Bool Bool Bool Bool otherwise_level process_level answer_level block_level branch_level handler_level if_level input_level reply_level (Process-F.Compensate at scope)
+compensate_forms at scope = process_made (Process-F.Compensate at scope) (process.rolls-Compensate at scope)
 
 pub inner_handler_forms : (at : ℕ) → process_formed (process.InnerHandler at) ≡ true
-unfolding answer_formed block_formed branch_formed handler_formed if_formed input_formed otherwise_formed process_formed reply_formed
-inner_handler_forms at =
-    ap process_formed (sym (process.rolls-InnerHandler at))
-    ∙ fold-roll-Process Bool Bool Bool Bool Bool Bool Bool Bool Bool otherwise_level process_level answer_level block_level branch_level handler_level if_level input_level reply_level (Process-F.InnerHandler at)
+inner_handler_forms at = process_made (Process-F.InnerHandler at) (process.rolls-InnerHandler at)
 
 pub block_statement_forms : (b : Block) → process_formed (process.Block b) ≡ block_formed b
-unfolding answer_formed block_formed branch_formed handler_formed if_formed input_formed otherwise_formed process_formed reply_formed
-block_statement_forms b =
-    ap process_formed (sym (process.rolls-Block b))
-    ∙ fold-roll-Process Bool Bool Bool Bool Bool Bool Bool Bool Bool otherwise_level process_level answer_level block_level branch_level handler_level if_level input_level reply_level (Process-F.Block b)
+block_statement_forms b = process_made (Process-F.Block b) (process.rolls-Block b)
 
 pub sequence_forms : (ps : List Process) → process_formed (process.Sequence ps) ≡ has_two ps && list_all process_formed ps
-unfolding answer_formed block_formed branch_formed handler_formed if_formed input_formed otherwise_formed process_formed reply_formed
 sequence_forms ps =
-    ap process_formed (sym (process.rolls-Sequence ps))
-    ∙ fold-roll-Process Bool Bool Bool Bool Bool Bool Bool Bool Bool otherwise_level process_level answer_level block_level branch_level handler_level if_level input_level reply_level (Process-F.Sequence ps)
+    process_made (Process-F.Sequence ps) (process.rolls-Sequence ps)
     ∙ two_and_each process_formed ps
 
 pub parallel_forms : (ps : List Process) → process_formed (process.Parallel ps) ≡ has_two ps && list_all process_formed ps
-unfolding answer_formed block_formed branch_formed handler_formed if_formed input_formed otherwise_formed process_formed reply_formed
 parallel_forms ps =
-    ap process_formed (sym (process.rolls-Parallel ps))
-    ∙ fold-roll-Process Bool Bool Bool Bool Bool Bool Bool Bool Bool otherwise_level process_level answer_level block_level branch_level handler_level if_level input_level reply_level (Process-F.Parallel ps)
+    process_made (Process-F.Parallel ps) (process.rolls-Parallel ps)
     ∙ two_and_each process_formed ps
 
 -- ---- what an `if` does where its test fails
 
+-- whether what an `if` does where its test fails is formed, by the form that it is made of
+otherwise_made : (x : Otherwise-F Otherwise Process Answer Block Branch Handler If Input Reply) {o : Otherwise} → roll-Otherwise x ≡ o
+    → otherwise_formed o ≡ otherwise_level (map-Otherwise Otherwise Process Answer Block Branch Handler If Input Reply Bool Bool Bool Bool Bool Bool Bool Bool Bool otherwise_formed process_formed answer_formed block_formed branch_formed handler_formed if_formed input_formed reply_formed x)
+unfolding otherwise_formed process_formed answer_formed block_formed branch_formed handler_formed if_formed input_formed reply_formed
+otherwise_made x made = ap otherwise_formed (sym made) ∙ fold-roll-Otherwise Bool Bool Bool Bool Bool Bool Bool Bool Bool otherwise_level process_level answer_level block_level branch_level handler_level if_level input_level reply_level x
+
 pub no_else_forms : otherwise_formed otherwise.Nothing ≡ true
-unfolding answer_formed block_formed branch_formed handler_formed if_formed input_formed otherwise_formed process_formed reply_formed
-no_else_forms =
-    ap otherwise_formed (sym otherwise.rolls-Nothing)
-    ∙ fold-roll-Otherwise Bool Bool Bool Bool Bool Bool Bool Bool Bool otherwise_level process_level answer_level block_level branch_level handler_level if_level input_level reply_level Otherwise-F.«Otherwise::Nothing»
+no_else_forms = otherwise_made Otherwise-F.«Otherwise::Nothing» otherwise.rolls-Nothing
 
 pub else_if_forms : (i : If) → otherwise_formed (otherwise.ElseIf i) ≡ if_formed i
-unfolding answer_formed block_formed branch_formed handler_formed if_formed input_formed otherwise_formed process_formed reply_formed
-else_if_forms i =
-    ap otherwise_formed (sym (otherwise.rolls-ElseIf i))
-    ∙ fold-roll-Otherwise Bool Bool Bool Bool Bool Bool Bool Bool Bool otherwise_level process_level answer_level block_level branch_level handler_level if_level input_level reply_level (Otherwise-F.ElseIf i)
+else_if_forms i = otherwise_made (Otherwise-F.ElseIf i) (otherwise.rolls-ElseIf i)
 
 pub else_forms : (b : Block) → otherwise_formed (otherwise.Else b) ≡ block_formed b
-unfolding answer_formed block_formed branch_formed handler_formed if_formed input_formed otherwise_formed process_formed reply_formed
-else_forms b =
-    ap otherwise_formed (sym (otherwise.rolls-Else b))
-    ∙ fold-roll-Otherwise Bool Bool Bool Bool Bool Bool Bool Bool Bool otherwise_level process_level answer_level block_level branch_level handler_level if_level input_level reply_level (Otherwise-F.Else b)
+else_forms b = otherwise_made (Otherwise-F.Else b) (otherwise.rolls-Else b)
 
 -- ---- the parts of processes
 

@@ -10,12 +10,12 @@ use Rattle.jolie_ast.specs.declared.process.Assignment.{Assignment}
 use Rattle.jolie_ast.specs.declared.process.ForStep.{ForStep}
 use Rattle.jolie_ast.specs.declared.process.HandlerKey.{HandlerKey}
 use Rattle.jolie_ast.specs.declared.process.Otherwise.TheOpen.{Otherwise-F, Process-F}
-use Rattle.jolie_ast.specs.declared.process.Otherwise.TheFolds.{fold-roll-Answer, fold-roll-Block, fold-roll-Branch, fold-roll-Handler, fold-roll-If, fold-roll-Input, fold-roll-Otherwise, fold-roll-Process, fold-roll-Reply}
-use Rattle.jolie_ast.specs.declared.process.Process.{Process}
+use Rattle.jolie_ast.specs.declared.process.Otherwise.TheFolds.{map-Otherwise, map-Process, fold-roll-Answer, fold-roll-Block, fold-roll-Branch, fold-roll-Handler, fold-roll-If, fold-roll-Input, fold-roll-Otherwise, fold-roll-Process, fold-roll-Reply}
+use Rattle.jolie_ast.specs.declared.process.Process.{Process, roll-Process}
 use Rattle.jolie_ast.specs.declared.process.Process.TheVariants as process
 use Rattle.jolie_ast.specs.declared.process.Block.{Block, roll-Block}
 use Rattle.jolie_ast.specs.declared.process.If.{If, roll-If}
-use Rattle.jolie_ast.specs.declared.process.Otherwise.{Otherwise}
+use Rattle.jolie_ast.specs.declared.process.Otherwise.{Otherwise, roll-Otherwise}
 use Rattle.jolie_ast.specs.declared.process.Otherwise.TheVariants as otherwise
 use Rattle.jolie_ast.specs.declared.process.Input.{Input, roll-Input}
 use Rattle.jolie_ast.specs.declared.process.Reply.{Reply, roll-Reply}
@@ -26,141 +26,92 @@ use Rattle.jolie_ast.specs.Members.{optional_count, process_level, block_level, 
 
 -- ---- processes
 
+-- how many members a process has, by the form that it is made of
+process_made : (x : Process-F Otherwise Process Answer Block Branch Handler If Input Reply) {p : Process} → roll-Process x ≡ p
+    → process_members p ≡ process_level (map-Process Otherwise Process Answer Block Branch Handler If Input Reply ℕ ℕ ℕ ℕ ℕ ℕ ℕ ℕ ℕ otherwise_members process_members answer_members block_members branch_members handler_members if_members input_members reply_members x)
+unfolding otherwise_members process_members answer_members block_members branch_members handler_members if_members input_members reply_members
+process_made x made = ap process_members (sym made) ∙ fold-roll-Process ℕ ℕ ℕ ℕ ℕ ℕ ℕ ℕ ℕ otherwise_level process_level answer_level block_level branch_level handler_level if_level input_level reply_level x
+
 pub nothing_counts : (at : ℕ) → process_members (process.Nothing at) ≡ 0
-unfolding answer_members block_members branch_members handler_members if_members input_members otherwise_members process_members reply_members
-nothing_counts at =
-    ap process_members (sym (process.rolls-Nothing at))
-    ∙ fold-roll-Process ℕ ℕ ℕ ℕ ℕ ℕ ℕ ℕ ℕ otherwise_level process_level answer_level block_level branch_level handler_level if_level input_level reply_level (Process-F.«Process::Nothing» at)
+nothing_counts at = process_made (Process-F.«Process::Nothing» at) (process.rolls-Nothing at)
 
 pub assign_counts : (path : Path) (assignment : Assignment) → process_members (process.Assign path assignment) ≡ 0
-unfolding answer_members block_members branch_members handler_members if_members input_members otherwise_members process_members reply_members
-assign_counts path assignment =
-    ap process_members (sym (process.rolls-Assign path assignment))
-    ∙ fold-roll-Process ℕ ℕ ℕ ℕ ℕ ℕ ℕ ℕ ℕ otherwise_level process_level answer_level block_level branch_level handler_level if_level input_level reply_level (Process-F.Assign path assignment)
+assign_counts path assignment = process_made (Process-F.Assign path assignment) (process.rolls-Assign path assignment)
 
 pub undef_counts : (at : ℕ) (path : Path) → process_members (process.Undef at path) ≡ 0
-unfolding answer_members block_members branch_members handler_members if_members input_members otherwise_members process_members reply_members
-undef_counts at path =
-    ap process_members (sym (process.rolls-Undef at path))
-    ∙ fold-roll-Process ℕ ℕ ℕ ℕ ℕ ℕ ℕ ℕ ℕ otherwise_level process_level answer_level block_level branch_level handler_level if_level input_level reply_level (Process-F.Undef at path)
+undef_counts at path = process_made (Process-F.Undef at path) (process.rolls-Undef at path)
 
 pub correlate_counts : (at : ℕ) (variable : Name) (value : Expr) → process_members (process.Correlate at variable value) ≡ 0
-unfolding answer_members block_members branch_members handler_members if_members input_members otherwise_members process_members reply_members
-correlate_counts at variable value =
-    ap process_members (sym (process.rolls-Correlate at variable value))
-    ∙ fold-roll-Process ℕ ℕ ℕ ℕ ℕ ℕ ℕ ℕ ℕ otherwise_level process_level answer_level block_level branch_level handler_level if_level input_level reply_level (Process-F.Correlate at variable value)
+correlate_counts at variable value = process_made (Process-F.Correlate at variable value) (process.rolls-Correlate at variable value)
 
 pub conditional_counts : (i : If) → process_members (process.If i) ≡ if_members i
-unfolding answer_members block_members branch_members handler_members if_members input_members otherwise_members process_members reply_members
-conditional_counts i =
-    ap process_members (sym (process.rolls-If i))
-    ∙ fold-roll-Process ℕ ℕ ℕ ℕ ℕ ℕ ℕ ℕ ℕ otherwise_level process_level answer_level block_level branch_level handler_level if_level input_level reply_level (Process-F.If i)
+conditional_counts i = process_made (Process-F.If i) (process.rolls-If i)
 
 pub while_counts : (at : ℕ) (test : Expr) (body : Block) → process_members (process.While at test body) ≡ block_members body
-unfolding answer_members block_members branch_members handler_members if_members input_members otherwise_members process_members reply_members
-while_counts at test body =
-    ap process_members (sym (process.rolls-While at test body))
-    ∙ fold-roll-Process ℕ ℕ ℕ ℕ ℕ ℕ ℕ ℕ ℕ otherwise_level process_level answer_level block_level branch_level handler_level if_level input_level reply_level (Process-F.While at test body)
+while_counts at test body = process_made (Process-F.While at test body) (process.rolls-While at test body)
 
 pub for_counts : (at : ℕ) (path : Path) (first : Expr) (test : Expr) (stepped : Path) (step : ForStep) (body : Block) → process_members (process.For at path first test stepped step body) ≡ block_members body
-unfolding answer_members block_members branch_members handler_members if_members input_members otherwise_members process_members reply_members
-for_counts at path first test stepped step body =
-    ap process_members (sym (process.rolls-For at path first test stepped step body))
-    ∙ fold-roll-Process ℕ ℕ ℕ ℕ ℕ ℕ ℕ ℕ ℕ otherwise_level process_level answer_level block_level branch_level handler_level if_level input_level reply_level (Process-F.For at path first test stepped step body)
+for_counts at path first test stepped step body = process_made (Process-F.For at path first test stepped step body) (process.rolls-For at path first test stepped step body)
 
 pub input_counts : (i : Input) → process_members (process.Input i) ≡ input_members i
-unfolding answer_members block_members branch_members handler_members if_members input_members otherwise_members process_members reply_members
-input_counts i =
-    ap process_members (sym (process.rolls-Input i))
-    ∙ fold-roll-Process ℕ ℕ ℕ ℕ ℕ ℕ ℕ ℕ ℕ otherwise_level process_level answer_level block_level branch_level handler_level if_level input_level reply_level (Process-F.Input i)
+input_counts i = process_made (Process-F.Input i) (process.rolls-Input i)
 
 pub choice_counts : (at : ℕ) (branches : List Branch) → process_members (process.Choice at branches) ≡ sum_by branch_members branches
-unfolding answer_members block_members branch_members handler_members if_members input_members otherwise_members process_members reply_members
 choice_counts at branches =
-    ap process_members (sym (process.rolls-Choice at branches))
-    ∙ fold-roll-Process ℕ ℕ ℕ ℕ ℕ ℕ ℕ ℕ ℕ otherwise_level process_level answer_level block_level branch_level handler_level if_level input_level reply_level (Process-F.Choice at branches)
+    process_made (Process-F.Choice at branches) (process.rolls-Choice at branches)
     ∙ sum-map branch_members branches
 
 pub output_counts : (operation : Name) (port : Name) (value : Option Expr) (answer : Option Answer) → process_members (process.Output operation port value answer) ≡ optional_count (option_map answer_members answer)
-unfolding answer_members block_members branch_members handler_members if_members input_members otherwise_members process_members reply_members
-output_counts operation port value None =
-    ap process_members (sym (process.rolls-Output operation port value None))
-    ∙ fold-roll-Process ℕ ℕ ℕ ℕ ℕ ℕ ℕ ℕ ℕ otherwise_level process_level answer_level block_level branch_level handler_level if_level input_level reply_level (Process-F.Output operation port value None)
-output_counts operation port value (Some it) =
-    ap process_members (sym (process.rolls-Output operation port value (Some it)))
-    ∙ fold-roll-Process ℕ ℕ ℕ ℕ ℕ ℕ ℕ ℕ ℕ otherwise_level process_level answer_level block_level branch_level handler_level if_level input_level reply_level (Process-F.Output operation port value (Some it))
+output_counts operation port value None = process_made (Process-F.Output operation port value None) (process.rolls-Output operation port value None)
+output_counts operation port value (Some it) = process_made (Process-F.Output operation port value (Some it)) (process.rolls-Output operation port value (Some it))
 
 pub scope_counts : (at : ℕ) (name : Name) (body : Block) → process_members (process.Scope at name body) ≡ block_members body
-unfolding answer_members block_members branch_members handler_members if_members input_members otherwise_members process_members reply_members
-scope_counts at name body =
-    ap process_members (sym (process.rolls-Scope at name body))
-    ∙ fold-roll-Process ℕ ℕ ℕ ℕ ℕ ℕ ℕ ℕ ℕ otherwise_level process_level answer_level block_level branch_level handler_level if_level input_level reply_level (Process-F.Scope at name body)
+scope_counts at name body = process_made (Process-F.Scope at name body) (process.rolls-Scope at name body)
 
 pub install_counts : (at : ℕ) (handlers : List Handler) → process_members (process.Install at handlers) ≡ sum_by handler_members handlers
-unfolding answer_members block_members branch_members handler_members if_members input_members otherwise_members process_members reply_members
 install_counts at handlers =
-    ap process_members (sym (process.rolls-Install at handlers))
-    ∙ fold-roll-Process ℕ ℕ ℕ ℕ ℕ ℕ ℕ ℕ ℕ otherwise_level process_level answer_level block_level branch_level handler_level if_level input_level reply_level (Process-F.Install at handlers)
+    process_made (Process-F.Install at handlers) (process.rolls-Install at handlers)
     ∙ sum-map handler_members handlers
 
 pub throw_counts : (at : ℕ) (fault : Name) (value : Option Expr) → process_members (process.Throw at fault value) ≡ 0
-unfolding answer_members block_members branch_members handler_members if_members input_members otherwise_members process_members reply_members
-throw_counts at fault value =
-    ap process_members (sym (process.rolls-Throw at fault value))
-    ∙ fold-roll-Process ℕ ℕ ℕ ℕ ℕ ℕ ℕ ℕ ℕ otherwise_level process_level answer_level block_level branch_level handler_level if_level input_level reply_level (Process-F.Throw at fault value)
+throw_counts at fault value = process_made (Process-F.Throw at fault value) (process.rolls-Throw at fault value)
 
 pub compensate_counts : (at : ℕ) (scope : Name) → process_members (process.Compensate at scope) ≡ 0
-unfolding answer_members block_members branch_members handler_members if_members input_members otherwise_members process_members reply_members
-compensate_counts at scope =
-    ap process_members (sym (process.rolls-Compensate at scope))
-    ∙ fold-roll-Process ℕ ℕ ℕ ℕ ℕ ℕ ℕ ℕ ℕ otherwise_level process_level answer_level block_level branch_level handler_level if_level input_level reply_level (Process-F.Compensate at scope)
+compensate_counts at scope = process_made (Process-F.Compensate at scope) (process.rolls-Compensate at scope)
 
 pub inner_handler_counts : (at : ℕ) → process_members (process.InnerHandler at) ≡ 0
-unfolding answer_members block_members branch_members handler_members if_members input_members otherwise_members process_members reply_members
-inner_handler_counts at =
-    ap process_members (sym (process.rolls-InnerHandler at))
-    ∙ fold-roll-Process ℕ ℕ ℕ ℕ ℕ ℕ ℕ ℕ ℕ otherwise_level process_level answer_level block_level branch_level handler_level if_level input_level reply_level (Process-F.InnerHandler at)
+inner_handler_counts at = process_made (Process-F.InnerHandler at) (process.rolls-InnerHandler at)
 
 pub block_statement_counts : (b : Block) → process_members (process.Block b) ≡ block_members b
-unfolding answer_members block_members branch_members handler_members if_members input_members otherwise_members process_members reply_members
-block_statement_counts b =
-    ap process_members (sym (process.rolls-Block b))
-    ∙ fold-roll-Process ℕ ℕ ℕ ℕ ℕ ℕ ℕ ℕ ℕ otherwise_level process_level answer_level block_level branch_level handler_level if_level input_level reply_level (Process-F.Block b)
+block_statement_counts b = process_made (Process-F.Block b) (process.rolls-Block b)
 
 pub sequence_counts : (ps : List Process) → process_members (process.Sequence ps) ≡ sum_by process_members ps
-unfolding answer_members block_members branch_members handler_members if_members input_members otherwise_members process_members reply_members
 sequence_counts ps =
-    ap process_members (sym (process.rolls-Sequence ps))
-    ∙ fold-roll-Process ℕ ℕ ℕ ℕ ℕ ℕ ℕ ℕ ℕ otherwise_level process_level answer_level block_level branch_level handler_level if_level input_level reply_level (Process-F.Sequence ps)
+    process_made (Process-F.Sequence ps) (process.rolls-Sequence ps)
     ∙ sum-map process_members ps
 
 pub parallel_counts : (ps : List Process) → process_members (process.Parallel ps) ≡ length ps + sum_by process_members ps
-unfolding answer_members block_members branch_members handler_members if_members input_members otherwise_members process_members reply_members
 parallel_counts ps =
-    ap process_members (sym (process.rolls-Parallel ps))
-    ∙ fold-roll-Process ℕ ℕ ℕ ℕ ℕ ℕ ℕ ℕ ℕ otherwise_level process_level answer_level block_level branch_level handler_level if_level input_level reply_level (Process-F.Parallel ps)
+    process_made (Process-F.Parallel ps) (process.rolls-Parallel ps)
     ∙ ap (λ n. length (map process_members ps) + n) (sum-map process_members ps)
     ∙ ap (λ n. n + sum_by process_members ps) (length-map ps process_members)
 
 -- ---- what an `if` does where its test fails
 
+-- how many what an `if` does where its test fails has, by the form that it is made of
+otherwise_made : (x : Otherwise-F Otherwise Process Answer Block Branch Handler If Input Reply) {o : Otherwise} → roll-Otherwise x ≡ o
+    → otherwise_members o ≡ otherwise_level (map-Otherwise Otherwise Process Answer Block Branch Handler If Input Reply ℕ ℕ ℕ ℕ ℕ ℕ ℕ ℕ ℕ otherwise_members process_members answer_members block_members branch_members handler_members if_members input_members reply_members x)
+unfolding otherwise_members process_members answer_members block_members branch_members handler_members if_members input_members reply_members
+otherwise_made x made = ap otherwise_members (sym made) ∙ fold-roll-Otherwise ℕ ℕ ℕ ℕ ℕ ℕ ℕ ℕ ℕ otherwise_level process_level answer_level block_level branch_level handler_level if_level input_level reply_level x
+
 pub no_else_counts : otherwise_members otherwise.Nothing ≡ 0
-unfolding answer_members block_members branch_members handler_members if_members input_members otherwise_members process_members reply_members
-no_else_counts =
-    ap otherwise_members (sym otherwise.rolls-Nothing)
-    ∙ fold-roll-Otherwise ℕ ℕ ℕ ℕ ℕ ℕ ℕ ℕ ℕ otherwise_level process_level answer_level block_level branch_level handler_level if_level input_level reply_level Otherwise-F.«Otherwise::Nothing»
+no_else_counts = otherwise_made Otherwise-F.«Otherwise::Nothing» otherwise.rolls-Nothing
 
 pub else_if_counts : (i : If) → otherwise_members (otherwise.ElseIf i) ≡ if_members i
-unfolding answer_members block_members branch_members handler_members if_members input_members otherwise_members process_members reply_members
-else_if_counts i =
-    ap otherwise_members (sym (otherwise.rolls-ElseIf i))
-    ∙ fold-roll-Otherwise ℕ ℕ ℕ ℕ ℕ ℕ ℕ ℕ ℕ otherwise_level process_level answer_level block_level branch_level handler_level if_level input_level reply_level (Otherwise-F.ElseIf i)
+else_if_counts i = otherwise_made (Otherwise-F.ElseIf i) (otherwise.rolls-ElseIf i)
 
 pub else_counts : (b : Block) → otherwise_members (otherwise.Else b) ≡ block_members b
-unfolding answer_members block_members branch_members handler_members if_members input_members otherwise_members process_members reply_members
-else_counts b =
-    ap otherwise_members (sym (otherwise.rolls-Else b))
-    ∙ fold-roll-Otherwise ℕ ℕ ℕ ℕ ℕ ℕ ℕ ℕ ℕ otherwise_level process_level answer_level block_level branch_level handler_level if_level input_level reply_level (Otherwise-F.Else b)
+else_counts b = otherwise_made (Otherwise-F.Else b) (otherwise.rolls-Else b)
 
 -- ---- the parts of processes
 

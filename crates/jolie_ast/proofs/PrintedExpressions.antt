@@ -5,8 +5,9 @@ use Rattle.jolie_ast.specs.declared.name.Name.{Name}
 use Rattle.jolie_ast.specs.declared.expression.Comparison.{Comparison}
 use Rattle.jolie_ast.specs.declared.expression.CastTarget.{CastTarget}
 use Rattle.jolie_ast.specs.declared.expression.ExprForm.TheOpen.{ExprForm-F}
-use Rattle.jolie_ast.specs.declared.expression.ExprForm.TheFolds.{fold-roll-Expr, fold-roll-ExprForm, fold-roll-Factor, fold-roll-Member, fold-roll-Path, fold-roll-Step, fold-roll-Term}
+use Rattle.jolie_ast.specs.declared.expression.ExprForm.TheFolds.{map-ExprForm, fold-roll-Expr, fold-roll-ExprForm, fold-roll-Factor, fold-roll-Member, fold-roll-Path, fold-roll-Step, fold-roll-Term}
 use Rattle.jolie_ast.specs.declared.expression.Expr.{Expr, out-Expr, roll-out-Expr}
+use Rattle.jolie_ast.specs.declared.expression.ExprForm.{ExprForm, roll-ExprForm}
 use Rattle.jolie_ast.specs.declared.expression.ExprForm.TheVariants as form
 use Rattle.jolie_ast.specs.declared.expression.Factor.{Factor, out-Factor, roll-out-Factor}
 use Rattle.jolie_ast.specs.declared.expression.Term.{Term, out-Term, roll-out-Term}
@@ -17,105 +18,68 @@ use Rattle.jolie_ast.specs.Spacing.{Token, separated, with_token, after}
 use Rattle.jolie_ast.proofs.Spacing.{after_append, mapped_tokens, mapped_separated}
 use Rattle.jolie_ast.specs.PrintedExpressions.{Shown, simple, operation, operand, in_parens, in_braces, index_tokens, int_token, long_token, quoted_token, truth_token, cast_token, comparison_token, additive_token, multiplicative_token, form_level, expr_level, factor_level, member_level, path_level, step_level, term_level, form_shown, expr_shown, factor_tokens, term_tokens, member_tokens, path_tokens, step_tokens, expr_tokens, operand_tokens}
 
+-- what is shown of a form, by the form that it is made of
+form_made : (x : ExprForm-F ExprForm Expr Factor Member Path Step Term) {f : ExprForm} → roll-ExprForm x ≡ f
+    → form_shown f ≡ form_level (map-ExprForm ExprForm Expr Factor Member Path Step Term Shown Shown (List Token) (List Token) (List Token) (List Token) (List Token) form_shown expr_shown factor_tokens member_tokens path_tokens step_tokens term_tokens x)
+unfolding form_shown expr_shown factor_tokens member_tokens path_tokens step_tokens term_tokens
+form_made x made = ap form_shown (sym made) ∙ fold-roll-ExprForm Shown Shown (List Token) (List Token) (List Token) (List Token) (List Token) form_level expr_level factor_level member_level path_level step_level term_level x
+
 pub int_shown : (n : ℤ) → form_shown (form.Int n) ≡ simple (int_token n ∷ [])
-unfolding expr_shown factor_tokens form_shown member_tokens path_tokens step_tokens term_tokens
-int_shown n =
-    ap form_shown (sym (form.rolls-Int n))
-    ∙ fold-roll-ExprForm Shown Shown (List Token) (List Token) (List Token) (List Token) (List Token) form_level expr_level factor_level member_level path_level step_level term_level (ExprForm-F.Int n)
+int_shown n = form_made (ExprForm-F.Int n) (form.rolls-Int n)
 
 pub long_shown : (n : ℤ) → form_shown (form.Long n) ≡ simple (long_token n ∷ [])
-unfolding expr_shown factor_tokens form_shown member_tokens path_tokens step_tokens term_tokens
-long_shown n =
-    ap form_shown (sym (form.rolls-Long n))
-    ∙ fold-roll-ExprForm Shown Shown (List Token) (List Token) (List Token) (List Token) (List Token) form_level expr_level factor_level member_level path_level step_level term_level (ExprForm-F.Long n)
+long_shown n = form_made (ExprForm-F.Long n) (form.rolls-Long n)
 
 pub text_shown : (t : List ℕ) → form_shown (form.Str t) ≡ simple (quoted_token t ∷ [])
-unfolding expr_shown factor_tokens form_shown member_tokens path_tokens step_tokens term_tokens
-text_shown t =
-    ap form_shown (sym (form.rolls-Str t))
-    ∙ fold-roll-ExprForm Shown Shown (List Token) (List Token) (List Token) (List Token) (List Token) form_level expr_level factor_level member_level path_level step_level term_level (ExprForm-F.Str t)
+text_shown t = form_made (ExprForm-F.Str t) (form.rolls-Str t)
 
 pub truth_shown : (b : Bool) → form_shown (form.Bool b) ≡ simple (truth_token b ∷ [])
-unfolding expr_shown factor_tokens form_shown member_tokens path_tokens step_tokens term_tokens
-truth_shown b =
-    ap form_shown (sym (form.rolls-Bool b))
-    ∙ fold-roll-ExprForm Shown Shown (List Token) (List Token) (List Token) (List Token) (List Token) form_level expr_level factor_level member_level path_level step_level term_level (ExprForm-F.Bool b)
+truth_shown b = form_made (ExprForm-F.Bool b) (form.rolls-Bool b)
 
 pub path_form_shown : (path : Path) → form_shown (form.Path path) ≡ simple (path_tokens path)
-unfolding expr_shown factor_tokens form_shown member_tokens path_tokens step_tokens term_tokens
-path_form_shown path =
-    ap form_shown (sym (form.rolls-Path path))
-    ∙ fold-roll-ExprForm Shown Shown (List Token) (List Token) (List Token) (List Token) (List Token) form_level expr_level factor_level member_level path_level step_level term_level (ExprForm-F.Path path)
+path_form_shown path = form_made (ExprForm-F.Path path) (form.rolls-Path path)
 
 pub size_shown : (path : Path) → form_shown (form.Size path) ≡ simple (codes "#" ∷ path_tokens path)
-unfolding expr_shown factor_tokens form_shown member_tokens path_tokens step_tokens term_tokens
-size_shown path =
-    ap form_shown (sym (form.rolls-Size path))
-    ∙ fold-roll-ExprForm Shown Shown (List Token) (List Token) (List Token) (List Token) (List Token) form_level expr_level factor_level member_level path_level step_level term_level (ExprForm-F.Size path)
+size_shown path = form_made (ExprForm-F.Size path) (form.rolls-Size path)
 
 pub defined_shown : (path : Path) → form_shown (form.IsDefined path) ≡ simple (codes "is_defined" ∷ in_parens (path_tokens path))
-unfolding expr_shown factor_tokens form_shown member_tokens path_tokens step_tokens term_tokens
-defined_shown path =
-    ap form_shown (sym (form.rolls-IsDefined path))
-    ∙ fold-roll-ExprForm Shown Shown (List Token) (List Token) (List Token) (List Token) (List Token) form_level expr_level factor_level member_level path_level step_level term_level (ExprForm-F.IsDefined path)
+defined_shown path = form_made (ExprForm-F.IsDefined path) (form.rolls-IsDefined path)
 
 pub cast_shown : (to : CastTarget) (value : Expr) → form_shown (form.Cast to value) ≡ simple (cast_token to ∷ in_parens (expr_tokens value))
-unfolding expr_shown factor_tokens form_shown member_tokens path_tokens step_tokens term_tokens
-cast_shown to value =
-    ap form_shown (sym (form.rolls-Cast to value))
-    ∙ fold-roll-ExprForm Shown Shown (List Token) (List Token) (List Token) (List Token) (List Token) form_level expr_level factor_level member_level path_level step_level term_level (ExprForm-F.Cast to value)
+cast_shown to value = form_made (ExprForm-F.Cast to value) (form.rolls-Cast to value)
 
 pub literal_shown : (members : List Member) → form_shown (form.Literal members) ≡ simple (in_braces (separated (codes ",") member_tokens members))
-unfolding expr_shown factor_tokens form_shown member_tokens path_tokens step_tokens term_tokens
 literal_shown members =
-    ap form_shown (sym (form.rolls-Literal members))
-    ∙ fold-roll-ExprForm Shown Shown (List Token) (List Token) (List Token) (List Token) (List Token) form_level expr_level factor_level member_level path_level step_level term_level (ExprForm-F.Literal members)
+    form_made (ExprForm-F.Literal members) (form.rolls-Literal members)
     ∙ ap (λ ts. simple (in_braces ts)) (mapped_separated (codes ",") (λ ts. ts) member_tokens members)
 
 pub minus_shown : (value : Expr) → form_shown (form.Minus value) ≡ simple (codes "-" ∷ operand_tokens value)
-unfolding expr_shown factor_tokens form_shown member_tokens path_tokens step_tokens term_tokens
-minus_shown value =
-    ap form_shown (sym (form.rolls-Minus value))
-    ∙ fold-roll-ExprForm Shown Shown (List Token) (List Token) (List Token) (List Token) (List Token) form_level expr_level factor_level member_level path_level step_level term_level (ExprForm-F.Minus value)
+minus_shown value = form_made (ExprForm-F.Minus value) (form.rolls-Minus value)
 
 pub not_shown : (value : Expr) → form_shown (form.Not value) ≡ simple (codes "!" ∷ operand_tokens value)
-unfolding expr_shown factor_tokens form_shown member_tokens path_tokens step_tokens term_tokens
-not_shown value =
-    ap form_shown (sym (form.rolls-Not value))
-    ∙ fold-roll-ExprForm Shown Shown (List Token) (List Token) (List Token) (List Token) (List Token) form_level expr_level factor_level member_level path_level step_level term_level (ExprForm-F.Not value)
+not_shown value = form_made (ExprForm-F.Not value) (form.rolls-Not value)
 
 pub product_shown : (first : Expr) (rest : List Factor) → form_shown (form.Product first rest) ≡ operation (operand_tokens first ++ flat_map factor_tokens rest)
-unfolding expr_shown factor_tokens form_shown member_tokens path_tokens step_tokens term_tokens
 product_shown first rest =
-    ap form_shown (sym (form.rolls-Product first rest))
-    ∙ fold-roll-ExprForm Shown Shown (List Token) (List Token) (List Token) (List Token) (List Token) form_level expr_level factor_level member_level path_level step_level term_level (ExprForm-F.Product first rest)
+    form_made (ExprForm-F.Product first rest) (form.rolls-Product first rest)
     ∙ ap (λ ts. operation (operand_tokens first ++ ts)) (mapped_tokens (λ ts. ts) factor_tokens rest)
 
 pub sum_shown : (first : Expr) (rest : List Term) → form_shown (form.Sum first rest) ≡ operation (operand_tokens first ++ flat_map term_tokens rest)
-unfolding expr_shown factor_tokens form_shown member_tokens path_tokens step_tokens term_tokens
 sum_shown first rest =
-    ap form_shown (sym (form.rolls-Sum first rest))
-    ∙ fold-roll-ExprForm Shown Shown (List Token) (List Token) (List Token) (List Token) (List Token) form_level expr_level factor_level member_level path_level step_level term_level (ExprForm-F.Sum first rest)
+    form_made (ExprForm-F.Sum first rest) (form.rolls-Sum first rest)
     ∙ ap (λ ts. operation (operand_tokens first ++ ts)) (mapped_tokens (λ ts. ts) term_tokens rest)
 
 pub compare_shown : (left : Expr) (compared : Comparison) (right : Expr) → form_shown (form.Compare left compared right) ≡ operation (operand_tokens left ++ comparison_token compared ∷ operand_tokens right)
-unfolding expr_shown factor_tokens form_shown member_tokens path_tokens step_tokens term_tokens
-compare_shown left compared right =
-    ap form_shown (sym (form.rolls-Compare left compared right))
-    ∙ fold-roll-ExprForm Shown Shown (List Token) (List Token) (List Token) (List Token) (List Token) form_level expr_level factor_level member_level path_level step_level term_level (ExprForm-F.Compare left compared right)
+compare_shown left compared right = form_made (ExprForm-F.Compare left compared right) (form.rolls-Compare left compared right)
 
 pub and_shown : (values : List Expr) → form_shown (form.And values) ≡ operation (separated (codes "&&") operand_tokens values)
-unfolding expr_shown factor_tokens form_shown member_tokens path_tokens step_tokens term_tokens
 and_shown values =
-    ap form_shown (sym (form.rolls-And values))
-    ∙ fold-roll-ExprForm Shown Shown (List Token) (List Token) (List Token) (List Token) (List Token) form_level expr_level factor_level member_level path_level step_level term_level (ExprForm-F.And values)
+    form_made (ExprForm-F.And values) (form.rolls-And values)
     ∙ ap operation (mapped_separated (codes "&&") operand expr_shown values)
 
 pub or_shown : (values : List Expr) → form_shown (form.Or values) ≡ operation (separated (codes "||") operand_tokens values)
-unfolding expr_shown factor_tokens form_shown member_tokens path_tokens step_tokens term_tokens
 or_shown values =
-    ap form_shown (sym (form.rolls-Or values))
-    ∙ fold-roll-ExprForm Shown Shown (List Token) (List Token) (List Token) (List Token) (List Token) form_level expr_level factor_level member_level path_level step_level term_level (ExprForm-F.Or values)
+    form_made (ExprForm-F.Or values) (form.rolls-Or values)
     ∙ ap operation (mapped_separated (codes "||") operand expr_shown values)
 
 pub expr_is : (e : Expr) → expr_shown e ≡ form_shown (out-Expr e).form

@@ -7,12 +7,12 @@ use Rattle.jolie_ast.specs.declared.expression.Path.{Path}
 use Rattle.jolie_ast.specs.declared.process.Assignment.{Assignment}
 use Rattle.jolie_ast.specs.declared.process.ForStep.{ForStep}
 use Rattle.jolie_ast.specs.declared.process.Otherwise.TheOpen.{Otherwise-F, Process-F}
-use Rattle.jolie_ast.specs.declared.process.Otherwise.TheFolds.{fold-roll-Answer, fold-roll-Block, fold-roll-Branch, fold-roll-Handler, fold-roll-If, fold-roll-Input, fold-roll-Otherwise, fold-roll-Process, fold-roll-Reply}
-use Rattle.jolie_ast.specs.declared.process.Process.{Process}
+use Rattle.jolie_ast.specs.declared.process.Otherwise.TheFolds.{map-Otherwise, map-Process, fold-roll-Answer, fold-roll-Block, fold-roll-Branch, fold-roll-Handler, fold-roll-If, fold-roll-Input, fold-roll-Otherwise, fold-roll-Process, fold-roll-Reply}
+use Rattle.jolie_ast.specs.declared.process.Process.{Process, roll-Process}
 use Rattle.jolie_ast.specs.declared.process.Process.TheVariants as process
 use Rattle.jolie_ast.specs.declared.process.Block.{Block, out-Block, roll-Block, roll-out-Block}
 use Rattle.jolie_ast.specs.declared.process.If.{If, out-If, roll-out-If}
-use Rattle.jolie_ast.specs.declared.process.Otherwise.{Otherwise}
+use Rattle.jolie_ast.specs.declared.process.Otherwise.{Otherwise, roll-Otherwise}
 use Rattle.jolie_ast.specs.declared.process.Otherwise.TheVariants as otherwise
 use Rattle.jolie_ast.specs.declared.process.Input.{Input, out-Input, roll-Input, roll-out-Input}
 use Rattle.jolie_ast.specs.declared.process.Reply.{Reply, out-Reply, roll-out-Reply}
@@ -26,140 +26,91 @@ use Rattle.jolie_ast.proofs.Spacing.{mapped_tokens, mapped_separated}
 
 -- ---- processes
 
+-- the tokens of a process, by the form that it is made of
+process_made : (x : Process-F Otherwise Process Answer Block Branch Handler If Input Reply) {p : Process} → roll-Process x ≡ p
+    → process_tokens p ≡ process_level (map-Process Otherwise Process Answer Block Branch Handler If Input Reply (List Token) (List Token) (List Token) (List Token) (List Token) (List Token) (List Token) (List Token) (List Token) otherwise_tokens process_tokens answer_tokens block_tokens branch_tokens handler_tokens if_tokens input_tokens reply_tokens x)
+unfolding otherwise_tokens process_tokens answer_tokens block_tokens branch_tokens handler_tokens if_tokens input_tokens reply_tokens
+process_made x made = ap process_tokens (sym made) ∙ fold-roll-Process (List Token) (List Token) (List Token) (List Token) (List Token) (List Token) (List Token) (List Token) (List Token) otherwise_level process_level answer_level block_level branch_level handler_level if_level input_level reply_level x
+
 pub nothing_shown : (at : ℕ) → process_tokens (process.Nothing at) ≡ codes "nullProcess" ∷ []
-unfolding answer_tokens block_tokens branch_tokens handler_tokens if_tokens input_tokens otherwise_tokens process_tokens reply_tokens
-nothing_shown at =
-    ap process_tokens (sym (process.rolls-Nothing at))
-    ∙ fold-roll-Process (List Token) (List Token) (List Token) (List Token) (List Token) (List Token) (List Token) (List Token) (List Token) otherwise_level process_level answer_level block_level branch_level handler_level if_level input_level reply_level (Process-F.«Process::Nothing» at)
+nothing_shown at = process_made (Process-F.«Process::Nothing» at) (process.rolls-Nothing at)
 
 pub assign_shown : (path : Path) (assignment : Assignment) → process_tokens (process.Assign path assignment) ≡ path_tokens path ++ assignment_tokens assignment
-unfolding answer_tokens block_tokens branch_tokens handler_tokens if_tokens input_tokens otherwise_tokens process_tokens reply_tokens
-assign_shown path assignment =
-    ap process_tokens (sym (process.rolls-Assign path assignment))
-    ∙ fold-roll-Process (List Token) (List Token) (List Token) (List Token) (List Token) (List Token) (List Token) (List Token) (List Token) otherwise_level process_level answer_level block_level branch_level handler_level if_level input_level reply_level (Process-F.Assign path assignment)
+assign_shown path assignment = process_made (Process-F.Assign path assignment) (process.rolls-Assign path assignment)
 
 pub undef_shown : (at : ℕ) (path : Path) → process_tokens (process.Undef at path) ≡ codes "undef" ∷ in_parens (path_tokens path)
-unfolding answer_tokens block_tokens branch_tokens handler_tokens if_tokens input_tokens otherwise_tokens process_tokens reply_tokens
-undef_shown at path =
-    ap process_tokens (sym (process.rolls-Undef at path))
-    ∙ fold-roll-Process (List Token) (List Token) (List Token) (List Token) (List Token) (List Token) (List Token) (List Token) (List Token) otherwise_level process_level answer_level block_level branch_level handler_level if_level input_level reply_level (Process-F.Undef at path)
+undef_shown at path = process_made (Process-F.Undef at path) (process.rolls-Undef at path)
 
 pub correlate_shown : (at : ℕ) (variable : Name) (value : Expr) → process_tokens (process.Correlate at variable value) ≡ codes "csets" ∷ (codes "." ∷ (variable.text ∷ (codes "=" ∷ expr_tokens value)))
-unfolding answer_tokens block_tokens branch_tokens handler_tokens if_tokens input_tokens otherwise_tokens process_tokens reply_tokens
-correlate_shown at variable value =
-    ap process_tokens (sym (process.rolls-Correlate at variable value))
-    ∙ fold-roll-Process (List Token) (List Token) (List Token) (List Token) (List Token) (List Token) (List Token) (List Token) (List Token) otherwise_level process_level answer_level block_level branch_level handler_level if_level input_level reply_level (Process-F.Correlate at variable value)
+correlate_shown at variable value = process_made (Process-F.Correlate at variable value) (process.rolls-Correlate at variable value)
 
 pub conditional_shown : (i : If) → process_tokens (process.If i) ≡ if_tokens i
-unfolding answer_tokens block_tokens branch_tokens handler_tokens if_tokens input_tokens otherwise_tokens process_tokens reply_tokens
-conditional_shown i =
-    ap process_tokens (sym (process.rolls-If i))
-    ∙ fold-roll-Process (List Token) (List Token) (List Token) (List Token) (List Token) (List Token) (List Token) (List Token) (List Token) otherwise_level process_level answer_level block_level branch_level handler_level if_level input_level reply_level (Process-F.If i)
+conditional_shown i = process_made (Process-F.If i) (process.rolls-If i)
 
 pub while_shown : (at : ℕ) (test : Expr) (body : Block) → process_tokens (process.While at test body) ≡ codes "while" ∷ (in_parens (expr_tokens test) ++ block_tokens body)
-unfolding answer_tokens block_tokens branch_tokens handler_tokens if_tokens input_tokens otherwise_tokens process_tokens reply_tokens
-while_shown at test body =
-    ap process_tokens (sym (process.rolls-While at test body))
-    ∙ fold-roll-Process (List Token) (List Token) (List Token) (List Token) (List Token) (List Token) (List Token) (List Token) (List Token) otherwise_level process_level answer_level block_level branch_level handler_level if_level input_level reply_level (Process-F.While at test body)
+while_shown at test body = process_made (Process-F.While at test body) (process.rolls-While at test body)
 
 pub for_shown : (at : ℕ) (path : Path) (first : Expr) (test : Expr) (stepped : Path) (step : ForStep) (body : Block) → process_tokens (process.For at path first test stepped step body) ≡ codes "for" ∷ (in_parens (path_tokens path ++ codes "=" ∷ (expr_tokens first ++ codes "," ∷ (expr_tokens test ++ codes "," ∷ (path_tokens stepped ++ for_step_tokens step)))) ++ block_tokens body)
-unfolding answer_tokens block_tokens branch_tokens handler_tokens if_tokens input_tokens otherwise_tokens process_tokens reply_tokens
-for_shown at path first test stepped step body =
-    ap process_tokens (sym (process.rolls-For at path first test stepped step body))
-    ∙ fold-roll-Process (List Token) (List Token) (List Token) (List Token) (List Token) (List Token) (List Token) (List Token) (List Token) otherwise_level process_level answer_level block_level branch_level handler_level if_level input_level reply_level (Process-F.For at path first test stepped step body)
+for_shown at path first test stepped step body = process_made (Process-F.For at path first test stepped step body) (process.rolls-For at path first test stepped step body)
 
 pub input_form_shown : (i : Input) → process_tokens (process.Input i) ≡ input_tokens i
-unfolding answer_tokens block_tokens branch_tokens handler_tokens if_tokens input_tokens otherwise_tokens process_tokens reply_tokens
-input_form_shown i =
-    ap process_tokens (sym (process.rolls-Input i))
-    ∙ fold-roll-Process (List Token) (List Token) (List Token) (List Token) (List Token) (List Token) (List Token) (List Token) (List Token) otherwise_level process_level answer_level block_level branch_level handler_level if_level input_level reply_level (Process-F.Input i)
+input_form_shown i = process_made (Process-F.Input i) (process.rolls-Input i)
 
 pub choice_shown : (at : ℕ) (branches : List Branch) → process_tokens (process.Choice at branches) ≡ flat_map branch_tokens branches
-unfolding answer_tokens block_tokens branch_tokens handler_tokens if_tokens input_tokens otherwise_tokens process_tokens reply_tokens
 choice_shown at branches =
-    ap process_tokens (sym (process.rolls-Choice at branches))
-    ∙ fold-roll-Process (List Token) (List Token) (List Token) (List Token) (List Token) (List Token) (List Token) (List Token) (List Token) otherwise_level process_level answer_level block_level branch_level handler_level if_level input_level reply_level (Process-F.Choice at branches)
+    process_made (Process-F.Choice at branches) (process.rolls-Choice at branches)
     ∙ mapped_tokens (λ ts. ts) branch_tokens branches
 
 pub output_shown : (operation : Name) (port : Name) (value : Option Expr) (answer : Option Answer) → process_tokens (process.Output operation port value answer) ≡ operation.text ∷ (codes "@" ∷ (port.text ∷ (value_parens value ++ maybe (option_map answer_tokens answer))))
-unfolding answer_tokens block_tokens branch_tokens handler_tokens if_tokens input_tokens otherwise_tokens process_tokens reply_tokens
-output_shown operation port value None =
-    ap process_tokens (sym (process.rolls-Output operation port value None))
-    ∙ fold-roll-Process (List Token) (List Token) (List Token) (List Token) (List Token) (List Token) (List Token) (List Token) (List Token) otherwise_level process_level answer_level block_level branch_level handler_level if_level input_level reply_level (Process-F.Output operation port value None)
-output_shown operation port value (Some it) =
-    ap process_tokens (sym (process.rolls-Output operation port value (Some it)))
-    ∙ fold-roll-Process (List Token) (List Token) (List Token) (List Token) (List Token) (List Token) (List Token) (List Token) (List Token) otherwise_level process_level answer_level block_level branch_level handler_level if_level input_level reply_level (Process-F.Output operation port value (Some it))
+output_shown operation port value None = process_made (Process-F.Output operation port value None) (process.rolls-Output operation port value None)
+output_shown operation port value (Some it) = process_made (Process-F.Output operation port value (Some it)) (process.rolls-Output operation port value (Some it))
 
 pub scope_shown : (at : ℕ) (name : Name) (body : Block) → process_tokens (process.Scope at name body) ≡ codes "scope" ∷ (in_parens (name.text ∷ []) ++ block_tokens body)
-unfolding answer_tokens block_tokens branch_tokens handler_tokens if_tokens input_tokens otherwise_tokens process_tokens reply_tokens
-scope_shown at name body =
-    ap process_tokens (sym (process.rolls-Scope at name body))
-    ∙ fold-roll-Process (List Token) (List Token) (List Token) (List Token) (List Token) (List Token) (List Token) (List Token) (List Token) otherwise_level process_level answer_level block_level branch_level handler_level if_level input_level reply_level (Process-F.Scope at name body)
+scope_shown at name body = process_made (Process-F.Scope at name body) (process.rolls-Scope at name body)
 
 pub install_shown : (at : ℕ) (handlers : List Handler) → process_tokens (process.Install at handlers) ≡ codes "install" ∷ in_parens (separated (codes ",") handler_tokens handlers)
-unfolding answer_tokens block_tokens branch_tokens handler_tokens if_tokens input_tokens otherwise_tokens process_tokens reply_tokens
 install_shown at handlers =
-    ap process_tokens (sym (process.rolls-Install at handlers))
-    ∙ fold-roll-Process (List Token) (List Token) (List Token) (List Token) (List Token) (List Token) (List Token) (List Token) (List Token) otherwise_level process_level answer_level block_level branch_level handler_level if_level input_level reply_level (Process-F.Install at handlers)
+    process_made (Process-F.Install at handlers) (process.rolls-Install at handlers)
     ∙ ap (λ ts. codes "install" ∷ in_parens ts) (mapped_separated (codes ",") (λ ts. ts) handler_tokens handlers)
 
 pub throw_shown : (at : ℕ) (fault : Name) (value : Option Expr) → process_tokens (process.Throw at fault value) ≡ codes "throw" ∷ in_parens (fault.text ∷ thrown_tokens value)
-unfolding answer_tokens block_tokens branch_tokens handler_tokens if_tokens input_tokens otherwise_tokens process_tokens reply_tokens
-throw_shown at fault value =
-    ap process_tokens (sym (process.rolls-Throw at fault value))
-    ∙ fold-roll-Process (List Token) (List Token) (List Token) (List Token) (List Token) (List Token) (List Token) (List Token) (List Token) otherwise_level process_level answer_level block_level branch_level handler_level if_level input_level reply_level (Process-F.Throw at fault value)
+throw_shown at fault value = process_made (Process-F.Throw at fault value) (process.rolls-Throw at fault value)
 
 pub compensate_shown : (at : ℕ) (scope : Name) → process_tokens (process.Compensate at scope) ≡ codes "comp" ∷ in_parens (scope.text ∷ [])
-unfolding answer_tokens block_tokens branch_tokens handler_tokens if_tokens input_tokens otherwise_tokens process_tokens reply_tokens
-compensate_shown at scope =
-    ap process_tokens (sym (process.rolls-Compensate at scope))
-    ∙ fold-roll-Process (List Token) (List Token) (List Token) (List Token) (List Token) (List Token) (List Token) (List Token) (List Token) otherwise_level process_level answer_level block_level branch_level handler_level if_level input_level reply_level (Process-F.Compensate at scope)
+compensate_shown at scope = process_made (Process-F.Compensate at scope) (process.rolls-Compensate at scope)
 
 pub inner_handler_shown : (at : ℕ) → process_tokens (process.InnerHandler at) ≡ codes "cH" ∷ []
-unfolding answer_tokens block_tokens branch_tokens handler_tokens if_tokens input_tokens otherwise_tokens process_tokens reply_tokens
-inner_handler_shown at =
-    ap process_tokens (sym (process.rolls-InnerHandler at))
-    ∙ fold-roll-Process (List Token) (List Token) (List Token) (List Token) (List Token) (List Token) (List Token) (List Token) (List Token) otherwise_level process_level answer_level block_level branch_level handler_level if_level input_level reply_level (Process-F.InnerHandler at)
+inner_handler_shown at = process_made (Process-F.InnerHandler at) (process.rolls-InnerHandler at)
 
 pub block_form_shown : (b : Block) → process_tokens (process.Block b) ≡ block_tokens b
-unfolding answer_tokens block_tokens branch_tokens handler_tokens if_tokens input_tokens otherwise_tokens process_tokens reply_tokens
-block_form_shown b =
-    ap process_tokens (sym (process.rolls-Block b))
-    ∙ fold-roll-Process (List Token) (List Token) (List Token) (List Token) (List Token) (List Token) (List Token) (List Token) (List Token) otherwise_level process_level answer_level block_level branch_level handler_level if_level input_level reply_level (Process-F.Block b)
+block_form_shown b = process_made (Process-F.Block b) (process.rolls-Block b)
 
 pub sequence_shown : (statements : List Process) → process_tokens (process.Sequence statements) ≡ separated (codes ";") process_tokens statements
-unfolding answer_tokens block_tokens branch_tokens handler_tokens if_tokens input_tokens otherwise_tokens process_tokens reply_tokens
 sequence_shown statements =
-    ap process_tokens (sym (process.rolls-Sequence statements))
-    ∙ fold-roll-Process (List Token) (List Token) (List Token) (List Token) (List Token) (List Token) (List Token) (List Token) (List Token) otherwise_level process_level answer_level block_level branch_level handler_level if_level input_level reply_level (Process-F.Sequence statements)
+    process_made (Process-F.Sequence statements) (process.rolls-Sequence statements)
     ∙ mapped_separated (codes ";") (λ ts. ts) process_tokens statements
 
 pub parallel_shown : (members : List Process) → process_tokens (process.Parallel members) ≡ separated (codes "|") process_tokens members
-unfolding answer_tokens block_tokens branch_tokens handler_tokens if_tokens input_tokens otherwise_tokens process_tokens reply_tokens
 parallel_shown members =
-    ap process_tokens (sym (process.rolls-Parallel members))
-    ∙ fold-roll-Process (List Token) (List Token) (List Token) (List Token) (List Token) (List Token) (List Token) (List Token) (List Token) otherwise_level process_level answer_level block_level branch_level handler_level if_level input_level reply_level (Process-F.Parallel members)
+    process_made (Process-F.Parallel members) (process.rolls-Parallel members)
     ∙ mapped_separated (codes "|") (λ ts. ts) process_tokens members
 
 -- ---- what an `if` does where its test fails
 
+-- the tokens of what an `if` does where its test fails, by the form that it is made of
+otherwise_made : (x : Otherwise-F Otherwise Process Answer Block Branch Handler If Input Reply) {o : Otherwise} → roll-Otherwise x ≡ o
+    → otherwise_tokens o ≡ otherwise_level (map-Otherwise Otherwise Process Answer Block Branch Handler If Input Reply (List Token) (List Token) (List Token) (List Token) (List Token) (List Token) (List Token) (List Token) (List Token) otherwise_tokens process_tokens answer_tokens block_tokens branch_tokens handler_tokens if_tokens input_tokens reply_tokens x)
+unfolding otherwise_tokens process_tokens answer_tokens block_tokens branch_tokens handler_tokens if_tokens input_tokens reply_tokens
+otherwise_made x made = ap otherwise_tokens (sym made) ∙ fold-roll-Otherwise (List Token) (List Token) (List Token) (List Token) (List Token) (List Token) (List Token) (List Token) (List Token) otherwise_level process_level answer_level block_level branch_level handler_level if_level input_level reply_level x
+
 pub no_else_shown : otherwise_tokens otherwise.Nothing ≡ []
-unfolding answer_tokens block_tokens branch_tokens handler_tokens if_tokens input_tokens otherwise_tokens process_tokens reply_tokens
-no_else_shown =
-    ap otherwise_tokens (sym otherwise.rolls-Nothing)
-    ∙ fold-roll-Otherwise (List Token) (List Token) (List Token) (List Token) (List Token) (List Token) (List Token) (List Token) (List Token) otherwise_level process_level answer_level block_level branch_level handler_level if_level input_level reply_level Otherwise-F.«Otherwise::Nothing»
+no_else_shown = otherwise_made Otherwise-F.«Otherwise::Nothing» otherwise.rolls-Nothing
 
 pub else_if_shown : (i : If) → otherwise_tokens (otherwise.ElseIf i) ≡ codes "else" ∷ if_tokens i
-unfolding answer_tokens block_tokens branch_tokens handler_tokens if_tokens input_tokens otherwise_tokens process_tokens reply_tokens
-else_if_shown i =
-    ap otherwise_tokens (sym (otherwise.rolls-ElseIf i))
-    ∙ fold-roll-Otherwise (List Token) (List Token) (List Token) (List Token) (List Token) (List Token) (List Token) (List Token) (List Token) otherwise_level process_level answer_level block_level branch_level handler_level if_level input_level reply_level (Otherwise-F.ElseIf i)
+else_if_shown i = otherwise_made (Otherwise-F.ElseIf i) (otherwise.rolls-ElseIf i)
 
 pub else_shown : (b : Block) → otherwise_tokens (otherwise.Else b) ≡ codes "else" ∷ block_tokens b
-unfolding answer_tokens block_tokens branch_tokens handler_tokens if_tokens input_tokens otherwise_tokens process_tokens reply_tokens
-else_shown b =
-    ap otherwise_tokens (sym (otherwise.rolls-Else b))
-    ∙ fold-roll-Otherwise (List Token) (List Token) (List Token) (List Token) (List Token) (List Token) (List Token) (List Token) (List Token) otherwise_level process_level answer_level block_level branch_level handler_level if_level input_level reply_level (Otherwise-F.Else b)
+else_shown b = otherwise_made (Otherwise-F.Else b) (otherwise.rolls-Else b)
 
 -- ---- the parts of processes
 

@@ -1,8 +1,11 @@
--- What is formed: each sequence and each parallel has two members at least, each level of an expression two operands, each choice one branch.
+-- What is formed: each sequence and each parallel has two members at least, each level of an expression two operands,
+-- each choice one branch.
 use Rattle.std.specs.Prelude.{Bool, true, false, ◌&&◌, List, [], ◌∷◌, Option, Some, None}
 use Rattle.std.specs.List.{list_all}
-use Rattle.jolie_ast.specs.declared.expression.ExprForm.TheOpen.{Expr-F, ExprForm-F, Factor-F, Member-F, Path-F, Step-F, Term-F}
-use Rattle.jolie_ast.specs.declared.expression.ExprForm.TheFolds.{fold-Expr, fold-ExprForm, fold-Factor, fold-Member, fold-Path, fold-Step, fold-Term}
+use Rattle.jolie_ast.specs.declared.expression.ExprForm.TheOpen.{Expr-F, ExprForm-F, Factor-F}
+use Rattle.jolie_ast.specs.declared.expression.ExprForm.TheOpen.{Member-F, Path-F, Step-F, Term-F}
+use Rattle.jolie_ast.specs.declared.expression.ExprForm.TheFolds.{fold-Expr, fold-ExprForm, fold-Factor}
+use Rattle.jolie_ast.specs.declared.expression.ExprForm.TheFolds.{fold-Member, fold-Path, fold-Step, fold-Term}
 use Rattle.jolie_ast.specs.declared.expression.Expr.{Expr}
 use Rattle.jolie_ast.specs.declared.expression.ExprForm.{ExprForm}
 use Rattle.jolie_ast.specs.declared.expression.Factor.{Factor}
@@ -14,8 +17,11 @@ use Rattle.jolie_ast.specs.declared.process.Assignment.{Assignment}
 use Rattle.jolie_ast.specs.declared.process.Assignment.TheVariants as assignment
 use Rattle.jolie_ast.specs.declared.process.ForStep.{ForStep}
 use Rattle.jolie_ast.specs.declared.process.ForStep.TheVariants as for_step
-use Rattle.jolie_ast.specs.declared.process.Otherwise.TheOpen.{Answer-F, Block-F, Branch-F, Handler-F, If-F, Input-F, Otherwise-F, Process-F, Reply-F}
-use Rattle.jolie_ast.specs.declared.process.Otherwise.TheFolds.{fold-Answer, fold-Block, fold-Branch, fold-Handler, fold-If, fold-Input, fold-Otherwise, fold-Process, fold-Reply}
+use Rattle.jolie_ast.specs.declared.process.Otherwise.TheOpen.{Answer-F, Block-F, Branch-F, Handler-F, If-F}
+use Rattle.jolie_ast.specs.declared.process.Otherwise.TheOpen.{Input-F, Otherwise-F, Process-F, Reply-F}
+use Rattle.jolie_ast.specs.declared.process.Otherwise.TheFolds.{fold-Answer, fold-Block, fold-Branch}
+use Rattle.jolie_ast.specs.declared.process.Otherwise.TheFolds.{fold-Handler, fold-If, fold-Input}
+use Rattle.jolie_ast.specs.declared.process.Otherwise.TheFolds.{fold-Otherwise, fold-Process, fold-Reply}
 use Rattle.jolie_ast.specs.declared.process.Process.{Process}
 use Rattle.jolie_ast.specs.declared.process.Block.{Block}
 use Rattle.jolie_ast.specs.declared.process.If.{If}
@@ -102,31 +108,45 @@ step_level s = if_there s.index
 
 -- whether a form is formed
 unfoldable pub form_formed : ExprForm → Bool
-form_formed = fold-ExprForm Bool Bool Bool Bool Bool Bool Bool form_level expr_level factor_level member_level path_level step_level term_level
+form_formed =
+    fold-ExprForm Bool Bool Bool Bool Bool Bool Bool
+    form_level expr_level factor_level member_level path_level step_level term_level
 
 -- whether an expression is formed
 unfoldable pub expr_formed : Expr → Bool
-expr_formed = fold-Expr Bool Bool Bool Bool Bool Bool Bool form_level expr_level factor_level member_level path_level step_level term_level
+expr_formed =
+    fold-Expr Bool Bool Bool Bool Bool Bool Bool
+    form_level expr_level factor_level member_level path_level step_level term_level
 
 -- whether a later operand of a product is formed
 unfoldable pub factor_formed : Factor → Bool
-factor_formed = fold-Factor Bool Bool Bool Bool Bool Bool Bool form_level expr_level factor_level member_level path_level step_level term_level
+factor_formed =
+    fold-Factor Bool Bool Bool Bool Bool Bool Bool
+    form_level expr_level factor_level member_level path_level step_level term_level
 
 -- whether a later operand of a sum is formed
 unfoldable pub term_formed : Term → Bool
-term_formed = fold-Term Bool Bool Bool Bool Bool Bool Bool form_level expr_level factor_level member_level path_level step_level term_level
+term_formed =
+    fold-Term Bool Bool Bool Bool Bool Bool Bool
+    form_level expr_level factor_level member_level path_level step_level term_level
 
 -- whether a member of a literal is formed
 unfoldable pub member_formed : Member → Bool
-member_formed = fold-Member Bool Bool Bool Bool Bool Bool Bool form_level expr_level factor_level member_level path_level step_level term_level
+member_formed =
+    fold-Member Bool Bool Bool Bool Bool Bool Bool
+    form_level expr_level factor_level member_level path_level step_level term_level
 
 -- whether a path is formed
 unfoldable pub path_formed : Path → Bool
-path_formed = fold-Path Bool Bool Bool Bool Bool Bool Bool form_level expr_level factor_level member_level path_level step_level term_level
+path_formed =
+    fold-Path Bool Bool Bool Bool Bool Bool Bool
+    form_level expr_level factor_level member_level path_level step_level term_level
 
 -- whether a step of a path is formed
 unfoldable pub step_formed : Step → Bool
-step_formed = fold-Step Bool Bool Bool Bool Bool Bool Bool form_level expr_level factor_level member_level path_level step_level term_level
+step_formed =
+    fold-Step Bool Bool Bool Bool Bool Bool Bool
+    form_level expr_level factor_level member_level path_level step_level term_level
 
 -- ---- processes
 
@@ -141,7 +161,8 @@ abbrev pub for_step_formed : ForStep → Bool
 for_step_formed (for_step.Root value) = expr_formed value
 for_step_formed (for_step.Count count) = true
 
--- one level of a process, with whether its parts are formed: a sequence and a parallel have two members at least, a choice one branch
+-- one level of a process, with whether its parts are formed: a sequence and a parallel have two members at least, a
+-- choice one branch
 abbrev pub process_level : Process-F Bool Bool Bool Bool Bool Bool Bool Bool Bool → Bool
 process_level (Process-F.«Process::Nothing» at) = true
 process_level (Process-F.Assign path assignment) = path_formed path && assignment_formed assignment
@@ -150,7 +171,8 @@ process_level (Process-F.Correlate at variable value) = expr_formed value
 process_level (Process-F.If part) = part
 process_level (Process-F.While at test body) = expr_formed test && body
 process_level (Process-F.For at path first test stepped step body) =
-    path_formed path && (expr_formed first && (expr_formed test && (path_formed stepped && (for_step_formed step && body))))
+    path_formed path
+    && (expr_formed first && (expr_formed test && (path_formed stepped && (for_step_formed step && body))))
 process_level (Process-F.Input part) = part
 process_level (Process-F.Choice at branches) = has_one branches && each branches
 process_level (Process-F.Output operation port value answer) = option_all expr_formed value && if_there answer
@@ -199,39 +221,57 @@ handler_level h = h.body
 
 -- whether a process is formed
 unfoldable pub process_formed : Process → Bool
-process_formed = fold-Process Bool Bool Bool Bool Bool Bool Bool Bool Bool otherwise_level process_level answer_level block_level branch_level handler_level if_level input_level reply_level
+process_formed =
+    fold-Process Bool Bool Bool Bool Bool Bool Bool Bool Bool
+    otherwise_level process_level answer_level block_level branch_level handler_level if_level input_level reply_level
 
 -- whether a block is formed
 unfoldable pub block_formed : Block → Bool
-block_formed = fold-Block Bool Bool Bool Bool Bool Bool Bool Bool Bool otherwise_level process_level answer_level block_level branch_level handler_level if_level input_level reply_level
+block_formed =
+    fold-Block Bool Bool Bool Bool Bool Bool Bool Bool Bool
+    otherwise_level process_level answer_level block_level branch_level handler_level if_level input_level reply_level
 
 -- whether an `if` is formed
 unfoldable pub if_formed : If → Bool
-if_formed = fold-If Bool Bool Bool Bool Bool Bool Bool Bool Bool otherwise_level process_level answer_level block_level branch_level handler_level if_level input_level reply_level
+if_formed =
+    fold-If Bool Bool Bool Bool Bool Bool Bool Bool Bool
+    otherwise_level process_level answer_level block_level branch_level handler_level if_level input_level reply_level
 
 -- whether what an `if` does where its test fails is formed
 unfoldable pub otherwise_formed : Otherwise → Bool
-otherwise_formed = fold-Otherwise Bool Bool Bool Bool Bool Bool Bool Bool Bool otherwise_level process_level answer_level block_level branch_level handler_level if_level input_level reply_level
+otherwise_formed =
+    fold-Otherwise Bool Bool Bool Bool Bool Bool Bool Bool Bool
+    otherwise_level process_level answer_level block_level branch_level handler_level if_level input_level reply_level
 
 -- whether an input is formed
 unfoldable pub input_formed : Input → Bool
-input_formed = fold-Input Bool Bool Bool Bool Bool Bool Bool Bool Bool otherwise_level process_level answer_level block_level branch_level handler_level if_level input_level reply_level
+input_formed =
+    fold-Input Bool Bool Bool Bool Bool Bool Bool Bool Bool
+    otherwise_level process_level answer_level block_level branch_level handler_level if_level input_level reply_level
 
 -- whether a reply part is formed
 unfoldable pub reply_formed : Reply → Bool
-reply_formed = fold-Reply Bool Bool Bool Bool Bool Bool Bool Bool Bool otherwise_level process_level answer_level block_level branch_level handler_level if_level input_level reply_level
+reply_formed =
+    fold-Reply Bool Bool Bool Bool Bool Bool Bool Bool Bool
+    otherwise_level process_level answer_level block_level branch_level handler_level if_level input_level reply_level
 
 -- whether a branch is formed
 unfoldable pub branch_formed : Branch → Bool
-branch_formed = fold-Branch Bool Bool Bool Bool Bool Bool Bool Bool Bool otherwise_level process_level answer_level block_level branch_level handler_level if_level input_level reply_level
+branch_formed =
+    fold-Branch Bool Bool Bool Bool Bool Bool Bool Bool Bool
+    otherwise_level process_level answer_level block_level branch_level handler_level if_level input_level reply_level
 
 -- whether what an output awaits is formed
 unfoldable pub answer_formed : Answer → Bool
-answer_formed = fold-Answer Bool Bool Bool Bool Bool Bool Bool Bool Bool otherwise_level process_level answer_level block_level branch_level handler_level if_level input_level reply_level
+answer_formed =
+    fold-Answer Bool Bool Bool Bool Bool Bool Bool Bool Bool
+    otherwise_level process_level answer_level block_level branch_level handler_level if_level input_level reply_level
 
 -- whether a handler is formed
 unfoldable pub handler_formed : Handler → Bool
-handler_formed = fold-Handler Bool Bool Bool Bool Bool Bool Bool Bool Bool otherwise_level process_level answer_level block_level branch_level handler_level if_level input_level reply_level
+handler_formed =
+    fold-Handler Bool Bool Bool Bool Bool Bool Bool Bool Bool
+    otherwise_level process_level answer_level block_level branch_level handler_level if_level input_level reply_level
 
 -- ---- files
 

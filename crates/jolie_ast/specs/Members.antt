@@ -1,7 +1,10 @@
 -- How many members the parallels of a file have in all, and how many they may have.
 use Rattle.std.specs.Prelude.{ℕ, ◌+◌, List, length, sum, sum_by, Option, Some, None}
-use Rattle.jolie_ast.specs.declared.process.Otherwise.TheOpen.{Answer-F, Block-F, Branch-F, Handler-F, If-F, Input-F, Otherwise-F, Process-F, Reply-F}
-use Rattle.jolie_ast.specs.declared.process.Otherwise.TheFolds.{fold-Answer, fold-Block, fold-Branch, fold-Handler, fold-If, fold-Input, fold-Otherwise, fold-Process, fold-Reply}
+use Rattle.jolie_ast.specs.declared.process.Otherwise.TheOpen.{Answer-F, Block-F, Branch-F, Handler-F, If-F}
+use Rattle.jolie_ast.specs.declared.process.Otherwise.TheOpen.{Input-F, Otherwise-F, Process-F, Reply-F}
+use Rattle.jolie_ast.specs.declared.process.Otherwise.TheFolds.{fold-Answer, fold-Block, fold-Branch}
+use Rattle.jolie_ast.specs.declared.process.Otherwise.TheFolds.{fold-Handler, fold-If, fold-Input}
+use Rattle.jolie_ast.specs.declared.process.Otherwise.TheFolds.{fold-Otherwise, fold-Process, fold-Reply}
 use Rattle.jolie_ast.specs.declared.process.Process.{Process}
 use Rattle.jolie_ast.specs.declared.process.Block.{Block}
 use Rattle.jolie_ast.specs.declared.process.If.{If}
@@ -87,39 +90,57 @@ handler_level h = h.body
 
 -- how many members the parallels in a process have in all
 unfoldable pub process_members : Process → ℕ
-process_members = fold-Process ℕ ℕ ℕ ℕ ℕ ℕ ℕ ℕ ℕ otherwise_level process_level answer_level block_level branch_level handler_level if_level input_level reply_level
+process_members =
+    fold-Process ℕ ℕ ℕ ℕ ℕ ℕ ℕ ℕ ℕ
+    otherwise_level process_level answer_level block_level branch_level handler_level if_level input_level reply_level
 
 -- those in a block
 unfoldable pub block_members : Block → ℕ
-block_members = fold-Block ℕ ℕ ℕ ℕ ℕ ℕ ℕ ℕ ℕ otherwise_level process_level answer_level block_level branch_level handler_level if_level input_level reply_level
+block_members =
+    fold-Block ℕ ℕ ℕ ℕ ℕ ℕ ℕ ℕ ℕ
+    otherwise_level process_level answer_level block_level branch_level handler_level if_level input_level reply_level
 
 -- those in an `if`
 unfoldable pub if_members : If → ℕ
-if_members = fold-If ℕ ℕ ℕ ℕ ℕ ℕ ℕ ℕ ℕ otherwise_level process_level answer_level block_level branch_level handler_level if_level input_level reply_level
+if_members =
+    fold-If ℕ ℕ ℕ ℕ ℕ ℕ ℕ ℕ ℕ
+    otherwise_level process_level answer_level block_level branch_level handler_level if_level input_level reply_level
 
 -- those in what an `if` does where its test fails
 unfoldable pub otherwise_members : Otherwise → ℕ
-otherwise_members = fold-Otherwise ℕ ℕ ℕ ℕ ℕ ℕ ℕ ℕ ℕ otherwise_level process_level answer_level block_level branch_level handler_level if_level input_level reply_level
+otherwise_members =
+    fold-Otherwise ℕ ℕ ℕ ℕ ℕ ℕ ℕ ℕ ℕ
+    otherwise_level process_level answer_level block_level branch_level handler_level if_level input_level reply_level
 
 -- those in an input
 unfoldable pub input_members : Input → ℕ
-input_members = fold-Input ℕ ℕ ℕ ℕ ℕ ℕ ℕ ℕ ℕ otherwise_level process_level answer_level block_level branch_level handler_level if_level input_level reply_level
+input_members =
+    fold-Input ℕ ℕ ℕ ℕ ℕ ℕ ℕ ℕ ℕ
+    otherwise_level process_level answer_level block_level branch_level handler_level if_level input_level reply_level
 
 -- those in a reply part
 unfoldable pub reply_members : Reply → ℕ
-reply_members = fold-Reply ℕ ℕ ℕ ℕ ℕ ℕ ℕ ℕ ℕ otherwise_level process_level answer_level block_level branch_level handler_level if_level input_level reply_level
+reply_members =
+    fold-Reply ℕ ℕ ℕ ℕ ℕ ℕ ℕ ℕ ℕ
+    otherwise_level process_level answer_level block_level branch_level handler_level if_level input_level reply_level
 
 -- those in a branch
 unfoldable pub branch_members : Branch → ℕ
-branch_members = fold-Branch ℕ ℕ ℕ ℕ ℕ ℕ ℕ ℕ ℕ otherwise_level process_level answer_level block_level branch_level handler_level if_level input_level reply_level
+branch_members =
+    fold-Branch ℕ ℕ ℕ ℕ ℕ ℕ ℕ ℕ ℕ
+    otherwise_level process_level answer_level block_level branch_level handler_level if_level input_level reply_level
 
 -- those in what an output awaits
 unfoldable pub answer_members : Answer → ℕ
-answer_members = fold-Answer ℕ ℕ ℕ ℕ ℕ ℕ ℕ ℕ ℕ otherwise_level process_level answer_level block_level branch_level handler_level if_level input_level reply_level
+answer_members =
+    fold-Answer ℕ ℕ ℕ ℕ ℕ ℕ ℕ ℕ ℕ
+    otherwise_level process_level answer_level block_level branch_level handler_level if_level input_level reply_level
 
 -- those in a handler
 unfoldable pub handler_members : Handler → ℕ
-handler_members = fold-Handler ℕ ℕ ℕ ℕ ℕ ℕ ℕ ℕ ℕ otherwise_level process_level answer_level block_level branch_level handler_level if_level input_level reply_level
+handler_members =
+    fold-Handler ℕ ℕ ℕ ℕ ℕ ℕ ℕ ℕ ℕ
+    otherwise_level process_level answer_level block_level branch_level handler_level if_level input_level reply_level
 
 -- those in a clause of a service
 abbrev pub clause_members : Clause → ℕ

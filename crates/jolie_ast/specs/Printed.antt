@@ -30,7 +30,7 @@ use Rattle.jolie_ast.specs.declared.service.Clause.TheVariants as clause
 use Rattle.jolie_ast.specs.declared.service.Service.{Service}
 use Rattle.jolie_ast.specs.declared.tree.Definition.{Definition}
 use Rattle.jolie_ast.specs.declared.tree.Definition.TheVariants as definition
-use Rattle.jolie_ast.specs.Spacing.{Token, separated, text_of}
+use Rattle.jolie_ast.specs.Spacing.{Token, Tokens, separated, text_of}
 use Rattle.jolie_ast.specs.PrintedExpressions.{in_parens, in_brackets, in_braces, int_token, quoted_token, name_tokens}
 use Rattle.jolie_ast.specs.PrintedProcesses.{block_tokens}
 
@@ -51,46 +51,47 @@ most_token None = codes "*"
 most_token (Some most) = int_token most
 
 -- how often a field may stand
-abbrev pub cardinality_tokens : Cardinality → List Token
+abbrev pub cardinality_tokens : Cardinality → Tokens
 cardinality_tokens cardinality.Optional = codes "?" ∷ []
 cardinality_tokens cardinality.Any = codes "*" ∷ []
-cardinality_tokens (cardinality.Between least most) = in_brackets (int_token least ∷ (codes "," ∷ (most_token most ∷ [])))
+cardinality_tokens (cardinality.Between least most) =
+    in_brackets (int_token least ∷ (codes "," ∷ (most_token most ∷ [])))
 
 -- how often a field may stand, if it is written
-abbrev pub maybe_cardinality : Option Cardinality → List Token
+abbrev pub maybe_cardinality : Option Cardinality → Tokens
 maybe_cardinality None = []
 maybe_cardinality (Some cardinality) = cardinality_tokens cardinality
 
 -- fields in braces, if braces are written
-abbrev pub field_braces : Option (List (List Token)) → List Token
+abbrev pub field_braces : Option (List Tokens) → Tokens
 field_braces None = []
 field_braces (Some fields) = in_braces (flat_map (λ ts. ts) fields)
 
 -- one level of what a type is
-abbrev pub body_level : TypeBody-F (List Token) (List Token) → List Token
+abbrev pub body_level : TypeBody-F Tokens Tokens → Tokens
 body_level (TypeBody-F.Root at kind fields) = root_token kind ∷ field_braces fields
 body_level (TypeBody-F.Named name) = name.text ∷ []
 body_level (TypeBody-F.Undefined at) = codes "undefined" ∷ []
 
 -- one level of a field
-abbrev pub field_level : Field-F (List Token) (List Token) → List Token
+abbrev pub field_level : Field-F Tokens Tokens → Tokens
 field_level f = f.name.text ∷ (maybe_cardinality f.cardinality ++ codes ":" ∷ f.body)
 
 -- the tokens of what a type is
-unfoldable pub body_tokens : TypeBody → List Token
-body_tokens = fold-TypeBody (List Token) (List Token) body_level field_level
+unfoldable pub body_tokens : TypeBody → Tokens
+body_tokens = fold-TypeBody Tokens Tokens body_level field_level
 
 -- the tokens of a field
-unfoldable pub field_tokens : Field → List Token
-field_tokens = fold-Field (List Token) (List Token) body_level field_level
+unfoldable pub field_tokens : Field → Tokens
+field_tokens = fold-Field Tokens Tokens body_level field_level
 
 -- what stands behind the name that is defined
-abbrev pub defined_tokens : DefinedType → List Token
+abbrev pub defined_tokens : DefinedType → Tokens
 defined_tokens (defined.Body body) = codes ":" ∷ body_tokens body
 defined_tokens (defined.Fields fields) = in_braces (flat_map field_tokens fields)
 
 -- the tokens of a type definition
-abbrev pub type_tokens : TypeDefinition → List Token
+abbrev pub type_tokens : TypeDefinition → Tokens
 type_tokens t = codes "type" ∷ (t.name.text ∷ defined_tokens t.body)
 
 -- ---- interfaces
@@ -102,34 +103,39 @@ type_name_token (type_name.Named name) = name.text
 type_name_token (type_name.Undefined at) = codes "undefined"
 
 -- the type of a fault's data in parentheses, if one is written
-abbrev pub fault_data : Option TypeName → List Token
+abbrev pub fault_data : Option TypeName → Tokens
 fault_data None = []
 fault_data (Some ty) = in_parens (type_name_token ty ∷ [])
 
 -- a fault that `throws` names
-abbrev pub fault_tokens : Fault → List Token
+abbrev pub fault_tokens : Fault → Tokens
 fault_tokens f = f.name.text ∷ fault_data f.ty
 
 -- the faults behind `throws`, if there are any
-abbrev pub throws_tokens : List Fault → List Token
+abbrev pub throws_tokens : List Fault → Tokens
 throws_tokens [] = []
 throws_tokens (f ∷ fs) = codes "throws" ∷ (fault_tokens f ++ flat_map fault_tokens fs)
 
 -- a request-response operation
-abbrev pub request_response_tokens : RequestResponse → List Token
-request_response_tokens o = o.name.text ∷ (in_parens (type_name_token o.request ∷ []) ++ in_parens (type_name_token o.response ∷ []) ++ throws_tokens o.throws)
+abbrev pub request_response_tokens : RequestResponse → Tokens
+request_response_tokens o =
+    o.name.text
+    ∷ (in_parens (type_name_token o.request ∷ []) ++ in_parens (type_name_token o.response ∷ [])
+    ++ throws_tokens o.throws)
 
 -- a one-way operation
-abbrev pub one_way_tokens : OneWay → List Token
+abbrev pub one_way_tokens : OneWay → Tokens
 one_way_tokens o = o.name.text ∷ in_parens (type_name_token o.request ∷ [])
 
 -- operations behind one word
-abbrev pub group_tokens : OperationGroup → List Token
-group_tokens (group.RequestResponse at operations) = codes "RequestResponse" ∷ (codes ":" ∷ separated (codes ",") request_response_tokens operations)
-group_tokens (group.OneWay at operations) = codes "OneWay" ∷ (codes ":" ∷ separated (codes ",") one_way_tokens operations)
+abbrev pub group_tokens : OperationGroup → Tokens
+group_tokens (group.RequestResponse at operations) =
+    codes "RequestResponse" ∷ (codes ":" ∷ separated (codes ",") request_response_tokens operations)
+group_tokens (group.OneWay at operations) =
+    codes "OneWay" ∷ (codes ":" ∷ separated (codes ",") one_way_tokens operations)
 
 -- an interface
-abbrev pub interface_tokens : Interface → List Token
+abbrev pub interface_tokens : Interface → Tokens
 interface_tokens i = codes "interface" ∷ (i.name.text ∷ in_braces (flat_map group_tokens i.groups))
 
 -- ---- services
@@ -140,40 +146,44 @@ execution_token execution.Concurrent = codes "concurrent"
 execution_token execution.Single = codes "single"
 
 -- the protocol of a port, if one is written
-abbrev pub protocol_tokens : Option Name → List Token
+abbrev pub protocol_tokens : Option Name → Tokens
 protocol_tokens None = []
 protocol_tokens (Some name) = codes "protocol" ∷ (codes ":" ∷ (name.text ∷ []))
 
 -- a port behind its first word
-abbrev pub port_tokens : Port → List Token
+abbrev pub port_tokens : Port → Tokens
 port_tokens p =
-    p.name.text ∷ in_braces (codes "location" ∷ (codes ":" ∷ (quoted_token p.location.text ∷ (protocol_tokens p.protocol ++ codes "interfaces" ∷ (codes ":" ∷ separated (codes ",") name_tokens p.interfaces)))))
+    p.name.text
+    ∷ in_braces (codes "location" ∷ (codes ":" ∷ (quoted_token p.location.text
+    ∷ (protocol_tokens p.protocol ++ codes "interfaces"
+    ∷ (codes ":" ∷ separated (codes ",") name_tokens p.interfaces)))))
 
 -- a type and the fields that lead to a variable's value in it
-abbrev pub alias_tokens : Alias → List Token
+abbrev pub alias_tokens : Alias → Tokens
 alias_tokens a = a.ty.text ∷ (codes "." ∷ (a.first.text ∷ flat_map (λ name. codes "." ∷ name_tokens name) a.rest))
 
 -- a variable of a `cset`
-abbrev pub variable_tokens : CorrelationVariable → List Token
+abbrev pub variable_tokens : CorrelationVariable → Tokens
 variable_tokens v = v.name.text ∷ (codes ":" ∷ flat_map alias_tokens v.aliases)
 
 -- a clause of a service
-abbrev pub clause_tokens : Clause → List Token
+abbrev pub clause_tokens : Clause → Tokens
 clause_tokens (clause.Execution at execution) = codes "execution" ∷ (codes ":" ∷ (execution_token execution ∷ []))
 clause_tokens (clause.InputPort port) = codes "inputPort" ∷ port_tokens port
 clause_tokens (clause.OutputPort port) = codes "outputPort" ∷ port_tokens port
-clause_tokens (clause.CorrelationSet at variables) = codes "cset" ∷ in_braces (separated (codes ",") variable_tokens variables)
+clause_tokens (clause.CorrelationSet at variables) =
+    codes "cset" ∷ in_braces (separated (codes ",") variable_tokens variables)
 clause_tokens (clause.Init at body) = codes "init" ∷ block_tokens body
 clause_tokens (clause.Main at body) = codes "main" ∷ block_tokens body
 
 -- a service
-abbrev pub service_tokens : Service → List Token
+abbrev pub service_tokens : Service → Tokens
 service_tokens s = codes "service" ∷ (s.name.text ∷ in_braces (flat_map clause_tokens s.clauses))
 
 -- ---- files
 
 -- a definition
-abbrev pub definition_tokens : Definition → List Token
+abbrev pub definition_tokens : Definition → Tokens
 definition_tokens (definition.Type t) = type_tokens t
 definition_tokens (definition.Interface i) = interface_tokens i
 definition_tokens (definition.Service s) = service_tokens s

@@ -1,5 +1,6 @@
 -- The tokens of an expression.
-use Rattle.std.specs.Prelude.{ℕ, ℤ, Bool, true, false, List, [], ◌∷◌, ◌++◌, flat_map, Option, Some, None, codes, ◌==◌, if◌then◌else◌}
+use Rattle.std.specs.Prelude.{ℕ, ℤ, Bool, true, false, List, [], ◌∷◌, ◌++◌, flat_map}
+use Rattle.std.specs.Prelude.{Option, Some, None, codes, ◌==◌, if◌then◌else◌}
 use Rattle.std.specs.Fmt.{signed_decimal}
 use Rattle.jolie_ast.specs.declared.name.Name.{Name}
 use Rattle.jolie_ast.specs.declared.expression.Additive.{Additive}
@@ -10,8 +11,10 @@ use Rattle.jolie_ast.specs.declared.expression.Comparison.{Comparison}
 use Rattle.jolie_ast.specs.declared.expression.Comparison.TheVariants as comparison
 use Rattle.jolie_ast.specs.declared.expression.CastTarget.{CastTarget}
 use Rattle.jolie_ast.specs.declared.expression.CastTarget.TheVariants as target
-use Rattle.jolie_ast.specs.declared.expression.ExprForm.TheOpen.{Expr-F, ExprForm-F, Factor-F, Member-F, Path-F, Step-F, Term-F}
-use Rattle.jolie_ast.specs.declared.expression.ExprForm.TheFolds.{fold-Expr, fold-ExprForm, fold-Factor, fold-Member, fold-Path, fold-Step, fold-Term}
+use Rattle.jolie_ast.specs.declared.expression.ExprForm.TheOpen.{Expr-F, ExprForm-F, Factor-F}
+use Rattle.jolie_ast.specs.declared.expression.ExprForm.TheOpen.{Member-F, Path-F, Step-F, Term-F}
+use Rattle.jolie_ast.specs.declared.expression.ExprForm.TheFolds.{fold-Expr, fold-ExprForm, fold-Factor}
+use Rattle.jolie_ast.specs.declared.expression.ExprForm.TheFolds.{fold-Member, fold-Path, fold-Step, fold-Term}
 use Rattle.jolie_ast.specs.declared.expression.Expr.{Expr}
 use Rattle.jolie_ast.specs.declared.expression.ExprForm.{ExprForm}
 use Rattle.jolie_ast.specs.declared.expression.Factor.{Factor}
@@ -19,7 +22,7 @@ use Rattle.jolie_ast.specs.declared.expression.Term.{Term}
 use Rattle.jolie_ast.specs.declared.expression.Member.{Member}
 use Rattle.jolie_ast.specs.declared.expression.Path.{Path}
 use Rattle.jolie_ast.specs.declared.expression.Step.{Step}
-use Rattle.jolie_ast.specs.Spacing.{Token, separated}
+use Rattle.jolie_ast.specs.Spacing.{Token, Tokens, separated}
 
 -- ---- words, numbers and strings
 
@@ -51,7 +54,7 @@ truth_token true = codes "true"
 truth_token false = codes "false"
 
 -- a word
-abbrev pub name_tokens : Name → List Token
+abbrev pub name_tokens : Name → Tokens
 name_tokens name = name.text ∷ []
 
 -- ---- operators
@@ -85,19 +88,19 @@ cast_token target.Str = codes "string"
 -- ---- brackets
 
 -- tokens in parentheses
-abbrev pub in_parens : List Token → List Token
+abbrev pub in_parens : Tokens → Tokens
 in_parens ts = codes "(" ∷ (ts ++ codes ")" ∷ [])
 
 -- tokens in brackets
-abbrev pub in_brackets : List Token → List Token
+abbrev pub in_brackets : Tokens → Tokens
 in_brackets ts = codes "[" ∷ (ts ++ codes "]" ∷ [])
 
 -- tokens in braces
-abbrev pub in_braces : List Token → List Token
+abbrev pub in_braces : Tokens → Tokens
 in_braces ts = codes "{" ∷ (ts ++ codes "}" ∷ [])
 
 -- the tokens of a part, if it is written
-abbrev pub maybe : Option (List Token) → List Token
+abbrev pub maybe : Option Tokens → Tokens
 maybe None = []
 maybe (Some ts) = ts
 
@@ -106,22 +109,22 @@ maybe (Some ts) = ts
 -- the tokens of an expression, and whether it is an operation with two or more operands
 pub record Shown : Type 0 where
   pub several : Bool
-  pub tokens : List Token
+  pub tokens : Tokens
 
 -- tokens that are no operation with two or more operands
-abbrev pub simple : List Token → Shown
+abbrev pub simple : Tokens → Shown
 simple ts = record { several = false; tokens = ts }
 
 -- tokens of an operation with two or more operands
-abbrev pub operation : List Token → Shown
+abbrev pub operation : Tokens → Shown
 operation ts = record { several = true; tokens = ts }
 
 -- an operand: in parentheses where it is an operation with two or more operands
-abbrev pub operand : Shown → List Token
+abbrev pub operand : Shown → Tokens
 operand s = if s.several then in_parens s.tokens else s.tokens
 
 -- one level of a form, with the tokens of its parts
-abbrev pub form_level : ExprForm-F Shown Shown (List Token) (List Token) (List Token) (List Token) (List Token) → Shown
+abbrev pub form_level : ExprForm-F Shown Shown Tokens Tokens Tokens Tokens Tokens → Shown
 form_level (ExprForm-F.Int n) = simple (int_token n ∷ [])
 form_level (ExprForm-F.Long n) = simple (long_token n ∷ [])
 form_level (ExprForm-F.Str text) = simple (quoted_token text ∷ [])
@@ -135,71 +138,86 @@ form_level (ExprForm-F.Minus value) = simple (codes "-" ∷ operand value)
 form_level (ExprForm-F.Not value) = simple (codes "!" ∷ operand value)
 form_level (ExprForm-F.Product first rest) = operation (operand first ++ flat_map (λ ts. ts) rest)
 form_level (ExprForm-F.Sum first rest) = operation (operand first ++ flat_map (λ ts. ts) rest)
-form_level (ExprForm-F.Compare left compared right) = operation (operand left ++ comparison_token compared ∷ operand right)
+form_level (ExprForm-F.Compare left compared right) =
+    operation (operand left ++ comparison_token compared ∷ operand right)
 form_level (ExprForm-F.And values) = operation (separated (codes "&&") operand values)
 form_level (ExprForm-F.Or values) = operation (separated (codes "||") operand values)
 
 -- one level of an expression
-abbrev pub expr_level : Expr-F Shown Shown (List Token) (List Token) (List Token) (List Token) (List Token) → Shown
+abbrev pub expr_level : Expr-F Shown Shown Tokens Tokens Tokens Tokens Tokens → Shown
 expr_level e = e.form
 
 -- one level of a later operand of a product
-abbrev pub factor_level : Factor-F Shown Shown (List Token) (List Token) (List Token) (List Token) (List Token) → List Token
+abbrev pub factor_level : Factor-F Shown Shown Tokens Tokens Tokens Tokens Tokens → Tokens
 factor_level f = multiplicative_token f.operator ∷ operand f.operand
 
 -- one level of a later operand of a sum
-abbrev pub term_level : Term-F Shown Shown (List Token) (List Token) (List Token) (List Token) (List Token) → List Token
+abbrev pub term_level : Term-F Shown Shown Tokens Tokens Tokens Tokens Tokens → Tokens
 term_level t = additive_token t.operator ∷ operand t.operand
 
 -- one level of a member of a literal
-abbrev pub member_level : Member-F Shown Shown (List Token) (List Token) (List Token) (List Token) (List Token) → List Token
+abbrev pub member_level : Member-F Shown Shown Tokens Tokens Tokens Tokens Tokens → Tokens
 member_level m = m.name.text ∷ (codes "=" ∷ m.value.tokens)
 
 -- one level of a path: its first step, and each further one behind a dot
-abbrev pub path_level : Path-F Shown Shown (List Token) (List Token) (List Token) (List Token) (List Token) → List Token
+abbrev pub path_level : Path-F Shown Shown Tokens Tokens Tokens Tokens Tokens → Tokens
 path_level p = p.first ++ flat_map (λ ts. codes "." ∷ ts) p.rest
 
 -- the tokens of an index, if one is written
-abbrev pub index_tokens : Option Shown → List Token
+abbrev pub index_tokens : Option Shown → Tokens
 index_tokens None = []
 index_tokens (Some value) = in_brackets value.tokens
 
 -- one level of a step of a path
-abbrev pub step_level : Step-F Shown Shown (List Token) (List Token) (List Token) (List Token) (List Token) → List Token
+abbrev pub step_level : Step-F Shown Shown Tokens Tokens Tokens Tokens Tokens → Tokens
 step_level s = s.name.text ∷ index_tokens s.index
 
 -- the tokens of a form, and whether it has several operands
 unfoldable pub form_shown : ExprForm → Shown
-form_shown = fold-ExprForm Shown Shown (List Token) (List Token) (List Token) (List Token) (List Token) form_level expr_level factor_level member_level path_level step_level term_level
+form_shown =
+    fold-ExprForm Shown Shown Tokens Tokens Tokens Tokens Tokens
+    form_level expr_level factor_level member_level path_level step_level term_level
 
 -- the tokens of an expression, and whether it has several operands
 unfoldable pub expr_shown : Expr → Shown
-expr_shown = fold-Expr Shown Shown (List Token) (List Token) (List Token) (List Token) (List Token) form_level expr_level factor_level member_level path_level step_level term_level
+expr_shown =
+    fold-Expr Shown Shown Tokens Tokens Tokens Tokens Tokens
+    form_level expr_level factor_level member_level path_level step_level term_level
 
 -- the tokens of a later operand of a product, with its operator
-unfoldable pub factor_tokens : Factor → List Token
-factor_tokens = fold-Factor Shown Shown (List Token) (List Token) (List Token) (List Token) (List Token) form_level expr_level factor_level member_level path_level step_level term_level
+unfoldable pub factor_tokens : Factor → Tokens
+factor_tokens =
+    fold-Factor Shown Shown Tokens Tokens Tokens Tokens Tokens
+    form_level expr_level factor_level member_level path_level step_level term_level
 
 -- the tokens of a later operand of a sum, with its operator
-unfoldable pub term_tokens : Term → List Token
-term_tokens = fold-Term Shown Shown (List Token) (List Token) (List Token) (List Token) (List Token) form_level expr_level factor_level member_level path_level step_level term_level
+unfoldable pub term_tokens : Term → Tokens
+term_tokens =
+    fold-Term Shown Shown Tokens Tokens Tokens Tokens Tokens
+    form_level expr_level factor_level member_level path_level step_level term_level
 
 -- the tokens of a member of a literal
-unfoldable pub member_tokens : Member → List Token
-member_tokens = fold-Member Shown Shown (List Token) (List Token) (List Token) (List Token) (List Token) form_level expr_level factor_level member_level path_level step_level term_level
+unfoldable pub member_tokens : Member → Tokens
+member_tokens =
+    fold-Member Shown Shown Tokens Tokens Tokens Tokens Tokens
+    form_level expr_level factor_level member_level path_level step_level term_level
 
 -- the tokens of a path
-unfoldable pub path_tokens : Path → List Token
-path_tokens = fold-Path Shown Shown (List Token) (List Token) (List Token) (List Token) (List Token) form_level expr_level factor_level member_level path_level step_level term_level
+unfoldable pub path_tokens : Path → Tokens
+path_tokens =
+    fold-Path Shown Shown Tokens Tokens Tokens Tokens Tokens
+    form_level expr_level factor_level member_level path_level step_level term_level
 
 -- the tokens of a step of a path
-unfoldable pub step_tokens : Step → List Token
-step_tokens = fold-Step Shown Shown (List Token) (List Token) (List Token) (List Token) (List Token) form_level expr_level factor_level member_level path_level step_level term_level
+unfoldable pub step_tokens : Step → Tokens
+step_tokens =
+    fold-Step Shown Shown Tokens Tokens Tokens Tokens Tokens
+    form_level expr_level factor_level member_level path_level step_level term_level
 
 -- the tokens of an expression that is no operand
-abbrev pub expr_tokens : Expr → List Token
+abbrev pub expr_tokens : Expr → Tokens
 expr_tokens e = (expr_shown e).tokens
 
 -- the tokens of an expression that is an operand
-abbrev pub operand_tokens : Expr → List Token
+abbrev pub operand_tokens : Expr → Tokens
 operand_tokens e = operand (expr_shown e)

@@ -10,8 +10,11 @@ use Rattle.jolie_ast.specs.declared.process.ForStep.{ForStep}
 use Rattle.jolie_ast.specs.declared.process.ForStep.TheVariants as for_step
 use Rattle.jolie_ast.specs.declared.process.HandlerKey.{HandlerKey}
 use Rattle.jolie_ast.specs.declared.process.HandlerKey.TheVariants as key
-use Rattle.jolie_ast.specs.declared.process.Otherwise.TheOpen.{Answer-F, Block-F, Branch-F, Handler-F, If-F, Input-F, Otherwise-F, Process-F, Reply-F}
-use Rattle.jolie_ast.specs.declared.process.Otherwise.TheFolds.{fold-Answer, fold-Block, fold-Branch, fold-Handler, fold-If, fold-Input, fold-Otherwise, fold-Process, fold-Reply}
+use Rattle.jolie_ast.specs.declared.process.Otherwise.TheOpen.{Answer-F, Block-F, Branch-F, Handler-F, If-F}
+use Rattle.jolie_ast.specs.declared.process.Otherwise.TheOpen.{Input-F, Otherwise-F, Process-F, Reply-F}
+use Rattle.jolie_ast.specs.declared.process.Otherwise.TheFolds.{fold-Answer, fold-Block, fold-Branch}
+use Rattle.jolie_ast.specs.declared.process.Otherwise.TheFolds.{fold-Handler, fold-If, fold-Input}
+use Rattle.jolie_ast.specs.declared.process.Otherwise.TheFolds.{fold-Otherwise, fold-Process, fold-Reply}
 use Rattle.jolie_ast.specs.declared.process.Process.{Process}
 use Rattle.jolie_ast.specs.declared.process.Block.{Block}
 use Rattle.jolie_ast.specs.declared.process.If.{If}
@@ -21,7 +24,7 @@ use Rattle.jolie_ast.specs.declared.process.Reply.{Reply}
 use Rattle.jolie_ast.specs.declared.process.Branch.{Branch}
 use Rattle.jolie_ast.specs.declared.process.Answer.{Answer}
 use Rattle.jolie_ast.specs.declared.process.Handler.{Handler}
-use Rattle.jolie_ast.specs.Spacing.{Token, separated}
+use Rattle.jolie_ast.specs.Spacing.{Token, Tokens, separated}
 use Rattle.jolie_ast.specs.PrintedExpressions.{in_parens, in_brackets, in_braces, maybe, expr_tokens, path_tokens}
 
 -- the sign of a count: `++` or `--`
@@ -30,13 +33,13 @@ count_token count.Up = codes "++"
 count_token count.Down = codes "--"
 
 -- what is done to a path
-abbrev pub assignment_tokens : Assignment → List Token
+abbrev pub assignment_tokens : Assignment → Tokens
 assignment_tokens (assignment.Root value) = codes "=" ∷ expr_tokens value
 assignment_tokens (assignment.Copy value) = codes "<<" ∷ expr_tokens value
 assignment_tokens (assignment.Count count) = count_token count ∷ []
 
 -- what the last part of a `for` does to its path
-abbrev pub for_step_tokens : ForStep → List Token
+abbrev pub for_step_tokens : ForStep → Tokens
 for_step_tokens (for_step.Root value) = codes "=" ∷ expr_tokens value
 for_step_tokens (for_step.Count count) = count_token count ∷ []
 
@@ -46,36 +49,43 @@ key_token (key.This at) = codes "this"
 key_token (key.Named name) = name.text
 
 -- a path in parentheses, if one is written
-abbrev pub path_parens : Option Path → List Token
+abbrev pub path_parens : Option Path → Tokens
 path_parens path = in_parens (maybe (option_map path_tokens path))
 
 -- a value in parentheses, if one is written
-abbrev pub value_parens : Option Expr → List Token
+abbrev pub value_parens : Option Expr → Tokens
 value_parens value = in_parens (maybe (option_map expr_tokens value))
 
 -- the data of a `throw` behind a comma, if any is written
-abbrev pub thrown_tokens : Option Expr → List Token
+abbrev pub thrown_tokens : Option Expr → Tokens
 thrown_tokens None = []
 thrown_tokens (Some value) = codes "," ∷ expr_tokens value
 
 -- handlers in brackets, if a list is written
-abbrev pub handler_brackets : Option (List (List Token)) → List Token
+abbrev pub handler_brackets : Option (List Tokens) → Tokens
 handler_brackets None = []
 handler_brackets (Some handlers) = in_brackets (separated (codes ",") (λ ts. ts) handlers)
 
 -- one level of a process, with the tokens of its parts
-abbrev pub process_level : Process-F (List Token) (List Token) (List Token) (List Token) (List Token) (List Token) (List Token) (List Token) (List Token) → List Token
+abbrev pub process_level : Process-F Tokens Tokens Tokens Tokens Tokens Tokens Tokens Tokens Tokens → Tokens
 process_level (Process-F.«Process::Nothing» at) = codes "nullProcess" ∷ []
 process_level (Process-F.Assign path assignment) = path_tokens path ++ assignment_tokens assignment
 process_level (Process-F.Undef at path) = codes "undef" ∷ in_parens (path_tokens path)
-process_level (Process-F.Correlate at variable value) = codes "csets" ∷ (codes "." ∷ (variable.text ∷ (codes "=" ∷ expr_tokens value)))
+process_level (Process-F.Correlate at variable value) =
+    codes "csets" ∷ (codes "." ∷ (variable.text ∷ (codes "=" ∷ expr_tokens value)))
 process_level (Process-F.If conditional) = conditional
 process_level (Process-F.While at test body) = codes "while" ∷ (in_parens (expr_tokens test) ++ body)
 process_level (Process-F.For at path first test stepped step body) =
-    codes "for" ∷ (in_parens (path_tokens path ++ codes "=" ∷ (expr_tokens first ++ codes "," ∷ (expr_tokens test ++ codes "," ∷ (path_tokens stepped ++ for_step_tokens step)))) ++ body)
+    codes "for"
+    ∷ (in_parens (path_tokens path ++ codes "="
+    ∷ (expr_tokens first ++ codes ","
+    ∷ (expr_tokens test ++ codes ","
+    ∷ (path_tokens stepped ++ for_step_tokens step))))
+    ++ body)
 process_level (Process-F.Input input) = input
 process_level (Process-F.Choice at branches) = flat_map (λ ts. ts) branches
-process_level (Process-F.Output operation port value answer) = operation.text ∷ (codes "@" ∷ (port.text ∷ (value_parens value ++ maybe answer)))
+process_level (Process-F.Output operation port value answer) =
+    operation.text ∷ (codes "@" ∷ (port.text ∷ (value_parens value ++ maybe answer)))
 process_level (Process-F.Scope at name body) = codes "scope" ∷ (in_parens (name.text ∷ []) ++ body)
 process_level (Process-F.Install at handlers) = codes "install" ∷ in_parens (separated (codes ",") (λ ts. ts) handlers)
 process_level (Process-F.Throw at fault value) = codes "throw" ∷ in_parens (fault.text ∷ thrown_tokens value)
@@ -86,71 +96,89 @@ process_level (Process-F.Sequence statements) = separated (codes ";") (λ ts. ts
 process_level (Process-F.Parallel members) = separated (codes "|") (λ ts. ts) members
 
 -- one level of a block: braces, and what stands in them
-abbrev pub block_level : Block-F (List Token) (List Token) (List Token) (List Token) (List Token) (List Token) (List Token) (List Token) (List Token) → List Token
+abbrev pub block_level : Block-F Tokens Tokens Tokens Tokens Tokens Tokens Tokens Tokens Tokens → Tokens
 block_level b = in_braces (maybe b.body)
 
 -- one level of an `if`
-abbrev pub if_level : If-F (List Token) (List Token) (List Token) (List Token) (List Token) (List Token) (List Token) (List Token) (List Token) → List Token
+abbrev pub if_level : If-F Tokens Tokens Tokens Tokens Tokens Tokens Tokens Tokens Tokens → Tokens
 if_level i = codes "if" ∷ (in_parens (expr_tokens i.test) ++ i.body ++ i.otherwise)
 
 -- one level of what an `if` does where its test fails
-abbrev pub otherwise_level : Otherwise-F (List Token) (List Token) (List Token) (List Token) (List Token) (List Token) (List Token) (List Token) (List Token) → List Token
+abbrev pub otherwise_level : Otherwise-F Tokens Tokens Tokens Tokens Tokens Tokens Tokens Tokens Tokens → Tokens
 otherwise_level Otherwise-F.«Otherwise::Nothing» = []
 otherwise_level (Otherwise-F.ElseIf conditional) = codes "else" ∷ conditional
 otherwise_level (Otherwise-F.Else block) = codes "else" ∷ block
 
 -- one level of an input
-abbrev pub input_level : Input-F (List Token) (List Token) (List Token) (List Token) (List Token) (List Token) (List Token) (List Token) (List Token) → List Token
+abbrev pub input_level : Input-F Tokens Tokens Tokens Tokens Tokens Tokens Tokens Tokens Tokens → Tokens
 input_level i = i.operation.text ∷ (path_parens i.request ++ maybe i.reply)
 
 -- one level of a reply part
-abbrev pub reply_level : Reply-F (List Token) (List Token) (List Token) (List Token) (List Token) (List Token) (List Token) (List Token) (List Token) → List Token
+abbrev pub reply_level : Reply-F Tokens Tokens Tokens Tokens Tokens Tokens Tokens Tokens Tokens → Tokens
 reply_level r = path_parens r.path ++ r.body
 
 -- one level of a branch: its input in brackets, and what comes after
-abbrev pub branch_level : Branch-F (List Token) (List Token) (List Token) (List Token) (List Token) (List Token) (List Token) (List Token) (List Token) → List Token
+abbrev pub branch_level : Branch-F Tokens Tokens Tokens Tokens Tokens Tokens Tokens Tokens Tokens → Tokens
 branch_level b = in_brackets b.input ++ b.after
 
 -- one level of what an output awaits
-abbrev pub answer_level : Answer-F (List Token) (List Token) (List Token) (List Token) (List Token) (List Token) (List Token) (List Token) (List Token) → List Token
+abbrev pub answer_level : Answer-F Tokens Tokens Tokens Tokens Tokens Tokens Tokens Tokens Tokens → Tokens
 answer_level a = path_parens a.path ++ handler_brackets a.handlers
 
 -- one level of a handler
-abbrev pub handler_level : Handler-F (List Token) (List Token) (List Token) (List Token) (List Token) (List Token) (List Token) (List Token) (List Token) → List Token
+abbrev pub handler_level : Handler-F Tokens Tokens Tokens Tokens Tokens Tokens Tokens Tokens Tokens → Tokens
 handler_level h = key_token h.key ∷ (codes "=>" ∷ h.body)
 
 -- the tokens of a process
-unfoldable pub process_tokens : Process → List Token
-process_tokens = fold-Process (List Token) (List Token) (List Token) (List Token) (List Token) (List Token) (List Token) (List Token) (List Token) otherwise_level process_level answer_level block_level branch_level handler_level if_level input_level reply_level
+unfoldable pub process_tokens : Process → Tokens
+process_tokens =
+    fold-Process Tokens Tokens Tokens Tokens Tokens Tokens Tokens Tokens Tokens
+    otherwise_level process_level answer_level block_level branch_level handler_level if_level input_level reply_level
 
 -- the tokens of a block
-unfoldable pub block_tokens : Block → List Token
-block_tokens = fold-Block (List Token) (List Token) (List Token) (List Token) (List Token) (List Token) (List Token) (List Token) (List Token) otherwise_level process_level answer_level block_level branch_level handler_level if_level input_level reply_level
+unfoldable pub block_tokens : Block → Tokens
+block_tokens =
+    fold-Block Tokens Tokens Tokens Tokens Tokens Tokens Tokens Tokens Tokens
+    otherwise_level process_level answer_level block_level branch_level handler_level if_level input_level reply_level
 
 -- the tokens of an `if`
-unfoldable pub if_tokens : If → List Token
-if_tokens = fold-If (List Token) (List Token) (List Token) (List Token) (List Token) (List Token) (List Token) (List Token) (List Token) otherwise_level process_level answer_level block_level branch_level handler_level if_level input_level reply_level
+unfoldable pub if_tokens : If → Tokens
+if_tokens =
+    fold-If Tokens Tokens Tokens Tokens Tokens Tokens Tokens Tokens Tokens
+    otherwise_level process_level answer_level block_level branch_level handler_level if_level input_level reply_level
 
 -- the tokens of what an `if` does where its test fails
-unfoldable pub otherwise_tokens : Otherwise → List Token
-otherwise_tokens = fold-Otherwise (List Token) (List Token) (List Token) (List Token) (List Token) (List Token) (List Token) (List Token) (List Token) otherwise_level process_level answer_level block_level branch_level handler_level if_level input_level reply_level
+unfoldable pub otherwise_tokens : Otherwise → Tokens
+otherwise_tokens =
+    fold-Otherwise Tokens Tokens Tokens Tokens Tokens Tokens Tokens Tokens Tokens
+    otherwise_level process_level answer_level block_level branch_level handler_level if_level input_level reply_level
 
 -- the tokens of an input
-unfoldable pub input_tokens : Input → List Token
-input_tokens = fold-Input (List Token) (List Token) (List Token) (List Token) (List Token) (List Token) (List Token) (List Token) (List Token) otherwise_level process_level answer_level block_level branch_level handler_level if_level input_level reply_level
+unfoldable pub input_tokens : Input → Tokens
+input_tokens =
+    fold-Input Tokens Tokens Tokens Tokens Tokens Tokens Tokens Tokens Tokens
+    otherwise_level process_level answer_level block_level branch_level handler_level if_level input_level reply_level
 
 -- the tokens of a reply part
-unfoldable pub reply_tokens : Reply → List Token
-reply_tokens = fold-Reply (List Token) (List Token) (List Token) (List Token) (List Token) (List Token) (List Token) (List Token) (List Token) otherwise_level process_level answer_level block_level branch_level handler_level if_level input_level reply_level
+unfoldable pub reply_tokens : Reply → Tokens
+reply_tokens =
+    fold-Reply Tokens Tokens Tokens Tokens Tokens Tokens Tokens Tokens Tokens
+    otherwise_level process_level answer_level block_level branch_level handler_level if_level input_level reply_level
 
 -- the tokens of a branch
-unfoldable pub branch_tokens : Branch → List Token
-branch_tokens = fold-Branch (List Token) (List Token) (List Token) (List Token) (List Token) (List Token) (List Token) (List Token) (List Token) otherwise_level process_level answer_level block_level branch_level handler_level if_level input_level reply_level
+unfoldable pub branch_tokens : Branch → Tokens
+branch_tokens =
+    fold-Branch Tokens Tokens Tokens Tokens Tokens Tokens Tokens Tokens Tokens
+    otherwise_level process_level answer_level block_level branch_level handler_level if_level input_level reply_level
 
 -- the tokens of what an output awaits
-unfoldable pub answer_tokens : Answer → List Token
-answer_tokens = fold-Answer (List Token) (List Token) (List Token) (List Token) (List Token) (List Token) (List Token) (List Token) (List Token) otherwise_level process_level answer_level block_level branch_level handler_level if_level input_level reply_level
+unfoldable pub answer_tokens : Answer → Tokens
+answer_tokens =
+    fold-Answer Tokens Tokens Tokens Tokens Tokens Tokens Tokens Tokens Tokens
+    otherwise_level process_level answer_level block_level branch_level handler_level if_level input_level reply_level
 
 -- the tokens of a handler
-unfoldable pub handler_tokens : Handler → List Token
-handler_tokens = fold-Handler (List Token) (List Token) (List Token) (List Token) (List Token) (List Token) (List Token) (List Token) (List Token) otherwise_level process_level answer_level block_level branch_level handler_level if_level input_level reply_level
+unfoldable pub handler_tokens : Handler → Tokens
+handler_tokens =
+    fold-Handler Tokens Tokens Tokens Tokens Tokens Tokens Tokens Tokens Tokens
+    otherwise_level process_level answer_level block_level branch_level handler_level if_level input_level reply_level

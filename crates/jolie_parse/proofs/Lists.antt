@@ -6,7 +6,7 @@ use Rattle.jolie_parse.specs.declared.class.Class.{Class}
 use Rattle.jolie_parse.specs.declared.stop.Stop.{Stop}
 use Rattle.jolie_parse.specs.declared.stop.Stop.TheVariants.{Syntax, TooDeep, Memory}
 use Rattle.jolie_parse.specs.Classes.{Spelled, class, has, begins}
-use Rattle.jolie_parse.specs.Syntax.{Syn, token, both, either, many, means, optional}
+use Rattle.jolie_parse.specs.Syntax.{Syn, token, both, either, many, means, optional, behind}
 use Rattle.jolie_parse.specs.Deciding.{first, further, nullable, disjoint}
 use Rattle.jolie_parse.specs.Grammar.{list_of}
 use Rattle.jolie_parse.specs.Factored.{Within, Nests, decided}
@@ -18,6 +18,7 @@ use Rattle.jolie_parse.proofs.Outcomes.{Explains}
 use Rattle.jolie_parse.proofs.Explain.{explain, Bef}
 use Rattle.jolie_parse.proofs.Phrases.{rules_some}
 use Rattle.jolie_parse.proofs.Sets.{and_left, and_right, not_true}
+use Rattle.jolie_parse.proofs.Steps.{found_taken, none_taken}
 
 -- ---- what is read takes tokens
 
@@ -122,14 +123,8 @@ module _ {A : Type 0} (n : ℕ) (s m : Syn A) where
   unfolding more
   list_by ts r v h = rw h (joined_first v (read n (many m) r))
 
-  pub rest_stops : (ts r q : List Spelled) (v : A) (one : List A) (e : Stop) → read n s ts ≡ got v r → one ≡ v ∷ [] → Stops (more n m one r) e q → Stops (read n (list_syn s m) ts) e q
-  rest_stops ts r q v one e h o k = rw (list_by ts r v h) (rw o at k)
-
-  pub list_read : (ts r q : List Spelled) (v : A) (one xs : List A) → read n s ts ≡ got v r → one ≡ v ∷ [] → more n m one r ≡ got xs q → read n (list_syn s m) ts ≡ got xs q
-  list_read ts r q v one xs h o k = rw (list_by ts r v h) (rw o at k)
-
-  pub list_reads : (ts r q : List Spelled) (v : A) (one : List A) (result : Result (List A) Stop) → read n s ts ≡ got v r → one ≡ v ∷ [] → Reads (more n m one r) result q → Reads (read n (list_syn s m) ts) result q
-  list_reads ts r q v one result h o k = rw (list_by ts r v h) (rw o at k)
+  pub list_begun : (ts r : List Spelled) (v : A) (one : List A) → read n s ts ≡ got v r → one ≡ v ∷ [] → read n (list_syn s m) ts ≡ more n m one r
+  list_begun ts r v one h o = list_by ts r v h ∙ ap (λ xs. more n m xs r) (sym o)
 
 -- a list that may be left out, where nothing is the empty list
 pub unwrapped : {A : Type 0} (o : Outcome (List A)) → and_then (and_then o (λ a r. got (Some a) r)) (λ a r. got (list_of a) r) ≡ o
@@ -140,14 +135,37 @@ unwrapped (too_deep q) = refl
 -- ---- the turns of a loop that reads more members
 
 module _ {A : Type 0} (n : ℕ) (s : Syn A) (dec : decided (many s) ≡ true) where
-  pub turn_fails : (xs ys : List A) (ts r q : List Spelled) (b : Bool) (e : Stop) → more n s xs ts ≡ more n s ys r → b ≡ begins (first s) r → b ≡ true → Stops (read n s r) e q → Stops (more n s xs ts) e q
-  turn_fails xs ys ts r q b e inv found so h = rw inv (more_fails n s dec ys r q e (sym found ∙ so) h)
+  pub turn_fails : (o : Outcome (List A)) (ys : List A) (r q : List Spelled) (b : Bool) (e : Stop) → o ≡ more n s ys r → b ≡ begins (first s) r → b ≡ true → Stops (read n s r) e q → Stops o e q
+  turn_fails o ys r q b e inv found so h = rw inv (more_fails n s dec ys r q e (sym found ∙ so) h)
 
-  pub turn_goes : (xs ys zs : List A) (ts r q : List Spelled) (b : Bool) (v : A) → more n s xs ts ≡ more n s ys r → b ≡ begins (first s) r → b ≡ true → read n s r ≡ got v q → zs ≡ ys ++ v ∷ [] → more n s xs ts ≡ more n s zs q
-  turn_goes xs ys zs ts r q b v inv found so h pushed = inv ∙ more_goes n s dec ys r q v (sym found ∙ so) h ∙ ap (λ z. more n s z q) (sym pushed)
+  pub turn_goes : (o : Outcome (List A)) (ys zs : List A) (r q : List Spelled) (b : Bool) (v : A) → o ≡ more n s ys r → b ≡ begins (first s) r → b ≡ true → read n s r ≡ got v q → zs ≡ ys ++ v ∷ [] → o ≡ more n s zs q
+  turn_goes o ys zs r q b v inv found so h pushed = inv ∙ more_goes n s dec ys r q v (sym found ∙ so) h ∙ ap (λ z. more n s z q) (sym pushed)
 
-  pub turns_end : (xs ys : List A) (ts r : List Spelled) (b : Bool) → more n s xs ts ≡ more n s ys r → b ≡ begins (first s) r → b ≡ false → more n s xs ts ≡ got ys r
-  turns_end xs ys ts r b inv found stop = inv ∙ more_stops n s ys r (sym found ∙ stop)
+  pub turns_end : (o : Outcome (List A)) (ys : List A) (r : List Spelled) (b : Bool) → o ≡ more n s ys r → b ≡ begins (first s) r → b ≡ false → o ≡ got ys r
+  turns_end o ys r b inv found stop = inv ∙ more_stops n s ys r (sym found ∙ stop)
+
+-- ---- the turns of a loop that takes a sign and reads a member behind it
+
+module _ {A : Type 0} (n : ℕ) (k : Class) (s : Syn A) (dec : decided (many (behind k s)) ≡ true) where
+  behind_read : (r p q : List Spelled) (b : Bool) (v : A) → b ≡ begins (k ∷ []) r → p ≡ after (k ∷ []) r → b ≡ true → read n s p ≡ got v q → read n (behind k s) r ≡ got v q
+  behind_read r p q b v found passed so h = let sign = found_taken (k ∷ []) r p b found so passed in rw (sign.1, h) refl
+
+  behind_stops : (r p q : List Spelled) (b : Bool) (e : Stop) → b ≡ begins (k ∷ []) r → p ≡ after (k ∷ []) r → b ≡ true → Stops (read n s p) e q → Stops (read n (behind k s) r) e q
+  behind_stops r p q b e found passed so h =
+      let sign = found_taken (k ∷ []) r p b found so passed in rw sign.1 (stops_then _ _ _ _ (stops_then (read n s p) _ _ _ h))
+
+  pub next_fails : (o : Outcome (List A)) (ys : List A) (r p q : List Spelled) (b : Bool) (e : Stop) → o ≡ more n (behind k s) ys r → b ≡ begins (k ∷ []) r → p ≡ after (k ∷ []) r → b ≡ true → Stops (read n s p) e q → Stops o e q
+  next_fails o ys r p q b e inv found passed so h = turn_fails n (behind k s) dec o ys r q b e inv found so (behind_stops r p q b e found passed so h)
+
+  pub next_shorter : (r p q : List Spelled) (b : Bool) (v : A) → b ≡ begins (k ∷ []) r → p ≡ after (k ∷ []) r → b ≡ true → read n s p ≡ got v q → length q < length r
+  next_shorter r p q b v found passed so h = turn_shorter n (behind k s) dec r q v (behind_read r p q b v found passed so h)
+
+  pub next_goes : (o : Outcome (List A)) (ys zs : List A) (r p q : List Spelled) (b : Bool) (v : A) → o ≡ more n (behind k s) ys r → b ≡ begins (k ∷ []) r → p ≡ after (k ∷ []) r → b ≡ true → read n s p ≡ got v q → zs ≡ ys ++ v ∷ [] → o ≡ more n (behind k s) zs q
+  next_goes o ys zs r p q b v inv found passed so h pushed = turn_goes n (behind k s) dec o ys zs r q b v inv found so (behind_read r p q b v found passed so h) pushed
+
+  pub nexts_end : (o : Outcome (List A)) (ys : List A) (r p : List Spelled) (b : Bool) → o ≡ more n (behind k s) ys r → b ≡ begins (k ∷ []) r → p ≡ after (k ∷ []) r → b ≡ false → o ≡ got ys p
+  nexts_end o ys r p b inv found passed stop =
+      turns_end n (behind k s) dec o ys r b inv found stop ∙ ap (got ys) (sym (none_taken (k ∷ []) r p b found stop passed))
 
 -- ---- what may be left out, and choices
 

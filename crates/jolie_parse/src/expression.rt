@@ -394,69 +394,47 @@ impl<'a> Cursor<'a> {
         Ok(compared(self.alloc, left, &sign, right)?)
     }
 
-    /// `&&` and a comparison.
-    #[tactic(auto, using(crate::proofs::Lists::passes, crate::proofs::Lists::stops_then))]
+    /// Comparisons with `&&` between them.
     #[cycle(expression)]
-    fn next_comparison(&mut self, levels: u32) -> Result<Expr, Stop>
-        ensures { Reads (read levels (syntax.behind c.sign_and spec.comparison) self.old) result self.new }
+    fn comparisons(&mut self, levels: u32) -> Result<Items<Expr>, Stop>
+        ensures { Reads (read levels (syntax.separated c.sign_and spec.comparison) self.old) result self.new }
     {
-        self.sign(Sign::And)?;
-        self.comparison(levels)
-    }
-
-    #[cycle(expression)]
-    fn more_comparisons(
-        &mut self,
-        levels: u32,
-        mut operands: Items<Expr>,
-    ) -> Result<Items<Expr>, Stop>
-        ensures { Reads (more levels (syntax.behind c.sign_and spec.comparison) operands self.old) result self.new }
-    {
-        while self.sees_sign(Sign::And) {
-            operands.push(self.next_comparison(levels)?)?;
+        let first = self.comparison(levels)?;
+        let mut operands = one(self.alloc, first)?;
+        while self.eat(Sign::And) {
+            operands.push(self.comparison(levels)?)?;
         }
         Ok(operands)
     }
 
+    #[tactic(auto, using(crate::proofs::Lists::passes, crate::proofs::Lists::stops_then), unfolding(crate::specs::Grammar::conjunction))]
     #[cycle(expression)]
     fn conjunction(&mut self, levels: u32) -> Result<Expr, Stop>
         ensures { Reads (read levels spec.conjunction self.old) result self.new }
     {
-        let first = self.comparison(levels)?;
-        let operands = self.more_comparisons(levels, one(self.alloc, first)?)?;
+        let operands = self.comparisons(levels)?;
         Ok(and_of(self.alloc, operands)?)
     }
 
-    /// `||` and a conjunction.
-    #[tactic(auto, using(crate::proofs::Lists::passes, crate::proofs::Lists::stops_then))]
+    /// Conjunctions with `||` between them.
     #[cycle(expression)]
-    fn next_conjunction(&mut self, levels: u32) -> Result<Expr, Stop>
-        ensures { Reads (read levels (syntax.behind c.sign_or spec.conjunction) self.old) result self.new }
+    fn conjunctions(&mut self, levels: u32) -> Result<Items<Expr>, Stop>
+        ensures { Reads (read levels (syntax.separated c.sign_or spec.conjunction) self.old) result self.new }
     {
-        self.sign(Sign::Or)?;
-        self.conjunction(levels)
-    }
-
-    #[cycle(expression)]
-    fn more_conjunctions(
-        &mut self,
-        levels: u32,
-        mut operands: Items<Expr>,
-    ) -> Result<Items<Expr>, Stop>
-        ensures { Reads (more levels (syntax.behind c.sign_or spec.conjunction) operands self.old) result self.new }
-    {
-        while self.sees_sign(Sign::Or) {
-            operands.push(self.next_conjunction(levels)?)?;
+        let first = self.conjunction(levels)?;
+        let mut operands = one(self.alloc, first)?;
+        while self.eat(Sign::Or) {
+            operands.push(self.conjunction(levels)?)?;
         }
         Ok(operands)
     }
 
+    #[tactic(auto, using(crate::proofs::Lists::passes, crate::proofs::Lists::stops_then), unfolding(crate::specs::Grammar::expr))]
     #[cycle(expression)]
     pub fn expression(&mut self, levels: u32) -> Result<Expr, Stop>
         ensures { Reads (read levels spec.expr self.old) result self.new }
     {
-        let first = self.conjunction(levels)?;
-        let operands = self.more_conjunctions(levels, one(self.alloc, first)?)?;
+        let operands = self.conjunctions(levels)?;
         Ok(or_of(self.alloc, operands)?)
     }
 
@@ -561,26 +539,15 @@ impl<'a> Cursor<'a> {
         Ok(Member { name, value })
     }
 
-    /// A comma and a member.
-    #[tactic(auto, using(crate::proofs::Lists::passes, crate::proofs::Lists::stops_then))]
+    /// Members with commas between them.
     #[cycle(expression)]
-    fn next_member(&mut self, levels: u32) -> Result<Member, Stop>
-        ensures { Reads (read levels (syntax.behind c.sign_comma spec.member) self.old) result self.new }
+    fn some_members(&mut self, levels: u32) -> Result<Items<Member>, Stop>
+        ensures { Reads (read levels (syntax.separated c.sign_comma spec.member) self.old) result self.new }
     {
-        self.sign(Sign::Comma)?;
-        self.member(levels)
-    }
-
-    #[cycle(expression)]
-    fn more_members(
-        &mut self,
-        levels: u32,
-        mut members: Items<Member>,
-    ) -> Result<Items<Member>, Stop>
-        ensures { Reads (more levels (syntax.behind c.sign_comma spec.member) members self.old) result self.new }
-    {
-        while self.sees_sign(Sign::Comma) {
-            members.push(self.next_member(levels)?)?;
+        let first = self.member(levels)?;
+        let mut members = one(self.alloc, first)?;
+        while self.eat(Sign::Comma) {
+            members.push(self.member(levels)?)?;
         }
         Ok(members)
     }
@@ -592,7 +559,6 @@ impl<'a> Cursor<'a> {
         if !self.sees(&MEMBER_FIRSTS) {
             return Ok(Items::new(self.alloc));
         }
-        let first = self.member(levels)?;
-        self.more_members(levels, one(self.alloc, first)?)
+        self.some_members(levels)
     }
 }

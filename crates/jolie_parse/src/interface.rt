@@ -73,20 +73,15 @@ impl<'a> Cursor<'a> {
         Ok(Fault { name, ty })
     }
 
-    fn more_faults(&mut self, levels: u32, mut faults: Items<Fault>) -> Result<Items<Fault>, Stop>
-        ensures { Reads (more levels spec.fault faults self.old) result self.new }
-    {
-        while self.sees(&IDS) {
-            faults.push(self.fault(levels)?)?;
-        }
-        Ok(faults)
-    }
-
     fn faults(&mut self, levels: u32) -> Result<Items<Fault>, Stop>
         ensures { Reads (read levels (syntax.some_of spec.fault) self.old) result self.new }
     {
         let first = self.fault(levels)?;
-        self.more_faults(levels, one(self.alloc, first)?)
+        let mut faults = one(self.alloc, first)?;
+        while self.sees(&IDS) {
+            faults.push(self.fault(levels)?)?;
+        }
+        Ok(faults)
     }
 
     #[tactic(auto, using(crate::proofs::Lists::passes, crate::proofs::Lists::stops_then), unfolding(crate::specs::Grammar::throws))]
@@ -126,34 +121,16 @@ impl<'a> Cursor<'a> {
         Ok((response, throws))
     }
 
-    /// A comma and a request-response operation.
-    #[tactic(auto, using(crate::proofs::Lists::passes, crate::proofs::Lists::stops_then))]
-    fn next_request_response(&mut self, levels: u32) -> Result<RequestResponse, Stop>
-        ensures { Reads (read levels (syntax.behind c.sign_comma spec.request_response) self.old) result self.new }
-    {
-        self.sign(Sign::Comma)?;
-        self.request_response(levels)
-    }
-
-    fn more_request_responses(
-        &mut self,
-        levels: u32,
-        mut operations: Items<RequestResponse>,
-    ) -> Result<Items<RequestResponse>, Stop>
-        ensures { Reads (more levels (syntax.behind c.sign_comma spec.request_response) operations self.old) result self.new }
-    {
-        while self.sees_sign(Sign::Comma) {
-            operations.push(self.next_request_response(levels)?)?;
-        }
-        Ok(operations)
-    }
-
     /// Request-response operations with commas between them.
     fn request_response_list(&mut self, levels: u32) -> Result<Items<RequestResponse>, Stop>
         ensures { Reads (read levels (syntax.separated c.sign_comma spec.request_response) self.old) result self.new }
     {
         let first = self.request_response(levels)?;
-        self.more_request_responses(levels, one(self.alloc, first)?)
+        let mut operations = one(self.alloc, first)?;
+        while self.eat(Sign::Comma) {
+            operations.push(self.request_response(levels)?)?;
+        }
+        Ok(operations)
     }
 
     #[tactic(auto, using(crate::proofs::Lists::passes, crate::proofs::Lists::stops_then), unfolding(crate::specs::Grammar::request_responses))]
@@ -179,34 +156,16 @@ impl<'a> Cursor<'a> {
         Ok(OneWay { name, request })
     }
 
-    /// A comma and a one-way operation.
-    #[tactic(auto, using(crate::proofs::Lists::passes, crate::proofs::Lists::stops_then))]
-    fn next_one_way(&mut self, levels: u32) -> Result<OneWay, Stop>
-        ensures { Reads (read levels (syntax.behind c.sign_comma spec.one_way) self.old) result self.new }
-    {
-        self.sign(Sign::Comma)?;
-        self.one_way(levels)
-    }
-
-    fn more_one_ways(
-        &mut self,
-        levels: u32,
-        mut operations: Items<OneWay>,
-    ) -> Result<Items<OneWay>, Stop>
-        ensures { Reads (more levels (syntax.behind c.sign_comma spec.one_way) operations self.old) result self.new }
-    {
-        while self.sees_sign(Sign::Comma) {
-            operations.push(self.next_one_way(levels)?)?;
-        }
-        Ok(operations)
-    }
-
     /// One-way operations with commas between them.
     fn one_way_list(&mut self, levels: u32) -> Result<Items<OneWay>, Stop>
         ensures { Reads (read levels (syntax.separated c.sign_comma spec.one_way) self.old) result self.new }
     {
         let first = self.one_way(levels)?;
-        self.more_one_ways(levels, one(self.alloc, first)?)
+        let mut operations = one(self.alloc, first)?;
+        while self.eat(Sign::Comma) {
+            operations.push(self.one_way(levels)?)?;
+        }
+        Ok(operations)
     }
 
     #[tactic(auto, using(crate::proofs::Lists::passes, crate::proofs::Lists::stops_then), unfolding(crate::specs::Grammar::one_ways))]

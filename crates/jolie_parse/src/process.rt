@@ -6,7 +6,7 @@ ghost use Rattle.jolie_parse.specs.Factored as factored;
 ghost use Rattle.jolie_parse.specs.Grammar as spec;
 ghost use Rattle.jolie_parse.specs.Meanings as means_as;
 ghost use Rattle.jolie_parse.specs.Reading.{read};
-ghost use Rattle.jolie_parse.specs.Reads.{Reads, more};
+ghost use Rattle.jolie_parse.specs.Reads.{Reads};
 ghost use Rattle.jolie_parse.specs.Syntax as syntax;
 
 use crate::class::{Class, IDS, STATEMENT_FIRSTS};
@@ -114,71 +114,45 @@ impl<'a> Cursor<'a> {
     }
 
     /// Sequences with `|` between them.
+    #[tactic(auto, using(crate::proofs::Lists::passes, crate::proofs::Lists::stops_then))]
     #[cycle(process)]
     fn parallel(&mut self, levels: u32) -> Result<Process, Stop>
         ensures { Reads (read levels (spec.in_parallel factored.one_statement) self.old) result self.new }
     {
-        let first = self.sequence(levels)?;
-        let sequences = self.more_sequences(levels, one(self.alloc, first)?)?;
-        Ok(parallel_of(sequences))
+        Ok(parallel_of(self.sequences(levels)?))
     }
 
     #[cycle(process)]
-    fn more_sequences(
-        &mut self,
-        levels: u32,
-        mut sequences: Items<Process>,
-    ) -> Result<Items<Process>, Stop>
-        ensures { Reads (more levels (syntax.behind c.sign_bar (spec.in_sequence factored.one_statement)) sequences self.old) result self.new }
+    fn sequences(&mut self, levels: u32) -> Result<Items<Process>, Stop>
+        ensures { Reads (read levels (syntax.separated c.sign_bar (spec.in_sequence factored.one_statement)) self.old) result self.new }
     {
-        while self.sees_sign(Sign::Bar) {
-            sequences.push(self.next_sequence(levels)?)?;
+        let first = self.sequence(levels)?;
+        let mut sequences = one(self.alloc, first)?;
+        while self.eat(Sign::Bar) {
+            sequences.push(self.sequence(levels)?)?;
         }
         Ok(sequences)
     }
 
-    /// `|` and a sequence.
-    #[tactic(auto, using(crate::proofs::Lists::passes, crate::proofs::Lists::stops_then))]
-    #[cycle(process)]
-    fn next_sequence(&mut self, levels: u32) -> Result<Process, Stop>
-        ensures { Reads (read levels (syntax.behind c.sign_bar (spec.in_sequence factored.one_statement)) self.old) result self.new }
-    {
-        self.sign(Sign::Bar)?;
-        self.sequence(levels)
-    }
-
     /// Statements with `;` between them.
+    #[tactic(auto, using(crate::proofs::Lists::passes, crate::proofs::Lists::stops_then))]
     #[cycle(process)]
     fn sequence(&mut self, levels: u32) -> Result<Process, Stop>
         ensures { Reads (read levels (spec.in_sequence factored.one_statement) self.old) result self.new }
     {
-        let first = self.statement(levels)?;
-        let statements = self.more_statements(levels, one(self.alloc, first)?)?;
-        Ok(sequence_of(statements))
+        Ok(sequence_of(self.statements(levels)?))
     }
 
     #[cycle(process)]
-    fn more_statements(
-        &mut self,
-        levels: u32,
-        mut statements: Items<Process>,
-    ) -> Result<Items<Process>, Stop>
-        ensures { Reads (more levels (syntax.behind c.sign_semicolon factored.one_statement) statements self.old) result self.new }
+    fn statements(&mut self, levels: u32) -> Result<Items<Process>, Stop>
+        ensures { Reads (read levels (syntax.separated c.sign_semicolon factored.one_statement) self.old) result self.new }
     {
-        while self.sees_sign(Sign::Semicolon) {
-            statements.push(self.next_statement(levels)?)?;
+        let first = self.statement(levels)?;
+        let mut statements = one(self.alloc, first)?;
+        while self.eat(Sign::Semicolon) {
+            statements.push(self.statement(levels)?)?;
         }
         Ok(statements)
-    }
-
-    /// `;` and a statement.
-    #[tactic(auto, using(crate::proofs::Lists::passes, crate::proofs::Lists::stops_then))]
-    #[cycle(process)]
-    fn next_statement(&mut self, levels: u32) -> Result<Process, Stop>
-        ensures { Reads (read levels (syntax.behind c.sign_semicolon factored.one_statement) self.old) result self.new }
-    {
-        self.sign(Sign::Semicolon)?;
-        self.statement(levels)
     }
 
     #[cycle(process)]
@@ -422,31 +396,11 @@ impl<'a> Cursor<'a> {
         ensures { Reads (read levels (spec.handlers factored.one_statement) self.old) result self.new }
     {
         let first = self.handler(levels)?;
-        self.more_handlers(levels, one(self.alloc, first)?)
-    }
-
-    #[cycle(process)]
-    fn more_handlers(
-        &mut self,
-        levels: u32,
-        mut handlers: Items<Handler>,
-    ) -> Result<Items<Handler>, Stop>
-        ensures { Reads (more levels (syntax.behind c.sign_comma (spec.handler factored.one_statement)) handlers self.old) result self.new }
-    {
-        while self.sees_sign(Sign::Comma) {
-            handlers.push(self.next_handler(levels)?)?;
+        let mut handlers = one(self.alloc, first)?;
+        while self.eat(Sign::Comma) {
+            handlers.push(self.handler(levels)?)?;
         }
         Ok(handlers)
-    }
-
-    /// A comma and a handler.
-    #[tactic(auto, using(crate::proofs::Lists::passes, crate::proofs::Lists::stops_then))]
-    #[cycle(process)]
-    fn next_handler(&mut self, levels: u32) -> Result<Handler, Stop>
-        ensures { Reads (read levels (syntax.behind c.sign_comma (spec.handler factored.one_statement)) self.old) result self.new }
-    {
-        self.sign(Sign::Comma)?;
-        self.handler(levels)
     }
 
     #[cycle(process)]
@@ -460,23 +414,20 @@ impl<'a> Cursor<'a> {
     }
 
     /// A choice of one branch or more.
+    #[tactic(auto, using(crate::proofs::Lists::passes, crate::proofs::Lists::stops_then), unfolding(crate::specs::Grammar::choice))]
     #[cycle(process)]
     fn choice(&mut self, levels: u32) -> Result<Process, Stop>
         ensures { Reads (read levels spec.choice self.old) result self.new }
     {
-        let first = self.branch(levels)?;
-        let branches = self.more_branches(levels, one(self.alloc, first)?)?;
-        Ok(choice_of(branches))
+        Ok(choice_of(self.branches(levels)?))
     }
 
     #[cycle(process)]
-    fn more_branches(
-        &mut self,
-        levels: u32,
-        mut branches: Items<Branch>,
-    ) -> Result<Items<Branch>, Stop>
-        ensures { Reads (more levels spec.branch branches self.old) result self.new }
+    fn branches(&mut self, levels: u32) -> Result<Items<Branch>, Stop>
+        ensures { Reads (read levels (syntax.some_of spec.branch) self.old) result self.new }
     {
+        let first = self.branch(levels)?;
+        let mut branches = one(self.alloc, first)?;
         while self.sees_sign(Sign::OpenBracket) {
             branches.push(self.branch(levels)?)?;
         }

@@ -70,20 +70,15 @@ impl<'a> Cursor<'a> {
         })
     }
 
-    fn more_aliases(&mut self, mut aliases: Items<Alias>) -> Result<Items<Alias>, Stop>
-        ensures { Reads (more 0 spec.alias aliases self.old) result self.new }
-    {
-        while self.sees(&IDS) {
-            aliases.push(self.alias()?)?;
-        }
-        Ok(aliases)
-    }
-
     fn aliases(&mut self) -> Result<Items<Alias>, Stop>
         ensures { Reads (read 0 (syntax.some_of spec.alias) self.old) result self.new }
     {
         let first = self.alias()?;
-        self.more_aliases(one(self.alloc, first)?)
+        let mut aliases = one(self.alloc, first)?;
+        while self.sees(&IDS) {
+            aliases.push(self.alias()?)?;
+        }
+        Ok(aliases)
     }
 
     #[tactic(auto, using(crate::proofs::Lists::passes, crate::proofs::Lists::stops_then), unfolding(crate::specs::Grammar::variable, crate::specs::Grammar::id))]
@@ -97,33 +92,16 @@ impl<'a> Cursor<'a> {
         Ok(CorrelationVariable { name, aliases })
     }
 
-    /// A comma and a correlation variable.
-    #[tactic(auto, using(crate::proofs::Lists::passes, crate::proofs::Lists::stops_then))]
-    fn next_variable(&mut self) -> Result<CorrelationVariable, Stop>
-        ensures { Reads (read 0 (syntax.behind c.sign_comma spec.variable) self.old) result self.new }
-    {
-        self.sign(Sign::Comma)?;
-        self.variable()
-    }
-
-    fn more_variables(
-        &mut self,
-        mut variables: Items<CorrelationVariable>,
-    ) -> Result<Items<CorrelationVariable>, Stop>
-        ensures { Reads (more 0 (syntax.behind c.sign_comma spec.variable) variables self.old) result self.new }
-    {
-        while self.sees_sign(Sign::Comma) {
-            variables.push(self.next_variable()?)?;
-        }
-        Ok(variables)
-    }
-
     /// Correlation variables with commas between them.
     fn variables(&mut self) -> Result<Items<CorrelationVariable>, Stop>
         ensures { Reads (read 0 (syntax.separated c.sign_comma spec.variable) self.old) result self.new }
     {
         let first = self.variable()?;
-        self.more_variables(one(self.alloc, first)?)
+        let mut variables = one(self.alloc, first)?;
+        while self.eat(Sign::Comma) {
+            variables.push(self.variable()?)?;
+        }
+        Ok(variables)
     }
 
     fn variables_in_braces(&mut self, levels: u32) -> Result<Items<CorrelationVariable>, Stop>
@@ -146,30 +124,16 @@ impl<'a> Cursor<'a> {
         })
     }
 
-    /// A comma and a name.
-    #[tactic(auto, using(crate::proofs::Lists::passes, crate::proofs::Lists::stops_then))]
-    fn next_interface_name(&mut self) -> Result<Name, Stop>
-        ensures { Reads (read 0 (syntax.behind c.sign_comma spec.name) self.old) result self.new }
-    {
-        self.sign(Sign::Comma)?;
-        self.name()
-    }
-
-    fn more_interface_names(&mut self, mut names: Items<Name>) -> Result<Items<Name>, Stop>
-        ensures { Reads (more 0 (syntax.behind c.sign_comma spec.name) names self.old) result self.new }
-    {
-        while self.sees_sign(Sign::Comma) {
-            names.push(self.next_interface_name()?)?;
-        }
-        Ok(names)
-    }
-
     /// Names with commas between them.
     fn interface_names(&mut self) -> Result<Items<Name>, Stop>
         ensures { Reads (read 0 (syntax.separated c.sign_comma spec.name) self.old) result self.new }
     {
         let first = self.name()?;
-        self.more_interface_names(one(self.alloc, first)?)
+        let mut names = one(self.alloc, first)?;
+        while self.eat(Sign::Comma) {
+            names.push(self.name()?)?;
+        }
+        Ok(names)
     }
 
     #[tactic(auto, using(crate::proofs::Lists::passes, crate::proofs::Lists::stops_then))]

@@ -7,10 +7,10 @@ use Rattle.jolie_ast.specs.declared.expression.Multiplicative.{Multiplicative}
 use Rattle.jolie_ast.specs.declared.expression.Additive.{Additive}
 use Rattle.jolie_ast.specs.declared.expression.CastTarget.{CastTarget}
 use Rattle.jolie_ast.specs.declared.expression.ExprForm.TheOpen.{ExprForm-F}
-use Rattle.jolie_ast.specs.declared.expression.ExprForm.TheFolds.{fold-roll-Expr, fold-roll-ExprForm, fold-roll-Factor, fold-roll-Member, fold-roll-Path, fold-roll-Step, fold-roll-Term}
+use Rattle.jolie_ast.specs.declared.expression.ExprForm.TheFolds.{map-ExprForm, fold-roll-Expr, fold-roll-ExprForm, fold-roll-Factor, fold-roll-Member, fold-roll-Path, fold-roll-Step, fold-roll-Term}
 use Rattle.jolie_ast.specs.declared.expression.ExprForm.TheVariants as form
 use Rattle.jolie_ast.specs.declared.expression.Expr.{Expr, roll-Expr}
-use Rattle.jolie_ast.specs.declared.expression.ExprForm.{ExprForm}
+use Rattle.jolie_ast.specs.declared.expression.ExprForm.{ExprForm, roll-ExprForm}
 use Rattle.jolie_ast.specs.declared.expression.Factor.{Factor, roll-Factor}
 use Rattle.jolie_ast.specs.declared.expression.Term.{Term, roll-Term}
 use Rattle.jolie_ast.specs.declared.expression.Member.{Member, roll-Member}
@@ -20,116 +20,90 @@ use Rattle.jolie_round_trip.specs.Placeless.{name_placeless, form_placeless, exp
 
 -- ---- the forms
 
+-- a form without its places, by the form that it is made of
+form_made : (x : ExprForm-F ExprForm Expr Factor Member Path Step Term) {f : ExprForm} → roll-ExprForm x ≡ f
+    → form_placeless f ≡ form_level (map-ExprForm ExprForm Expr Factor Member Path Step Term ExprForm Expr Factor Member Path Step Term form_placeless expr_placeless factor_placeless member_placeless path_placeless step_placeless term_placeless x)
+unfolding form_placeless expr_placeless factor_placeless member_placeless path_placeless step_placeless term_placeless
+form_made x made = ap form_placeless (sym made) ∙ fold-roll-ExprForm ExprForm Expr Factor Member Path Step Term form_level expr_level factor_level member_level path_level step_level term_level x
+
 pub int_placeless : (n : ℤ) → form_placeless (form.Int n) ≡ form.Int n
-unfolding form_placeless expr_placeless factor_placeless term_placeless member_placeless path_placeless step_placeless
 int_placeless n =
-    ap form_placeless (sym (form.rolls-Int n))
-    ∙ fold-roll-ExprForm ExprForm Expr Factor Member Path Step Term form_level expr_level factor_level member_level path_level step_level term_level (ExprForm-F.Int n)
+    form_made (ExprForm-F.Int n) (form.rolls-Int n)
     ∙ form.rolls-Int n
 
 pub long_placeless : (n : ℤ) → form_placeless (form.Long n) ≡ form.Long n
-unfolding form_placeless expr_placeless factor_placeless term_placeless member_placeless path_placeless step_placeless
 long_placeless n =
-    ap form_placeless (sym (form.rolls-Long n))
-    ∙ fold-roll-ExprForm ExprForm Expr Factor Member Path Step Term form_level expr_level factor_level member_level path_level step_level term_level (ExprForm-F.Long n)
+    form_made (ExprForm-F.Long n) (form.rolls-Long n)
     ∙ form.rolls-Long n
 
 pub string_placeless : (text : List ℕ) → form_placeless (form.Str text) ≡ form.Str text
-unfolding form_placeless expr_placeless factor_placeless term_placeless member_placeless path_placeless step_placeless
 string_placeless text =
-    ap form_placeless (sym (form.rolls-Str text))
-    ∙ fold-roll-ExprForm ExprForm Expr Factor Member Path Step Term form_level expr_level factor_level member_level path_level step_level term_level (ExprForm-F.Str text)
+    form_made (ExprForm-F.Str text) (form.rolls-Str text)
     ∙ form.rolls-Str text
 
 pub truth_placeless : (b : Bool) → form_placeless (form.Bool b) ≡ form.Bool b
-unfolding form_placeless expr_placeless factor_placeless term_placeless member_placeless path_placeless step_placeless
 truth_placeless b =
-    ap form_placeless (sym (form.rolls-Bool b))
-    ∙ fold-roll-ExprForm ExprForm Expr Factor Member Path Step Term form_level expr_level factor_level member_level path_level step_level term_level (ExprForm-F.Bool b)
+    form_made (ExprForm-F.Bool b) (form.rolls-Bool b)
     ∙ form.rolls-Bool b
 
 pub path_form_placeless : (path : Path) → form_placeless (form.Path path) ≡ form.Path (path_placeless path)
-unfolding form_placeless expr_placeless factor_placeless term_placeless member_placeless path_placeless step_placeless
 path_form_placeless path =
-    ap form_placeless (sym (form.rolls-Path path))
-    ∙ fold-roll-ExprForm ExprForm Expr Factor Member Path Step Term form_level expr_level factor_level member_level path_level step_level term_level (ExprForm-F.Path path)
+    form_made (ExprForm-F.Path path) (form.rolls-Path path)
     ∙ form.rolls-Path (path_placeless path)
 
 pub size_placeless : (path : Path) → form_placeless (form.Size path) ≡ form.Size (path_placeless path)
-unfolding form_placeless expr_placeless factor_placeless term_placeless member_placeless path_placeless step_placeless
 size_placeless path =
-    ap form_placeless (sym (form.rolls-Size path))
-    ∙ fold-roll-ExprForm ExprForm Expr Factor Member Path Step Term form_level expr_level factor_level member_level path_level step_level term_level (ExprForm-F.Size path)
+    form_made (ExprForm-F.Size path) (form.rolls-Size path)
     ∙ form.rolls-Size (path_placeless path)
 
 pub is_defined_placeless : (path : Path) → form_placeless (form.IsDefined path) ≡ form.IsDefined (path_placeless path)
-unfolding form_placeless expr_placeless factor_placeless term_placeless member_placeless path_placeless step_placeless
 is_defined_placeless path =
-    ap form_placeless (sym (form.rolls-IsDefined path))
-    ∙ fold-roll-ExprForm ExprForm Expr Factor Member Path Step Term form_level expr_level factor_level member_level path_level step_level term_level (ExprForm-F.IsDefined path)
+    form_made (ExprForm-F.IsDefined path) (form.rolls-IsDefined path)
     ∙ form.rolls-IsDefined (path_placeless path)
 
 pub cast_placeless : (to : CastTarget) (e : Expr) → form_placeless (form.Cast to e) ≡ form.Cast to (expr_placeless e)
-unfolding form_placeless expr_placeless factor_placeless term_placeless member_placeless path_placeless step_placeless
 cast_placeless to e =
-    ap form_placeless (sym (form.rolls-Cast to e))
-    ∙ fold-roll-ExprForm ExprForm Expr Factor Member Path Step Term form_level expr_level factor_level member_level path_level step_level term_level (ExprForm-F.Cast to e)
+    form_made (ExprForm-F.Cast to e) (form.rolls-Cast to e)
     ∙ form.rolls-Cast to (expr_placeless e)
 
 pub literal_placeless : (ms : List Member) → form_placeless (form.Literal ms) ≡ form.Literal (map member_placeless ms)
-unfolding form_placeless expr_placeless factor_placeless term_placeless member_placeless path_placeless step_placeless
 literal_placeless ms =
-    ap form_placeless (sym (form.rolls-Literal ms))
-    ∙ fold-roll-ExprForm ExprForm Expr Factor Member Path Step Term form_level expr_level factor_level member_level path_level step_level term_level (ExprForm-F.Literal ms)
+    form_made (ExprForm-F.Literal ms) (form.rolls-Literal ms)
     ∙ form.rolls-Literal (map member_placeless ms)
 
 pub minus_placeless : (e : Expr) → form_placeless (form.Minus e) ≡ form.Minus (expr_placeless e)
-unfolding form_placeless expr_placeless factor_placeless term_placeless member_placeless path_placeless step_placeless
 minus_placeless e =
-    ap form_placeless (sym (form.rolls-Minus e))
-    ∙ fold-roll-ExprForm ExprForm Expr Factor Member Path Step Term form_level expr_level factor_level member_level path_level step_level term_level (ExprForm-F.Minus e)
+    form_made (ExprForm-F.Minus e) (form.rolls-Minus e)
     ∙ form.rolls-Minus (expr_placeless e)
 
 pub not_placeless : (e : Expr) → form_placeless (form.Not e) ≡ form.Not (expr_placeless e)
-unfolding form_placeless expr_placeless factor_placeless term_placeless member_placeless path_placeless step_placeless
 not_placeless e =
-    ap form_placeless (sym (form.rolls-Not e))
-    ∙ fold-roll-ExprForm ExprForm Expr Factor Member Path Step Term form_level expr_level factor_level member_level path_level step_level term_level (ExprForm-F.Not e)
+    form_made (ExprForm-F.Not e) (form.rolls-Not e)
     ∙ form.rolls-Not (expr_placeless e)
 
 pub product_placeless : (e : Expr) (qs : List Factor) → form_placeless (form.Product e qs) ≡ form.Product (expr_placeless e) (map factor_placeless qs)
-unfolding form_placeless expr_placeless factor_placeless term_placeless member_placeless path_placeless step_placeless
 product_placeless e qs =
-    ap form_placeless (sym (form.rolls-Product e qs))
-    ∙ fold-roll-ExprForm ExprForm Expr Factor Member Path Step Term form_level expr_level factor_level member_level path_level step_level term_level (ExprForm-F.Product e qs)
+    form_made (ExprForm-F.Product e qs) (form.rolls-Product e qs)
     ∙ form.rolls-Product (expr_placeless e) (map factor_placeless qs)
 
 pub sum_placeless : (e : Expr) (qs : List Term) → form_placeless (form.Sum e qs) ≡ form.Sum (expr_placeless e) (map term_placeless qs)
-unfolding form_placeless expr_placeless factor_placeless term_placeless member_placeless path_placeless step_placeless
 sum_placeless e qs =
-    ap form_placeless (sym (form.rolls-Sum e qs))
-    ∙ fold-roll-ExprForm ExprForm Expr Factor Member Path Step Term form_level expr_level factor_level member_level path_level step_level term_level (ExprForm-F.Sum e qs)
+    form_made (ExprForm-F.Sum e qs) (form.rolls-Sum e qs)
     ∙ form.rolls-Sum (expr_placeless e) (map term_placeless qs)
 
 pub compare_placeless : (e : Expr) (how : Comparison) (d : Expr) → form_placeless (form.Compare e how d) ≡ form.Compare (expr_placeless e) how (expr_placeless d)
-unfolding form_placeless expr_placeless factor_placeless term_placeless member_placeless path_placeless step_placeless
 compare_placeless e how d =
-    ap form_placeless (sym (form.rolls-Compare e how d))
-    ∙ fold-roll-ExprForm ExprForm Expr Factor Member Path Step Term form_level expr_level factor_level member_level path_level step_level term_level (ExprForm-F.Compare e how d)
+    form_made (ExprForm-F.Compare e how d) (form.rolls-Compare e how d)
     ∙ form.rolls-Compare (expr_placeless e) how (expr_placeless d)
 
 pub and_placeless : (es : List Expr) → form_placeless (form.And es) ≡ form.And (map expr_placeless es)
-unfolding form_placeless expr_placeless factor_placeless term_placeless member_placeless path_placeless step_placeless
 and_placeless es =
-    ap form_placeless (sym (form.rolls-And es))
-    ∙ fold-roll-ExprForm ExprForm Expr Factor Member Path Step Term form_level expr_level factor_level member_level path_level step_level term_level (ExprForm-F.And es)
+    form_made (ExprForm-F.And es) (form.rolls-And es)
     ∙ form.rolls-And (map expr_placeless es)
 
 pub or_placeless : (es : List Expr) → form_placeless (form.Or es) ≡ form.Or (map expr_placeless es)
-unfolding form_placeless expr_placeless factor_placeless term_placeless member_placeless path_placeless step_placeless
 or_placeless es =
-    ap form_placeless (sym (form.rolls-Or es))
-    ∙ fold-roll-ExprForm ExprForm Expr Factor Member Path Step Term form_level expr_level factor_level member_level path_level step_level term_level (ExprForm-F.Or es)
+    form_made (ExprForm-F.Or es) (form.rolls-Or es)
     ∙ form.rolls-Or (map expr_placeless es)
 
 -- ---- expressions and their parts

@@ -8,12 +8,12 @@ use Rattle.jolie_ast.specs.declared.process.Assignment.{Assignment}
 use Rattle.jolie_ast.specs.declared.process.ForStep.{ForStep}
 use Rattle.jolie_ast.specs.declared.process.HandlerKey.{HandlerKey}
 use Rattle.jolie_ast.specs.declared.process.Otherwise.TheOpen.{Otherwise-F, Process-F}
-use Rattle.jolie_ast.specs.declared.process.Otherwise.TheFolds.{fold-roll-Answer, fold-roll-Block, fold-roll-Branch, fold-roll-Handler, fold-roll-If, fold-roll-Input, fold-roll-Otherwise, fold-roll-Process, fold-roll-Reply}
-use Rattle.jolie_ast.specs.declared.process.Process.{Process}
+use Rattle.jolie_ast.specs.declared.process.Otherwise.TheFolds.{map-Otherwise, map-Process, fold-roll-Answer, fold-roll-Block, fold-roll-Branch, fold-roll-Handler, fold-roll-If, fold-roll-Input, fold-roll-Otherwise, fold-roll-Process, fold-roll-Reply}
+use Rattle.jolie_ast.specs.declared.process.Process.{Process, roll-Process}
 use Rattle.jolie_ast.specs.declared.process.Process.TheVariants as process
 use Rattle.jolie_ast.specs.declared.process.Block.{Block, roll-Block}
 use Rattle.jolie_ast.specs.declared.process.If.{If, roll-If}
-use Rattle.jolie_ast.specs.declared.process.Otherwise.{Otherwise}
+use Rattle.jolie_ast.specs.declared.process.Otherwise.{Otherwise, roll-Otherwise}
 use Rattle.jolie_ast.specs.declared.process.Otherwise.TheVariants as otherwise
 use Rattle.jolie_ast.specs.declared.process.Input.{Input, roll-Input}
 use Rattle.jolie_ast.specs.declared.process.Reply.{Reply, roll-Reply}
@@ -24,138 +24,88 @@ use Rattle.jolie_round_trip.specs.Placeless.{name_placeless, expr_placeless, pat
 
 -- ---- processes
 
+-- a process without its places, by the form that it is made of
+process_made : (x : Process-F Otherwise Process Answer Block Branch Handler If Input Reply) {p : Process} → roll-Process x ≡ p
+    → process_placeless p ≡ process_level (map-Process Otherwise Process Answer Block Branch Handler If Input Reply Otherwise Process Answer Block Branch Handler If Input Reply otherwise_placeless process_placeless answer_placeless block_placeless branch_placeless handler_placeless if_placeless input_placeless reply_placeless x)
+unfolding otherwise_placeless process_placeless answer_placeless block_placeless branch_placeless handler_placeless if_placeless input_placeless reply_placeless
+process_made x made = ap process_placeless (sym made) ∙ fold-roll-Process Otherwise Process Answer Block Branch Handler If Input Reply otherwise_level process_level answer_level block_level branch_level handler_level if_level input_level reply_level x
+
 pub nothing_placeless : (at : ℕ) → process_placeless (process.Nothing at) ≡ process.Nothing 0
-unfolding process_placeless block_placeless if_placeless otherwise_placeless input_placeless reply_placeless branch_placeless answer_placeless handler_placeless
-nothing_placeless at =
-    ap process_placeless (sym (process.rolls-Nothing at))
-    ∙ fold-roll-Process Otherwise Process Answer Block Branch Handler If Input Reply otherwise_level process_level answer_level block_level branch_level handler_level if_level input_level reply_level (Process-F.«Process::Nothing» at)
+nothing_placeless at = process_made (Process-F.«Process::Nothing» at) (process.rolls-Nothing at)
 
 pub assign_placeless : (path : Path) (assignment : Assignment) → process_placeless (process.Assign path assignment) ≡ process.Assign (path_placeless path) (assignment_placeless assignment)
-unfolding process_placeless block_placeless if_placeless otherwise_placeless input_placeless reply_placeless branch_placeless answer_placeless handler_placeless
-assign_placeless path assignment =
-    ap process_placeless (sym (process.rolls-Assign path assignment))
-    ∙ fold-roll-Process Otherwise Process Answer Block Branch Handler If Input Reply otherwise_level process_level answer_level block_level branch_level handler_level if_level input_level reply_level (Process-F.Assign path assignment)
+assign_placeless path assignment = process_made (Process-F.Assign path assignment) (process.rolls-Assign path assignment)
 
 pub undef_placeless : (at : ℕ) (path : Path) → process_placeless (process.Undef at path) ≡ process.Undef 0 (path_placeless path)
-unfolding process_placeless block_placeless if_placeless otherwise_placeless input_placeless reply_placeless branch_placeless answer_placeless handler_placeless
-undef_placeless at path =
-    ap process_placeless (sym (process.rolls-Undef at path))
-    ∙ fold-roll-Process Otherwise Process Answer Block Branch Handler If Input Reply otherwise_level process_level answer_level block_level branch_level handler_level if_level input_level reply_level (Process-F.Undef at path)
+undef_placeless at path = process_made (Process-F.Undef at path) (process.rolls-Undef at path)
 
 pub correlate_placeless : (at : ℕ) (variable : Name) (value : Expr) → process_placeless (process.Correlate at variable value) ≡ process.Correlate 0 (name_placeless variable) (expr_placeless value)
-unfolding process_placeless block_placeless if_placeless otherwise_placeless input_placeless reply_placeless branch_placeless answer_placeless handler_placeless
-correlate_placeless at variable value =
-    ap process_placeless (sym (process.rolls-Correlate at variable value))
-    ∙ fold-roll-Process Otherwise Process Answer Block Branch Handler If Input Reply otherwise_level process_level answer_level block_level branch_level handler_level if_level input_level reply_level (Process-F.Correlate at variable value)
+correlate_placeless at variable value = process_made (Process-F.Correlate at variable value) (process.rolls-Correlate at variable value)
 
 pub conditional_placeless : (i : If) → process_placeless (process.If i) ≡ process.If (if_placeless i)
-unfolding process_placeless block_placeless if_placeless otherwise_placeless input_placeless reply_placeless branch_placeless answer_placeless handler_placeless
-conditional_placeless i =
-    ap process_placeless (sym (process.rolls-If i))
-    ∙ fold-roll-Process Otherwise Process Answer Block Branch Handler If Input Reply otherwise_level process_level answer_level block_level branch_level handler_level if_level input_level reply_level (Process-F.If i)
+conditional_placeless i = process_made (Process-F.If i) (process.rolls-If i)
 
 pub while_placeless : (at : ℕ) (test : Expr) (body : Block) → process_placeless (process.While at test body) ≡ process.While 0 (expr_placeless test) (block_placeless body)
-unfolding process_placeless block_placeless if_placeless otherwise_placeless input_placeless reply_placeless branch_placeless answer_placeless handler_placeless
-while_placeless at test body =
-    ap process_placeless (sym (process.rolls-While at test body))
-    ∙ fold-roll-Process Otherwise Process Answer Block Branch Handler If Input Reply otherwise_level process_level answer_level block_level branch_level handler_level if_level input_level reply_level (Process-F.While at test body)
+while_placeless at test body = process_made (Process-F.While at test body) (process.rolls-While at test body)
 
 pub for_placeless : (at : ℕ) (path : Path) (first : Expr) (test : Expr) (stepped : Path) (step : ForStep) (body : Block) → process_placeless (process.For at path first test stepped step body) ≡ process.For 0 (path_placeless path) (expr_placeless first) (expr_placeless test) (path_placeless stepped) (for_step_placeless step) (block_placeless body)
-unfolding process_placeless block_placeless if_placeless otherwise_placeless input_placeless reply_placeless branch_placeless answer_placeless handler_placeless
-for_placeless at path first test stepped step body =
-    ap process_placeless (sym (process.rolls-For at path first test stepped step body))
-    ∙ fold-roll-Process Otherwise Process Answer Block Branch Handler If Input Reply otherwise_level process_level answer_level block_level branch_level handler_level if_level input_level reply_level (Process-F.For at path first test stepped step body)
+for_placeless at path first test stepped step body = process_made (Process-F.For at path first test stepped step body) (process.rolls-For at path first test stepped step body)
 
 pub input_statement_placeless : (i : Input) → process_placeless (process.Input i) ≡ process.Input (input_placeless i)
-unfolding process_placeless block_placeless if_placeless otherwise_placeless input_placeless reply_placeless branch_placeless answer_placeless handler_placeless
-input_statement_placeless i =
-    ap process_placeless (sym (process.rolls-Input i))
-    ∙ fold-roll-Process Otherwise Process Answer Block Branch Handler If Input Reply otherwise_level process_level answer_level block_level branch_level handler_level if_level input_level reply_level (Process-F.Input i)
+input_statement_placeless i = process_made (Process-F.Input i) (process.rolls-Input i)
 
 pub choice_placeless : (at : ℕ) (branches : List Branch) → process_placeless (process.Choice at branches) ≡ process.Choice 0 (map branch_placeless branches)
-unfolding process_placeless block_placeless if_placeless otherwise_placeless input_placeless reply_placeless branch_placeless answer_placeless handler_placeless
-choice_placeless at branches =
-    ap process_placeless (sym (process.rolls-Choice at branches))
-    ∙ fold-roll-Process Otherwise Process Answer Block Branch Handler If Input Reply otherwise_level process_level answer_level block_level branch_level handler_level if_level input_level reply_level (Process-F.Choice at branches)
+choice_placeless at branches = process_made (Process-F.Choice at branches) (process.rolls-Choice at branches)
 
 pub output_placeless : (operation : Name) (port : Name) (value : Option Expr) (answer : Option Answer) → process_placeless (process.Output operation port value answer) ≡ process.Output (name_placeless operation) (name_placeless port) (option_map expr_placeless value) (option_map answer_placeless answer)
-unfolding process_placeless block_placeless if_placeless otherwise_placeless input_placeless reply_placeless branch_placeless answer_placeless handler_placeless
-output_placeless operation port value None =
-    ap process_placeless (sym (process.rolls-Output operation port value None))
-    ∙ fold-roll-Process Otherwise Process Answer Block Branch Handler If Input Reply otherwise_level process_level answer_level block_level branch_level handler_level if_level input_level reply_level (Process-F.Output operation port value None)
-output_placeless operation port value (Some it) =
-    ap process_placeless (sym (process.rolls-Output operation port value (Some it)))
-    ∙ fold-roll-Process Otherwise Process Answer Block Branch Handler If Input Reply otherwise_level process_level answer_level block_level branch_level handler_level if_level input_level reply_level (Process-F.Output operation port value (Some it))
+output_placeless operation port value None = process_made (Process-F.Output operation port value None) (process.rolls-Output operation port value None)
+output_placeless operation port value (Some it) = process_made (Process-F.Output operation port value (Some it)) (process.rolls-Output operation port value (Some it))
 
 pub scope_placeless : (at : ℕ) (name : Name) (body : Block) → process_placeless (process.Scope at name body) ≡ process.Scope 0 (name_placeless name) (block_placeless body)
-unfolding process_placeless block_placeless if_placeless otherwise_placeless input_placeless reply_placeless branch_placeless answer_placeless handler_placeless
-scope_placeless at name body =
-    ap process_placeless (sym (process.rolls-Scope at name body))
-    ∙ fold-roll-Process Otherwise Process Answer Block Branch Handler If Input Reply otherwise_level process_level answer_level block_level branch_level handler_level if_level input_level reply_level (Process-F.Scope at name body)
+scope_placeless at name body = process_made (Process-F.Scope at name body) (process.rolls-Scope at name body)
 
 pub install_placeless : (at : ℕ) (handlers : List Handler) → process_placeless (process.Install at handlers) ≡ process.Install 0 (map handler_placeless handlers)
-unfolding process_placeless block_placeless if_placeless otherwise_placeless input_placeless reply_placeless branch_placeless answer_placeless handler_placeless
-install_placeless at handlers =
-    ap process_placeless (sym (process.rolls-Install at handlers))
-    ∙ fold-roll-Process Otherwise Process Answer Block Branch Handler If Input Reply otherwise_level process_level answer_level block_level branch_level handler_level if_level input_level reply_level (Process-F.Install at handlers)
+install_placeless at handlers = process_made (Process-F.Install at handlers) (process.rolls-Install at handlers)
 
 pub throw_placeless : (at : ℕ) (fault : Name) (value : Option Expr) → process_placeless (process.Throw at fault value) ≡ process.Throw 0 (name_placeless fault) (option_map expr_placeless value)
-unfolding process_placeless block_placeless if_placeless otherwise_placeless input_placeless reply_placeless branch_placeless answer_placeless handler_placeless
-throw_placeless at fault value =
-    ap process_placeless (sym (process.rolls-Throw at fault value))
-    ∙ fold-roll-Process Otherwise Process Answer Block Branch Handler If Input Reply otherwise_level process_level answer_level block_level branch_level handler_level if_level input_level reply_level (Process-F.Throw at fault value)
+throw_placeless at fault value = process_made (Process-F.Throw at fault value) (process.rolls-Throw at fault value)
 
 pub compensate_placeless : (at : ℕ) (scope : Name) → process_placeless (process.Compensate at scope) ≡ process.Compensate 0 (name_placeless scope)
-unfolding process_placeless block_placeless if_placeless otherwise_placeless input_placeless reply_placeless branch_placeless answer_placeless handler_placeless
-compensate_placeless at scope =
-    ap process_placeless (sym (process.rolls-Compensate at scope))
-    ∙ fold-roll-Process Otherwise Process Answer Block Branch Handler If Input Reply otherwise_level process_level answer_level block_level branch_level handler_level if_level input_level reply_level (Process-F.Compensate at scope)
+compensate_placeless at scope = process_made (Process-F.Compensate at scope) (process.rolls-Compensate at scope)
 
 pub inner_handler_placeless : (at : ℕ) → process_placeless (process.InnerHandler at) ≡ process.InnerHandler 0
-unfolding process_placeless block_placeless if_placeless otherwise_placeless input_placeless reply_placeless branch_placeless answer_placeless handler_placeless
-inner_handler_placeless at =
-    ap process_placeless (sym (process.rolls-InnerHandler at))
-    ∙ fold-roll-Process Otherwise Process Answer Block Branch Handler If Input Reply otherwise_level process_level answer_level block_level branch_level handler_level if_level input_level reply_level (Process-F.InnerHandler at)
+inner_handler_placeless at = process_made (Process-F.InnerHandler at) (process.rolls-InnerHandler at)
 
 pub block_statement_placeless : (b : Block) → process_placeless (process.Block b) ≡ process.Block (block_placeless b)
-unfolding process_placeless block_placeless if_placeless otherwise_placeless input_placeless reply_placeless branch_placeless answer_placeless handler_placeless
-block_statement_placeless b =
-    ap process_placeless (sym (process.rolls-Block b))
-    ∙ fold-roll-Process Otherwise Process Answer Block Branch Handler If Input Reply otherwise_level process_level answer_level block_level branch_level handler_level if_level input_level reply_level (Process-F.Block b)
+block_statement_placeless b = process_made (Process-F.Block b) (process.rolls-Block b)
 
 pub sequence_placeless : (ps : List Process) → process_placeless (process.Sequence ps) ≡ process.Sequence (map process_placeless ps)
-unfolding process_placeless block_placeless if_placeless otherwise_placeless input_placeless reply_placeless branch_placeless answer_placeless handler_placeless
-sequence_placeless ps =
-    ap process_placeless (sym (process.rolls-Sequence ps))
-    ∙ fold-roll-Process Otherwise Process Answer Block Branch Handler If Input Reply otherwise_level process_level answer_level block_level branch_level handler_level if_level input_level reply_level (Process-F.Sequence ps)
+sequence_placeless ps = process_made (Process-F.Sequence ps) (process.rolls-Sequence ps)
 
 pub parallel_placeless : (ps : List Process) → process_placeless (process.Parallel ps) ≡ process.Parallel (map process_placeless ps)
-unfolding process_placeless block_placeless if_placeless otherwise_placeless input_placeless reply_placeless branch_placeless answer_placeless handler_placeless
-parallel_placeless ps =
-    ap process_placeless (sym (process.rolls-Parallel ps))
-    ∙ fold-roll-Process Otherwise Process Answer Block Branch Handler If Input Reply otherwise_level process_level answer_level block_level branch_level handler_level if_level input_level reply_level (Process-F.Parallel ps)
+parallel_placeless ps = process_made (Process-F.Parallel ps) (process.rolls-Parallel ps)
 
 -- ---- what an `if` does where its test fails
 
+-- what an `if` does where its test fails, without its places, by the form that it is made of
+otherwise_made : (x : Otherwise-F Otherwise Process Answer Block Branch Handler If Input Reply) {o : Otherwise} → roll-Otherwise x ≡ o
+    → otherwise_placeless o ≡ otherwise_level (map-Otherwise Otherwise Process Answer Block Branch Handler If Input Reply Otherwise Process Answer Block Branch Handler If Input Reply otherwise_placeless process_placeless answer_placeless block_placeless branch_placeless handler_placeless if_placeless input_placeless reply_placeless x)
+unfolding otherwise_placeless process_placeless answer_placeless block_placeless branch_placeless handler_placeless if_placeless input_placeless reply_placeless
+otherwise_made x made = ap otherwise_placeless (sym made) ∙ fold-roll-Otherwise Otherwise Process Answer Block Branch Handler If Input Reply otherwise_level process_level answer_level block_level branch_level handler_level if_level input_level reply_level x
+
 pub no_else_placeless : otherwise_placeless otherwise.Nothing ≡ otherwise.Nothing
-unfolding process_placeless block_placeless if_placeless otherwise_placeless input_placeless reply_placeless branch_placeless answer_placeless handler_placeless
 no_else_placeless =
-    ap otherwise_placeless (sym otherwise.rolls-Nothing)
-    ∙ fold-roll-Otherwise Otherwise Process Answer Block Branch Handler If Input Reply otherwise_level process_level answer_level block_level branch_level handler_level if_level input_level reply_level Otherwise-F.«Otherwise::Nothing»
+    otherwise_made Otherwise-F.«Otherwise::Nothing» otherwise.rolls-Nothing
     ∙ otherwise.rolls-Nothing
 
 pub else_if_placeless : (i : If) → otherwise_placeless (otherwise.ElseIf i) ≡ otherwise.ElseIf (if_placeless i)
-unfolding process_placeless block_placeless if_placeless otherwise_placeless input_placeless reply_placeless branch_placeless answer_placeless handler_placeless
 else_if_placeless i =
-    ap otherwise_placeless (sym (otherwise.rolls-ElseIf i))
-    ∙ fold-roll-Otherwise Otherwise Process Answer Block Branch Handler If Input Reply otherwise_level process_level answer_level block_level branch_level handler_level if_level input_level reply_level (Otherwise-F.ElseIf i)
+    otherwise_made (Otherwise-F.ElseIf i) (otherwise.rolls-ElseIf i)
     ∙ otherwise.rolls-ElseIf (if_placeless i)
 
 pub else_placeless : (b : Block) → otherwise_placeless (otherwise.Else b) ≡ otherwise.Else (block_placeless b)
-unfolding process_placeless block_placeless if_placeless otherwise_placeless input_placeless reply_placeless branch_placeless answer_placeless handler_placeless
 else_placeless b =
-    ap otherwise_placeless (sym (otherwise.rolls-Else b))
-    ∙ fold-roll-Otherwise Otherwise Process Answer Block Branch Handler If Input Reply otherwise_level process_level answer_level block_level branch_level handler_level if_level input_level reply_level (Otherwise-F.Else b)
+    otherwise_made (Otherwise-F.Else b) (otherwise.rolls-Else b)
     ∙ otherwise.rolls-Else (block_placeless b)
 
 -- ---- the parts of processes

@@ -2,8 +2,10 @@
 use Rattle.std.specs.Prelude.{map, option_map}
 use Rattle.jolie_ast.specs.declared.name.Name.{Name}
 use Rattle.jolie_ast.specs.declared.name.Quoted.{Quoted}
-use Rattle.jolie_ast.specs.declared.expression.ExprForm.TheOpen.{Expr-F, ExprForm-F, Factor-F, Member-F, Path-F, Step-F, Term-F}
-use Rattle.jolie_ast.specs.declared.expression.ExprForm.TheFolds.{fold-Expr, fold-ExprForm, fold-Factor, fold-Member, fold-Path, fold-Step, fold-Term}
+use Rattle.jolie_ast.specs.declared.expression.ExprForm.TheOpen.{Expr-F, ExprForm-F, Factor-F}
+use Rattle.jolie_ast.specs.declared.expression.ExprForm.TheOpen.{Member-F, Path-F, Step-F, Term-F}
+use Rattle.jolie_ast.specs.declared.expression.ExprForm.TheFolds.{fold-Expr, fold-ExprForm, fold-Factor}
+use Rattle.jolie_ast.specs.declared.expression.ExprForm.TheFolds.{fold-Member, fold-Path, fold-Step, fold-Term}
 use Rattle.jolie_ast.specs.declared.expression.Expr.{Expr, roll-Expr}
 use Rattle.jolie_ast.specs.declared.expression.ExprForm.{ExprForm, roll-ExprForm}
 use Rattle.jolie_ast.specs.declared.expression.Factor.{Factor, roll-Factor}
@@ -17,8 +19,11 @@ use Rattle.jolie_ast.specs.declared.process.ForStep.{ForStep}
 use Rattle.jolie_ast.specs.declared.process.ForStep.TheVariants as for_step
 use Rattle.jolie_ast.specs.declared.process.HandlerKey.{HandlerKey}
 use Rattle.jolie_ast.specs.declared.process.HandlerKey.TheVariants as key
-use Rattle.jolie_ast.specs.declared.process.Otherwise.TheOpen.{Answer-F, Block-F, Branch-F, Handler-F, If-F, Input-F, Otherwise-F, Process-F, Reply-F}
-use Rattle.jolie_ast.specs.declared.process.Otherwise.TheFolds.{fold-Answer, fold-Block, fold-Branch, fold-Handler, fold-If, fold-Input, fold-Otherwise, fold-Process, fold-Reply}
+use Rattle.jolie_ast.specs.declared.process.Otherwise.TheOpen.{Answer-F, Block-F, Branch-F, Handler-F, If-F}
+use Rattle.jolie_ast.specs.declared.process.Otherwise.TheOpen.{Input-F, Otherwise-F, Process-F, Reply-F}
+use Rattle.jolie_ast.specs.declared.process.Otherwise.TheFolds.{fold-Answer, fold-Block, fold-Branch}
+use Rattle.jolie_ast.specs.declared.process.Otherwise.TheFolds.{fold-Handler, fold-If, fold-Input}
+use Rattle.jolie_ast.specs.declared.process.Otherwise.TheFolds.{fold-Otherwise, fold-Process, fold-Reply}
 use Rattle.jolie_ast.specs.declared.process.Process.{Process}
 use Rattle.jolie_ast.specs.declared.process.Process.TheVariants as process
 use Rattle.jolie_ast.specs.declared.process.Block.{Block, roll-Block}
@@ -96,31 +101,45 @@ step_level s = roll-Step (record { name = name_placeless s.name; index = s.index
 
 -- a form without its places
 unfoldable pub form_placeless : ExprForm → ExprForm
-form_placeless = fold-ExprForm ExprForm Expr Factor Member Path Step Term form_level expr_level factor_level member_level path_level step_level term_level
+form_placeless =
+    fold-ExprForm ExprForm Expr Factor Member Path Step Term
+    form_level expr_level factor_level member_level path_level step_level term_level
 
 -- an expression without its places
 unfoldable pub expr_placeless : Expr → Expr
-expr_placeless = fold-Expr ExprForm Expr Factor Member Path Step Term form_level expr_level factor_level member_level path_level step_level term_level
+expr_placeless =
+    fold-Expr ExprForm Expr Factor Member Path Step Term
+    form_level expr_level factor_level member_level path_level step_level term_level
 
 -- a later operand of a product without its places
 unfoldable pub factor_placeless : Factor → Factor
-factor_placeless = fold-Factor ExprForm Expr Factor Member Path Step Term form_level expr_level factor_level member_level path_level step_level term_level
+factor_placeless =
+    fold-Factor ExprForm Expr Factor Member Path Step Term
+    form_level expr_level factor_level member_level path_level step_level term_level
 
 -- a later operand of a sum without its places
 unfoldable pub term_placeless : Term → Term
-term_placeless = fold-Term ExprForm Expr Factor Member Path Step Term form_level expr_level factor_level member_level path_level step_level term_level
+term_placeless =
+    fold-Term ExprForm Expr Factor Member Path Step Term
+    form_level expr_level factor_level member_level path_level step_level term_level
 
 -- a member of a literal without its places
 unfoldable pub member_placeless : Member → Member
-member_placeless = fold-Member ExprForm Expr Factor Member Path Step Term form_level expr_level factor_level member_level path_level step_level term_level
+member_placeless =
+    fold-Member ExprForm Expr Factor Member Path Step Term
+    form_level expr_level factor_level member_level path_level step_level term_level
 
 -- a path without its places
 unfoldable pub path_placeless : Path → Path
-path_placeless = fold-Path ExprForm Expr Factor Member Path Step Term form_level expr_level factor_level member_level path_level step_level term_level
+path_placeless =
+    fold-Path ExprForm Expr Factor Member Path Step Term
+    form_level expr_level factor_level member_level path_level step_level term_level
 
 -- a step of a path without its places
 unfoldable pub step_placeless : Step → Step
-step_placeless = fold-Step ExprForm Expr Factor Member Path Step Term form_level expr_level factor_level member_level path_level step_level term_level
+step_placeless =
+    fold-Step ExprForm Expr Factor Member Path Step Term
+    form_level expr_level factor_level member_level path_level step_level term_level
 
 -- ---- processes
 
@@ -143,19 +162,24 @@ key_placeless (key.Named name) = key.Named (name_placeless name)
 -- one level of a process
 abbrev pub process_level : Process-F Otherwise Process Answer Block Branch Handler If Input Reply → Process
 process_level (Process-F.«Process::Nothing» at) = process.Nothing 0
-process_level (Process-F.Assign path assignment) = process.Assign (path_placeless path) (assignment_placeless assignment)
+process_level (Process-F.Assign path assignment) =
+    process.Assign (path_placeless path) (assignment_placeless assignment)
 process_level (Process-F.Undef at path) = process.Undef 0 (path_placeless path)
-process_level (Process-F.Correlate at variable value) = process.Correlate 0 (name_placeless variable) (expr_placeless value)
+process_level (Process-F.Correlate at variable value) =
+    process.Correlate 0 (name_placeless variable) (expr_placeless value)
 process_level (Process-F.If conditional) = process.If conditional
 process_level (Process-F.While at test body) = process.While 0 (expr_placeless test) body
 process_level (Process-F.For at path first test stepped step body) =
-    process.For 0 (path_placeless path) (expr_placeless first) (expr_placeless test) (path_placeless stepped) (for_step_placeless step) body
+    process.For 0 (path_placeless path) (expr_placeless first) (expr_placeless test) (path_placeless stepped)
+    (for_step_placeless step) body
 process_level (Process-F.Input input) = process.Input input
 process_level (Process-F.Choice at branches) = process.Choice 0 branches
-process_level (Process-F.Output operation port value answer) = process.Output (name_placeless operation) (name_placeless port) (option_map expr_placeless value) answer
+process_level (Process-F.Output operation port value answer) =
+    process.Output (name_placeless operation) (name_placeless port) (option_map expr_placeless value) answer
 process_level (Process-F.Scope at name body) = process.Scope 0 (name_placeless name) body
 process_level (Process-F.Install at handlers) = process.Install 0 handlers
-process_level (Process-F.Throw at fault value) = process.Throw 0 (name_placeless fault) (option_map expr_placeless value)
+process_level (Process-F.Throw at fault value) =
+    process.Throw 0 (name_placeless fault) (option_map expr_placeless value)
 process_level (Process-F.Compensate at scope) = process.Compensate 0 (name_placeless scope)
 process_level (Process-F.InnerHandler at) = process.InnerHandler 0
 process_level (Process-F.Block block) = process.Block block
@@ -176,7 +200,11 @@ otherwise_level otherwise = roll-Otherwise otherwise
 
 -- one level of an input
 abbrev pub input_level : Input-F Otherwise Process Answer Block Branch Handler If Input Reply → Input
-input_level i = roll-Input (record { operation = name_placeless i.operation; request = option_map path_placeless i.request; reply = i.reply })
+input_level i = roll-Input (record {
+  operation = name_placeless i.operation;
+  request = option_map path_placeless i.request;
+  reply = i.reply;
+})
 
 -- one level of a reply part
 abbrev pub reply_level : Reply-F Otherwise Process Answer Block Branch Handler If Input Reply → Reply
@@ -196,39 +224,57 @@ handler_level h = roll-Handler (record { key = key_placeless h.key; body = h.bod
 
 -- a process without its places
 unfoldable pub process_placeless : Process → Process
-process_placeless = fold-Process Otherwise Process Answer Block Branch Handler If Input Reply otherwise_level process_level answer_level block_level branch_level handler_level if_level input_level reply_level
+process_placeless =
+    fold-Process Otherwise Process Answer Block Branch Handler If Input Reply
+    otherwise_level process_level answer_level block_level branch_level handler_level if_level input_level reply_level
 
 -- a block without its places
 unfoldable pub block_placeless : Block → Block
-block_placeless = fold-Block Otherwise Process Answer Block Branch Handler If Input Reply otherwise_level process_level answer_level block_level branch_level handler_level if_level input_level reply_level
+block_placeless =
+    fold-Block Otherwise Process Answer Block Branch Handler If Input Reply
+    otherwise_level process_level answer_level block_level branch_level handler_level if_level input_level reply_level
 
 -- an `if` without its places
 unfoldable pub if_placeless : If → If
-if_placeless = fold-If Otherwise Process Answer Block Branch Handler If Input Reply otherwise_level process_level answer_level block_level branch_level handler_level if_level input_level reply_level
+if_placeless =
+    fold-If Otherwise Process Answer Block Branch Handler If Input Reply
+    otherwise_level process_level answer_level block_level branch_level handler_level if_level input_level reply_level
 
 -- what an `if` does where its test fails, without its places
 unfoldable pub otherwise_placeless : Otherwise → Otherwise
-otherwise_placeless = fold-Otherwise Otherwise Process Answer Block Branch Handler If Input Reply otherwise_level process_level answer_level block_level branch_level handler_level if_level input_level reply_level
+otherwise_placeless =
+    fold-Otherwise Otherwise Process Answer Block Branch Handler If Input Reply
+    otherwise_level process_level answer_level block_level branch_level handler_level if_level input_level reply_level
 
 -- an input without its places
 unfoldable pub input_placeless : Input → Input
-input_placeless = fold-Input Otherwise Process Answer Block Branch Handler If Input Reply otherwise_level process_level answer_level block_level branch_level handler_level if_level input_level reply_level
+input_placeless =
+    fold-Input Otherwise Process Answer Block Branch Handler If Input Reply
+    otherwise_level process_level answer_level block_level branch_level handler_level if_level input_level reply_level
 
 -- a reply part without its places
 unfoldable pub reply_placeless : Reply → Reply
-reply_placeless = fold-Reply Otherwise Process Answer Block Branch Handler If Input Reply otherwise_level process_level answer_level block_level branch_level handler_level if_level input_level reply_level
+reply_placeless =
+    fold-Reply Otherwise Process Answer Block Branch Handler If Input Reply
+    otherwise_level process_level answer_level block_level branch_level handler_level if_level input_level reply_level
 
 -- a branch without its places
 unfoldable pub branch_placeless : Branch → Branch
-branch_placeless = fold-Branch Otherwise Process Answer Block Branch Handler If Input Reply otherwise_level process_level answer_level block_level branch_level handler_level if_level input_level reply_level
+branch_placeless =
+    fold-Branch Otherwise Process Answer Block Branch Handler If Input Reply
+    otherwise_level process_level answer_level block_level branch_level handler_level if_level input_level reply_level
 
 -- what an output awaits, without its places
 unfoldable pub answer_placeless : Answer → Answer
-answer_placeless = fold-Answer Otherwise Process Answer Block Branch Handler If Input Reply otherwise_level process_level answer_level block_level branch_level handler_level if_level input_level reply_level
+answer_placeless =
+    fold-Answer Otherwise Process Answer Block Branch Handler If Input Reply
+    otherwise_level process_level answer_level block_level branch_level handler_level if_level input_level reply_level
 
 -- a handler without its places
 unfoldable pub handler_placeless : Handler → Handler
-handler_placeless = fold-Handler Otherwise Process Answer Block Branch Handler If Input Reply otherwise_level process_level answer_level block_level branch_level handler_level if_level input_level reply_level
+handler_placeless =
+    fold-Handler Otherwise Process Answer Block Branch Handler If Input Reply
+    otherwise_level process_level answer_level block_level branch_level handler_level if_level input_level reply_level
 
 -- ---- types
 
@@ -274,7 +320,12 @@ fault_placeless f = record { name = name_placeless f.name; ty = option_map type_
 -- a request-response operation without its places
 abbrev pub request_response_placeless : RequestResponse → RequestResponse
 request_response_placeless o =
-    record { name = name_placeless o.name; request = type_name_placeless o.request; response = type_name_placeless o.response; throws = map fault_placeless o.throws }
+    record {
+      name = name_placeless o.name;
+      request = type_name_placeless o.request;
+      response = type_name_placeless o.response;
+      throws = map fault_placeless o.throws;
+    }
 
 -- a one-way operation without its places
 abbrev pub one_way_placeless : OneWay → OneWay
@@ -282,7 +333,8 @@ one_way_placeless o = record { name = name_placeless o.name; request = type_name
 
 -- operations behind one word, without their places
 abbrev pub group_placeless : OperationGroup → OperationGroup
-group_placeless (group.RequestResponse at operations) = group.RequestResponse 0 (map request_response_placeless operations)
+group_placeless (group.RequestResponse at operations) =
+    group.RequestResponse 0 (map request_response_placeless operations)
 group_placeless (group.OneWay at operations) = group.OneWay 0 (map one_way_placeless operations)
 
 -- an interface without its places
@@ -294,11 +346,21 @@ interface_placeless i = record { at = 0; name = name_placeless i.name; groups = 
 -- a port without its places
 abbrev pub port_placeless : Port → Port
 port_placeless p =
-    record { at = 0; name = name_placeless p.name; location = quoted_placeless p.location; protocol = option_map name_placeless p.protocol; interfaces = map name_placeless p.interfaces }
+    record {
+      at = 0;
+      name = name_placeless p.name;
+      location = quoted_placeless p.location;
+      protocol = option_map name_placeless p.protocol;
+      interfaces = map name_placeless p.interfaces;
+    }
 
 -- a type and the fields that lead to a variable's value in it, without their places
 abbrev pub alias_placeless : Alias → Alias
-alias_placeless a = record { ty = name_placeless a.ty; first = name_placeless a.first; rest = map name_placeless a.rest }
+alias_placeless a = record {
+  ty = name_placeless a.ty;
+  first = name_placeless a.first;
+  rest = map name_placeless a.rest;
+}
 
 -- a variable of a `cset` without its places
 abbrev pub variable_placeless : CorrelationVariable → CorrelationVariable

@@ -38,7 +38,7 @@ fn tree_of_one(alloc: Global, items: &[Value]) -> Result<Option<Tree>, AllocErro
 
 /// The tree of a value, none where it makes none.
 #[cycle(tree_in)]
-fn tree_in(alloc: Global, value: &Value) -> Result<Option<Tree>, AllocError>
+pub fn tree_in(alloc: Global, value: &Value) -> Result<Option<Tree>, AllocError>
     ensures { IfOk result (λ tree. tree ≡ spec.tree_in (view value.now)) }
 {
     match value {

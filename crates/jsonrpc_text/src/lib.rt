@@ -9,6 +9,8 @@ mod read;
 mod to_json;
 
 pub use answer::{answer_text, batch_text, early_text};
+pub use from_json::tree_in;
 pub use laws::{answers_say_their_outcomes, texts_post_some, trees_read_back};
 pub use message::{Early, Id, Read, ReadCall};
-pub use read::read_message;
+pub use read::{has_version, read_message, value_of};
+pub use to_json::json_of;

@@ -29,7 +29,7 @@ pub fn read_message(alloc: Global, bytes: &[u8]) -> Result<Read, AllocError>
 }
 
 /// The JSON value of a text, none where it is not UTF-8 or no JSON text.
-fn value_of(alloc: Global, bytes: &[u8]) -> Result<Option<Value>, AllocError>
+pub fn value_of(alloc: Global, bytes: &[u8]) -> Result<Option<Value>, AllocError>
     ensures { IfOk result (λ value. option_map view value ≡ spec.value_of bytes.now) }
 {
     let Ok(text) = str::from_utf8(bytes) else {
@@ -142,8 +142,8 @@ fn what_of(
     }
 }
 
-/// Whether a call names version 2.0.
-fn has_version(value: &Value) -> bool
+/// Whether a call or a response names version 2.0.
+pub fn has_version(value: &Value) -> bool
     ensures { result ≡ spec.is_version (view value.now) }
 {
     match value.get("jsonrpc").and_then(Value::as_str) {

@@ -1,10 +1,10 @@
 use Rattle.std.proofs.Common.{true, false, [], ◌∷◌, refl, sym, ◌∙◌, ◌-◌}
 use Rattle.jolie_parse.specs.Classes as classes
-use Rattle.jolie_parse.specs.Grammar.{whole_number, long_number, quoted_text, truth, path_value, path, id, size, defined_test, cast, grouped, literal, primary, prefixed_operand, unary, factor, term, sum, comparand, comparison, conjunction, expr, index, step, word, member, members}
+use Rattle.jolie_parse.specs.Grammar.{whole_number, long_number, quoted_text, truth, path_value, path, id, size, defined_test, cast, grouped, literal, primary, prefixed_operand, unary, factor, term, sum, comparand, comparison, conjunction, index, step, word, member, members}
 use Rattle.jolie_parse.specs.Syntax as syntax
-use Rattle.jolie_parse.specs.Syntax.{behind, separated, optional, between, inside}
+use Rattle.jolie_parse.specs.Syntax.{behind, separated, between, inside}
 use Rattle.jolie_parse.specs.Reading.{read}
-use Rattle.jolie_parse.proofs.Lists.{passes, stops_then, first_stops, rest_stops, list_read, list_reads, unwrapped, turn_fails, turn_goes, turns_end, turn_shorter, eaten, optional_none, optional_stops, optional_read, left_reads, right_reads}
+use Rattle.jolie_parse.proofs.Lists.{passes, stops_then, first_stops, list_begun, next_fails, next_shorter, next_goes, nexts_end, unwrapped, turn_fails, turn_goes, turns_end, turn_shorter, eaten, optional_none, optional_stops, optional_read, left_reads, right_reads}
 use Rattle.jolie_parse.proofs.Inside.{between_reads, inside_stops, inside_read, prefix_read}
 use Rattle.jolie_parse.proofs.Turns.{factors_decided, terms_decided, steps_decided, comparisons_decided, conjunctions_decided, members_decided}
 use Rattle.jolie_parse.proofs.cursor.Cursor.+expression.Goals as goal
@@ -13,7 +13,7 @@ pub factors-returns-in_err-factor : goal.factors-returns-in_err-factor
 unfolding factor
 factors-returns-in_err-factor t c =
     passes _ c.from_residual.result c.in_err-factor.field-0.0 _ c.from_residual.ensures.1
-    (turn_fails c.args.levels factor factors_decided [] _ c.args.self.now _ _ _ _ c.loop-factors.invariant c.sees.ensures c.loop-factors-test.true c.in_err-factor.ensures)
+    (turn_fails c.args.levels factor factors_decided _ _ _ _ _ _ c.loop-factors.invariant c.sees.ensures c.loop-factors-test.true c.in_err-factor.ensures)
 
 pub factors-loop-factors-smaller : goal.factors-loop-factors-smaller
 factors-loop-factors-smaller t c = turn_shorter c.args.levels factor factors_decided _ _ _ c.in_ok-factor.ensures
@@ -21,17 +21,17 @@ factors-loop-factors-smaller t c = turn_shorter c.args.levels factor factors_dec
 pub factors-loop-factors-preserved : goal.factors-loop-factors-preserved
 unfolding factor
 factors-loop-factors-preserved t c =
-    turn_goes c.args.levels factor factors_decided [] _ _ c.args.self.now _ _ _ _ c.loop-factors.invariant c.sees.ensures c.loop-factors-test.true c.in_ok-factor.ensures c.in_ok-push.ensures.ok
+    turn_goes c.args.levels factor factors_decided _ _ _ _ _ _ _ c.loop-factors.invariant c.sees.ensures c.loop-factors-test.true c.in_ok-factor.ensures c.in_ok-push.ensures.ok
 
 pub factors-returns : goal.factors-returns
 unfolding factor
-factors-returns t c = turns_end c.args.levels factor factors_decided [] _ c.args.self.now _ _ c.loop-factors.invariant c.sees.ensures c.loop-factors-test.false
+factors-returns t c = turns_end c.args.levels factor factors_decided _ _ _ _ c.loop-factors.invariant c.sees.ensures c.loop-factors-test.false
 
 pub terms-returns-in_err-term : goal.terms-returns-in_err-term
 unfolding term
 terms-returns-in_err-term t c =
     passes _ c.from_residual.result c.in_err-term.field-0.0 _ c.from_residual.ensures.1
-    (turn_fails c.args.levels term terms_decided [] _ c.args.self.now _ _ _ _ c.loop-terms.invariant c.sees.ensures c.loop-terms-test.true c.in_err-term.ensures)
+    (turn_fails c.args.levels term terms_decided _ _ _ _ _ _ c.loop-terms.invariant c.sees.ensures c.loop-terms-test.true c.in_err-term.ensures)
 
 pub terms-loop-terms-smaller : goal.terms-loop-terms-smaller
 terms-loop-terms-smaller t c = turn_shorter c.args.levels term terms_decided _ _ _ c.in_ok-term.ensures
@@ -39,17 +39,17 @@ terms-loop-terms-smaller t c = turn_shorter c.args.levels term terms_decided _ _
 pub terms-loop-terms-preserved : goal.terms-loop-terms-preserved
 unfolding term
 terms-loop-terms-preserved t c =
-    turn_goes c.args.levels term terms_decided [] _ _ c.args.self.now _ _ _ _ c.loop-terms.invariant c.sees.ensures c.loop-terms-test.true c.in_ok-term.ensures c.in_ok-push.ensures.ok
+    turn_goes c.args.levels term terms_decided _ _ _ _ _ _ _ c.loop-terms.invariant c.sees.ensures c.loop-terms-test.true c.in_ok-term.ensures c.in_ok-push.ensures.ok
 
 pub terms-returns : goal.terms-returns
 unfolding term
-terms-returns t c = turns_end c.args.levels term terms_decided [] _ c.args.self.now _ _ c.loop-terms.invariant c.sees.ensures c.loop-terms-test.false
+terms-returns t c = turns_end c.args.levels term terms_decided _ _ _ _ c.loop-terms.invariant c.sees.ensures c.loop-terms-test.false
 
 pub steps-returns-in_err-step : goal.steps-returns-in_err-step
 unfolding step
 steps-returns-in_err-step t c =
     passes _ c.from_residual.result c.in_err-step.field-0.0 _ c.from_residual.ensures.1
-    (turn_fails c.args.levels step steps_decided [] _ c.args.self.now _ _ _ _ c.loop-steps.invariant c.sees_sign.ensures c.loop-steps-test.true c.in_err-step.ensures)
+    (turn_fails c.args.levels step steps_decided _ _ _ _ _ _ c.loop-steps.invariant c.sees_sign.ensures c.loop-steps-test.true c.in_err-step.ensures)
 
 pub steps-loop-steps-smaller : goal.steps-loop-steps-smaller
 steps-loop-steps-smaller t c = turn_shorter c.args.levels step steps_decided _ _ _ c.in_ok-step.ensures
@@ -57,103 +57,80 @@ steps-loop-steps-smaller t c = turn_shorter c.args.levels step steps_decided _ _
 pub steps-loop-steps-preserved : goal.steps-loop-steps-preserved
 unfolding step
 steps-loop-steps-preserved t c =
-    turn_goes c.args.levels step steps_decided [] _ _ c.args.self.now _ _ _ _ c.loop-steps.invariant c.sees_sign.ensures c.loop-steps-test.true c.in_ok-step.ensures c.in_ok-push.ensures.ok
+    turn_goes c.args.levels step steps_decided _ _ _ _ _ _ _ c.loop-steps.invariant c.sees_sign.ensures c.loop-steps-test.true c.in_ok-step.ensures c.in_ok-push.ensures.ok
 
 pub steps-returns : goal.steps-returns
 unfolding step
-steps-returns t c = turns_end c.args.levels step steps_decided [] _ c.args.self.now _ _ c.loop-steps.invariant c.sees_sign.ensures c.loop-steps-test.false
+steps-returns t c = turns_end c.args.levels step steps_decided _ _ _ _ c.loop-steps.invariant c.sees_sign.ensures c.loop-steps-test.false
 
-pub more_comparisons-returns-in_err-next_comparison : goal.more_comparisons-returns-in_err-next_comparison
-unfolding comparison
-more_comparisons-returns-in_err-next_comparison t c =
-    passes _ c.from_residual.result c.in_err-next_comparison.field-0.0 _ c.from_residual.ensures.1
-    (turn_fails c.args.levels (behind classes.sign_and comparison) comparisons_decided c.args.operands _ c.args.self.now _ _ _ _ c.loop-operands.invariant c.sees_sign.ensures c.loop-operands-test.true c.in_err-next_comparison.ensures)
-
-pub more_comparisons-loop-operands-smaller : goal.more_comparisons-loop-operands-smaller
-more_comparisons-loop-operands-smaller t c = turn_shorter c.args.levels (behind classes.sign_and comparison) comparisons_decided _ _ _ c.in_ok-next_comparison.ensures
-
-pub more_comparisons-loop-operands-preserved : goal.more_comparisons-loop-operands-preserved
-unfolding comparison
-more_comparisons-loop-operands-preserved t c =
-    turn_goes c.args.levels (behind classes.sign_and comparison) comparisons_decided c.args.operands _ _ c.args.self.now _ _ _ _ c.loop-operands.invariant c.sees_sign.ensures c.loop-operands-test.true c.in_ok-next_comparison.ensures c.in_ok-push.ensures.ok
-
-pub more_comparisons-returns : goal.more_comparisons-returns
-unfolding comparison
-more_comparisons-returns t c = turns_end c.args.levels (behind classes.sign_and comparison) comparisons_decided c.args.operands _ c.args.self.now _ _ c.loop-operands.invariant c.sees_sign.ensures c.loop-operands-test.false
-
-pub more_conjunctions-returns-in_err-next_conjunction : goal.more_conjunctions-returns-in_err-next_conjunction
-unfolding conjunction
-more_conjunctions-returns-in_err-next_conjunction t c =
-    passes _ c.from_residual.result c.in_err-next_conjunction.field-0.0 _ c.from_residual.ensures.1
-    (turn_fails c.args.levels (behind classes.sign_or conjunction) conjunctions_decided c.args.operands _ c.args.self.now _ _ _ _ c.loop-operands.invariant c.sees_sign.ensures c.loop-operands-test.true c.in_err-next_conjunction.ensures)
-
-pub more_conjunctions-loop-operands-smaller : goal.more_conjunctions-loop-operands-smaller
-more_conjunctions-loop-operands-smaller t c = turn_shorter c.args.levels (behind classes.sign_or conjunction) conjunctions_decided _ _ _ c.in_ok-next_conjunction.ensures
-
-pub more_conjunctions-loop-operands-preserved : goal.more_conjunctions-loop-operands-preserved
-unfolding conjunction
-more_conjunctions-loop-operands-preserved t c =
-    turn_goes c.args.levels (behind classes.sign_or conjunction) conjunctions_decided c.args.operands _ _ c.args.self.now _ _ _ _ c.loop-operands.invariant c.sees_sign.ensures c.loop-operands-test.true c.in_ok-next_conjunction.ensures c.in_ok-push.ensures.ok
-
-pub more_conjunctions-returns : goal.more_conjunctions-returns
-unfolding conjunction
-more_conjunctions-returns t c = turns_end c.args.levels (behind classes.sign_or conjunction) conjunctions_decided c.args.operands _ c.args.self.now _ _ c.loop-operands.invariant c.sees_sign.ensures c.loop-operands-test.false
-
-pub more_members-returns-in_err-next_member : goal.more_members-returns-in_err-next_member
-unfolding member
-more_members-returns-in_err-next_member t c =
-    passes _ c.from_residual.result c.in_err-next_member.field-0.0 _ c.from_residual.ensures.1
-    (turn_fails c.args.levels (behind classes.sign_comma member) members_decided c.args.members _ c.args.self.now _ _ _ _ c.loop-members.invariant c.sees_sign.ensures c.loop-members-test.true c.in_err-next_member.ensures)
-
-pub more_members-loop-members-smaller : goal.more_members-loop-members-smaller
-more_members-loop-members-smaller t c = turn_shorter c.args.levels (behind classes.sign_comma member) members_decided _ _ _ c.in_ok-next_member.ensures
-
-pub more_members-loop-members-preserved : goal.more_members-loop-members-preserved
-unfolding member
-more_members-loop-members-preserved t c =
-    turn_goes c.args.levels (behind classes.sign_comma member) members_decided c.args.members _ _ c.args.self.now _ _ _ _ c.loop-members.invariant c.sees_sign.ensures c.loop-members-test.true c.in_ok-next_member.ensures c.in_ok-push.ensures.ok
-
-pub more_members-returns : goal.more_members-returns
-unfolding member
-more_members-returns t c = turns_end c.args.levels (behind classes.sign_comma member) members_decided c.args.members _ c.args.self.now _ _ c.loop-members.invariant c.sees_sign.ensures c.loop-members-test.false
-
-pub conjunction-returns-in_err-first : goal.conjunction-returns-in_err-first
-unfolding conjunction
-conjunction-returns-in_err-first t c =
+pub comparisons-returns-in_err-first : goal.comparisons-returns-in_err-first
+comparisons-returns-in_err-first t c =
     passes _ c.from_residual.result c.in_err-first.field-0.0 _ c.from_residual.ensures.1
-    (stops_then (read c.args.levels (separated classes.sign_and comparison) c.args.self.now) _ _ _ (first_stops c.args.levels comparison (behind classes.sign_and comparison) c.args.self.now _ _ c.in_err-first.ensures))
+    (first_stops c.args.levels comparison (behind classes.sign_and comparison) c.args.self.now _ _ c.in_err-first.ensures)
 
-pub conjunction-returns-in_err-operands : goal.conjunction-returns-in_err-operands
-unfolding conjunction
-conjunction-returns-in_err-operands t c =
-    passes _ c.from_residual-in_err-operands.result c.in_err-operands.field-0.0 _ c.from_residual-in_err-operands.ensures.1
-    (stops_then (read c.args.levels (separated classes.sign_and comparison) c.args.self.now) _ _ _
-    (rest_stops c.args.levels comparison (behind classes.sign_and comparison) c.args.self.now _ _ _ _ _ c.in_ok-first.ensures c.in_ok-one.ensures c.in_err-operands.ensures))
+pub comparisons-loop-operands-init : goal.comparisons-loop-operands-init
+comparisons-loop-operands-init t c = list_begun c.args.levels comparison (behind classes.sign_and comparison) c.args.self.now _ _ _ c.in_ok-first.ensures c.in_ok-operands.ensures
 
-pub conjunction-returns : goal.conjunction-returns
-unfolding conjunction
-conjunction-returns t c =
-    let e = list_read c.args.levels comparison (behind classes.sign_and comparison) c.args.self.now _ _ _ _ _ c.in_ok-first.ensures c.in_ok-one.ensures c.in_ok-operands.ensures in
-    rw (e, c.in_ok-and_of.ensures) refl
+pub comparisons-returns-in_err-comparison : goal.comparisons-returns-in_err-comparison
+comparisons-returns-in_err-comparison t c =
+    passes _ c.from_residual-in_err-comparison.result c.in_err-comparison.field-0.0 _ c.from_residual-in_err-comparison.ensures.1
+    (next_fails c.args.levels classes.sign_and comparison comparisons_decided _ _ _ _ _ _ _ c.loop-operands.invariant c.eat.ensures.found c.eat.ensures.rest c.loop-operands-test.true c.in_err-comparison.ensures)
 
-pub expression-returns-in_err-first : goal.expression-returns-in_err-first
-unfolding expr
-expression-returns-in_err-first t c =
+pub comparisons-loop-operands-smaller : goal.comparisons-loop-operands-smaller
+comparisons-loop-operands-smaller t c = next_shorter c.args.levels classes.sign_and comparison comparisons_decided _ _ _ _ _ c.eat.ensures.found c.eat.ensures.rest c.loop-operands-test.true c.in_ok-comparison.ensures
+
+pub comparisons-loop-operands-preserved : goal.comparisons-loop-operands-preserved
+comparisons-loop-operands-preserved t c =
+    next_goes c.args.levels classes.sign_and comparison comparisons_decided _ _ _ _ _ _ _ _ c.loop-operands.invariant c.eat.ensures.found c.eat.ensures.rest c.loop-operands-test.true c.in_ok-comparison.ensures c.in_ok-push.ensures.ok
+
+pub comparisons-returns : goal.comparisons-returns
+comparisons-returns t c = nexts_end c.args.levels classes.sign_and comparison comparisons_decided _ _ _ _ _ c.loop-operands.invariant c.eat.ensures.found c.eat.ensures.rest c.loop-operands-test.false
+
+pub conjunctions-returns-in_err-first : goal.conjunctions-returns-in_err-first
+conjunctions-returns-in_err-first t c =
     passes _ c.from_residual.result c.in_err-first.field-0.0 _ c.from_residual.ensures.1
-    (stops_then (read c.args.levels (separated classes.sign_or conjunction) c.args.self.now) _ _ _ (first_stops c.args.levels conjunction (behind classes.sign_or conjunction) c.args.self.now _ _ c.in_err-first.ensures))
+    (first_stops c.args.levels conjunction (behind classes.sign_or conjunction) c.args.self.now _ _ c.in_err-first.ensures)
 
-pub expression-returns-in_err-operands : goal.expression-returns-in_err-operands
-unfolding expr
-expression-returns-in_err-operands t c =
-    passes _ c.from_residual-in_err-operands.result c.in_err-operands.field-0.0 _ c.from_residual-in_err-operands.ensures.1
-    (stops_then (read c.args.levels (separated classes.sign_or conjunction) c.args.self.now) _ _ _
-    (rest_stops c.args.levels conjunction (behind classes.sign_or conjunction) c.args.self.now _ _ _ _ _ c.in_ok-first.ensures c.in_ok-one.ensures c.in_err-operands.ensures))
+pub conjunctions-loop-operands-init : goal.conjunctions-loop-operands-init
+conjunctions-loop-operands-init t c = list_begun c.args.levels conjunction (behind classes.sign_or conjunction) c.args.self.now _ _ _ c.in_ok-first.ensures c.in_ok-operands.ensures
 
-pub expression-returns : goal.expression-returns
-unfolding expr
-expression-returns t c =
-    let e = list_read c.args.levels conjunction (behind classes.sign_or conjunction) c.args.self.now _ _ _ _ _ c.in_ok-first.ensures c.in_ok-one.ensures c.in_ok-operands.ensures in
-    rw (e, c.in_ok-or_of.ensures) refl
+pub conjunctions-returns-in_err-conjunction : goal.conjunctions-returns-in_err-conjunction
+conjunctions-returns-in_err-conjunction t c =
+    passes _ c.from_residual-in_err-conjunction.result c.in_err-conjunction.field-0.0 _ c.from_residual-in_err-conjunction.ensures.1
+    (next_fails c.args.levels classes.sign_or conjunction conjunctions_decided _ _ _ _ _ _ _ c.loop-operands.invariant c.eat.ensures.found c.eat.ensures.rest c.loop-operands-test.true c.in_err-conjunction.ensures)
+
+pub conjunctions-loop-operands-smaller : goal.conjunctions-loop-operands-smaller
+conjunctions-loop-operands-smaller t c = next_shorter c.args.levels classes.sign_or conjunction conjunctions_decided _ _ _ _ _ c.eat.ensures.found c.eat.ensures.rest c.loop-operands-test.true c.in_ok-conjunction.ensures
+
+pub conjunctions-loop-operands-preserved : goal.conjunctions-loop-operands-preserved
+conjunctions-loop-operands-preserved t c =
+    next_goes c.args.levels classes.sign_or conjunction conjunctions_decided _ _ _ _ _ _ _ _ c.loop-operands.invariant c.eat.ensures.found c.eat.ensures.rest c.loop-operands-test.true c.in_ok-conjunction.ensures c.in_ok-push.ensures.ok
+
+pub conjunctions-returns : goal.conjunctions-returns
+conjunctions-returns t c = nexts_end c.args.levels classes.sign_or conjunction conjunctions_decided _ _ _ _ _ c.loop-operands.invariant c.eat.ensures.found c.eat.ensures.rest c.loop-operands-test.false
+
+pub some_members-returns-in_err-first : goal.some_members-returns-in_err-first
+some_members-returns-in_err-first t c =
+    passes _ c.from_residual.result c.in_err-first.field-0.0 _ c.from_residual.ensures.1
+    (first_stops c.args.levels member (behind classes.sign_comma member) c.args.self.now _ _ c.in_err-first.ensures)
+
+pub some_members-loop-members-init : goal.some_members-loop-members-init
+some_members-loop-members-init t c = list_begun c.args.levels member (behind classes.sign_comma member) c.args.self.now _ _ _ c.in_ok-first.ensures c.in_ok-members.ensures
+
+pub some_members-returns-in_err-member : goal.some_members-returns-in_err-member
+some_members-returns-in_err-member t c =
+    passes _ c.from_residual-in_err-member.result c.in_err-member.field-0.0 _ c.from_residual-in_err-member.ensures.1
+    (next_fails c.args.levels classes.sign_comma member members_decided _ _ _ _ _ _ _ c.loop-members.invariant c.eat.ensures.found c.eat.ensures.rest c.loop-members-test.true c.in_err-member.ensures)
+
+pub some_members-loop-members-smaller : goal.some_members-loop-members-smaller
+some_members-loop-members-smaller t c = next_shorter c.args.levels classes.sign_comma member members_decided _ _ _ _ _ c.eat.ensures.found c.eat.ensures.rest c.loop-members-test.true c.in_ok-member.ensures
+
+pub some_members-loop-members-preserved : goal.some_members-loop-members-preserved
+some_members-loop-members-preserved t c =
+    next_goes c.args.levels classes.sign_comma member members_decided _ _ _ _ _ _ _ _ c.loop-members.invariant c.eat.ensures.found c.eat.ensures.rest c.loop-members-test.true c.in_ok-member.ensures c.in_ok-push.ensures.ok
+
+pub some_members-returns : goal.some_members-returns
+some_members-returns t c = nexts_end c.args.levels classes.sign_comma member members_decided _ _ _ _ _ c.loop-members.invariant c.eat.ensures.found c.eat.ensures.rest c.loop-members-test.false
 
 pub primary-returns-then-sees : goal.primary-returns-then-sees
 unfolding primary whole_number long_number quoted_text truth path_value path id size defined_test cast grouped
@@ -378,17 +355,8 @@ members-returns-then-not-sees t c =
     let none = optional_none c.args.levels (separated classes.sign_comma member) c.args.self.now _ c.sees.ensures c.if-not-sees.true in
     rw (none, c.new.ensures) refl
 
-pub members-returns-in_err-first : goal.members-returns-in_err-first
-unfolding members member word
-members-returns-in_err-first t c =
-    passes _ c.from_residual.result c.in_err-first.field-0.0 _ c.from_residual.ensures.1
-    (stops_then (read c.args.levels (optional (separated classes.sign_comma member)) c.args.self.now) _ _ _
-    (optional_stops c.args.levels (separated classes.sign_comma member) c.args.self.now _ _ _ c.sees.ensures c.if-not-sees.false
-    (first_stops c.args.levels member (behind classes.sign_comma member) c.args.self.now _ _ c.in_err-first.ensures)))
-
 pub members-returns : goal.members-returns
 unfolding members member word
 members-returns t c =
     let b = sym c.sees.ensures ∙ c.if-not-sees.false in
-    rw (b, unwrapped (read c.args.levels (separated classes.sign_comma member) c.args.self.now))
-    (list_reads c.args.levels member (behind classes.sign_comma member) c.args.self.now _ _ _ _ _ c.in_ok-first.ensures c.in_ok-one.ensures c.more_members.ensures)
+    rw (b, unwrapped (read c.args.levels (separated classes.sign_comma member) c.args.self.now)) c.some_members.ensures

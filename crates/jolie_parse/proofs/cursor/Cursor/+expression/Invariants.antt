@@ -1,7 +1,8 @@
 use Rattle.std.proofs.Common.{◌≡◌, [], ◌+◌, ◌*◌, length}
 use Rattle.jolie_parse.specs.Classes as c
 use Rattle.jolie_parse.specs.Grammar as spec
-use Rattle.jolie_parse.specs.Syntax.{behind}
+use Rattle.jolie_parse.specs.Syntax.{behind, separated}
+use Rattle.jolie_parse.specs.Reading.{read}
 use Rattle.jolie_parse.specs.Reads.{more}
 use Rattle.jolie_parse.proofs.cursor.Cursor.+expression.Given as goal
 
@@ -11,8 +12,26 @@ decreases-cast l = l.levels * 40 + 2
 abbrev pub decreases-comparison : goal.decreases-comparison
 decreases-comparison l = l.levels * 40 + 24
 
+abbrev pub decreases-comparisons : goal.decreases-comparisons
+decreases-comparisons l = l.levels * 40 + 26
+
+abbrev pub invariant-comparisons-loop-operands : goal.invariant-comparisons-loop-operands
+invariant-comparisons-loop-operands l = read l.levels (separated c.sign_and spec.comparison) l.fn.self ≡ more l.levels (behind c.sign_and spec.comparison) l.operands l.self
+
+abbrev pub decreases-comparisons-loop-operands : goal.decreases-comparisons-loop-operands
+decreases-comparisons-loop-operands l = length l.self
+
 abbrev pub decreases-conjunction : goal.decreases-conjunction
 decreases-conjunction l = l.levels * 40 + 27
+
+abbrev pub decreases-conjunctions : goal.decreases-conjunctions
+decreases-conjunctions l = l.levels * 40 + 29
+
+abbrev pub invariant-conjunctions-loop-operands : goal.invariant-conjunctions-loop-operands
+invariant-conjunctions-loop-operands l = read l.levels (separated c.sign_or spec.conjunction) l.fn.self ≡ more l.levels (behind c.sign_or spec.conjunction) l.operands l.self
+
+abbrev pub decreases-conjunctions-loop-operands : goal.decreases-conjunctions-loop-operands
+decreases-conjunctions-loop-operands l = length l.self
 
 abbrev pub decreases-defined_test : goal.decreases-defined_test
 decreases-defined_test l = l.levels * 40 + 2
@@ -53,42 +72,6 @@ decreases-member l = l.levels * 40 + 33
 abbrev pub decreases-members : goal.decreases-members
 decreases-members l = l.levels * 40 + 36
 
-abbrev pub decreases-more_comparisons : goal.decreases-more_comparisons
-decreases-more_comparisons l = l.levels * 40 + 26
-
-abbrev pub invariant-more_comparisons-loop-operands : goal.invariant-more_comparisons-loop-operands
-invariant-more_comparisons-loop-operands l = more l.levels (behind c.sign_and spec.comparison) l.fn.operands l.fn.self ≡ more l.levels (behind c.sign_and spec.comparison) l.operands l.self
-
-abbrev pub decreases-more_comparisons-loop-operands : goal.decreases-more_comparisons-loop-operands
-decreases-more_comparisons-loop-operands l = length l.self
-
-abbrev pub decreases-more_conjunctions : goal.decreases-more_conjunctions
-decreases-more_conjunctions l = l.levels * 40 + 29
-
-abbrev pub invariant-more_conjunctions-loop-operands : goal.invariant-more_conjunctions-loop-operands
-invariant-more_conjunctions-loop-operands l = more l.levels (behind c.sign_or spec.conjunction) l.fn.operands l.fn.self ≡ more l.levels (behind c.sign_or spec.conjunction) l.operands l.self
-
-abbrev pub decreases-more_conjunctions-loop-operands : goal.decreases-more_conjunctions-loop-operands
-decreases-more_conjunctions-loop-operands l = length l.self
-
-abbrev pub decreases-more_members : goal.decreases-more_members
-decreases-more_members l = l.levels * 40 + 35
-
-abbrev pub invariant-more_members-loop-members : goal.invariant-more_members-loop-members
-invariant-more_members-loop-members l = more l.levels (behind c.sign_comma spec.member) l.fn.members l.fn.self ≡ more l.levels (behind c.sign_comma spec.member) l.members l.self
-
-abbrev pub decreases-more_members-loop-members : goal.decreases-more_members-loop-members
-decreases-more_members-loop-members l = length l.self
-
-abbrev pub decreases-next_comparison : goal.decreases-next_comparison
-decreases-next_comparison l = l.levels * 40 + 25
-
-abbrev pub decreases-next_conjunction : goal.decreases-next_conjunction
-decreases-next_conjunction l = l.levels * 40 + 28
-
-abbrev pub decreases-next_member : goal.decreases-next_member
-decreases-next_member l = l.levels * 40 + 34
-
 abbrev pub decreases-path : goal.decreases-path
 decreases-path l = l.levels * 40 + 6
 
@@ -112,6 +95,15 @@ decreases-product l = l.levels * 40 + 20
 
 abbrev pub decreases-size : goal.decreases-size
 decreases-size l = l.levels * 40 + 7
+
+abbrev pub decreases-some_members : goal.decreases-some_members
+decreases-some_members l = l.levels * 40 + 35
+
+abbrev pub invariant-some_members-loop-members : goal.invariant-some_members-loop-members
+invariant-some_members-loop-members l = read l.levels (separated c.sign_comma spec.member) l.fn.self ≡ more l.levels (behind c.sign_comma spec.member) l.members l.self
+
+abbrev pub decreases-some_members-loop-members : goal.decreases-some_members-loop-members
+decreases-some_members-loop-members l = length l.self
 
 abbrev pub decreases-step : goal.decreases-step
 decreases-step l = l.levels * 40 + 3

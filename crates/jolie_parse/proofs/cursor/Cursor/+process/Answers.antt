@@ -5,9 +5,9 @@ use Rattle.jolie_parse.specs.Classes.{Spelled}
 use Rattle.jolie_parse.specs.Grammar.{id, handler_key, block, reply, input_parts, branch, choice, answer, output_parts, correlate, undefine, repetition, counted_loop, scope, install, throw, compensate, inner_handler, block_statement, nothing, marked_statement, in_sequence, in_parallel, handler}
 use Rattle.jolie_parse.specs.Factored.{named_parts, named, else_if, alternative, one_else, one_statement}
 use Rattle.jolie_parse.specs.Syntax as syntax
-use Rattle.jolie_parse.specs.Syntax.{behind, separated, some_of, between, inside, prefix, either, means, give}
+use Rattle.jolie_parse.specs.Syntax.{behind, between, inside, prefix, either, means, give}
 use Rattle.jolie_parse.specs.Reading.{read}
-use Rattle.jolie_parse.proofs.Lists.{passes, stops_then, first_stops, rest_stops, list_read, list_reads, turn_fails, turn_goes, turns_end, turn_shorter, optional_none, optional_stops, optional_read, left_reads, right_reads}
+use Rattle.jolie_parse.proofs.Lists.{passes, stops_then, first_stops, list_begun, next_fails, next_shorter, next_goes, nexts_end, turn_fails, turn_goes, turns_end, turn_shorter, optional_none, optional_stops, optional_read, left_reads, right_reads}
 use Rattle.jolie_parse.proofs.Inside.{between_reads, inside_stops, inside_read, prefix_stops, prefix_read}
 use Rattle.jolie_parse.proofs.Statements.{sequences_decided, statements_decided, handlers_decided, branches_decided}
 use Rattle.jolie_parse.proofs.cursor.Cursor.+process.Goals as goal
@@ -40,110 +40,6 @@ pub body-returns : goal.body-returns
 unfolding id nothing block block_statement one_statement one_else undefine correlate repetition counted_loop choice branch scope install throw compensate inner_handler
 body-returns t c =
     rw c.in_ok-new.ensures (optional_read c.args.levels (in_parallel one_statement) c.args.self.now _ _ _ c.sees.ensures c.if-not-sees.false c.in_ok-process.ensures)
-
-pub parallel-returns-in_err-first : goal.parallel-returns-in_err-first
-parallel-returns-in_err-first t c =
-    passes _ c.from_residual.result c.in_err-first.field-0.0 _ c.from_residual.ensures.1
-    (stops_then (read c.args.levels (separated classes.sign_bar (in_sequence one_statement)) c.args.self.now) _ _ _ (first_stops c.args.levels (in_sequence one_statement) (behind classes.sign_bar (in_sequence one_statement)) c.args.self.now _ _ c.in_err-first.ensures))
-
-pub parallel-returns-in_err-sequences : goal.parallel-returns-in_err-sequences
-parallel-returns-in_err-sequences t c =
-    passes _ c.from_residual-in_err-sequences.result c.in_err-sequences.field-0.0 _ c.from_residual-in_err-sequences.ensures.1
-    (stops_then (read c.args.levels (separated classes.sign_bar (in_sequence one_statement)) c.args.self.now) _ _ _
-    (rest_stops c.args.levels (in_sequence one_statement) (behind classes.sign_bar (in_sequence one_statement)) c.args.self.now _ _ _ _ _ c.in_ok-first.ensures c.in_ok-one.ensures c.in_err-sequences.ensures))
-
-pub parallel-returns : goal.parallel-returns
-parallel-returns t c =
-    let e = list_read c.args.levels (in_sequence one_statement) (behind classes.sign_bar (in_sequence one_statement)) c.args.self.now _ _ _ _ _ c.in_ok-first.ensures c.in_ok-one.ensures c.in_ok-sequences.ensures in
-    rw (e, c.parallel_of.ensures) refl
-
-pub more_sequences-returns-in_err-next_sequence : goal.more_sequences-returns-in_err-next_sequence
-more_sequences-returns-in_err-next_sequence t c =
-    passes _ c.from_residual.result c.in_err-next_sequence.field-0.0 _ c.from_residual.ensures.1
-    (turn_fails c.args.levels (behind classes.sign_bar (in_sequence one_statement)) sequences_decided c.args.sequences _ c.args.self.now _ _ _ _ c.loop-sequences.invariant c.sees_sign.ensures c.loop-sequences-test.true c.in_err-next_sequence.ensures)
-
-pub more_sequences-loop-sequences-smaller : goal.more_sequences-loop-sequences-smaller
-more_sequences-loop-sequences-smaller t c =
-    turn_shorter c.args.levels (behind classes.sign_bar (in_sequence one_statement)) sequences_decided _ _ _ c.in_ok-next_sequence.ensures
-
-pub more_sequences-loop-sequences-preserved : goal.more_sequences-loop-sequences-preserved
-more_sequences-loop-sequences-preserved t c =
-    turn_goes c.args.levels (behind classes.sign_bar (in_sequence one_statement)) sequences_decided c.args.sequences _ _ c.args.self.now _ _ _ _ c.loop-sequences.invariant c.sees_sign.ensures c.loop-sequences-test.true c.in_ok-next_sequence.ensures c.in_ok-push.ensures.ok
-
-pub more_sequences-returns : goal.more_sequences-returns
-more_sequences-returns t c =
-    turns_end c.args.levels (behind classes.sign_bar (in_sequence one_statement)) sequences_decided c.args.sequences _ c.args.self.now _ _ c.loop-sequences.invariant c.sees_sign.ensures c.loop-sequences-test.false
-
-pub sequence-returns-in_err-first : goal.sequence-returns-in_err-first
-sequence-returns-in_err-first t c =
-    passes _ c.from_residual.result c.in_err-first.field-0.0 _ c.from_residual.ensures.1
-    (stops_then (read c.args.levels (separated classes.sign_semicolon one_statement) c.args.self.now) _ _ _ (first_stops c.args.levels one_statement (behind classes.sign_semicolon one_statement) c.args.self.now _ _ c.in_err-first.ensures))
-
-pub sequence-returns-in_err-statements : goal.sequence-returns-in_err-statements
-sequence-returns-in_err-statements t c =
-    passes _ c.from_residual-in_err-statements.result c.in_err-statements.field-0.0 _ c.from_residual-in_err-statements.ensures.1
-    (stops_then (read c.args.levels (separated classes.sign_semicolon one_statement) c.args.self.now) _ _ _
-    (rest_stops c.args.levels one_statement (behind classes.sign_semicolon one_statement) c.args.self.now _ _ _ _ _ c.in_ok-first.ensures c.in_ok-one.ensures c.in_err-statements.ensures))
-
-pub sequence-returns : goal.sequence-returns
-sequence-returns t c =
-    let e = list_read c.args.levels one_statement (behind classes.sign_semicolon one_statement) c.args.self.now _ _ _ _ _ c.in_ok-first.ensures c.in_ok-one.ensures c.in_ok-statements.ensures in
-    rw (e, c.sequence_of.ensures) refl
-
-pub more_statements-returns-in_err-next_statement : goal.more_statements-returns-in_err-next_statement
-more_statements-returns-in_err-next_statement t c =
-    passes _ c.from_residual.result c.in_err-next_statement.field-0.0 _ c.from_residual.ensures.1
-    (turn_fails c.args.levels (behind classes.sign_semicolon one_statement) statements_decided c.args.statements _ c.args.self.now _ _ _ _ c.loop-statements.invariant c.sees_sign.ensures c.loop-statements-test.true c.in_err-next_statement.ensures)
-
-pub more_statements-loop-statements-smaller : goal.more_statements-loop-statements-smaller
-more_statements-loop-statements-smaller t c =
-    turn_shorter c.args.levels (behind classes.sign_semicolon one_statement) statements_decided _ _ _ c.in_ok-next_statement.ensures
-
-pub more_statements-loop-statements-preserved : goal.more_statements-loop-statements-preserved
-more_statements-loop-statements-preserved t c =
-    turn_goes c.args.levels (behind classes.sign_semicolon one_statement) statements_decided c.args.statements _ _ c.args.self.now _ _ _ _ c.loop-statements.invariant c.sees_sign.ensures c.loop-statements-test.true c.in_ok-next_statement.ensures c.in_ok-push.ensures.ok
-
-pub more_statements-returns : goal.more_statements-returns
-more_statements-returns t c =
-    turns_end c.args.levels (behind classes.sign_semicolon one_statement) statements_decided c.args.statements _ c.args.self.now _ _ c.loop-statements.invariant c.sees_sign.ensures c.loop-statements-test.false
-
-pub more_handlers-returns-in_err-next_handler : goal.more_handlers-returns-in_err-next_handler
-more_handlers-returns-in_err-next_handler t c =
-    passes _ c.from_residual.result c.in_err-next_handler.field-0.0 _ c.from_residual.ensures.1
-    (turn_fails c.args.levels (behind classes.sign_comma (handler one_statement)) handlers_decided c.args.handlers _ c.args.self.now _ _ _ _ c.loop-handlers.invariant c.sees_sign.ensures c.loop-handlers-test.true c.in_err-next_handler.ensures)
-
-pub more_handlers-loop-handlers-smaller : goal.more_handlers-loop-handlers-smaller
-more_handlers-loop-handlers-smaller t c =
-    turn_shorter c.args.levels (behind classes.sign_comma (handler one_statement)) handlers_decided _ _ _ c.in_ok-next_handler.ensures
-
-pub more_handlers-loop-handlers-preserved : goal.more_handlers-loop-handlers-preserved
-more_handlers-loop-handlers-preserved t c =
-    turn_goes c.args.levels (behind classes.sign_comma (handler one_statement)) handlers_decided c.args.handlers _ _ c.args.self.now _ _ _ _ c.loop-handlers.invariant c.sees_sign.ensures c.loop-handlers-test.true c.in_ok-next_handler.ensures c.in_ok-push.ensures.ok
-
-pub more_handlers-returns : goal.more_handlers-returns
-more_handlers-returns t c =
-    turns_end c.args.levels (behind classes.sign_comma (handler one_statement)) handlers_decided c.args.handlers _ c.args.self.now _ _ c.loop-handlers.invariant c.sees_sign.ensures c.loop-handlers-test.false
-
-pub more_branches-returns-in_err-branch : goal.more_branches-returns-in_err-branch
-unfolding branch
-more_branches-returns-in_err-branch t c =
-    passes _ c.from_residual.result c.in_err-branch.field-0.0 _ c.from_residual.ensures.1
-    (turn_fails c.args.levels branch branches_decided c.args.branches _ c.args.self.now _ _ _ _ c.loop-branches.invariant c.sees_sign.ensures c.loop-branches-test.true c.in_err-branch.ensures)
-
-pub more_branches-loop-branches-smaller : goal.more_branches-loop-branches-smaller
-unfolding branch
-more_branches-loop-branches-smaller t c =
-    turn_shorter c.args.levels branch branches_decided _ _ _ c.in_ok-branch.ensures
-
-pub more_branches-loop-branches-preserved : goal.more_branches-loop-branches-preserved
-unfolding branch
-more_branches-loop-branches-preserved t c =
-    turn_goes c.args.levels branch branches_decided c.args.branches _ _ c.args.self.now _ _ _ _ c.loop-branches.invariant c.sees_sign.ensures c.loop-branches-test.true c.in_ok-branch.ensures c.in_ok-push.ensures.ok
-
-pub more_branches-returns : goal.more_branches-returns
-unfolding branch
-more_branches-returns t c =
-    turns_end c.args.levels branch branches_decided c.args.branches _ c.args.self.now _ _ c.loop-branches.invariant c.sees_sign.ensures c.loop-branches-test.false
 
 pub statement-returns-then-sees_word : goal.statement-returns-then-sees_word
 unfolding one_statement nothing id
@@ -374,34 +270,6 @@ pub handlers_in_parens-returns : goal.handlers_in_parens-returns
 handlers_in_parens-returns t c =
     between_reads classes.sign_open_paren syntax.some_handlers classes.sign_close_paren c.args.levels (c.args.levels - 1) c.args.self.now _ _ _ _ c.handlers-part.result c.closed.result c.in_ok-open.ensures.opened refl c.in_ok-open.ensures.reads c.handlers-part.ensures c.closed.ensures
 
-pub handlers-returns-in_err-first : goal.handlers-returns-in_err-first
-handlers-returns-in_err-first t c =
-    passes _ c.from_residual.result c.in_err-first.field-0.0 _ c.from_residual.ensures.1
-    (first_stops c.args.levels (handler one_statement) (behind classes.sign_comma (handler one_statement)) c.args.self.now _ _ c.in_err-first.ensures)
-
-pub handlers-returns : goal.handlers-returns
-handlers-returns t c =
-    list_reads c.args.levels (handler one_statement) (behind classes.sign_comma (handler one_statement)) c.args.self.now _ _ _ _ _ c.in_ok-first.ensures c.in_ok-one.ensures c.more_handlers.ensures
-
-pub choice-returns-in_err-first : goal.choice-returns-in_err-first
-unfolding choice
-choice-returns-in_err-first t c =
-    passes _ c.from_residual.result c.in_err-first.field-0.0 _ c.from_residual.ensures.1
-    (stops_then (read c.args.levels (some_of branch) c.args.self.now) _ _ _ (first_stops c.args.levels branch branch c.args.self.now _ _ c.in_err-first.ensures))
-
-pub choice-returns-in_err-branches : goal.choice-returns-in_err-branches
-unfolding choice
-choice-returns-in_err-branches t c =
-    passes _ c.from_residual-in_err-branches.result c.in_err-branches.field-0.0 _ c.from_residual-in_err-branches.ensures.1
-    (stops_then (read c.args.levels (some_of branch) c.args.self.now) _ _ _
-    (rest_stops c.args.levels branch branch c.args.self.now _ _ _ _ _ c.in_ok-first.ensures c.in_ok-one.ensures c.in_err-branches.ensures))
-
-pub choice-returns : goal.choice-returns
-unfolding choice
-choice-returns t c =
-    let e = list_read c.args.levels branch branch c.args.self.now _ _ _ _ _ c.in_ok-first.ensures c.in_ok-one.ensures c.in_ok-branches.ensures in
-    rw (e, c.choice_of.ensures) refl
-
 pub branch-returns-in_err-input : goal.branch-returns-in_err-input
 unfolding branch
 branch-returns-in_err-input t c =
@@ -455,6 +323,102 @@ else_if-returns-in_err-parts t c =
     passes _ c.from_residual-in_err-parts.result c.in_err-parts.field-0.0 _ c.from_residual-in_err-parts.ensures.1
     (stops_then (read c.args.levels (prefix (classes.the_if ∷ []) syntax.an_else_if) c.args.self.now) _ _ _
     (prefix_stops (classes.the_if ∷ []) syntax.an_else_if c.args.levels (c.args.levels - 1) c.args.self.now _ _ _ _ c.in_ok-word.ensures.opened refl c.in_ok-word.ensures.reads c.in_err-parts.ensures))
+
+pub sequences-returns-in_err-first : goal.sequences-returns-in_err-first
+sequences-returns-in_err-first t c =
+    passes _ c.from_residual.result c.in_err-first.field-0.0 _ c.from_residual.ensures.1
+    (first_stops c.args.levels (in_sequence one_statement) (behind classes.sign_bar (in_sequence one_statement)) c.args.self.now _ _ c.in_err-first.ensures)
+
+pub sequences-loop-sequences-init : goal.sequences-loop-sequences-init
+sequences-loop-sequences-init t c = list_begun c.args.levels (in_sequence one_statement) (behind classes.sign_bar (in_sequence one_statement)) c.args.self.now _ _ _ c.in_ok-first.ensures c.in_ok-sequences.ensures
+
+pub sequences-returns-in_err-sequence : goal.sequences-returns-in_err-sequence
+sequences-returns-in_err-sequence t c =
+    passes _ c.from_residual-in_err-sequence.result c.in_err-sequence.field-0.0 _ c.from_residual-in_err-sequence.ensures.1
+    (next_fails c.args.levels classes.sign_bar (in_sequence one_statement) sequences_decided _ _ _ _ _ _ _ c.loop-sequences.invariant c.eat.ensures.found c.eat.ensures.rest c.loop-sequences-test.true c.in_err-sequence.ensures)
+
+pub sequences-loop-sequences-smaller : goal.sequences-loop-sequences-smaller
+sequences-loop-sequences-smaller t c = next_shorter c.args.levels classes.sign_bar (in_sequence one_statement) sequences_decided _ _ _ _ _ c.eat.ensures.found c.eat.ensures.rest c.loop-sequences-test.true c.in_ok-sequence.ensures
+
+pub sequences-loop-sequences-preserved : goal.sequences-loop-sequences-preserved
+sequences-loop-sequences-preserved t c =
+    next_goes c.args.levels classes.sign_bar (in_sequence one_statement) sequences_decided _ _ _ _ _ _ _ _ c.loop-sequences.invariant c.eat.ensures.found c.eat.ensures.rest c.loop-sequences-test.true c.in_ok-sequence.ensures c.in_ok-push.ensures.ok
+
+pub sequences-returns : goal.sequences-returns
+sequences-returns t c = nexts_end c.args.levels classes.sign_bar (in_sequence one_statement) sequences_decided _ _ _ _ _ c.loop-sequences.invariant c.eat.ensures.found c.eat.ensures.rest c.loop-sequences-test.false
+
+pub statements-returns-in_err-first : goal.statements-returns-in_err-first
+statements-returns-in_err-first t c =
+    passes _ c.from_residual.result c.in_err-first.field-0.0 _ c.from_residual.ensures.1
+    (first_stops c.args.levels one_statement (behind classes.sign_semicolon one_statement) c.args.self.now _ _ c.in_err-first.ensures)
+
+pub statements-loop-statements-init : goal.statements-loop-statements-init
+statements-loop-statements-init t c = list_begun c.args.levels one_statement (behind classes.sign_semicolon one_statement) c.args.self.now _ _ _ c.in_ok-first.ensures c.in_ok-statements.ensures
+
+pub statements-returns-in_err-statement : goal.statements-returns-in_err-statement
+statements-returns-in_err-statement t c =
+    passes _ c.from_residual-in_err-statement.result c.in_err-statement.field-0.0 _ c.from_residual-in_err-statement.ensures.1
+    (next_fails c.args.levels classes.sign_semicolon one_statement statements_decided _ _ _ _ _ _ _ c.loop-statements.invariant c.eat.ensures.found c.eat.ensures.rest c.loop-statements-test.true c.in_err-statement.ensures)
+
+pub statements-loop-statements-smaller : goal.statements-loop-statements-smaller
+statements-loop-statements-smaller t c = next_shorter c.args.levels classes.sign_semicolon one_statement statements_decided _ _ _ _ _ c.eat.ensures.found c.eat.ensures.rest c.loop-statements-test.true c.in_ok-statement.ensures
+
+pub statements-loop-statements-preserved : goal.statements-loop-statements-preserved
+statements-loop-statements-preserved t c =
+    next_goes c.args.levels classes.sign_semicolon one_statement statements_decided _ _ _ _ _ _ _ _ c.loop-statements.invariant c.eat.ensures.found c.eat.ensures.rest c.loop-statements-test.true c.in_ok-statement.ensures c.in_ok-push.ensures.ok
+
+pub statements-returns : goal.statements-returns
+statements-returns t c = nexts_end c.args.levels classes.sign_semicolon one_statement statements_decided _ _ _ _ _ c.loop-statements.invariant c.eat.ensures.found c.eat.ensures.rest c.loop-statements-test.false
+
+pub handlers-returns-in_err-first : goal.handlers-returns-in_err-first
+handlers-returns-in_err-first t c =
+    passes _ c.from_residual.result c.in_err-first.field-0.0 _ c.from_residual.ensures.1
+    (first_stops c.args.levels (handler one_statement) (behind classes.sign_comma (handler one_statement)) c.args.self.now _ _ c.in_err-first.ensures)
+
+pub handlers-loop-handlers-init : goal.handlers-loop-handlers-init
+handlers-loop-handlers-init t c = list_begun c.args.levels (handler one_statement) (behind classes.sign_comma (handler one_statement)) c.args.self.now _ _ _ c.in_ok-first.ensures c.in_ok-handlers.ensures
+
+pub handlers-returns-in_err-handler : goal.handlers-returns-in_err-handler
+handlers-returns-in_err-handler t c =
+    passes _ c.from_residual-in_err-handler.result c.in_err-handler.field-0.0 _ c.from_residual-in_err-handler.ensures.1
+    (next_fails c.args.levels classes.sign_comma (handler one_statement) handlers_decided _ _ _ _ _ _ _ c.loop-handlers.invariant c.eat.ensures.found c.eat.ensures.rest c.loop-handlers-test.true c.in_err-handler.ensures)
+
+pub handlers-loop-handlers-smaller : goal.handlers-loop-handlers-smaller
+handlers-loop-handlers-smaller t c = next_shorter c.args.levels classes.sign_comma (handler one_statement) handlers_decided _ _ _ _ _ c.eat.ensures.found c.eat.ensures.rest c.loop-handlers-test.true c.in_ok-handler.ensures
+
+pub handlers-loop-handlers-preserved : goal.handlers-loop-handlers-preserved
+handlers-loop-handlers-preserved t c =
+    next_goes c.args.levels classes.sign_comma (handler one_statement) handlers_decided _ _ _ _ _ _ _ _ c.loop-handlers.invariant c.eat.ensures.found c.eat.ensures.rest c.loop-handlers-test.true c.in_ok-handler.ensures c.in_ok-push.ensures.ok
+
+pub handlers-returns : goal.handlers-returns
+handlers-returns t c = nexts_end c.args.levels classes.sign_comma (handler one_statement) handlers_decided _ _ _ _ _ c.loop-handlers.invariant c.eat.ensures.found c.eat.ensures.rest c.loop-handlers-test.false
+
+pub branches-returns-in_err-first : goal.branches-returns-in_err-first
+branches-returns-in_err-first t c =
+    passes _ c.from_residual.result c.in_err-first.field-0.0 _ c.from_residual.ensures.1
+    (first_stops c.args.levels branch branch c.args.self.now _ _ c.in_err-first.ensures)
+
+pub branches-loop-branches-init : goal.branches-loop-branches-init
+branches-loop-branches-init t c = list_begun c.args.levels branch branch c.args.self.now _ _ _ c.in_ok-first.ensures c.in_ok-branches.ensures
+
+pub branches-returns-in_err-branch : goal.branches-returns-in_err-branch
+unfolding branch
+branches-returns-in_err-branch t c =
+    passes _ c.from_residual-in_err-branch.result c.in_err-branch.field-0.0 _ c.from_residual-in_err-branch.ensures.1
+    (turn_fails c.args.levels branch branches_decided _ _ _ _ _ _ c.loop-branches.invariant c.sees_sign.ensures c.loop-branches-test.true c.in_err-branch.ensures)
+
+pub branches-loop-branches-smaller : goal.branches-loop-branches-smaller
+unfolding branch
+branches-loop-branches-smaller t c = turn_shorter c.args.levels branch branches_decided _ _ _ c.in_ok-branch.ensures
+
+pub branches-loop-branches-preserved : goal.branches-loop-branches-preserved
+unfolding branch
+branches-loop-branches-preserved t c =
+    turn_goes c.args.levels branch branches_decided _ _ _ _ _ _ _ c.loop-branches.invariant c.sees_sign.ensures c.loop-branches-test.true c.in_ok-branch.ensures c.in_ok-push.ensures.ok
+
+pub branches-returns : goal.branches-returns
+unfolding branch
+branches-returns t c = turns_end c.args.levels branch branches_decided _ _ _ _ c.loop-branches.invariant c.sees_sign.ensures c.loop-branches-test.false
 
 -- no level opens in what a handler is for
 key_level : (n : ℕ) (ts : List Spelled) → read n handler_key ts ≡ read 0 handler_key ts

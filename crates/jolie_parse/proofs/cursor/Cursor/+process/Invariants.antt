@@ -2,7 +2,8 @@ use Rattle.std.proofs.Common.{◌≡◌, ◌+◌, ◌*◌, length}
 use Rattle.jolie_parse.specs.Classes as c
 use Rattle.jolie_parse.specs.Factored.{one_statement}
 use Rattle.jolie_parse.specs.Grammar.{branch, handler, in_sequence}
-use Rattle.jolie_parse.specs.Syntax.{behind}
+use Rattle.jolie_parse.specs.Syntax.{behind, separated, some_of}
+use Rattle.jolie_parse.specs.Reading.{read}
 use Rattle.jolie_parse.specs.Reads.{more}
 use Rattle.jolie_parse.proofs.cursor.Cursor.+process.Given as goal
 
@@ -27,6 +28,15 @@ decreases-body l = l.levels * 20 + 16
 abbrev pub decreases-branch : goal.decreases-branch
 decreases-branch l = l.levels * 20 + 2
 
+abbrev pub decreases-branches : goal.decreases-branches
+decreases-branches l = l.levels * 20 + 3
+
+abbrev pub invariant-branches-loop-branches : goal.invariant-branches-loop-branches
+invariant-branches-loop-branches l = read l.levels (some_of branch) l.fn.self ≡ more l.levels branch l.branches l.self
+
+abbrev pub decreases-branches-loop-branches : goal.decreases-branches-loop-branches
+decreases-branches-loop-branches l = length l.self
+
 abbrev pub decreases-choice : goal.decreases-choice
 decreases-choice l = l.levels * 20 + 4
 
@@ -44,6 +54,12 @@ decreases-handler l = l.levels * 20 + 16
 
 abbrev pub decreases-handlers : goal.decreases-handlers
 decreases-handlers l = l.levels * 20 + 19
+
+abbrev pub invariant-handlers-loop-handlers : goal.invariant-handlers-loop-handlers
+invariant-handlers-loop-handlers l = read l.levels (separated c.sign_comma (handler one_statement)) l.fn.self ≡ more l.levels (behind c.sign_comma (handler one_statement)) l.handlers l.self
+
+abbrev pub decreases-handlers-loop-handlers : goal.decreases-handlers-loop-handlers
+decreases-handlers-loop-handlers l = length l.self
 
 abbrev pub decreases-handlers_in_brackets : goal.decreases-handlers_in_brackets
 decreases-handlers_in_brackets l = l.levels * 20 + 1
@@ -78,42 +94,6 @@ decreases-maybe_reply l = l.levels * 20 + 3
 abbrev pub decreases-message : goal.decreases-message
 decreases-message l = l.levels * 20 + 5
 
-abbrev pub decreases-more_branches : goal.decreases-more_branches
-decreases-more_branches l = l.levels * 20 + 3
-
-abbrev pub invariant-more_branches-loop-branches : goal.invariant-more_branches-loop-branches
-invariant-more_branches-loop-branches l = more l.levels branch l.fn.branches l.fn.self ≡ more l.levels branch l.branches l.self
-
-abbrev pub decreases-more_branches-loop-branches : goal.decreases-more_branches-loop-branches
-decreases-more_branches-loop-branches l = length l.self
-
-abbrev pub decreases-more_handlers : goal.decreases-more_handlers
-decreases-more_handlers l = l.levels * 20 + 18
-
-abbrev pub invariant-more_handlers-loop-handlers : goal.invariant-more_handlers-loop-handlers
-invariant-more_handlers-loop-handlers l = more l.levels (behind c.sign_comma (handler one_statement)) l.fn.handlers l.fn.self ≡ more l.levels (behind c.sign_comma (handler one_statement)) l.handlers l.self
-
-abbrev pub decreases-more_handlers-loop-handlers : goal.decreases-more_handlers-loop-handlers
-decreases-more_handlers-loop-handlers l = length l.self
-
-abbrev pub decreases-more_sequences : goal.decreases-more_sequences
-decreases-more_sequences l = l.levels * 20 + 14
-
-abbrev pub invariant-more_sequences-loop-sequences : goal.invariant-more_sequences-loop-sequences
-invariant-more_sequences-loop-sequences l = more l.levels (behind c.sign_bar (in_sequence one_statement)) l.fn.sequences l.fn.self ≡ more l.levels (behind c.sign_bar (in_sequence one_statement)) l.sequences l.self
-
-abbrev pub decreases-more_sequences-loop-sequences : goal.decreases-more_sequences-loop-sequences
-decreases-more_sequences-loop-sequences l = length l.self
-
-abbrev pub decreases-more_statements : goal.decreases-more_statements
-decreases-more_statements l = l.levels * 20 + 11
-
-abbrev pub invariant-more_statements-loop-statements : goal.invariant-more_statements-loop-statements
-invariant-more_statements-loop-statements l = more l.levels (behind c.sign_semicolon one_statement) l.fn.statements l.fn.self ≡ more l.levels (behind c.sign_semicolon one_statement) l.statements l.self
-
-abbrev pub decreases-more_statements-loop-statements : goal.decreases-more_statements-loop-statements
-decreases-more_statements-loop-statements l = length l.self
-
 abbrev pub decreases-named : goal.decreases-named
 decreases-named l = l.levels * 20 + 8
 
@@ -125,15 +105,6 @@ decreases-named_output l = l.levels * 20 + 6
 
 abbrev pub decreases-named_parts : goal.decreases-named_parts
 decreases-named_parts l = l.levels * 20 + 7
-
-abbrev pub decreases-next_handler : goal.decreases-next_handler
-decreases-next_handler l = l.levels * 20 + 17
-
-abbrev pub decreases-next_sequence : goal.decreases-next_sequence
-decreases-next_sequence l = l.levels * 20 + 13
-
-abbrev pub decreases-next_statement : goal.decreases-next_statement
-decreases-next_statement l = l.levels * 20 + 10
 
 abbrev pub decreases-otherwise : goal.decreases-otherwise
 decreases-otherwise l = l.levels * 20 + 4
@@ -155,3 +126,21 @@ decreases-sequence l = l.levels * 20 + 12
 
 abbrev pub decreases-statement : goal.decreases-statement
 decreases-statement l = l.levels * 20 + 9
+
+abbrev pub decreases-sequences : goal.decreases-sequences
+decreases-sequences l = l.levels * 20 + 14
+
+abbrev pub invariant-sequences-loop-sequences : goal.invariant-sequences-loop-sequences
+invariant-sequences-loop-sequences l = read l.levels (separated c.sign_bar (in_sequence one_statement)) l.fn.self ≡ more l.levels (behind c.sign_bar (in_sequence one_statement)) l.sequences l.self
+
+abbrev pub decreases-sequences-loop-sequences : goal.decreases-sequences-loop-sequences
+decreases-sequences-loop-sequences l = length l.self
+
+abbrev pub decreases-statements : goal.decreases-statements
+decreases-statements l = l.levels * 20 + 11
+
+abbrev pub invariant-statements-loop-statements : goal.invariant-statements-loop-statements
+invariant-statements-loop-statements l = read l.levels (separated c.sign_semicolon one_statement) l.fn.self ≡ more l.levels (behind c.sign_semicolon one_statement) l.statements l.self
+
+abbrev pub decreases-statements-loop-statements : goal.decreases-statements-loop-statements
+decreases-statements-loop-statements l = length l.self

@@ -16,7 +16,7 @@ pub fields-returns-in_err-field : goal.fields-returns-in_err-field
 unfolding field word cardinal bounds type_body root_type id
 fields-returns-in_err-field t c =
     passes _ c.from_residual.result c.in_err-field.field-0.0 _ c.from_residual.ensures.1
-    (turn_fails c.args.levels spec.field refl _ _ _ _ _ _ _ c.loop-fields.invariant c.sees.ensures c.loop-fields-test.true c.in_err-field.ensures)
+    (turn_fails c.args.levels spec.field refl _ _ _ _ _ _ c.loop-fields.invariant c.sees.ensures c.loop-fields-test.true c.in_err-field.ensures)
 
 pub fields-loop-fields-smaller : goal.fields-loop-fields-smaller
 unfolding field word cardinal bounds type_body root_type id
@@ -25,11 +25,11 @@ fields-loop-fields-smaller t c = turn_shorter c.args.levels spec.field refl _ _ 
 pub fields-loop-fields-preserved : goal.fields-loop-fields-preserved
 unfolding field word cardinal bounds type_body root_type id
 fields-loop-fields-preserved t c =
-    turn_goes c.args.levels spec.field refl _ _ _ _ _ _ _ _ c.loop-fields.invariant c.sees.ensures c.loop-fields-test.true c.in_ok-field.ensures c.in_ok-push.ensures.ok
+    turn_goes c.args.levels spec.field refl _ _ _ _ _ _ _ c.loop-fields.invariant c.sees.ensures c.loop-fields-test.true c.in_ok-field.ensures c.in_ok-push.ensures.ok
 
 pub fields-returns : goal.fields-returns
 unfolding field word cardinal bounds type_body root_type id
-fields-returns t c = turns_end c.args.levels spec.field refl _ _ _ _ _ c.loop-fields.invariant c.sees.ensures c.loop-fields-test.false
+fields-returns t c = turns_end c.args.levels spec.field refl _ _ _ _ c.loop-fields.invariant c.sees.ensures c.loop-fields-test.false
 
 pub field-returns-in_err-word : goal.field-returns-in_err-word
 unfolding field word

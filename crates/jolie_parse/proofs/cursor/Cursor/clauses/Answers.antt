@@ -10,7 +10,7 @@ pub returns-in_err-clause : goal.returns-in_err-clause
 unfolding clauses execution_clause port correlation_set init_clause main_clause
 returns-in_err-clause c =
     passes _ c.from_residual.result c.in_err-clause.field-0.0 _ c.from_residual.ensures.1
-    (turn_fails c.args.levels spec.clauses (rules_decided.each some_clauses) _ _ _ _ _ _ _ c.loop-clauses.invariant c.sees.ensures c.loop-clauses-test.true c.in_err-clause.ensures)
+    (turn_fails c.args.levels spec.clauses (rules_decided.each some_clauses) _ _ _ _ _ _ c.loop-clauses.invariant c.sees.ensures c.loop-clauses-test.true c.in_err-clause.ensures)
 
 pub loop-clauses-smaller : goal.loop-clauses-smaller
 unfolding clauses execution_clause port correlation_set init_clause main_clause
@@ -19,8 +19,8 @@ loop-clauses-smaller c = turn_shorter c.args.levels spec.clauses (rules_decided.
 pub loop-clauses-preserved : goal.loop-clauses-preserved
 unfolding clauses execution_clause port correlation_set init_clause main_clause
 loop-clauses-preserved c =
-    turn_goes c.args.levels spec.clauses (rules_decided.each some_clauses) _ _ _ _ _ _ _ _ c.loop-clauses.invariant c.sees.ensures c.loop-clauses-test.true c.in_ok-clause.ensures c.in_ok-push.ensures.ok
+    turn_goes c.args.levels spec.clauses (rules_decided.each some_clauses) _ _ _ _ _ _ _ c.loop-clauses.invariant c.sees.ensures c.loop-clauses-test.true c.in_ok-clause.ensures c.in_ok-push.ensures.ok
 
 pub returns : goal.returns
 unfolding clauses execution_clause port correlation_set init_clause main_clause
-returns c = turns_end c.args.levels spec.clauses (rules_decided.each some_clauses) _ _ _ _ _ c.loop-clauses.invariant c.sees.ensures c.loop-clauses-test.false
+returns c = turns_end c.args.levels spec.clauses (rules_decided.each some_clauses) _ _ _ _ c.loop-clauses.invariant c.sees.ensures c.loop-clauses-test.false

@@ -9,7 +9,7 @@ pub returns-in_err-file_part : goal.returns-in_err-file_part
 unfolding file file_part type_definition interface service
 returns-in_err-file_part c =
     passes _ c.from_residual.result c.in_err-file_part.field-0.0 _ c.from_residual.ensures.1
-    (turn_fails c.args.levels spec.file_part file_decided _ _ _ _ _ _ _ c.loop-parts.invariant c.sees.ensures c.loop-parts-test.true c.in_err-file_part.ensures)
+    (turn_fails c.args.levels spec.file_part file_decided _ _ _ _ _ _ c.loop-parts.invariant c.sees.ensures c.loop-parts-test.true c.in_err-file_part.ensures)
 
 pub loop-parts-smaller : goal.loop-parts-smaller
 unfolding file file_part type_definition interface service
@@ -18,8 +18,8 @@ loop-parts-smaller c = turn_shorter c.args.levels spec.file_part file_decided _ 
 pub loop-parts-preserved : goal.loop-parts-preserved
 unfolding file file_part type_definition interface service
 loop-parts-preserved c =
-    turn_goes c.args.levels spec.file_part file_decided _ _ _ _ _ _ _ _ c.loop-parts.invariant c.sees.ensures c.loop-parts-test.true c.in_ok-file_part.ensures c.in_ok-push.ensures.ok
+    turn_goes c.args.levels spec.file_part file_decided _ _ _ _ _ _ _ c.loop-parts.invariant c.sees.ensures c.loop-parts-test.true c.in_ok-file_part.ensures c.in_ok-push.ensures.ok
 
 pub returns : goal.returns
 unfolding file file_part type_definition interface service
-returns c = turns_end c.args.levels spec.file_part file_decided _ _ _ _ _ c.loop-parts.invariant c.sees.ensures c.loop-parts-test.false
+returns c = turns_end c.args.levels spec.file_part file_decided _ _ _ _ c.loop-parts.invariant c.sees.ensures c.loop-parts-test.false

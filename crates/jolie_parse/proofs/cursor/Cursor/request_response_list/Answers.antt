@@ -1,7 +1,9 @@
+use Rattle.std.proofs.Common.{refl}
 use Rattle.jolie_parse.specs.Classes as classes
 use Rattle.jolie_parse.specs.Grammar as spec
+use Rattle.jolie_parse.specs.Grammar.{request_response, throws, fault, type_named, id}
 use Rattle.jolie_parse.specs.Syntax.{behind}
-use Rattle.jolie_parse.proofs.Lists.{passes, list_reads, first_stops}
+use Rattle.jolie_parse.proofs.Lists.{passes, first_stops, list_begun, next_fails, next_shorter, next_goes, nexts_end}
 use Rattle.jolie_parse.proofs.cursor.Cursor.request_response_list.Goals as goal
 
 pub returns-in_err-first : goal.returns-in_err-first
@@ -9,5 +11,24 @@ returns-in_err-first c =
     passes _ c.from_residual.result c.in_err-first.field-0.0 _ c.from_residual.ensures.1
     (first_stops c.args.levels spec.request_response (behind classes.sign_comma spec.request_response) _ _ _ c.in_err-first.ensures)
 
+pub loop-operations-init : goal.loop-operations-init
+loop-operations-init c = list_begun c.args.levels spec.request_response (behind classes.sign_comma spec.request_response) _ _ _ _ c.in_ok-first.ensures c.in_ok-operations.ensures
+
+pub returns-in_err-request_response : goal.returns-in_err-request_response
+unfolding request_response throws fault type_named id
+returns-in_err-request_response c =
+    passes _ c.from_residual-in_err-request_response.result c.in_err-request_response.field-0.0 _ c.from_residual-in_err-request_response.ensures.1
+    (next_fails c.args.levels classes.sign_comma spec.request_response refl _ _ _ _ _ _ _ c.loop-operations.invariant c.eat.ensures.found c.eat.ensures.rest c.loop-operations-test.true c.in_err-request_response.ensures)
+
+pub loop-operations-smaller : goal.loop-operations-smaller
+unfolding request_response throws fault type_named id
+loop-operations-smaller c = next_shorter c.args.levels classes.sign_comma spec.request_response refl _ _ _ _ _ c.eat.ensures.found c.eat.ensures.rest c.loop-operations-test.true c.in_ok-request_response.ensures
+
+pub loop-operations-preserved : goal.loop-operations-preserved
+unfolding request_response throws fault type_named id
+loop-operations-preserved c =
+    next_goes c.args.levels classes.sign_comma spec.request_response refl _ _ _ _ _ _ _ _ c.loop-operations.invariant c.eat.ensures.found c.eat.ensures.rest c.loop-operations-test.true c.in_ok-request_response.ensures c.in_ok-push.ensures.ok
+
 pub returns : goal.returns
-returns c = list_reads c.args.levels spec.request_response (behind classes.sign_comma spec.request_response) _ _ _ _ _ _ c.in_ok-first.ensures c.in_ok-one.ensures c.more_request_responses.ensures
+unfolding request_response throws fault type_named id
+returns c = nexts_end c.args.levels classes.sign_comma spec.request_response refl _ _ _ _ _ c.loop-operations.invariant c.eat.ensures.found c.eat.ensures.rest c.loop-operations-test.false
