@@ -12,14 +12,14 @@ use Rattle.place_values.specs.declared.actor.Actor.{Actor}
 use Rattle.running_terms.specs.View.{fault_view}
 use Rattle.running_terms.specs.declared.call.Call as waiting
 use Rattle.answer_events.specs.declared.read.Read as read
-use Rattle.answer_events.specs.declared.read.Sent.{Sent}
+use Rattle.answer_events.specs.declared.read.SentCall.{SentCall}
 
 -- where the call that waits was sent
-abbrev pub as_sent : waiting.Call → Sent
+abbrev pub as_sent : waiting.Call → SentCall
 as_sent c = record { number = c.number; port = c.port; op = c.op }
 
 -- a call by its number, port and operation
-abbrev pub call_of : Sent → spec.Call
+abbrev pub call_of : SentCall → spec.Call
 call_of c = spec.call_of c.number c.port c.op
 
 -- a value or a fault

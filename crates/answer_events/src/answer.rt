@@ -12,7 +12,7 @@ ghost use Rattle.place_events.specs.Seen.{made_with, moved_view, seen_by};
 ghost use Rattle.running_terms.specs.View.{term_view};
 ghost use Rattle.place_values.specs.declared.memory.Memory.{Memory as Held};
 
-use crate::read::{Read, Sent, read_outcome};
+use crate::read::{Read, SentCall, read_outcome};
 use behaviour_tree::{Handlers, Kind, Need, Outcome, standard};
 use handler_table::InstallError;
 use jolie_trees::Tree;
@@ -78,10 +78,10 @@ pub fn killed_answer_came(
 }
 
 /// Where a call was sent.
-fn sent_of(call: &Call) -> Sent
+fn sent_of(call: &Call) -> SentCall
     ensures { result ≡ as_sent call.now }
 {
-    Sent {
+    SentCall {
         number: call.number,
         port: call.port,
         op: call.op,

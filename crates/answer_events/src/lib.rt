@@ -6,5 +6,5 @@ mod read;
 mod reply;
 
 pub use answer::{answer_came, killed_answer_came};
-pub use read::{Read, Sent, read_outcome};
+pub use read::{Read, SentCall, read_outcome};
 pub use reply::{failure_told, replied};

@@ -17,7 +17,7 @@ use std::alloc::{AllocError, Global};
 
 /// A call: its number, and the port and operation that it was sent to.
 #[derive(Clone, Copy)]
-pub struct Sent {
+pub struct SentCall {
     pub number: u32,
     pub port: u32,
     pub op: u32,
@@ -33,7 +33,7 @@ pub enum Read {
 /// The outcome of a call as its caller reads it.
 pub fn read_outcome(
     alloc: Global,
-    sent: Sent,
+    sent: SentCall,
     outcome: &Outcome,
     actor: Actor<'_>,
 ) -> Result<Read, AllocError>
@@ -49,7 +49,7 @@ pub fn read_outcome(
 }
 
 /// A value as the answer of a call.
-fn read_value(alloc: Global, sent: Sent, value: Tree, actor: Actor<'_>) -> Read
+fn read_value(alloc: Global, sent: SentCall, value: Tree, actor: Actor<'_>) -> Read
     ensures { read_view result ≡ spec.read (seen_of actor.entry) (call_of sent) (outcome.Value value) }
 {
     match response_taken(alloc, actor, sent.port, sent.op, value) {
@@ -61,7 +61,7 @@ fn read_value(alloc: Global, sent: Sent, value: Tree, actor: Actor<'_>) -> Read
 /// A fault by its name as the answer of a call.
 fn read_named(
     alloc: Global,
-    sent: Sent,
+    sent: SentCall,
     name: &Text,
     value: Tree,
     actor: Actor<'_>,
@@ -77,7 +77,7 @@ fn read_named(
 /// A fault by number as the answer of a call: itself where its operation throws it with a value of its type.
 fn read_fault(
     alloc: Global,
-    sent: Sent,
+    sent: SentCall,
     fault: Fault,
     actor: Actor<'_>,
 ) -> Result<Fault, AllocError>

@@ -3,7 +3,8 @@ use Rattle.std.specs.Prelude.{◌≡◌, ℕ, true, false, List, [], ◌∷◌, 
 use Rattle.behaviour_tree.specs.declared.words.Given.{Given}
 use Rattle.behaviour_tree.specs.declared.words.Need.{Need}
 use Rattle.behaviour_tree.specs.declared.words.Need.TheVariants as need
-use Rattle.behaviour_tree.specs.Data.{Proc, assign, undef, copy, bind, choose, repeat, choice, notify, solicit, install, comp}
+use Rattle.behaviour_tree.specs.Data.{Proc, assign, undef, copy, bind, choose}
+use Rattle.behaviour_tree.specs.Data.{repeat, choice, notify, solicit, install, comp}
 use Rattle.calculus.specs.After.{act}
 use Rattle.calculus.specs.Faults.{binding, fault_of}
 use Rattle.calculus.specs.Inputs.{ops_of}

@@ -1,3 +1,4 @@
+-- These definitions serve the proofs alone: no promise speaks of them.
 -- How a message comes to a branch.
 use Rattle.std.specs.Prelude.{ℕ, List, Option, None, Some}
 use Rattle.behaviour_tree.specs.declared.words.Event.{Event}

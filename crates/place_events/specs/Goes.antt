@@ -1,3 +1,4 @@
+-- These definitions serve the proofs alone: no promise speaks of them.
 -- How events go on, as far as the code says it in parts.
 use Rattle.std.specs.Prelude.{ℕ, Option, None, Some}
 use Rattle.behaviour_tree.specs.declared.words.Event.{Event}

@@ -1,3 +1,4 @@
+-- These definitions serve the proofs alone: no promise speaks of them.
 -- What a message of Rust stands for.
 use Rattle.std.specs.Prelude.{ℕ, Option, None, Some}
 use Rattle.jolie_trees.specs.Data.{Tree}

@@ -36,8 +36,9 @@ pub fn scope_acts(
 ) -> Result<Option<Moved>, AllocError>
     ensures event { IfOk result (λ r. option_map (λ m. moved_view m around.new memory.new) r ≡ spec.scope_acts (seen_by actor.entry given.Nothing around.old memory.old) own.old.scope (table_view own.old.table) (state_view state.now)) }
     ensures name { around.new.scope ≡ around.old.scope }
-    ensures still { IfOk result (λ r. IfNone r (table_view own.new.table ≡ table_view own.old.table)) }
-    ensures memory { IfOk result (λ r. IfNone r (seen_by actor.entry given.Nothing around.new memory.new ≡ seen_by actor.entry given.Nothing around.old memory.old)) }
+    ensures own { IfOk result (λ r. IfNone r (own.new ≡ own.old)) }
+    ensures around { IfOk result (λ r. IfNone r (around.new ≡ around.old)) }
+    ensures memory { IfOk result (λ r. IfNone r (memory.new ≡ memory.old)) }
 {
     match state {
         ScopeState::Live => Ok(Some(ended(alloc, own, actor, around)?)),

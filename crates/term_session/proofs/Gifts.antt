@@ -1,7 +1,5 @@
 -- What there is no event for, where the office gave something.
-use Rattle.std.proofs.Common.{◌≡◌, ℕ, zero, suc, true, false, None, Some, Option, option_map, is_some, refl, sym, ap, ◌∙◌}
-use Rattle.std.specs.Prelude.{IfNone}
-use Rattle.std.proofs.lemmas.Bool.{false≢true}
+use Rattle.std.proofs.Common.{◌≡◌, ℕ, zero, suc, true, None, Some, Option, refl}
 use Rattle.behaviour_tree.specs.declared.words.Given.{Given}
 use Rattle.behaviour_tree.specs.declared.words.Given.TheVariants as given
 use Rattle.calculus.specs.Tables.{Table}
@@ -9,8 +7,7 @@ use Rattle.calculus.specs.Terms.{Fault, Term, State, live, caught, term, last, z
 use Rattle.calculus.specs.Moves.{Seen, Move, ungiven}
 use Rattle.calculus.specs.Scopes.{scope_acts, ends, handles_fault, handles_end}
 use Rattle.calculus.specs.After.{Config, Done, finish_event, finishes, raises}
-use Rattle.term_session.specs.Asks.{asked_of_scope}
-use Rattle.term_session.specs.Configs.{stepped, stepped_by}
+use Rattle.term_session.specs.Steps.{stepped, stepped_by}
 use Rattle.term_session.specs.Walks.{scope_event}
 
 -- whatever is there for nothing alone is not there for a gift
@@ -45,28 +42,6 @@ own_scope_event s q h (caught f) g = ungiven_some s (handles_fault s q h f) g
 own_scope_event s q h term g = ungiven_some s (handles_end s q h) g
 own_scope_event s q h last g = refl
 own_scope_event s q h zombie g = refl
-
--- one whose last handler is through, or that a fault left, has none
-pub no_event_over : (s : Seen) (q : ℕ) (h : Table) (u : State) → is_some (asked_of_scope u) ≡ false → scope_event s q h u ≡ None
-no_event_over s q h live e = absurd (false≢true (sym e))
-no_event_over s q h (caught f) e = absurd (false≢true (sym e))
-no_event_over s q h term e = absurd (false≢true (sym e))
-no_event_over s q h last e = refl
-no_event_over s q h zombie e = refl
-
--- any other has one
-pub some_scope_acts : (s : Seen) (q : ℕ) (h : Table) (u : State) → is_some (asked_of_scope u) ≡ true → is_some (scope_acts s q h u) ≡ true
-some_scope_acts s q h live e = refl
-some_scope_acts s q h (caught f) e = refl
-some_scope_acts s q h term e = refl
-some_scope_acts s q h last e = absurd (false≢true e)
-some_scope_acts s q h zombie e = absurd (false≢true e)
-
--- where there is an event nothing is asked of the case without
-pub with_event : {A B : Type 0} (r : Option A) (f : A → B) (o : Option B) (P : Type 0) → option_map f r ≡ o → is_some o ≡ true
-    → IfNone r P
-with_event None f o P e some = absurd (false≢true (ap is_some e ∙ some))
-with_event (Some x) f o P e some = tt
 
 pub raises_none : (c : Config) (n : ℕ) (g : Given) (f : Fault) → (g ≡ given.Nothing → ⊥) → stepped c None ≡ stepped_by c (raises c n g f)
 raises_none c n given.Nothing f h = absurd (h refl)

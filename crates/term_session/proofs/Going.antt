@@ -13,7 +13,8 @@ use Rattle.handler_table.specs.View.{table_view}
 use Rattle.place_events.specs.Seen as scenes
 use Rattle.place_values.specs.declared.actor.Actor.{Actor}
 use Rattle.running_terms.specs.declared.installed.Installed.{Installed}
-use Rattle.term_session.specs.Configs.{config_view, stepped, stepped_by}
+use Rattle.term_session.specs.Configs.{config_view}
+use Rattle.term_session.specs.Steps.{stepped, stepped_by}
 use Rattle.term_session.specs.Walks.{stuck, faulted, acted_in}
 use Rattle.term_session.specs.declared.config.Config as session
 use Rattle.term_session.proofs.Stepping.{goes_on, goes_on_acted, form_stays, seen_stays}

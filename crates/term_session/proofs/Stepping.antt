@@ -13,7 +13,7 @@ use Rattle.term_faults.specs.declared.decision.Decision.{Decision}
 use Rattle.term_faults.specs.declared.decision.Decision.TheVariants.{Up, Caught, Ended, Blocked, Absent}
 use Rattle.term_faults.specs.Decisions.{carried_by, decided, decision_view}
 use Rattle.term_session.specs.Asks.{asked_in, asked_by_throw, asked_with}
-use Rattle.term_session.specs.Configs.{Stepped, stepped, stepped_by}
+use Rattle.term_session.specs.Steps.{Stepped, stepped, stepped_by}
 use Rattle.term_session.specs.Raised.{event_of_fault}
 use Rattle.term_session.specs.Walks.{Walked, stuck, faulted, went, walked, acted_in, Looked, idle, failing, asking, looked, looked_in}
 

@@ -1,3 +1,4 @@
+-- These definitions serve the proofs alone: no promise speaks of them.
 -- What the strand that acts asks of the office for its event, said without what the office gives.
 use Rattle.std.specs.Prelude.{ℕ, zero, Option, None, Some, if◌then◌else◌, nat_eq, true, false}
 use Rattle.behaviour_tree.specs.declared.words.Need.{Need}

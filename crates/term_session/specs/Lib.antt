@@ -4,5 +4,6 @@ pub mod Looks
 pub mod Needs
 pub mod Raised
 pub mod Sessions
+pub mod Steps
 pub mod Turns
 pub mod Walks

@@ -1,3 +1,4 @@
+-- These definitions serve the proofs alone: no promise speaks of them.
 -- What it means that a strand needs something.
 use Rattle.std.specs.Prelude.{◌≡◌, ℕ, Option, None, Some}
 use Rattle.behaviour_tree.specs.declared.words.Given.{Given}

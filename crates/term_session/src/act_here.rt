@@ -10,7 +10,6 @@ ghost use Rattle.place_values.specs.declared.memory.Memory.{Memory as Held};
 ghost use Rattle.term_session.specs.Turns.{moved_at, seen_at, walked_view};
 ghost use Rattle.term_session.specs.Walks as spec;
 
-use crate::look::may_act;
 use crate::turn::{Turn, Walked, came, went};
 use answer_events::{answer_came, failure_told, killed_answer_came, replied};
 use behaviour_tree::{Given, PathExpr};
@@ -98,9 +97,6 @@ fn scope_event(
     ensures memory { IfOk result (λ m. IfNone m (memory.new ≡ memory.old)) }
 {
     if !turn.gives_nothing() {
-        return Ok(None);
-    }
-    if !may_act(state) {
         return Ok(None);
     }
     Ok(scope_acts(alloc, own, state, turn.actor, around, memory)?)

@@ -170,7 +170,7 @@ fn asking(alloc: Global, need: Need) -> Result<Looked, AllocError>
 }
 
 /// Whether a scope in this state has an event once its body is done.
-pub fn may_act(state: &ScopeState) -> bool
+fn may_act(state: &ScopeState) -> bool
     ensures { result ≡ is_some (asked_of_scope (state_view state.now)) }
 {
     match state {

@@ -1,5 +1,4 @@
-ghost use Rattle.std.specs.Prelude.{◌≡◌, ◌<◌, ◌↔◌, ℕ, false, nat_eq, None, Some, Contains, IfOk, IfSome, IsErr, MatchOption, length};
-ghost use Rattle.std.specs.List.{dedup};
+ghost use Rattle.std.specs.Prelude.{◌≡◌, ◌<◌, ◌↔◌, ℕ, false, None, Some, Contains, IfOk, IfSome, IsErr, MatchOption, length};
 ghost use Rattle.std.specs.List.Sorted.{IsStrictlyIncreasing};
 ghost use Rattle.behaviour_tree.specs.PartsView.{parts_of};
 ghost use Rattle.behaviour_tree.specs.declared.words.Given.{Given as Gift};
@@ -12,7 +11,6 @@ ghost use Rattle.term_session.specs.declared.session.StepError.TheVariants.{Memo
 
 use crate::config::{Config, first_config};
 use crate::enabled::enabled;
-use crate::held::each_once;
 use crate::needed::need_of;
 use crate::step::step;
 use crate::turn::Turn;
@@ -89,12 +87,12 @@ impl TermSession {
         need_of(self.alloc, config, actor)
     }
 
-    /// Does the event of a strand for a gift.
+    /// Does the event of a strand for a gift. A session that has ended has none, and wants no memory to say so.
     #[tactic(auto, using(crate::proofs::Stepping::stepped_some, crate::proofs::Stepping::stepped_none))]
     pub fn step(&mut self, program: &Program, strand: u64, given: Given) -> Result<Event, StepError>
         ensures done { IfOk result (λ event. IfSome (config_of self.old) (λ c. (d : DoneEvent) × (after_of (parts_of program.now) (service_of self.old) c strand given ≡ Some d) × (event ≡ d.event) × (config_of self.new ≡ Some d.config))) }
         ensures refused { (k : ℕ) → result ≡ Err (StepError.NotEnabled k) → (k ≡ strand) × (config_of self.new ≡ config_of self.old) × IfSome (config_of self.old) (λ c. after_of (parts_of program.now) (service_of self.old) c strand given ≡ None) }
-        ensures memory { (a : AllocError) → result ≡ Err (StepError.Memory a) → config_of self.new ≡ None }
+        ensures memory { (a : AllocError) → result ≡ Err (StepError.Memory a) → (config_of self.new ≡ None) × IfSome (config_of self.old) (λ c. c.ended ≡ false) }
         ensures spent { config_of self.old ≡ None → (a : AllocError) × (result ≡ Err (StepError.Memory a)) }
         ensures service { service_of self.new ≡ service_of self.old }
     {
@@ -133,27 +131,27 @@ impl TermSession {
         }
     }
 
-    /// The messages of the requests that are still to be answered, in rising order and each once.
+    /// The messages of the requests that are still to be answered, in rising order.
     pub fn open_calls(&self) -> Result<Numbers, AllocError>
-        ensures exact { IfOk result (λ messages. IfSome (config_of self.now) (λ c. messages ≡ dedup nat_eq (rising (held.open_requests c.form)))) }
+        ensures exact { IfOk result (λ messages. IfSome (config_of self.now) (λ c. messages ≡ rising (held.open_requests c.form))) }
         ensures spent { config_of self.now ≡ None → IsErr result }
     {
         let Some(config) = &self.config else {
             return Err(AllocError);
         };
         let messages = open_requests(self.alloc, &config.form)?;
-        each_once(self.alloc, messages.as_slice())
+        Ok(messages)
     }
 
-    /// The calls whose answers the session waits for, in rising order and each once.
+    /// The calls whose answers the session waits for, in rising order.
     pub fn waiting(&self) -> Result<Numbers, AllocError>
-        ensures exact { IfOk result (λ calls. IfSome (config_of self.now) (λ c. calls ≡ dedup nat_eq (rising (held.waiting c.form)))) }
+        ensures exact { IfOk result (λ calls. IfSome (config_of self.now) (λ c. calls ≡ rising (held.waiting c.form))) }
         ensures spent { config_of self.now ≡ None → IsErr result }
     {
         let Some(config) = &self.config else {
             return Err(AllocError);
         };
         let calls = waiting(self.alloc, &config.form)?;
-        each_once(self.alloc, calls.as_slice())
+        Ok(calls)
     }
 }

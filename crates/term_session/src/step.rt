@@ -1,12 +1,13 @@
-ghost use Rattle.std.specs.Prelude.{◌≡◌, option_map, IfOk};
+ghost use Rattle.std.specs.Prelude.{◌≡◌, false, IfOk, OnErr};
 ghost use Rattle.std.specs.Arc.{arc_value};
 ghost use Rattle.behaviour_tree.specs.PartsView.{parts_of};
 ghost use Rattle.calculus.specs.After as spec;
 ghost use Rattle.calculus.specs.Throw.{throw};
 ghost use Rattle.running_terms.specs.View.{fault_view, term_view};
 ghost use Rattle.term_faults.specs.Decisions.{decision_view};
-ghost use Rattle.term_session.specs.Configs.{config_view, stepped, stepped_by};
+ghost use Rattle.term_session.specs.Configs.{config_view};
 ghost use Rattle.term_session.specs.Raised.{event_of_fault};
+ghost use Rattle.term_session.specs.Steps.{stepped, stepped_by};
 
 use crate::act::act;
 use crate::config::{Config, outermost};
@@ -18,9 +19,11 @@ use std::sync::Arc;
 use term_faults::{Decision, carry, decided};
 
 /// Does the event of a strand, and gives it; none where the strand has none for what the office gave, and then all stays.
+/// Nothing is taken of a session that has ended.
 #[tactic(auto, using(crate::proofs::Going::after_ended, crate::proofs::Going::after_finished, crate::proofs::Going::after_going))]
 pub fn step(alloc: Global, config: &mut Config, turn: Turn<'_>) -> Result<Option<Event>, AllocError>
-    ensures { IfOk result (λ e. stepped (config_view config.new) e ≡ stepped_by (config_view config.old) (spec.after (parts_of turn.entry.actor.program.now) turn.entry.actor.service (config_view config.old) turn.entry.actor.strand turn.entry.given.now)) }
+    ensures event { IfOk result (λ e. stepped (config_view config.new) e ≡ stepped_by (config_view config.old) (spec.after (parts_of turn.entry.actor.program.now) turn.entry.actor.service (config_view config.old) turn.entry.actor.strand turn.entry.given.now)) }
+    ensures memory { OnErr result (config.old.ended ≡ false) }
 {
     if config.ended {
         return Ok(None);
