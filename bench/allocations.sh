@@ -5,38 +5,7 @@
 . "$(dirname "$0")/common.sh"
 find_program
 
-# A malloc that gives nothing at the call that REFUSED names, and tells at the end how often it was called.
-cat > "$work/malloc.c" <<'END'
-#define _GNU_SOURCE
-#include <dlfcn.h>
-#include <fcntl.h>
-#include <stdio.h>
-#include <stdlib.h>
-#include <unistd.h>
-
-static void *(*given)(size_t);
-static long calls, refused;
-
-void *malloc(size_t size) {
-    if (!given) {
-        given = (void *(*)(size_t))dlsym(RTLD_NEXT, "malloc");
-        const char *number = getenv("REFUSED");
-        refused = number ? atol(number) : 0;
-    }
-    return ++calls == refused ? NULL : given(size);
-}
-
-__attribute__((destructor)) static void tell(void) {
-    const char *path = getenv("CALLS");
-    if (path) {
-        char text[32];
-        int length = snprintf(text, sizeof text, "%ld\n", calls);
-        int file = open(path, O_CREAT | O_TRUNC | O_WRONLY, 0600);
-        if (write(file, text, length) != length) _exit(3);
-    }
-}
-END
-cc -shared -fPIC -O1 -o "$work/malloc.so" "$work/malloc.c" -ldl
+cc -shared -fPIC -O1 -o "$work/malloc.so" "$top/bench/malloc.c" -ldl
 
 cat > "$work/calls.jsonl" <<'END'
 {"jsonrpc":"2.0","method":"twice","params":{"n":21},"id":"a"}

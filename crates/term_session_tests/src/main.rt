@@ -1,0 +1,75 @@
+//! Sessions of programs that are played line by line, with what each of them answers.
+//!
+//! A row has a program, the number of the service that its session is of, and lines, each with its answer behind it:
+//! `step 0 => 0 Local 0 0 0`. How lines are written stands at `played`, what is handed in at `read_gift`, what an event
+//! asks at `need_words`, and values at `read_value`.
+#![tactic(auto)]
+
+ghost use Rattle.std.specs.Prelude.{◌<◌, length, IsTrue};
+ghost use Rattle.behaviour_tree.specs.PartsView.{parts_of};
+
+mod asked;
+mod events;
+mod gift;
+mod need;
+mod play;
+mod values;
+
+use crate::play::played;
+use behaviour_tree::Program;
+use jolie_parse::parse;
+use jolie_tokens::lex;
+use service_check::check;
+use std::alloc::Global;
+use std::io;
+use term_session::TermSession;
+use test_rows::{Report, Row, rows, tables};
+
+fn main(rt: HostRuntime) -> anyhow::Result<()> {
+    let text = tables(&rt)?;
+    let mut report = Report::new(io::writer(&rt));
+    for row in &rows(rt.alloc(), text.as_str())? {
+        let want = row.text(rt.alloc(), "does")?;
+        let have = told(rt.alloc(), row, want.as_str())?;
+        report.row(row, have.as_str(), want.as_str())?;
+    }
+    report.end()?;
+    Ok(())
+}
+
+/// What the session of a row answers to the lines.
+fn told(alloc: Global, row: &Row<'_>, lines: &str) -> anyhow::Result<String> {
+    let text = row.bytes(alloc, "program")?;
+    let program = program(alloc, text.as_slice())?;
+    let service = row.number(alloc, "service")?;
+    told_of_service(alloc, &program, service, lines)
+}
+
+/// The program of a text.
+fn program(alloc: Global, text: &[u8]) -> anyhow::Result<Program> {
+    let tokens = lex(alloc, text)?;
+    let file = parse(alloc, text, &tokens)?;
+    Ok(check(alloc, &file)?)
+}
+
+/// What a session of a service answers to the lines.
+fn told_of_service(
+    alloc: Global,
+    program: &Program,
+    service: u32,
+    lines: &str,
+) -> anyhow::Result<String> {
+    if !has_service(program, service) {
+        return Ok(String::from_str(alloc, "no such service")?);
+    }
+    let mut session = TermSession::start(alloc, program, service)?;
+    Ok(played(alloc, &mut session, program, lines)?)
+}
+
+/// Whether a program has a service of this number.
+#[tactic(auto, using(crate::proofs::Services::as_many_services))]
+fn has_service(program: &Program, service: u32) -> bool
+    ensures { IsTrue result → service < length (parts_of program.now).services }
+{
+    (service as usize) < program.parts().services.len()
+}
