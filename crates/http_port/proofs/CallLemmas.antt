@@ -1,5 +1,5 @@
 -- The calls of a wire while it is served, and what was done before each read.
-use Rattle.std.proofs.Common.{◌≡◌, ℕ, ◌+◌, ◌⊎◌, inl, inr, List, [], ◌∷◌, ◌++◌, length, take, None, Some, sym, refl, ap, ◌∙◌, subst, arith, length-append, append_assoc, append-nil}
+use Rattle.std.proofs.Common.{◌≡◌, ◌<◌, ℕ, ◌+◌, Bool, true, false, ◌⊎◌, inl, inr, List, [], ◌∷◌, ◌++◌, length, take, None, Some, sym, refl, ap, ◌∙◌, subst, arith, length-append, append_assoc, append-nil}
 use Rattle.std.specs.Prelude.{Option}
 use Rattle.std.proofs.Math.Seq.{take-append_seam}
 use Rattle.outside_traits.specs.Calls.{Notes}
@@ -7,8 +7,8 @@ use Rattle.outside_traits.specs.declared.calls.WireCall.{WireCall}
 use Rattle.outside_traits.specs.declared.calls.WireCall.TheVariants.{Read, Wrote}
 use Rattle.http_port.specs.Feeding.{Place}
 use Rattle.http_port.specs.Serving.{Service, Serves}
-use Rattle.http_port.specs.Prompt.{read_in, written_in, done_by, IsPrompt}
-use Rattle.http_port.specs.Turns.{AreWrites, IsWritten}
+use Rattle.http_port.specs.Prompt.{bytes_of, read_in, written_in, done_by, IsPrompt, StopsAtNothing}
+use Rattle.http_port.specs.Turns.{AllMove, AreWrites, IsWritten, Moves}
 use Rattle.http_port.specs.declared.serve.Said.{Said}
 use Rattle.http_port.specs.declared.serving.WireEnd.TheVariants as Ends
 
@@ -45,25 +45,65 @@ writes-append [] ys p q = q
 writes-append (Read n ∷ xs) ys p q = absurd p
 writes-append (Wrote n ∷ xs) ys p q = writes-append xs ys p q
 
+-- ---- calls that move something
+
+pub all-append : (xs ys : List WireCall) → AllMove xs → AllMove ys → AllMove (xs ++ ys)
+all-append [] ys p q = q
+all-append (x ∷ xs) ys p q = (p.0, all-append xs ys p.1 q)
+
+stops_behind : (x : WireCall) (xs : List WireCall) → 0 < bytes_of x → StopsAtNothing xs → StopsAtNothing (x ∷ xs)
+stops_behind x [] p q = tt
+stops_behind x (y ∷ xs) p q = (p, q)
+
+pub stops-append : (xs ys : List WireCall) → AllMove xs → StopsAtNothing ys → StopsAtNothing (xs ++ ys)
+stops-append [] ys p q = q
+stops-append (x ∷ xs) ys p q = stops_behind x (xs ++ ys) p.0 (stops-append xs ys p.1 q)
+
+all_stop : (xs : List WireCall) → AllMove xs → StopsAtNothing xs
+all_stop [] p = tt
+all_stop (x ∷ xs) p = stops_behind x xs p.0 (all_stop xs p.1)
+
+pub moves_stop : (whole : Bool) (xs : List WireCall) → Moves whole xs → StopsAtNothing xs
+moves_stop true xs p = all_stop xs p
+moves_stop false xs p = p
+
+nothing_moves : (whole : Bool) → Moves whole []
+nothing_moves true = tt
+nothing_moves false = tt
+
 -- ---- bytes that are written
 
-pub nothing_written : (a : Option (List WireCall)) → IsWritten a a []
-nothing_written a = record { calls = []; noted = Notes-nil a; writes = tt; count = refl }
+pub nothing_written : (a : Option (List WireCall)) (whole : Bool) → IsWritten a a [] whole
+nothing_written a whole = record { calls = []; noted = Notes-nil a; writes = tt; count = refl; moves = nothing_moves whole }
+
+-- what was written without a failure
+pub written_so : (a b : Option (List WireCall)) (xs : List ℕ) (whole : Bool) → IsWritten a b xs true → IsWritten a b xs whole
+written_so a b xs true w = w
+written_so a b xs false w = record { calls = w.calls; noted = w.noted; writes = w.writes; count = w.count; moves = all_stop w.calls w.moves }
 
 -- one write more, of these bytes
-pub written_more : (a b c : Option (List WireCall)) (xs ys : List ℕ) (n : ℕ) → IsWritten a b xs → Notes b c (Wrote n ∷ []) → n ≡ length ys → IsWritten a c (xs ++ ys)
-written_more a b c xs ys n w p e = record {
+pub written_more : (a b c : Option (List WireCall)) (xs ys : List ℕ) (n : ℕ) → IsWritten a b xs true → Notes b c (Wrote n ∷ []) → n ≡ length ys → 0 < n → IsWritten a c (xs ++ ys) true
+written_more a b c xs ys n w p e some = record {
   calls = w.calls ++ Wrote n ∷ [];
   noted = Notes-trans a b c w.calls (Wrote n ∷ []) w.noted p;
   writes = writes-append w.calls (Wrote n ∷ []) w.writes tt;
   count =
       let f = w.count in
       omega (arith, written_in-append w.calls (Wrote n ∷ []), length-append xs ys);
+  moves = all-append w.calls (Wrote n ∷ []) w.moves (some, tt);
 }
 
 -- a write that failed
-pub written_still : (a b c : Option (List WireCall)) (xs : List ℕ) → IsWritten a b xs → Notes b c (Wrote 0 ∷ []) → IsWritten a c xs
-written_still a b c xs w p = subst (IsWritten a c) (append-nil xs) (written_more a b c xs [] 0 w p refl)
+pub written_still : (a b c : Option (List WireCall)) (xs : List ℕ) → IsWritten a b xs true → Notes b c (Wrote 0 ∷ []) → IsWritten a c xs false
+written_still a b c xs w p = record {
+  calls = w.calls ++ Wrote 0 ∷ [];
+  noted = Notes-trans a b c w.calls (Wrote 0 ∷ []) w.noted p;
+  writes = writes-append w.calls (Wrote 0 ∷ []) w.writes tt;
+  count =
+      let f = w.count in
+      omega (arith, written_in-append w.calls (Wrote 0 ∷ []));
+  moves = stops-append w.calls (Wrote 0 ∷ []) w.moves tt;
+}
 
 -- ---- which call of some is a read
 
@@ -156,9 +196,9 @@ called_first was a = record {
 -- a turn more, in which this was written
 pub called_turn : (was : Place) (a b c : Option (List WireCall)) (came : List ℕ) (bodies : List (List ℕ)) (said : List Said) (went : List ℕ) (calls : List WireCall)
     → Called was a b (done came bodies said went) calls
-    → (more_bodies : List (List ℕ)) (more_said : List Said) (more_went : List ℕ) → (w : IsWritten b c more_went)
+    → (more_bodies : List (List ℕ)) (more_said : List Said) (more_went : List ℕ) (whole : Bool) → (w : IsWritten b c more_went whole)
     → Called was a c (done came (bodies ++ more_bodies) (said ++ more_said) (went ++ more_went)) (calls ++ w.calls)
-called_turn was a b c came bodies said went calls k more_bodies more_said more_went w = record {
+called_turn was a b c came bodies said went calls k more_bodies more_said more_went whole w = record {
   noted = Notes-trans a b c calls w.calls k.noted w.noted;
   read =
       let e = k.read in

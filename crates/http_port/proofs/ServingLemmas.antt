@@ -1,5 +1,5 @@
 -- What serving comes to, from its turns.
-use Rattle.std.proofs.Common.{◌≡◌, ℕ, ◌⊎◌, inl, inr, Bool, true, false, List, [], ◌∷◌, ◌++◌, length, take, map, Some, None, sym, refl, ap, ◌∙◌, subst, arith, length-append, append_assoc, append-nil}
+use Rattle.std.proofs.Common.{◌≡◌, ◌<◌, ℕ, ◌⊎◌, inl, inr, Bool, true, false, List, [], ◌∷◌, ◌++◌, length, take, map, Some, None, sym, refl, ap, ◌∙◌, subst, arith, length-append, append_assoc, append-nil}
 use Rattle.std.specs.Prelude.{Option}
 use Rattle.std.specs.List.{concat}
 use Rattle.std.specs.Io.KnownBytes.{Appends, Consumes}
@@ -21,12 +21,12 @@ use Rattle.http_port.specs.Feeding.{Place, Open, Over, Spent, Feeds}
 use Rattle.http_port.specs.Walks.{Asks, AsksWhereGiven}
 use Rattle.http_port.specs.Connections.{Reading, RequestRead, given, Run, without_waits}
 use Rattle.http_port.specs.Serving.{Service, Demand, texts, to_write, AllAtOnce, HandsOn, IsServed, IsCutOff, EndsSo, demand_of, Serves, bodies_in, IsLastGiven, IsFed}
-use Rattle.http_port.specs.Prompt.{IsPrompt}
-use Rattle.http_port.specs.Turns.{Reacts, IsWritten}
+use Rattle.http_port.specs.Prompt.{IsPrompt, StopsAtNothing}
+use Rattle.http_port.specs.Turns.{AllMove, Reacts, IsWritten, Moves}
 use Rattle.http_port.proofs.ReadingLemmas.{still, Went, shown, asks_grow, step, run_goes, quiet}
 use Rattle.http_port.proofs.TalkLemmas.{spoken, ended, CallsFor, calls_for}
 use Rattle.http_port.proofs.TurnLemmas.{Spoke, spoke-append, waiting_turn, spoken_on, ended_on, bodies_on, bodies-append, count_said, said_at_once, Begins, starts_with, begins_behind, spoken_before, EndsWhole, EndsCut, LastTurn, last_turn, last_given, spoke_turn, spoke_waiting}
-use Rattle.http_port.proofs.CallLemmas.{done, Called, called_first, called_turn, called_read, is_prompt}
+use Rattle.http_port.proofs.CallLemmas.{all-append, moves_stop, stops-append, done, Called, called_first, called_turn, called_read, is_prompt}
 
 -- what was done, by what the reader gave
 abbrev pub service : List ℕ → List Fed → List Said → List ℕ → Service
@@ -259,6 +259,7 @@ pub record Going (was : Place) (before : Told) (now : Place) (after : Told) (pie
   pub left : Consumes before.left after.left (concat pieces ++ piece)
   pub taken : Appends before.taken after.taken went
   pub called : Called was before.calls after.calls (service (concat pieces ++ piece) feds said went) calls
+  pub moving : AllMove calls
   pub heard : Grows before.heard after.heard (bodies_in feds)
   pub told : Grows before.said after.said said
 
@@ -267,11 +268,12 @@ pub record Turned (mid : Place) (at : Told) (piece : List ℕ) (now : Place) (af
   pub fed : Fed
   pub said : List Said
   pub went : List ℕ
+  pub whole : Bool
   pub feeds : Feeds mid piece fed now
   pub given : after.given ≡ at.given
   pub left : after.left ≡ at.left
   pub taken : Appends at.taken after.taken went
-  pub written : IsWritten at.calls after.calls went
+  pub written : IsWritten at.calls after.calls went whole
   pub heard : Grows at.heard after.heard (bodies_in (fed ∷ []))
   pub told : Grows at.said after.said said
 
@@ -289,6 +291,7 @@ going_first was before = record {
   left = Consumes-nil before.left;
   taken = Appends-nil before.taken;
   called = called_first was before.calls;
+  moving = tt;
   heard = Grows-nil before.heard;
   told = Grows-nil before.said;
 }
@@ -347,7 +350,13 @@ turn_calls was before mid at piece g now turned t =
     subst (λ l. Called was before.calls turned.calls (done (concat g.pieces ++ piece) l (g.said ++ t.said) (g.went ++ t.went)) (g.calls ++ t.written.calls))
     (sym (bodies-append g.feds (t.fed ∷ [])))
     (called_turn was before.calls at.calls turned.calls (concat g.pieces ++ piece) (bodies_in g.feds) g.said g.went g.calls g.called
-    (bodies_in (t.fed ∷ [])) t.said t.went t.written)
+    (bodies_in (t.fed ∷ [])) t.said t.went t.whole t.written)
+
+-- where the turn goes on each of them moved something
+turn_moves : (was : Place) (before : Told) (mid : Place) (at : Told) (piece : List ℕ) → (g : Going was before mid at piece)
+    → (now : Place) (turned : Told) → (t : Turned mid at piece now turned) → t.whole ≡ true → AllMove (g.calls ++ t.written.calls)
+turn_moves was before mid at piece g now turned t whole =
+    all-append g.calls t.written.calls g.moving (subst (λ w. Moves w t.written.calls) whole t.written.moves)
 
 -- the same, where nothing was read
 turn_alone : (was : Place) (before : Told) (mid : Place) (at : Told) (piece : List ℕ) → (g : Going was before mid at piece)
@@ -385,8 +394,9 @@ read_calls was asks before mid at piece g now turned t reacts after next n noted
 going_on : (was : Place) (before : Told) (mid : Place) (at : Told) (piece : List ℕ) → (g : Going was before mid at piece)
     → (now : Place) (turned : Told) → (t : Turned mid at piece now turned) → Spoke (t.fed ∷ []) t.said t.went
     → (after : Told) (next : List ℕ) → ReadOn turned after next
-    → (calls : List WireCall) → Called was before.calls after.calls (done_with was before mid at piece g now turned t next) calls → Going was before now after next
-going_on was before mid at piece g now turned t spoke after next r calls called =
+    → (calls : List WireCall) → Called was before.calls after.calls (done_with was before mid at piece g now turned t next) calls → AllMove calls
+    → Going was before now after next
+going_on was before mid at piece g now turned t spoke after next r calls called moving =
     let whole = concat_last g.pieces piece in
     let j = joined was before mid at piece g now turned t after next r in
     record {
@@ -401,25 +411,27 @@ going_on was before mid at piece g now turned t spoke after next r calls called 
       left = subst (λ l. Consumes before.left after.left (l ++ next)) (sym whole) j.left;
       taken = j.taken;
       called = subst (λ l. Called was before.calls after.calls (done (l ++ next) (bodies_in (g.feds ++ t.fed ∷ [])) (g.said ++ t.said) (g.went ++ t.went)) calls) (sym whole) called;
+      moving = moving;
       heard = j.heard;
       told = j.told;
     }
 
 -- a turn that goes on
 pub go_on : (was : Place) (before : Told) (mid : Place) (at : Told) (piece : List ℕ) → (g : Going was before mid at piece)
-    → (now : Place) (turned : Told) → (t : Turned mid at piece now turned) → Reacts t.fed t.said t.went Turns.GoesOn → Going was before now turned []
-go_on was before mid at piece g now turned t reacts =
+    → (now : Place) (turned : Told) → (t : Turned mid at piece now turned) → Reacts t.fed t.said t.went Turns.GoesOn → t.whole ≡ true → Going was before now turned []
+go_on was before mid at piece g now turned t reacts whole =
     going_on was before mid at piece g now turned t (spoke_turn t.fed t.said t.went reacts) turned [] (read_nothing turned)
-    (g.calls ++ t.written.calls) (turn_alone was before mid at piece g now turned t)
+    (g.calls ++ t.written.calls) (turn_alone was before mid at piece g now turned t) (turn_moves was before mid at piece g now turned t whole)
 
 -- a turn that waits, and what is read then
 pub read_on : (was : Place) → AsksWhereGiven was → (before : Told) (mid : Place) (at : Told) (piece : List ℕ) → (g : Going was before mid at piece)
-    → (now : Place) (turned : Told) → (t : Turned mid at piece now turned) → Reacts t.fed t.said t.went Turns.Waits
-    → (after : Told) (next : List ℕ) → ReadOn turned after next → (n : ℕ) → Notes turned.calls after.calls (Read n ∷ []) → n ≡ length next
+    → (now : Place) (turned : Told) → (t : Turned mid at piece now turned) → Reacts t.fed t.said t.went Turns.Waits → t.whole ≡ true
+    → (after : Told) (next : List ℕ) → ReadOn turned after next → (n : ℕ) → Notes turned.calls after.calls (Read n ∷ []) → n ≡ length next → 0 < n
     → Going was before now after next
-read_on was asks before mid at piece g now turned t reacts after next r n noted count =
+read_on was asks before mid at piece g now turned t reacts whole after next r n noted count some =
     going_on was before mid at piece g now turned t (spoke_waiting t.fed t.said t.went reacts) after next r
     (g.calls ++ t.written.calls ++ Read n ∷ []) (read_calls was asks before mid at piece g now turned t reacts after next n noted count)
+    (all-append (g.calls ++ t.written.calls) (Read n ∷ []) (turn_moves was before mid at piece g now turned t whole) (some, tt))
 
 -- what serving that ended so did
 abbrev pub Finished : Place → Told → Place → Told → WireEnd → Type 0
@@ -432,14 +444,15 @@ Finished was before now after end = (did : Service) × (calls : List WireCall)
     × Grows before.said after.said did.said
     × IsFed was did end now
     × IsPrompt was did calls
+    × StopsAtNothing calls
     × Serves was did end
 
 finished : (was : Place) (before : Told) (mid : Place) (at : Told) (piece : List ℕ) → (g : Going was before mid at piece)
     → (now : Place) (turned : Told) → (t : Turned mid at piece now turned) → (after : Told) → ReadOn turned after [] → (end : WireEnd) → IsLastGiven end t.fed
-    → (calls : List WireCall) → Called was before.calls after.calls (done_with was before mid at piece g now turned t []) calls
+    → (calls : List WireCall) → Called was before.calls after.calls (done_with was before mid at piece g now turned t []) calls → StopsAtNothing calls
     → Serves was (service (concat g.pieces ++ piece) (g.feds ++ t.fed ∷ []) (g.said ++ t.said) (g.went ++ t.went)) end
     → Finished was before now after end
-finished was before mid at piece g now turned t after r end ends calls more serves =
+finished was before mid at piece g now turned t after r end ends calls more stops serves =
     let j = joined was before mid at piece g now turned t after [] r in
     let called = subst (λ l. Called was before.calls after.calls (done l (bodies_in (g.feds ++ t.fed ∷ [])) (g.said ++ t.said) (g.went ++ t.went)) calls)
     (append-nil (concat g.pieces ++ piece)) more in (
@@ -461,6 +474,7 @@ finished was before mid at piece g now turned t after r end ends calls more serv
         ends = ends;
       },
       is_prompt was (service (concat g.pieces ++ piece) (g.feds ++ t.fed ∷ []) (g.said ++ t.said) (g.went ++ t.went)) calls called.stops,
+      stops,
       serves,
     )
 
@@ -471,6 +485,7 @@ pub finish_turn : (was : Place) → AsksWhereGiven was → (before : Told) (mid 
 finish_turn was asks before mid at piece g now turned t end reacts =
     finished was before mid at piece g now turned t turned (read_nothing turned) end (last_given t.fed t.said t.went end reacts)
     (g.calls ++ t.written.calls) (turn_alone was before mid at piece g now turned t)
+    (stops-append g.calls t.written.calls g.moving (moves_stop t.whole t.written.calls t.written.moves))
     (serves_turn was mid now g.pieces g.feds g.said g.went piece t.fed t.said t.went end asks g.run g.spoke t.feeds reacts)
 
 given_nothing : (end : WireEnd) → IsRead end → (fed : Fed) → fed ≡ NotYet → IsLastGiven end fed
@@ -481,10 +496,11 @@ given_nothing (Ends.Later close) at fed e = absurd at
 
 -- serving ends where more is to be read
 pub finish_read : (was : Place) → AsksWhereGiven was → (before : Told) (mid : Place) (at : Told) (piece : List ℕ) → (g : Going was before mid at piece)
-    → (now : Place) (turned : Told) → (t : Turned mid at piece now turned) → Reacts t.fed t.said t.went Turns.Waits
+    → (now : Place) (turned : Told) → (t : Turned mid at piece now turned) → Reacts t.fed t.said t.went Turns.Waits → t.whole ≡ true
     → (after : Told) → ReadOn turned after [] → Notes turned.calls after.calls (Read 0 ∷ []) → (end : WireEnd) → IsRead end → Finished was before now after end
-finish_read was asks before mid at piece g now turned t reacts after r noted end at_end =
+finish_read was asks before mid at piece g now turned t reacts whole after r noted end at_end =
     let waits = waiting_turn t.fed t.said t.went reacts in
     finished was before mid at piece g now turned t after r end (given_nothing end at_end t.fed waits.0)
     (g.calls ++ t.written.calls ++ Read 0 ∷ []) (read_calls was asks before mid at piece g now turned t reacts after [] 0 noted refl)
+    (stops-append (g.calls ++ t.written.calls) (Read 0 ∷ []) (turn_moves was before mid at piece g now turned t whole) tt)
     (could_end was asks before mid at piece g now turned t reacts end at_end)

@@ -1,5 +1,5 @@
--- When serving does what the bytes call for: before it reads on.
-use Rattle.std.specs.Prelude.{◌≡◌, ℕ, ◌+◌, List, [], ◌∷◌, ◌++◌, take}
+-- When serving does what the bytes call for: before it reads on. When it stops: behind a call that moves nothing.
+use Rattle.std.specs.Prelude.{◌≡◌, ◌<◌, ℕ, ◌+◌, List, [], ◌∷◌, ◌++◌, take}
 use Rattle.outside_traits.specs.declared.calls.WireCall.{WireCall}
 use Rattle.outside_traits.specs.declared.calls.WireCall.TheVariants.{Read, Wrote}
 use Rattle.http_port.specs.Feeding.{Place}
@@ -32,3 +32,14 @@ done_by did calls handed = record {
 abbrev pub IsPrompt : Place → Service → List WireCall → Type 0
 IsPrompt was did calls = (before after : List WireCall) (count : ℕ) → calls ≡ before ++ Read count ∷ after
     → (handed : ℕ) × Serves was (done_by did before handed) Ends.Ended
+
+-- how many bytes a call of a wire moved: none where it failed, or where it found no more to read
+abbrev pub bytes_of : WireCall → ℕ
+bytes_of (Read count) = count
+bytes_of (Wrote count) = count
+
+-- Each of these calls of a wire but the last moved something: behind one that failed, or found no more, there is none.
+abbrev pub StopsAtNothing : List WireCall → Type 0
+StopsAtNothing [] = Unit {0}
+StopsAtNothing (last ∷ []) = Unit {0}
+StopsAtNothing (call ∷ next ∷ more) = (0 < bytes_of call) × StopsAtNothing (next ∷ more)

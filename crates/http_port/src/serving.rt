@@ -4,7 +4,7 @@ ghost use Rattle.std.specs.Io.KnownBytes.{Appends, Consumes, IsAtEnd};
 ghost use Rattle.http_port.specs.Asking.{Grows};
 ghost use Rattle.http_port.specs.Feeding.{Spent};
 ghost use Rattle.http_port.specs.Serving.{Service, IsFed, Serves, CountsFault};
-ghost use Rattle.http_port.specs.Prompt.{IsPrompt};
+ghost use Rattle.http_port.specs.Prompt.{IsPrompt, StopsAtNothing};
 ghost use Rattle.outside_traits.specs.Calls.{Notes};
 ghost use Rattle.outside_traits.specs.declared.calls.WireCall.{WireCall};
 
@@ -46,6 +46,7 @@ pub fn serve_wire<W: Wire, S: Serve>(
         × Grows (S.said serve.old) (S.said serve.new) did.said
         × IsFed reader.old did end reader.new
         × IsPrompt reader.old did calls
+        × StopsAtNothing calls
         × Serves reader.old did end) }
     ensures ended { result ≡ Ok WireEnd.Ended → IsAtEnd (W.left wire.new) }
     ensures counts { MatchResult result (λ end. CountsFault end (W.faults wire.old) (W.faults wire.new)) (λ _. W.faults wire.new ≡ W.faults wire.old) }
@@ -75,6 +76,7 @@ fn serve_each<W: Wire, S: Serve>(
         × Grows (S.said serve.old) (S.said serve.new) did.said
         × IsFed reader.old did end reader.new
         × IsPrompt reader.old did calls
+        × StopsAtNothing calls
         × Serves reader.old did end) }
     ensures ended { result ≡ Ok WireEnd.Ended → IsAtEnd (W.left wire.new) }
     ensures counts { MatchResult result (λ end. CountsFault end (W.faults wire.old) (W.faults wire.new)) (λ _. W.faults wire.new ≡ W.faults wire.old) }

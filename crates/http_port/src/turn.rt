@@ -1,12 +1,12 @@
 //! One turn of serving a connection.
-ghost use Rattle.std.specs.Prelude.{◌≡◌, ℕ, List, [], ◌∷◌, true, take, IfOk, MatchResult};
+ghost use Rattle.std.specs.Prelude.{◌≡◌, ℕ, List, [], ◌∷◌, true, false, take, IfOk, MatchResult};
 ghost use Rattle.std.specs.Io.KnownBytes.{Appends};
 ghost use Rattle.outside_traits.specs.Causes.{HasCause};
 ghost use Rattle.http_port.specs.Asking.{Grows};
 ghost use Rattle.http_port.specs.Feeding.{Feeds};
 ghost use Rattle.http_port.specs.Responses.{interim, response};
 ghost use Rattle.http_port.specs.Serving.{bodies_in};
-ghost use Rattle.http_port.specs.Turns.{turn_behind, Writes, Answers, Reacts, TurnCounts, IsWritten};
+ghost use Rattle.http_port.specs.Turns.{turn_behind, Writes, Answers, Reacts, TurnCounts, IsWritten, goes};
 ghost use Rattle.http_port.specs.declared.head_reader.Fed.{Fed};
 ghost use Rattle.http_port.specs.declared.serve.Said.{Said};
 
@@ -45,7 +45,7 @@ pub(crate) fn take_turn<W: Wire, S: Serve>(
         × Feeds reader.old piece.now fed reader.new
         × Reacts fed said went turn
         × Appends (W.taken wire.old) (W.taken wire.new) went
-        × IsWritten (W.calls wire.old) (W.calls wire.new) went
+        × IsWritten (W.calls wire.old) (W.calls wire.new) went (goes turn)
         × Grows (S.heard serve.old) (S.heard serve.new) (bodies_in (fed ∷ []))
         × Grows (S.said serve.old) (S.said serve.new) said) }
     ensures counts { MatchResult result (λ turn. TurnCounts turn (W.faults wire.old) (W.faults wire.new)) (λ _. W.faults wire.new ≡ W.faults wire.old) }
@@ -72,7 +72,7 @@ fn answer<W: Wire, S: Serve>(
     ensures answers { IfOk result (λ turn. (first : Said) × (went : List ℕ)
         × Answers first close went turn
         × Appends (W.taken wire.old) (W.taken wire.new) went
-        × IsWritten (W.calls wire.old) (W.calls wire.new) went
+        × IsWritten (W.calls wire.old) (W.calls wire.new) went (goes turn)
         × Grows (S.heard serve.old) (S.heard serve.new) (body.now ∷ [])
         × Grows (S.said serve.old) (S.said serve.new) (first ∷ [])) }
     ensures counts { MatchResult result (λ turn. TurnCounts turn (W.faults wire.old) (W.faults wire.new)) (λ _. W.faults wire.new ≡ W.faults wire.old) }
@@ -90,7 +90,7 @@ fn reply<W: Wire>(alloc: Global, wire: &mut W, said: &Said, close: bool) -> Resu
     ensures answers { IfOk result (λ turn. (went : List ℕ)
         × Answers said.now close went turn
         × Appends (W.taken wire.old) (W.taken wire.new) went
-        × IsWritten (W.calls wire.old) (W.calls wire.new) went) }
+        × IsWritten (W.calls wire.old) (W.calls wire.new) went (goes turn)) }
     ensures counts { MatchResult result (λ turn. TurnCounts turn (W.faults wire.old) (W.faults wire.new)) (λ _. W.faults wire.new ≡ W.faults wire.old) }
     ensures given { W.given wire.new ≡ W.given wire.old }
     ensures left { W.left wire.new ≡ W.left wire.old }
@@ -114,7 +114,7 @@ fn respond<W: Wire>(
     ensures writes { IfOk result (λ turn. (went : List ℕ)
         × Writes (response status body.now close) (turn_behind close) went turn
         × Appends (W.taken wire.old) (W.taken wire.new) went
-        × IsWritten (W.calls wire.old) (W.calls wire.new) went) }
+        × IsWritten (W.calls wire.old) (W.calls wire.new) went (goes turn)) }
     ensures counts { MatchResult result (λ turn. TurnCounts turn (W.faults wire.old) (W.faults wire.new)) (λ _. W.faults wire.new ≡ W.faults wire.old) }
     ensures given { W.given wire.new ≡ W.given wire.old }
     ensures left { W.left wire.new ≡ W.left wire.old }
@@ -136,11 +136,12 @@ fn turn_behind(close: bool) -> Turn
 }
 
 /// Writes a text and then goes on so, or ends where the wire fails.
+#[tactic(auto, using(crate::proofs::CallLemmas::written_so))]
 fn write<W: Wire>(wire: &mut W, text: &[u8], next: Turn) -> Turn
     ensures writes { (went : List ℕ)
         × Writes text.now next went result
         × Appends (W.taken wire.old) (W.taken wire.new) went
-        × IsWritten (W.calls wire.old) (W.calls wire.new) went }
+        × IsWritten (W.calls wire.old) (W.calls wire.new) went (goes result) }
     ensures counts { TurnCounts next (W.faults wire.old) (W.faults wire.old) → TurnCounts result (W.faults wire.old) (W.faults wire.new) }
     ensures given { W.given wire.new ≡ W.given wire.old }
     ensures left { W.left wire.new ≡ W.left wire.old }
@@ -156,8 +157,8 @@ fn write<W: Wire>(wire: &mut W, text: &[u8], next: Turn) -> Turn
 #[tactic(auto, using(crate::proofs::CallLemmas::nothing_written, crate::proofs::CallLemmas::written_still))]
 fn write_all<W: Wire>(wire: &mut W, bytes: &[u8]) -> Result<(), Failed>
     ensures writes { MatchResult result
-        (λ _. Appends (W.taken wire.old) (W.taken wire.new) bytes.now × IsWritten (W.calls wire.old) (W.calls wire.new) bytes.now)
-        (λ _. (count : ℕ) × Appends (W.taken wire.old) (W.taken wire.new) (take count bytes.now) × IsWritten (W.calls wire.old) (W.calls wire.new) (take count bytes.now)) }
+        (λ _. Appends (W.taken wire.old) (W.taken wire.new) bytes.now × IsWritten (W.calls wire.old) (W.calls wire.new) bytes.now true)
+        (λ _. (count : ℕ) × Appends (W.taken wire.old) (W.taken wire.new) (take count bytes.now) × IsWritten (W.calls wire.old) (W.calls wire.new) (take count bytes.now) false) }
     ensures cause { HasCause (W.faults wire.old) (W.faults wire.new) result }
     ensures given { W.given wire.new ≡ W.given wire.old }
     ensures left { W.left wire.new ≡ W.left wire.old }

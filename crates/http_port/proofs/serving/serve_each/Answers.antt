@@ -1,9 +1,9 @@
-use Rattle.std.proofs.Common.{[], ◌∷◌, take, refl, ◌∙◌, subst, arith}
+use Rattle.std.proofs.Common.{[], ◌∷◌, take, refl, ap, ◌∙◌, subst, arith}
 use Rattle.std.specs.Io.KnownBytes.{Appends, Consumes}
 use Rattle.std.proofs.KnownBytes.{Appends-nil, Appends-kept, Consumes-nil, Consumes-kept}
 use Rattle.outside_traits.specs.Calls.{Notes}
 use Rattle.outside_traits.specs.declared.calls.WireCall.TheVariants.{Read}
-use Rattle.http_port.specs.Turns.{Reacts, TurnCounts}
+use Rattle.http_port.specs.Turns.{Reacts, TurnCounts, goes}
 use Rattle.http_port.specs.declared.serving.WireEnd.TheVariants as Ends
 use Rattle.http_port.proofs.ServingLemmas.{Told, Turned, ReadOn, going_first, go_on, read_on, finish_turn, finish_read}
 use Rattle.http_port.proofs.serving.serve_each.Goals as goal
@@ -28,6 +28,7 @@ returns-in-Ends-clause-serves g c =
       fed = turn.0;
       said = turn.1;
       went = turn.2;
+      whole = goes c.in_ok-take_turn.field-0;
       feeds = turn.3;
       given = c.in_ok-take_turn.ensures.given;
       left = c.in_ok-take_turn.ensures.left;
@@ -49,6 +50,7 @@ returns-in-Ok-eq0-clause-serves g c =
       fed = turn.0;
       said = turn.1;
       went = turn.2;
+      whole = goes c.in_ok-take_turn.field-0;
       feeds = turn.3;
       given = c.in_ok-take_turn.ensures.given;
       left = c.in_ok-take_turn.ensures.left;
@@ -66,7 +68,7 @@ returns-in-Ok-eq0-clause-serves g c =
       told = refl;
     } in
     finish_read c.args.reader.now c.loop.invariant.asks before c.loop.reader at (take c.loop.count c.loop.chunk) c.loop.invariant.going c.take_turn.new.reader turned t
-    (subst (Reacts turn.0 turn.1 turn.2) c.in-Waits.is turn.4) after read
+    (subst (Reacts turn.0 turn.1 turn.2) c.in-Waits.is turn.4) (ap goes c.in-Waits.is) after read
     (subst (λ n. Notes turned.calls after.calls (Read n ∷ [])) c.in-Ok-eq0.field-0-test c.in-Ok-eq0.ensures.calls) Ends.Ended tt
 
 pub returns-in-Err-clause-serves : goal.returns-in-Err-clause-serves
@@ -79,6 +81,7 @@ returns-in-Err-clause-serves g c =
       fed = turn.0;
       said = turn.1;
       went = turn.2;
+      whole = goes c.in_ok-take_turn.field-0;
       feeds = turn.3;
       given = c.in_ok-take_turn.ensures.given;
       left = c.in_ok-take_turn.ensures.left;
@@ -96,7 +99,7 @@ returns-in-Err-clause-serves g c =
       told = refl;
     } in
     finish_read c.args.reader.now c.loop.invariant.asks before c.loop.reader at (take c.loop.count c.loop.chunk) c.loop.invariant.going c.take_turn.new.reader turned t
-    (subst (Reacts turn.0 turn.1 turn.2) c.in-Waits.is turn.4) after read c.in-Err.ensures.calls Ends.Faulted tt
+    (subst (Reacts turn.0 turn.1 turn.2) c.in-Waits.is turn.4) (ap goes c.in-Waits.is) after read c.in-Err.ensures.calls Ends.Faulted tt
 
 pub loop-preserved : goal.loop-preserved
 loop-preserved g c =
@@ -108,6 +111,7 @@ loop-preserved g c =
       fed = turn.0;
       said = turn.1;
       went = turn.2;
+      whole = goes c.in_ok-take_turn.field-0;
       feeds = turn.3;
       given = c.in_ok-take_turn.ensures.given;
       left = c.in_ok-take_turn.ensures.left;
@@ -123,7 +127,7 @@ loop-preserved g c =
           rw (w.wire-is, w.count-is) (record {
             asks = c.loop.invariant.asks;
             within = omega arith;
-            going = go_on c.args.reader.now before c.loop.reader at (take c.loop.count c.loop.chunk) c.loop.invariant.going c.take_turn.new.reader turned t reacts;
+            going = go_on c.args.reader.now before c.loop.reader at (take c.loop.count c.loop.chunk) c.loop.invariant.going c.take_turn.new.reader turned t reacts (ap goes w.in-GoesOn.is);
             faults = calm ∙ c.loop.invariant.faults;
             closed = c.in_ok-take_turn.ensures.closed ∙ c.loop.invariant.closed;
           })
@@ -141,8 +145,8 @@ loop-preserved g c =
           rw (w.wire-is, w.count-is, w.chunk-is) (record {
             asks = c.loop.invariant.asks;
             within = w.in-Ok.ensures.bound.0;
-            going = read_on c.args.reader.now c.loop.invariant.asks before c.loop.reader at (take c.loop.count c.loop.chunk) c.loop.invariant.going c.take_turn.new.reader turned t reacts after (take w.in-Ok.read w.read.new.into) read
-                w.in-Ok.read w.in-Ok.ensures.calls w.in-Ok.ensures.bound.1;
+            going = read_on c.args.reader.now c.loop.invariant.asks before c.loop.reader at (take c.loop.count c.loop.chunk) c.loop.invariant.going c.take_turn.new.reader turned t reacts (ap goes w.in-Waits.is) after (take w.in-Ok.read w.read.new.into) read
+                w.in-Ok.read w.in-Ok.ensures.calls w.in-Ok.ensures.bound.1 (omega (arith, w.in-Ok.read-test));
             faults = w.in-Ok.ensures.cause.calm ∙ calm ∙ c.loop.invariant.faults;
             closed = w.in-Ok.ensures.closed ∙ c.in_ok-take_turn.ensures.closed ∙ c.loop.invariant.closed;
           })

@@ -1,4 +1,4 @@
-use Rattle.std.proofs.Common.{◌≡◌, ◌-◌, ◌≤◌, arith, sym, ap, subst, ◌∙◌, length, take, drop}
+use Rattle.std.proofs.Common.{◌≡◌, ◌-◌, ◌≤◌, ◌<◌, ℕ, true, arith, sym, ap, subst, ◌∙◌, length, take, drop}
 use Rattle.std.proofs.lemmas.List.{length-drop, length-take-le, take_rest}
 use Rattle.std.proofs.Math.Seq.{take-add}
 use Rattle.std.specs.Io.KnownBytes.{Appends}
@@ -14,14 +14,15 @@ loop-done-preserved g c =
     let count = c.in_ok-done.field-0 in
     let rest = take_rest bytes done in
     let fits : count ≤ length bytes - done = subst (λ k. count ≤ k) (ap length rest ∙ length-drop done bytes) c.in_ok-done.ensures.bound in
+    let some : 0 < count = c.in_ok-done.ensures.some (subst (λ (k : ℕ). 0 < k) (sym (ap length rest ∙ length-drop done bytes)) (omega (arith, c.loop-done-test.true))) in
     let more = subst (λ l. Appends (g.W.Wire.taken c.loop-done.wire) (g.W.Wire.taken c.write.new.self) (take count l)) rest c.in_ok-done.ensures.bytes in
     let taken : count ≡ length (take count (drop done bytes)) = sym (length-take-le count (drop done bytes) (omega (arith, length-drop done bytes))) in
     record {
       within = omega arith;
       written = subst (Appends (g.W.Wire.taken c.args.wire.now) (g.W.Wire.taken c.write.new.self)) (sym (take-add done count bytes))
           (Appends-trans (g.W.Wire.taken c.args.wire.now) (g.W.Wire.taken c.loop-done.wire) (g.W.Wire.taken c.write.new.self) (take done bytes) (take count (drop done bytes)) c.loop-done.invariant.written more);
-      called = subst (IsWritten (g.W.Wire.calls c.args.wire.now) (g.W.Wire.calls c.write.new.self)) (sym (take-add done count bytes))
-          (written_more (g.W.Wire.calls c.args.wire.now) (g.W.Wire.calls c.loop-done.wire) (g.W.Wire.calls c.write.new.self) (take done bytes) (take count (drop done bytes)) count c.loop-done.invariant.called c.in_ok-done.ensures.calls taken);
+      called = subst (λ l. IsWritten (g.W.Wire.calls c.args.wire.now) (g.W.Wire.calls c.write.new.self) l true) (sym (take-add done count bytes))
+          (written_more (g.W.Wire.calls c.args.wire.now) (g.W.Wire.calls c.loop-done.wire) (g.W.Wire.calls c.write.new.self) (take done bytes) (take count (drop done bytes)) count c.loop-done.invariant.called c.in_ok-done.ensures.calls taken some);
       faults = c.in_ok-done.ensures.cause.calm ∙ c.loop-done.invariant.faults;
       given = c.in_ok-done.ensures.given ∙ c.loop-done.invariant.given;
       left = c.in_ok-done.ensures.left ∙ c.loop-done.invariant.left;

@@ -1,4 +1,4 @@
-use Rattle.std.proofs.Common.{◌≡◌, ◌-◌, ◌≤◌, length, take}
+use Rattle.std.proofs.Common.{◌≡◌, true, ◌-◌, ◌≤◌, length, take}
 use Rattle.std.specs.Io.KnownBytes.{Appends}
 use Rattle.http_port.specs.Turns.{IsWritten}
 use Rattle.http_port.proofs.turn.write_all.Given as goal
@@ -7,7 +7,7 @@ abbrev pub invariant-loop-done : goal.invariant-loop-done
 invariant-loop-done g l = record {
   within : l.done ≤ length l.bytes;
   written : Appends (g.W.Wire.taken l.fn.wire) (g.W.Wire.taken l.wire) (take l.done l.bytes);
-  called : IsWritten (g.W.Wire.calls l.fn.wire) (g.W.Wire.calls l.wire) (take l.done l.bytes);
+  called : IsWritten (g.W.Wire.calls l.fn.wire) (g.W.Wire.calls l.wire) (take l.done l.bytes) true;
   faults : g.W.Wire.faults l.wire ≡ g.W.Wire.faults l.fn.wire;
   given : g.W.Wire.given l.wire ≡ g.W.Wire.given l.fn.wire;
   left : g.W.Wire.left l.wire ≡ g.W.Wire.left l.fn.wire;
