@@ -42,16 +42,16 @@ IsExhausted traffic e = IsAtEnd e.left ⊎ (most_postings ≤ length (said_lines
 -- end, or of all once the source has nothing left.
 pub data AnswersLines (hands : Hands) (w : Setting) (traffic : Traffic) (e : Ending) : Type 0 where
   whole : e.now.source ≡ e.before.source → IsCalm e.before e.now → IsExhausted traffic e
-      → IsAnswered hands w e.run.history.entries (all_of traffic) (output_of traffic e)
+      → IsAnswered hands w e.run.history.entries.items (all_of traffic) (output_of traffic e)
       → AnswersLines hands w traffic e
   cut : SourceRose e.before e.now → IsCalm e.before e.now
-      → IsAnswered hands w e.run.history.entries (whole_of traffic) (output_of traffic e)
+      → IsAnswered hands w e.run.history.entries.items (whole_of traffic) (output_of traffic e)
       → AnswersLines hands w traffic e
   halted : Halted e.before e.now
-      → IsCutShort hands w e.run.history.entries (whole_of traffic) (output_of traffic e)
+      → IsCutShort hands w e.run.history.entries.items (whole_of traffic) (output_of traffic e)
       → AnswersLines hands w traffic e
   halted_at_end : Halted e.before e.now → IsAtEnd e.left
-      → IsCutShort hands w e.run.history.entries (all_of traffic) (output_of traffic e)
+      → IsCutShort hands w e.run.history.entries.items (all_of traffic) (output_of traffic e)
       → AnswersLines hands w traffic e
 
 -- Whether a front halted: only where the output or the notes failed, and always where one of them did.
@@ -66,6 +66,6 @@ pub record IsLineRun (w : Setting) (budget : ℕ) (hands : Hands) (e : Ending) :
   pub run : IsRun w budget hands halted e.run
   pub traffic : Traffic
   pub one : e.run.traffic ≡ traffic ∷ []
-  pub posters : list_all is_by_first e.run.history.entries ≡ true
+  pub posters : list_all is_by_first e.run.history.entries.items ≡ true
   pub lines : AnswersLines hands w traffic e
   pub status : HasStatus e.status e.before e.now (IsSpent w budget e.run)

@@ -12,8 +12,6 @@ mod steps;
 
 pub use bind_reply::BindReply;
 pub use key::{Key, KeyRow};
-pub use keys::Keys;
 pub use rows::Rows;
 pub use session::{Session, SetOf, Sets, Values, Variables, Written};
-pub use set_keys::SetKeys;
 pub use steps::Steps;

@@ -1,1 +1,5 @@
-mod OneAnswer
+pub mod OneAnswer
+pub mod Longer
+pub mod Numbers
+pub mod Sent
+pub mod Unborn

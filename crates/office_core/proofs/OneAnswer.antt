@@ -41,11 +41,11 @@ rest_true false b h = h
 cons_not_nil : {A : Type 0} (x : A) (xs : List A) → x ∷ xs ≡ [] → ⊥
 cons_not_nil x xs h = true≢false (ap (λ l. elim l [ [] ↦ false | y ∷ ys ↦ true ]) h)
 
-front_nil : {A : Type 0} (xs ys : List A) → xs ++ ys ≡ [] → xs ≡ []
+pub front_nil : {A : Type 0} (xs ys : List A) → xs ++ ys ≡ [] → xs ≡ []
 front_nil [] ys h = refl
 front_nil (x ∷ xs) ys h = absurd (cons_not_nil x (xs ++ ys) h)
 
-rest_nil : {A : Type 0} (xs ys : List A) → xs ++ ys ≡ [] → ys ≡ []
+pub rest_nil : {A : Type 0} (xs ys : List A) → xs ++ ys ≡ [] → ys ≡ []
 rest_nil [] ys h = h
 rest_nil (x ∷ xs) ys h = absurd (cons_not_nil x (xs ++ ys) h)
 
@@ -60,7 +60,7 @@ same_of x y h = ap (λ o. elim o [ None ↦ x | Some z ↦ z ]) h
 
 -- ---- one entry more
 
-message_stays : (ms : List Message) (more : Option Message) (n : ℕ) (m : Message)
+pub message_stays : (ms : List Message) (more : Option Message) (n : ℕ) (m : Message)
     → slice_get ms n ≡ Some m → slice_get (with_message ms more) n ≡ Some m
 message_stays ms None n m h = h
 message_stays ms (Some k) n m h = stays_there ms (k ∷ []) n m h
@@ -101,7 +101,7 @@ taken_stays w past n e h =
 -- ---- what a message has
 
 -- a message has no reply; or it has one, and is a request that was taken
-data Replied (w : Setting) (past : Past) (n : ℕ) : Type 0 where
+pub data Replied (w : Setting) (past : Past) (n : ℕ) : Type 0 where
   none : replies past n ≡ [] → Replied w past n
   once : (o : Outcome) (m : Message) → replies past n ≡ o ∷ [] → was_taken past n ≡ true
       → slice_get past.messages n ≡ Some m → is_request w m ≡ true → Replied w past n
@@ -201,7 +201,7 @@ replied_after w past n (e ∷ es) h r =
     replied_after w (then_one w past e) n es h.1 (by_act w past n e.actor e.act (h.0).allowed r)
 
 -- a message of a legal history has at most one reply
-one_reply : (w : Setting) (h : List Entry) (n : ℕ) → IsLegal w h → Replied w (past_of w h) n
+pub one_reply : (w : Setting) (h : List Entry) (n : ℕ) → IsLegal w h → Replied w (past_of w h) n
 one_reply w h n legal = replied_after w nothing_yet n h legal (none refl)
 
 -- ---- one answer

@@ -8,6 +8,7 @@ use Rattle.office_core.specs.declared.history.Placed.{Placed}
 use Rattle.office_core.specs.declared.history.Placed.TheVariants as at
 use Rattle.office_core.specs.declared.history.Act.TheVariants as act
 use Rattle.office_core.specs.declared.history.Entry.{Entry}
+pub use Rattle.office_core.specs.declared.message.Call.{Call}
 use Rattle.office_core.specs.declared.outgoing.OutKind.{OutKind}
 use Rattle.office_core.specs.declared.outgoing.OutKind.TheVariants as kind
 use Rattle.office_core.specs.Limits.{Setting}
@@ -15,16 +16,6 @@ use Rattle.office_core.specs.Past.{Past, some_entry}
 use Rattle.office_core.specs.Keys.{first}
 use Rattle.office_core.specs.Accepted.{port_of}
 use Rattle.office_core.specs.Answers.{answers}
-
--- a call that a session sent, and where it went
-pub record Call : Type 0 where
-  pub session : ℕ
-  pub number : ℕ
-  pub port : ℕ
-  pub op : ℕ
-  pub value : Tree
-  pub wants : Bool
-  pub placed : Placed
 
 -- the call that an entry sends
 abbrev pub sent_in : Entry → Option Call

@@ -10,4 +10,5 @@ pub mod Answers
 pub mod Calls
 pub mod Bound
 pub mod Legal
+pub mod OneProof
 pub mod Laws

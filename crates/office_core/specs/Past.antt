@@ -1,20 +1,9 @@
 -- What happened so far: the entries, and the messages that they accepted, each with the session that it went to.
-use Rattle.std.specs.Prelude.{ℕ, Bool, true, false, not, List, []}
+use Rattle.std.specs.Prelude.{Bool, true, false, not, List, []}
 use Rattle.std.specs.List.{list_any}
-use Rattle.jolie_trees.specs.Data.{Tree}
-use Rattle.reqresp_book.specs.declared.origin.Origin.{Origin}
+pub use Rattle.office_core.specs.declared.message.Message.{Message}
 use Rattle.office_core.specs.declared.history.Entry.{Entry}
 use Rattle.office_core.specs.declared.history.Act.TheVariants as act
-
--- an accepted message: its service and operation by number, the value that lies in the box, where it came from, the
--- session that it went to, and whether it started that session. Its own number is its place among all of them
-pub record Message : Type 0 where
-  pub service : ℕ
-  pub op : ℕ
-  pub value : Tree
-  pub origin : Origin
-  pub session : ℕ
-  pub starts : Bool
 
 -- what happened so far
 pub record Past : Type 0 where

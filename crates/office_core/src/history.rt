@@ -2,7 +2,6 @@ use crate::post::{PostReply, Posted};
 use behaviour_tree::{Outcome, Reason};
 use correlation::BindReply;
 use jolie_trees::{Root, Tree};
-use sqlite_items::Items;
 
 /// Where a session's message went: to a service of the program under that number, nowhere, or out.
 #[derive(Clone, Copy, Debug, PartialEq, Eq)]
@@ -77,5 +76,5 @@ pub struct Entry {
 /// The calls of the office, oldest first.
 #[derive(Drop)]
 pub struct History {
-    pub entries: Items<Entry>,
+    pub entries: Vec<Entry>,
 }

@@ -4,11 +4,16 @@
 mod front;
 mod history;
 mod laws;
+mod message;
 mod outgoing;
 mod post;
 
 pub use front::{CallIn, Posting};
 pub use history::{Act, Entry, History, Placed};
-pub use laws::legal_histories_answer_once;
+pub use laws::{
+    histories_grow_by_entries, legal_histories_answer_once, legal_histories_number_calls,
+    legal_histories_send_messages,
+};
+pub use message::{Call, Message};
 pub use outgoing::{OutKind, Outgoing};
 pub use post::{Birth, Mail, PostReply, Posted};

@@ -1,5 +1,6 @@
 -- Whether nothing is left to do in a record, as a value that computes: what the office could give is tried.
-use Rattle.std.specs.Prelude.{ℕ, zero, suc, Bool, true, false, not, ◌&&◌, ◌||◌, List, [], ◌∷◌, ◌++◌, length, map, nat_eq, if◌then◌else◌, Option, None, Some}
+use Rattle.std.specs.Prelude.{ℕ, zero, suc, Bool, true, false, not, ◌&&◌, ◌||◌, List, [], ◌∷◌}
+use Rattle.std.specs.Prelude.{◌++◌, length, map, nat_eq, if◌then◌else◌, Option, None, Some}
 use Rattle.std.specs.List.{list_any, list_all}
 use Rattle.jolie_trees.specs.Trees.{void_tree}
 use Rattle.behaviour_tree.specs.declared.words.Event.{Event}

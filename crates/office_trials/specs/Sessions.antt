@@ -1,5 +1,6 @@
 -- What is told of the events of a session, and whether they agree with a history, as values that compute.
-use Rattle.std.specs.Prelude.{ℕ, Bool, true, false, ◌&&◌, List, [], ◌∷◌, nat_eq, Option, None, Some, option_map, option_and_then}
+use Rattle.std.specs.Prelude.{ℕ, Bool, true, false, ◌&&◌, List, [], ◌∷◌, nat_eq}
+use Rattle.std.specs.Prelude.{Option, None, Some, option_map, option_and_then}
 use Rattle.behaviour_tree.specs.declared.words.Event.{Event}
 use Rattle.behaviour_tree.specs.declared.words.Kind.{Kind}
 use Rattle.behaviour_tree.specs.declared.words.Kind.TheVariants as kind

@@ -5,7 +5,7 @@ use Rattle.behaviour_tree.specs.declared.words.Outcome.{Outcome}
 use Rattle.office_core.specs.declared.history.Act.TheVariants as act
 use Rattle.office_core.specs.declared.history.Entry.{Entry}
 use Rattle.office_core.specs.Limits.{Setting}
-use Rattle.office_core.specs.Past.{Message}
+use Rattle.office_core.specs.declared.message.Message.{Message}
 use Rattle.office_core.specs.Accepted.{past_of, accepted}
 use Rattle.office_core.specs.Answers.{answers}
 use Rattle.run_record.specs.Quiet.{posts_for}

@@ -1,5 +1,6 @@
 -- In which order postings are answered.
-use Rattle.std.specs.Prelude.{◌≡◌, ℕ, zero, suc, ◌-◌, ◌<◌, Bool, false, ◌&&◌, ◌||◌, List, [], ◌∷◌, nat_eq, nat_lt, if◌then◌else◌, Option, None, Some, is_some, slice_get, flat_map}
+use Rattle.std.specs.Prelude.{◌≡◌, ℕ, zero, suc, ◌-◌, ◌<◌, Bool, false, ◌&&◌, ◌||◌, List, [], ◌∷◌, nat_eq}
+use Rattle.std.specs.Prelude.{nat_lt, if◌then◌else◌, Option, None, Some, is_some, slice_get, flat_map}
 use Rattle.std.specs.Prelude.{count_by}
 use Rattle.std.specs.List.{list_all, list_any, filter, filter_map}
 use Rattle.office_core.specs.declared.post.PostReply.{PostReply}

@@ -1,5 +1,6 @@
 -- What goes out of a run beside answers: the notes, and the trips of calls to services elsewhere.
-use Rattle.std.specs.Prelude.{ℕ, ◌&&◌, List, [], ◌∷◌, ◌++◌, nat_eq, if◌then◌else◌, Option, None, option_map, option_and_then, flat_map}
+use Rattle.std.specs.Prelude.{ℕ, ◌&&◌, List, [], ◌∷◌, ◌++◌, nat_eq, if◌then◌else◌}
+use Rattle.std.specs.Prelude.{Option, None, option_map, option_and_then, flat_map}
 use Rattle.std.specs.List.{filter, filter_map}
 use Rattle.jolie_trees.specs.Trees.{root_of}
 use Rattle.behaviour_tree.specs.Data.{PortPart}
@@ -10,7 +11,8 @@ use Rattle.office_core.specs.declared.outgoing.OutKind.TheVariants as kind
 use Rattle.office_core.specs.Limits.{Setting}
 use Rattle.office_core.specs.Past.{Past}
 use Rattle.office_core.specs.Accepted.{past_of, port_of}
-use Rattle.office_core.specs.Calls.{Call, calls, call, goes_out, kind_of, same_kind}
+use Rattle.office_core.specs.declared.message.Call.{Call}
+use Rattle.office_core.specs.Calls.{calls, call, goes_out, kind_of, same_kind}
 
 -- ---- notes
 

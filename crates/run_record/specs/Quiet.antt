@@ -1,5 +1,6 @@
 -- When nothing is left to do in a record: at its end, and before each posting.
-use Rattle.std.specs.Prelude.{◌≡◌, ℕ, zero, suc, Bool, true, false, not, ◌&&◌, List, [], ◌∷◌, ◌++◌, length, nat_eq, if◌then◌else◌, Some, is_some, slice_get}
+use Rattle.std.specs.Prelude.{◌≡◌, ℕ, zero, suc, Bool, true, false, not, ◌&&◌, List, [], ◌∷◌}
+use Rattle.std.specs.Prelude.{◌++◌, length, nat_eq, if◌then◌else◌, Some, is_some, slice_get}
 use Rattle.std.specs.List.{list_any, filter}
 use Rattle.behaviour_tree.specs.declared.words.Event.{Event}
 use Rattle.behaviour_tree.specs.declared.words.Need.{Need}
@@ -14,7 +15,8 @@ use Rattle.office_core.specs.Sessions.{service_of, is_live, was_adopted}
 use Rattle.office_core.specs.Boxes.{queue}
 use Rattle.office_core.specs.Keys.{first}
 use Rattle.office_core.specs.Accepted.{past_of}
-use Rattle.office_core.specs.Calls.{Call, calls, goes_out, brings, result}
+use Rattle.office_core.specs.declared.message.Call.{Call}
+use Rattle.office_core.specs.Calls.{calls, goes_out, brings, result}
 use Rattle.run_record.specs.Steps.{calls_of, makes_call}
 use Rattle.run_record.specs.Agrees.{Agrees}
 

@@ -1,5 +1,6 @@
 -- What every run has, whatever its fronts are, and by what its status is caused.
-use Rattle.std.specs.Prelude.{◌≡◌, ℕ, ◌+◌, ◌≤◌, Bool, true, false, ◌&&◌, ◌||◌, List, length, nat_eq, nat_le, nat_lt, Some, slice_get}
+use Rattle.std.specs.Prelude.{◌≡◌, ℕ, ◌+◌, ◌≤◌, Bool, true, false, ◌&&◌, ◌||◌, List}
+use Rattle.std.specs.Prelude.{length, nat_eq, nat_le, nat_lt, Some, slice_get}
 use Rattle.std.specs.List.{list_all, filter}
 use Rattle.behaviour_tree.specs.declared.words.Event.{Event}
 use Rattle.office_core.specs.declared.history.Entry.{Entry}
@@ -39,16 +40,16 @@ ArePosted (workers n) h = (actor : ℕ) → stand_together (filter (λ e. nat_eq
 -- run; each session's events agree with it and keep to the budget; and each accepted message has exactly one answer.
 -- Unless a front halted, nothing was left to do at the stop, and for one worker before each posting but the first.
 pub record IsRun (w : Setting) (budget : ℕ) (hands : Hands) (halted : Bool) (run : Record) : Type 0 where
-  pub legal : IsLegal w run.history.entries
-  pub stopped : some_entry (past_of w run.history.entries) stops ≡ true
-  pub closed : hands ≡ alone → some_entry (past_of w run.history.entries) closes ≡ true
-  pub actors : list_all (is_of_hand hands) run.history.entries ≡ true
-  pub posted : ArePosted hands run.history.entries
-  pub sessions : HasSessions w run.history.entries run.sessions
+  pub legal : IsLegal w run.history.entries.items
+  pub stopped : some_entry (past_of w run.history.entries.items) stops ≡ true
+  pub closed : hands ≡ alone → some_entry (past_of w run.history.entries.items) closes ≡ true
+  pub actors : list_all (is_of_hand hands) run.history.entries.items ≡ true
+  pub posted : ArePosted hands run.history.entries.items
+  pub sessions : HasSessions w run.history.entries.items run.sessions
   pub within : (s : ℕ) (events : List Event) → slice_get run.sessions s ≡ Some events → length events ≤ budget
-  pub answered : AnswersEach w run.history.entries
-  pub quiet : halted ≡ false → IsQuiet w budget (before_stop run.history.entries) run.sessions
-  pub still : halted ≡ false → hands ≡ alone → IsStill w budget run.history.entries run.sessions
+  pub answered : AnswersEach w run.history.entries.items
+  pub quiet : halted ≡ false → IsQuiet w budget (before_stop run.history.entries.items) run.sessions
+  pub still : halted ≡ false → hands ≡ alone → IsStill w budget run.history.entries.items run.sessions
 
 -- A session used its whole budget and could act all the same.
 pub record IsSpent (w : Setting) (budget : ℕ) (run : Record) : Type 0 where
@@ -56,4 +57,4 @@ pub record IsSpent (w : Setting) (budget : ℕ) (run : Record) : Type 0 where
   pub events : List Event
   pub there : slice_get run.sessions session ≡ Some events
   pub used : length events ≡ budget
-  pub more : CanAct w (before_stop run.history.entries) session events
+  pub more : CanAct w (before_stop run.history.entries.items) session events

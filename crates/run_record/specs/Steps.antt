@@ -12,7 +12,8 @@ use Rattle.office_core.specs.declared.history.Act.{Act}
 use Rattle.office_core.specs.declared.history.Act.TheVariants as act
 use Rattle.office_core.specs.declared.history.Entry.{Entry}
 use Rattle.office_core.specs.Limits.{Setting}
-use Rattle.office_core.specs.Past.{Message, Past, nothing_yet}
+use Rattle.office_core.specs.declared.message.Message.{Message}
+use Rattle.office_core.specs.Past.{Past, nothing_yet}
 use Rattle.office_core.specs.Keys.{first}
 use Rattle.office_core.specs.Accepted.{then_one}
 
