@@ -1,0 +1,11 @@
+pub mod Ties
+pub mod Kept
+pub mod Rows
+pub mod Stands
+pub mod Waits
+pub mod Endings
+pub mod Accepting
+pub mod Replies
+pub mod Logs
+pub mod Places
+pub mod Entries

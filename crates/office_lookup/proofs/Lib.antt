@@ -1,0 +1,7 @@
+pub mod Counts
+pub mod Paths
+pub mod Sent
+pub mod SetsDiffer
+pub mod SetsInTurn
+pub mod Stripped
+pub mod Variables

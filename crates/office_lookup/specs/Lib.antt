@@ -1,0 +1,3 @@
+pub mod Lookups
+pub mod SetNumbers
+pub mod Views
