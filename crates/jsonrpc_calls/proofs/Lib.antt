@@ -1,0 +1,4 @@
+mod Codes
+mod Floats
+mod Params
+mod Places

@@ -1,0 +1,5 @@
+pub mod CallTexts
+pub mod Console
+pub mod Heard
+pub mod Laws
+pub mod Walks

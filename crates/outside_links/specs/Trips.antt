@@ -1,0 +1,30 @@
+-- What is told of the trips of a link: those that it made, and what the next ones bring.
+use Rattle.std.specs.Prelude.{◌≡◌, ℕ, List, [], ◌∷◌, ◌++◌, Option, None, Some}
+
+-- a trip: where to, with which text, and the bytes that came back, none where it failed
+pub record Made : Type 0 where
+  pub location : List ℕ
+  pub text : List ℕ
+  pub came : Option (List ℕ)
+
+-- a trip from which bytes came back
+abbrev pub there_and_back : List ℕ → List ℕ → List ℕ → Made
+there_and_back location text bytes = record { location = location; text = text; came = Some bytes }
+
+-- a trip that failed
+abbrev pub there_alone : List ℕ → List ℕ → Made
+there_alone location text = record { location = location; text = text; came = None }
+
+-- What is told grows by these trips, as long as it is told. A link that tells its trips no more never begins again.
+abbrev pub Travels : Option (List Made) → Option (List Made) → List Made → Type 0
+Travels None None trips = Unit {0}
+Travels None (Some now) trips = ⊥
+Travels (Some before) None trips = Unit {0}
+Travels (Some before) (Some now) trips = now ≡ before ++ trips
+
+-- What a trip brought, bytes or none where it failed, is the first of what was told that the next trips bring, and what
+-- is told then is the rest. Behind the last of it a trip brings no bytes, without a failure.
+abbrev pub Brings : Option (List (Option (List ℕ))) → Option (List (Option (List ℕ))) → Option (List ℕ) → Type 0
+Brings None now came = Unit {0}
+Brings (Some []) now came = (came ≡ Some []) × (now ≡ Some [])
+Brings (Some (first ∷ rest)) now came = (came ≡ first) × (now ≡ Some rest)

@@ -1,0 +1,81 @@
+ghost use Rattle.std.specs.Prelude.{◌≡◌, [], ◌∷◌, None, Some, IfOk, IfSome, IsErrOf, IsOk, alloc_error, map};
+ghost use Rattle.outside_traits.specs.Causes.{HasCallCause};
+ghost use Rattle.outside_links.specs.Trips.{Brings, Travels, there_alone, there_and_back};
+
+use crate::coming::Coming;
+use crate::link::Link;
+use crate::trips::{Trip, Trips};
+use outside_traits::CallError;
+use std::alloc::Global;
+use std::marker::Model;
+
+/// A link in memory, whose trips bring back bytes in order, without a failure. Behind the last of them they bring none.
+#[derive(Drop)]
+pub struct CalmLink {
+    alloc: Global,
+    coming: Coming<Vec<u8>>,
+    trips: Trips,
+}
+
+impl Model for CalmLink {
+    ghost use Rattle.std.specs.Prelude.{Some, map};
+    ghost use Rattle.outside_links.specs.Links.{Road};
+
+    ghost Value = { Road };
+
+    ghost view = { λ l. record { coming = map (λ v. Some v.items) l.coming; trips = l.trips; faults = 0 } };
+}
+
+impl CalmLink {
+    /// A link whose trips bring back these answers.
+    pub fn new(alloc: Global, answers: Vec<Vec<u8>>) -> CalmLink
+        ensures coming { result.coming ≡ map (λ v. Some v.items) answers.items }
+        ensures trips { result.trips ≡ Some [] }
+        ensures faults { result.faults ≡ 0 }
+    {
+        CalmLink {
+            alloc,
+            coming: Coming::new(answers),
+            trips: Trips::new(alloc),
+        }
+    }
+
+    /// The trips in order: all, where they are told.
+    pub fn trips(&self) -> &[Trip]
+        ensures { IfSome self.now.trips (λ trips. result.now ≡ trips) }
+    {
+        self.trips.noted()
+    }
+}
+
+impl Link for CalmLink {
+    ghost trips = { λ l. l.trips };
+
+    ghost coming = { λ l. Some l.coming };
+
+    ghost faults = { λ l. l.faults };
+
+    fn trip(&mut self, location: &str, text: &[u8]) -> Result<Vec<u8>, CallError>
+        ensures calm { IsOk result }
+        ensures back { IfOk result (λ bytes. Travels self.old.trips self.new.trips (there_and_back location.now text.now bytes.items ∷ [])) }
+        ensures alone { IsErrOf result CallError.Failed → Travels self.old.trips self.new.trips (there_alone location.now text.now ∷ []) }
+        ensures unmade { IsErrOf result (CallError.Memory alloc_error) → Travels self.old.trips self.new.trips [] }
+        ensures brought { IfOk result (λ bytes. Brings (Some self.old.coming) (Some self.new.coming) (Some bytes.items)) }
+        ensures failed { IsErrOf result CallError.Failed → Brings (Some self.old.coming) (Some self.new.coming) None }
+        ensures cause { HasCallCause self.old.faults self.new.faults result }
+    {
+        let bytes = next_bytes(self.alloc, &mut self.coming);
+        self.trips.note_back(location, text, &bytes);
+        Ok(bytes)
+    }
+}
+
+/// The bytes that come next, none behind the last.
+fn next_bytes(alloc: Global, coming: &mut Coming<Vec<u8>>) -> Vec<u8>
+    ensures { Brings (Some (map (λ v. Some v.items) coming.old)) (Some (map (λ v. Some v.items) coming.new)) (Some result.items) }
+{
+    match coming.next() {
+        None => Vec::new(alloc),
+        Some(bytes) => bytes,
+    }
+}

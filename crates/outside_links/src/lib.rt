@@ -1,0 +1,17 @@
+//! The way to services elsewhere, as a trait with a written meaning: a trip takes a text to a location and brings bytes back.
+//! A link has a count of faults, which rises where a trip fails and stands still else, and may tell the trips that it made and what the next ones bring.
+//! Beside the trait stand links in memory for tests, scripted to fail or calm, and one that reaches nobody.
+#![tactic(auto)]
+
+mod calm_link;
+mod coming;
+mod link;
+mod no_link;
+mod scripted_link;
+mod trips;
+
+pub use calm_link::CalmLink;
+pub use link::Link;
+pub use no_link::NoLink;
+pub use scripted_link::ScriptedLink;
+pub use trips::Trip;
