@@ -1,9 +1,11 @@
 #!/bin/sh
-# Lists the must-fail edits that stood at commit 31dedfb and that no crate has any more, by the crate that they were of. They were all refused
-# in the gate of 2026-11-28. With -m the list is put between its two marker comments in docs/tried.md. Outside the gate: bench/tried.sh [-m]
+# Lists the must-fail edits that stood at one of two commits and that no crate has any more, by the crate that they were
+# of. They were all refused in the gate of their commit: 31dedfb on 2026-11-28, c85175f on 2026-11-29. With -m the list
+# is put between its two marker comments in docs/tried.md. Outside the gate: bench/tried.sh [-m]
 set -eu
 top=$(cd "$(dirname "$0")/.." && pwd)
 first=31dedfb
+second=c85175f
 page=docs/tried.md
 work=$(mktemp -d)
 trap 'rm -rf "$work"' EXIT
@@ -14,7 +16,11 @@ names() {
     sed -n 's|^crates/\([^/]*\)/must-fail/\(.*\)\.edit$|\1 \2|p' | sort
 }
 
-git ls-tree -r --name-only "$first" crates | names > "$work/stood"
+# The session of the first form was called term_session at the first.
+{
+    git ls-tree -r --name-only "$first" crates | names | sed 's/^term_session /first_session /'
+    git ls-tree -r --name-only "$second" crates | names
+} | sort -u > "$work/stood"
 git ls-files --cached --others --exclude-standard crates | while read -r path; do
     [ -e "$path" ] && echo "$path"
 done | names > "$work/stand"
