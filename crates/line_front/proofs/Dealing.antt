@@ -1,0 +1,211 @@
+-- What passed between a front over lines and its run, as it goes on.
+use Rattle.std.proofs.Common.{◌≡◌, refl, sym, ap, ap₂, subst, ◌∙◌, ℕ, zero, suc, ◌+◌, ◌<◌, ◌≤◌, nat_lt, Bool, true, false, ◌&&◌, arith, List, [], ◌∷◌, ◌++◌, length, map, take}
+use Rattle.std.proofs.Common.{length-append, Option, None, Some, slice_get, Result, Ok, Err, MatchResult}
+use Rattle.std.specs.List.{list_all}
+use Rattle.std.specs.declared.alloc.AllocError.{AllocError}
+use Rattle.std.proofs.KnownBytes.{Consumes-nil, Appends-nil}
+use Rattle.std.proofs.lemmas.Bool.{and_parts, and_from, lt-ltb, ltb-true}
+use Rattle.std.proofs.lemmas.List.{map-append, length-map}
+use Rattle.std.proofs.lemmas.Option.{slice_get_within}
+use Rattle.std.proofs.lemmas.List.Folds.{list_all-append}
+use Rattle.behaviour_tree.specs.Data.{ProgramParts}
+use Rattle.behaviour_tree.specs.declared.words.Outcome.{Outcome}
+use Rattle.jsonrpc_text.specs.declared.message.Read.{Read}
+use Rattle.office_core.specs.declared.front.Posting.{Posting}
+use Rattle.office_front.specs.declared.front.Next.{Next}
+use Rattle.office_front.specs.Dealings.{Told, Brought, Said, Dealings, IsNew}
+use Rattle.office_front.specs.Calls.{After, Came, Asks, Halts, IsDue, Notes, Tells}
+use Rattle.branch_workers.specs.Split.{split, whole_lines, said_lines}
+use Rattle.branch_workers.specs.Lines.{come_in}
+use Rattle.branch_workers.specs.Texts.{Came as Incoming, posting_of}
+use Rattle.line_front.specs.Passing.{nothing_read}
+use Rattle.line_front.specs.Reading.{Input, input_of, came_by, came_in, some, HasBrought}
+use Rattle.line_front.specs.Writing.{Taking, Output, output_of, faults_of, HasWritten, entire, HasSaid}
+use Rattle.line_front.specs.Told.{line_to, line_told, lines_told}
+use Rattle.line_front.specs.Dealt.{Sides, sides_of, HasDealt}
+use Rattle.line_front.specs.Steps.{Takes}
+use Rattle.line_front.proofs.Saying.{told-halted, told-written, noted-halted, noted-written}
+
+-- ---- before the first call
+
+-- a front that was just made
+abbrev pub just_made : Option (List ℕ) → ℕ → Taking → Taking → Sides
+just_made left faults lines notes = sides_of (input_of nothing_read [] false left faults) (output_of lines notes [] false)
+
+-- nothing came in
+nothing_came : map came_by [] ≡ come_in (said_lines (whole_lines []))
+unfolding split
+nothing_came = refl
+
+-- nothing passed with it
+pub nothing_dealt : (parts : ProgramParts) (left : Option (List ℕ)) (faults : ℕ) (to_lines to_notes : Taking)
+    → (d : Dealings) × IsNew d × HasDealt parts (just_made left faults to_lines to_notes) (just_made left faults to_lines to_notes) d
+nothing_dealt parts left faults to_lines to_notes = (
+  record {
+    brought = record { given = []; asked = []; left = None; waits = 0; ended = false; faults = faults };
+    said = record { told = []; noted = []; halted = false; faults = faults_of (output_of to_lines to_notes [] false) };
+  },
+  record { given = refl; asked = refl; waits = refl; open_yet = refl; told = refl; noted = refl; writes = refl },
+  record {
+    brought = record {
+      read = Consumes-nil left;
+      passed = some refl refl refl nothing_came;
+      given = refl;
+      asked = refl;
+      left = refl;
+      waits = refl;
+      faults = refl;
+    };
+    said = record {
+      written = Appends-nil to_lines.taken;
+      notes = [];
+      noted = Appends-nil to_notes.taken;
+      halted = refl;
+      wrote = entire refl refl refl refl refl;
+      faults = refl;
+    };
+    places = refl;
+  },
+)
+
+-- ---- more comes in
+
+-- an element in front is the same where more stands behind
+slice_get_front : {A : Type 0} (xs ys : List A) (i : ℕ) → i < length xs → slice_get (xs ++ ys) i ≡ slice_get xs i
+slice_get_front [] ys i lt = absurd (omega arith)
+slice_get_front (x ∷ xs) ys zero lt = refl
+slice_get_front (x ∷ xs) ys (suc i) lt = slice_get_front xs ys i (omega arith)
+
+-- a place that was told is given
+abbrev pub is_given : ℕ → Told → Bool
+is_given count t = nat_lt t.place count
+
+-- the line of a place by what came in there
+abbrev line_in_place : ProgramParts → Told → Option Incoming → List ℕ
+line_in_place parts t o = elim o [ None ↦ [] | Some c ↦ line_to parts c t.outcomes ]
+
+module _ (parts : ProgramParts) (came more : List Incoming) where
+  -- the line of a place is the same where more came in
+  line_told-longer : (t : Told) → t.place < length came → line_told parts (came ++ more) t ≡ line_told parts came t
+  line_told-longer t lt = ap (line_in_place parts t) (slice_get_front came more t.place lt)
+
+  -- so are all lines
+  lines_told-longer : (told : List Told) → list_all (is_given (length came)) told ≡ true → lines_told parts (came ++ more) told ≡ lines_told parts came told
+  lines_told-longer [] h = refl
+  lines_told-longer (t ∷ told) h =
+      let both = and_parts (is_given (length came) t) (list_all (is_given (length came)) told) h in
+      ap₂ (λ x y. x ++ y) (line_told-longer t (ltb-true t.place (length came) both.0)) (lines_told-longer told both.1)
+
+-- places stay given where more comes in
+given_longer : (m n : ℕ) → m ≤ n → (told : List Told) → list_all (is_given m) told ≡ true → list_all (is_given n) told ≡ true
+given_longer m n le [] h = refl
+given_longer m n le (t ∷ told) h =
+    let both = and_parts (is_given m t) (list_all (is_given m) told) h in
+    let lt : t.place < m = ltb-true t.place m both.0 in
+    and_from (is_given n t) (list_all (is_given n) told) (lt-ltb t.place n (omega arith)) (given_longer m n le told both.1)
+
+-- what was said stays so where more came in
+said_longer : (parts : ProgramParts) (came later : List Incoming) (first now : Output) (s : Said) → lines_told parts later s.told ≡ lines_told parts came s.told
+    → HasSaid parts came first now s → HasSaid parts later first now s
+said_longer parts came later first now s same h = record {
+  written = h.written;
+  notes = h.notes;
+  noted = h.noted;
+  halted = h.halted;
+  wrote = subst (λ l. HasWritten first now h.notes (record { lines = l; notes = s.noted })) (sym same) h.wrote;
+  faults = h.faults;
+}
+
+-- ---- calls
+
+module _ (parts : ProgramParts) (A B C : Type 0) (a : A) (b : B) (c : C) (first before : Sides) (d : Dealings) (h : HasDealt parts first before d) where
+  -- the same front, as far as its outside is concerned
+  abbrev pub Same : Sides → Dealings → Type 0
+  Same now e = A × B × C × HasDealt parts first now e
+
+  -- a posting is asked for
+  module _ (now : Sides) (unsaid : now.output ≡ before.output) (more : List Read) (longer : now.input.reads ≡ before.input.reads ++ more) where
+    -- what was said stays
+    still_said : HasSaid parts (came_in now.input) first.output now.output d.said
+    still_said =
+        let came : came_in now.input ≡ came_in before.input ++ map came_by more = ap (map came_by) longer ∙ map-append came_by before.input.reads more in
+        let count : length (came_in before.input) ≡ length before.input.reads = length-map before.input.reads came_by in
+        let placed : list_all (is_given (length (came_in before.input))) d.said.told ≡ true = subst (λ n. list_all (is_given n) d.said.told ≡ true) (sym count) h.places in
+        let same : lines_told parts (came_in now.input) d.said.told ≡ lines_told parts (came_in before.input) d.said.told =
+        ap (λ l. lines_told parts l d.said.told) came ∙ lines_told-longer parts (came_in before.input) (map came_by more) d.said.told placed in
+        subst (λ o. HasSaid parts (came_in now.input) first.output o d.said) (sym unsaid)
+        (said_longer parts (came_in before.input) (came_in now.input) first.output before.output d.said same h.said)
+
+    -- places stay given
+    still_given : list_all (is_given (length now.input.reads)) d.said.told ≡ true
+    still_given =
+        let long : length now.input.reads ≡ length before.input.reads + length more = ap length longer ∙ length-append before.input.reads more in
+        given_longer (length before.input.reads) (length now.input.reads) (omega arith) d.said.told h.places
+
+    -- with what came
+    with_brought : (x : Brought) → HasBrought first.input now.input x → HasDealt parts first now (record { brought = x; said = d.said })
+    with_brought x k = record { brought = k; said = still_said; places = still_given }
+
+    pub asked-so : (result : Result Next AllocError)
+        → MatchResult result (λ next. (x : Brought) × HasBrought first.input now.input x × Came parts next d.brought x) (λ _. HasBrought first.input now.input d.brought)
+        → MatchResult result (λ next. After (Same now) (Asks parts next d)) (λ _. Same now d)
+    asked-so (Ok next) came =
+        (record { brought = came.0; said = d.said }, (a, b, c, with_brought came.0 came.1), record { came = came.2; silent = refl })
+    asked-so (Err e) kept = (a, b, c, with_brought d.brought kept)
+
+  -- something is said
+  module _ (now : Sides) (unasked : now.input ≡ before.input) where
+    -- what was brought stays, and what is said is given
+    with_said : (s : Said) → HasSaid parts (came_in before.input) first.output now.output s → list_all (is_given (length before.input.reads)) s.told ≡ true
+        → HasDealt parts first now (record { brought = d.brought; said = s })
+    with_said s k placed = record {
+      brought = subst (λ i. HasBrought first.input i d.brought) (sym unasked) h.brought;
+      said = subst (λ i. HasSaid parts (came_in i) first.output now.output s) (sym unasked) k;
+      places = subst (λ (i : Input). list_all (is_given (length i.reads)) s.told ≡ true) (sym unasked) placed;
+    }
+
+    -- one place more was given
+    placed_more : (t : Told) → t.place < length before.input.reads → list_all (is_given (length before.input.reads)) (d.said.told ++ t ∷ []) ≡ true
+    placed_more t lt =
+        list_all-append (is_given (length before.input.reads)) d.said.told (t ∷ [])
+        ∙ and_from (list_all (is_given (length before.input.reads)) d.said.told) (is_given (length before.input.reads) t && true) h.places
+        (and_from (is_given (length before.input.reads) t) true (lt-ltb t.place (length before.input.reads) lt) refl)
+
+    -- a place that is due was given
+    due_given : (place : ℕ) (outcomes : List Outcome) → IsDue place outcomes d → place < length before.input.reads
+    due_given place outcomes due =
+        let inside : place < length d.brought.given = slice_get_within d.brought.given place due.posting due.given in
+        let count : length d.brought.given ≡ length before.input.reads =
+        ap length h.brought.given ∙ length-map (came_in before.input) posting_of ∙ length-map before.input.reads came_by in
+        omega arith
+
+    -- it is told of a place
+    pub told-so : (place : ℕ) (outcomes : List Outcome) → IsDue place outcomes d
+        → ((s : Said) × HasSaid parts (came_in before.input) first.output now.output s × (s.told ≡ d.said.told ++ record { place = place; outcomes = outcomes } ∷ []) × (s.noted ≡ d.said.noted) × Halts d.said s)
+        → After (Same now) (Tells place outcomes d)
+    told-so place outcomes due went =
+        let s = went.0 in
+        let placed = subst (λ l. list_all (is_given (length before.input.reads)) l ≡ true) (sym went.2) (placed_more (record { place = place; outcomes = outcomes }) (due_given place outcomes due)) in (
+          record { brought = d.brought; said = s },
+          (a, b, c, with_said s went.1 placed),
+          record { told = went.2; noted = went.3; halts = went.4; brought = refl },
+        )
+
+    -- a text is noted
+    pub noted-so : (text : List ℕ)
+        → ((s : Said) × HasSaid parts (came_in before.input) first.output now.output s × (s.told ≡ d.said.told) × (s.noted ≡ d.said.noted ++ text) × Halts d.said s)
+        → After (Same now) (Notes text d)
+    noted-so text went =
+        let s = went.0 in
+        let placed = subst (λ l. list_all (is_given (length before.input.reads)) l ≡ true) (sym went.2) h.places in (
+          record { brought = d.brought; said = s },
+          (a, b, c, with_said s went.1 placed),
+          record { told = went.2; noted = went.3; halts = went.4; brought = refl },
+        )
+
+  -- want of memory before anything is said
+  pub untold-so : {T E : Type 0} (r : Result T E) (e : E) (now : Sides) (place : ℕ) (outcomes : List Outcome) → now ≡ before → r ≡ Err e
+      → MatchResult r (λ _. After (Same now) (Tells place outcomes d)) (λ _. Same now d)
+  untold-so r e now place outcomes same is =
+      subst (λ v. MatchResult v (λ _. After (Same now) (Tells place outcomes d)) (λ _. Same now d)) (sym is)
+      (a, b, c, subst (λ s. HasDealt parts first s d) (sym same) h)

@@ -1,0 +1,257 @@
+-- What a front over lines wrote, as more is said to it.
+use Rattle.std.proofs.Common.{◌≡◌, ◌≢◌, refl, sym, ap, subst, ◌∙◌, ℕ, ◌+◌, ◌-◌, ◌^◌, ◌<◌, ◌≤◌, min, nat_lt, nat_eq, Bool, true, false, arith, List, [], ◌∷◌, ◌++◌, length, take, drop}
+use Rattle.std.proofs.Common.{append_assoc, append-nil, Option, ◌⊎◌, inl, inr, ⊎_elim, flat_map}
+use Rattle.std.specs.Io.KnownBytes.{Appends}
+use Rattle.std.proofs.KnownBytes.{Appends-trans}
+use Rattle.std.proofs.lemmas.Bool.{ltb-true, ltb-false, true≢false}
+use Rattle.std.proofs.lemmas.List.{take_all, take-append-drop, length-drop}
+use Rattle.std.proofs.lemmas.List.Concat.{flat_map-append}
+use Rattle.outside_traits.specs.Causes.{Rose}
+use Rattle.behaviour_tree.specs.Data.{ProgramParts}
+use Rattle.office_front.specs.Dealings.{Told, Said}
+use Rattle.office_front.specs.Calls.{Halts}
+use Rattle.branch_workers.specs.Texts.{Came}
+use Rattle.branch_workers.specs.Lines.{IsFront, IsProperFront}
+use Rattle.line_front.specs.Told.{line_told, lines_told}
+use Rattle.line_front.specs.Writing.{Taking, Output, faults_of, Due, HasWritten, entire, in_part, HasSaid}
+use Rattle.line_front.specs.Steps.{Takes}
+
+-- ---- fronts of longer lists
+
+-- a front stays one where more stands behind
+IsFront-longer : (xs ys zs : List ℕ) → IsFront xs ys → IsFront xs (ys ++ zs)
+IsFront-longer xs ys zs f = (f.0 ++ zs, sym (append_assoc xs f.0 zs) ∙ ap (λ l. l ++ zs) f.1)
+
+-- what is not empty stays so
+longer_is_some : (xs ys : List ℕ) → xs ≢ [] → (xs ++ ys) ≢ []
+longer_is_some [] ys some none = some refl
+longer_is_some (x ∷ xs) ys some none = let clash : (x ∷ (xs ++ ys)) ≡ [] = none in cc
+
+-- so does one that is not all of it
+IsProperFront-longer : (xs ys zs : List ℕ) → IsProperFront xs ys → IsProperFront xs (ys ++ zs)
+IsProperFront-longer xs ys zs f = (f.0 ++ zs, longer_is_some f.0 zs f.1, sym (append_assoc xs f.0 zs) ∙ ap (λ l. l ++ zs) f.2)
+
+-- what is left of a text that was not taken whole
+dropped_is_some : (n : ℕ) (text : List ℕ) → n < length text → drop n text ≢ []
+dropped_is_some n text lt none =
+    let long : length (drop n text) ≡ length text - n = length-drop n text in let short : length (drop n text) ≡ 0 = ap length none in omega arith
+
+-- a part of a text behind others
+part_is_proper : (xs text : List ℕ) (n : ℕ) → n < length text → IsProperFront (xs ++ take n text) (xs ++ text)
+part_is_proper xs text n lt = (
+  drop n text,
+  dropped_is_some n text lt,
+  append_assoc xs (take n text) (drop n text) ∙ ap (λ l. xs ++ l) (take-append-drop n text),
+)
+
+-- a front that is not all of it is a front
+front_of : (xs ys : List ℕ) → IsProperFront xs ys → IsFront xs ys
+front_of xs ys f = (f.0, f.2)
+
+-- all stands at its front
+front_of_all : (xs ys : List ℕ) → xs ≡ ys → IsFront xs ys
+front_of_all xs ys e = ([], append-nil xs ∙ e)
+
+-- ---- counts
+
+-- two counts together rise where one does
+rose_left : (a b n : ℕ) → Rose a b → Rose (min (a + n) (2 ^ 64 - 1)) (min (b + n) (2 ^ 64 - 1))
+rose_left a b n rose = omega arith
+
+rose_right : (a b n : ℕ) → Rose a b → Rose (min (n + a) (2 ^ 64 - 1)) (min (n + b) (2 ^ 64 - 1))
+rose_right a b n rose = omega arith
+
+-- ---- lines
+
+-- the lines of one place more
+pub lines_told-more : (parts : ProgramParts) (came : List Came) (told : List Told) (t : Told)
+    → lines_told parts came (told ++ t ∷ []) ≡ lines_told parts came told ++ line_told parts came t
+lines_told-more parts came told t =
+    flat_map-append (line_told parts came) told (t ∷ []) ∙ ap (λ l. lines_told parts came told ++ l) (append-nil (line_told parts came t))
+
+-- ---- what is due grows
+
+-- a front that halted writes nothing more
+still_cut : (first now : Output) (notes : List ℕ) (old new : Due) (lines noted : List ℕ) → now.halted ≡ true
+    → new.lines ≡ old.lines ++ lines → new.notes ≡ old.notes ++ noted → HasWritten first now notes old → HasWritten first now notes new
+still_cut first now notes old new lines noted halted l n (entire running a b c d) = absurd (true≢false (sym halted ∙ running))
+still_cut first now notes old new lines noted halted l n (in_part e rose f g part) =
+    in_part e rose (subst (IsFront now.written) (sym l) (IsFront-longer now.written old.lines lines f))
+    (subst (IsFront notes) (sym n) (IsFront-longer notes old.notes noted g))
+    (⊎_elim (λ p. inl (subst (IsProperFront now.written) (sym l) (IsProperFront-longer now.written old.lines lines p)))
+    (λ p. inr (subst (IsProperFront notes) (sym n) (IsProperFront-longer notes old.notes noted p))) part)
+
+-- what is known of a front that did not halt
+record IsWhole (first now : Output) (notes : List ℕ) (due : Due) : Type 0 where
+  lines_calm : now.lines.faults ≡ first.lines.faults
+  notes_calm : now.notes.faults ≡ first.notes.faults
+  written : now.written ≡ due.lines
+  noted : notes ≡ due.notes
+
+whole_so : (first now : Output) (noted : List ℕ) (due : Due) → now.halted ≡ false → HasWritten first now noted due → IsWhole first now noted due
+whole_so first now noted due running (entire e a b c d) = record { lines_calm = a; notes_calm = b; written = c; noted = d }
+whole_so first now noted due running (in_part e rose f g part) = absurd (true≢false (sym e ∙ running))
+
+-- a text behind the lines that were written
+lines_go : (first before now : Output) (notes text : List ℕ) (old new : Due) (count : ℕ) (short : Bool) → nat_lt count (length text) ≡ short → now.halted ≡ short
+    → Takes text count before.lines now.lines → now.notes ≡ before.notes → now.written ≡ before.written ++ take count text
+    → new.lines ≡ old.lines ++ text → new.notes ≡ old.notes → IsWhole first before notes old → HasWritten first now notes new
+lines_go first before now notes text old new count true test halted takes same written l n w =
+    let lt : count < length text = ltb-true count (length text) test in
+    let is : now.written ≡ old.lines ++ take count text = written ∙ ap (λ b. b ++ take count text) w.written in
+    let part : IsProperFront now.written new.lines =
+    subst (λ b. IsProperFront b new.lines) (sym is) (subst (IsProperFront (old.lines ++ take count text)) (sym l) (part_is_proper old.lines text count lt)) in
+    in_part halted (inl (subst (λ k. Rose k now.lines.faults) w.lines_calm (takes.cause lt))) (front_of now.written new.lines part)
+    (front_of_all notes new.notes (w.noted ∙ sym n)) (inl part)
+lines_go first before now notes text old new count false test halted takes same written l n w =
+    let le : length text ≤ count = ltb-false count (length text) test in
+    let within = takes.within in
+    let full : take count text ≡ text = take_all count text le in
+    entire halted (takes.calm (omega arith) ∙ w.lines_calm) (ap (λ (t : Taking). t.faults) same ∙ w.notes_calm)
+    (written ∙ ap (λ b. b ++ take count text) w.written ∙ ap (λ t. old.lines ++ t) full ∙ sym l) (w.noted ∙ sym n)
+
+-- a text behind the notes that were written
+notes_go : (first before now : Output) (notes text : List ℕ) (old new : Due) (count : ℕ) (short : Bool) → nat_lt count (length text) ≡ short → now.halted ≡ short
+    → Takes text count before.notes now.notes → now.lines ≡ before.lines → now.written ≡ before.written
+    → new.lines ≡ old.lines → new.notes ≡ old.notes ++ text → IsWhole first before notes old → HasWritten first now (notes ++ take count text) new
+notes_go first before now notes text old new count true test halted takes same written l n w =
+    let lt : count < length text = ltb-true count (length text) test in
+    let is : notes ++ take count text ≡ old.notes ++ take count text = ap (λ b. b ++ take count text) w.noted in
+    let part : IsProperFront (notes ++ take count text) new.notes =
+    subst (λ b. IsProperFront b new.notes) (sym is) (subst (IsProperFront (old.notes ++ take count text)) (sym n) (part_is_proper old.notes text count lt)) in
+    in_part halted (inr (subst (λ k. Rose k now.notes.faults) w.notes_calm (takes.cause lt)))
+    (front_of_all now.written new.lines (written ∙ w.written ∙ sym l)) (front_of (notes ++ take count text) new.notes part) (inr part)
+notes_go first before now notes text old new count false test halted takes same written l n w =
+    let le : length text ≤ count = ltb-false count (length text) test in
+    let within = takes.within in
+    let full : take count text ≡ text = take_all count text le in
+    entire halted (ap (λ (t : Taking). t.faults) same ∙ w.lines_calm) (takes.calm (omega arith) ∙ w.notes_calm)
+    (written ∙ w.written ∙ sym l) (ap (λ b. b ++ take count text) w.noted ∙ ap (λ t. old.notes ++ t) full ∙ sym n)
+
+-- ---- halts
+
+-- nothing was written
+halts_still : (before now : Said) → now.halted ≡ before.halted → now.faults ≡ before.faults → Halts before now
+halts_still before now same calm = record {
+  cause = λ e. inl (sym same ∙ e);
+  calm = λ e. (sym same ∙ e, calm);
+  faults = omega arith;
+}
+
+-- a text was written as far as a sink took it
+halts_so : (before now : Said) (text : List ℕ) (count : ℕ) (old new : Taking) → before.halted ≡ false → now.halted ≡ nat_lt count (length text)
+    → Takes text count old new → (old.faults ≡ new.faults → now.faults ≡ before.faults) → (Rose old.faults new.faults → Rose before.faults now.faults) → before.faults ≤ now.faults
+    → Halts before now
+halts_so before now text count old new running halted takes calm rose later = record {
+  cause = λ e. inr (rose (takes.cause (ltb-true count (length text) (sym halted ∙ e))));
+  calm = λ e.
+      let le : length text ≤ count = ltb-false count (length text) (sym halted ∙ e) in
+      let within = takes.within in (running, calm (sym (takes.calm (omega arith))));
+  faults = later;
+}
+
+-- ---- what is said
+
+module _ (parts : ProgramParts) (came : List Came) (first before : Output) (s : Said) (h : HasSaid parts came first before s) where
+  -- a front that halted is told of a place
+  pub told-halted : (t : Told) → before.halted ≡ true
+      → (after : Said) × HasSaid parts came first before after × (after.told ≡ s.told ++ t ∷ []) × (after.noted ≡ s.noted) × Halts s after
+  told-halted t halted =
+      let after : Said = record { told = s.told ++ t ∷ []; noted = s.noted; halted = s.halted; faults = s.faults } in (
+        after,
+        record {
+          written = h.written;
+          notes = h.notes;
+          noted = h.noted;
+          halted = h.halted;
+          wrote = still_cut first before h.notes (record { lines = lines_told parts came s.told; notes = s.noted })
+              (record { lines = lines_told parts came (s.told ++ t ∷ []); notes = s.noted }) (line_told parts came t) [] halted
+              (lines_told-more parts came s.told t) (sym (append-nil s.noted)) h.wrote;
+          faults = h.faults;
+        },
+        refl,
+        refl,
+        halts_still s after refl refl,
+      )
+
+  -- a text is noted to a front that halted
+  pub noted-halted : (text : List ℕ) → before.halted ≡ true
+      → (after : Said) × HasSaid parts came first before after × (after.told ≡ s.told) × (after.noted ≡ s.noted ++ text) × Halts s after
+  noted-halted text halted =
+      let after : Said = record { told = s.told; noted = s.noted ++ text; halted = s.halted; faults = s.faults } in (
+        after,
+        record {
+          written = h.written;
+          notes = h.notes;
+          noted = h.noted;
+          halted = h.halted;
+          wrote = still_cut first before h.notes (record { lines = lines_told parts came s.told; notes = s.noted })
+              (record { lines = lines_told parts came s.told; notes = s.noted ++ text }) [] text halted
+              (sym (append-nil (lines_told parts came s.told))) refl h.wrote;
+          faults = h.faults;
+        },
+        refl,
+        refl,
+        halts_still s after refl refl,
+      )
+
+  -- what is due so far was written whole
+  whole_now : before.halted ≡ false → IsWhole first before h.notes (record { lines = lines_told parts came s.told; notes = s.noted })
+  whole_now running = whole_so first before h.notes (record { lines = lines_told parts came s.told; notes = s.noted }) running h.wrote
+
+  -- a front is told of a place, and its line is written as far as the output takes it
+  pub told-written : (t : Told) (now : Output) (text : List ℕ) (count : ℕ) → before.halted ≡ false → text ≡ line_told parts came t
+      → Takes text count before.lines now.lines → now.notes ≡ before.notes → now.written ≡ before.written ++ take count text → now.halted ≡ nat_lt count (length text)
+      → (after : Said) × HasSaid parts came first now after × (after.told ≡ s.told ++ t ∷ []) × (after.noted ≡ s.noted) × Halts s after
+  told-written t now text count running is takes same written halted =
+      let after : Said = record { told = s.told ++ t ∷ []; noted = s.noted; halted = now.halted; faults = faults_of now } in
+      let other : now.notes.faults ≡ before.notes.faults = ap (λ (x : Taking). x.faults) same in
+      let later = takes.later in
+      let count_is : s.faults ≡ min (before.lines.faults + before.notes.faults) (2 ^ 64 - 1) = h.faults in (
+        after,
+        record {
+          written = subst (Appends first.lines.taken now.lines.taken) (sym written)
+              (Appends-trans first.lines.taken before.lines.taken now.lines.taken before.written (take count text) h.written takes.taken);
+          notes = h.notes;
+          noted = subst (λ x. Appends first.notes.taken x h.notes) (sym (ap (λ (x : Taking). x.taken) same)) h.noted;
+          halted = refl;
+          wrote = lines_go first before now h.notes text (record { lines = lines_told parts came s.told; notes = s.noted })
+              (record { lines = lines_told parts came (s.told ++ t ∷ []); notes = s.noted }) count now.halted (sym halted) refl takes same written
+              (lines_told-more parts came s.told t ∙ ap (λ l. lines_told parts came s.told ++ l) (sym is)) refl (whole_now running);
+          faults = refl;
+        },
+        refl,
+        refl,
+        halts_so s after text count before.lines now.lines (h.halted ∙ running) halted takes
+            (λ e. ap (λ k. min (k + now.notes.faults) (2 ^ 64 - 1)) (sym e) ∙ ap (λ k. min (before.lines.faults + k) (2 ^ 64 - 1)) other ∙ sym h.faults)
+            (λ rose. subst (λ k. Rose k (faults_of now)) (ap (λ k. min (before.lines.faults + k) (2 ^ 64 - 1)) other ∙ sym h.faults) (rose_left before.lines.faults now.lines.faults now.notes.faults rose))
+            (omega arith),
+      )
+
+  -- a text is noted, as far as the notes' sink takes it
+  pub noted-written : (now : Output) (text : List ℕ) (count : ℕ) → before.halted ≡ false
+      → Takes text count before.notes now.notes → now.lines ≡ before.lines → now.written ≡ before.written → now.halted ≡ nat_lt count (length text)
+      → (after : Said) × HasSaid parts came first now after × (after.told ≡ s.told) × (after.noted ≡ s.noted ++ text) × Halts s after
+  noted-written now text count running takes same written halted =
+      let after : Said = record { told = s.told; noted = s.noted ++ text; halted = now.halted; faults = faults_of now } in
+      let other : now.lines.faults ≡ before.lines.faults = ap (λ (x : Taking). x.faults) same in
+      let later = takes.later in
+      let count_is : s.faults ≡ min (before.lines.faults + before.notes.faults) (2 ^ 64 - 1) = h.faults in (
+        after,
+        record {
+          written = subst (Appends first.lines.taken now.lines.taken) (sym written) (subst (λ x. Appends first.lines.taken x before.written) (sym (ap (λ (x : Taking). x.taken) same)) h.written);
+          notes = h.notes ++ take count text;
+          noted = Appends-trans first.notes.taken before.notes.taken now.notes.taken h.notes (take count text) h.noted takes.taken;
+          halted = refl;
+          wrote = notes_go first before now h.notes text (record { lines = lines_told parts came s.told; notes = s.noted })
+              (record { lines = lines_told parts came s.told; notes = s.noted ++ text }) count now.halted (sym halted) refl takes same written
+              refl refl (whole_now running);
+          faults = refl;
+        },
+        refl,
+        refl,
+        halts_so s after text count before.notes now.notes (h.halted ∙ running) halted takes
+            (λ e. ap (λ k. min (now.lines.faults + k) (2 ^ 64 - 1)) (sym e) ∙ ap (λ k. min (k + before.notes.faults) (2 ^ 64 - 1)) other ∙ sym h.faults)
+            (λ rose. subst (λ k. Rose k (faults_of now)) (ap (λ k. min (k + before.notes.faults) (2 ^ 64 - 1)) other ∙ sym h.faults) (rose_right before.notes.faults now.notes.faults now.lines.faults rose))
+            (omega arith),
+      )

@@ -1,0 +1,23 @@
+-- What passed between a front over lines and its run.
+use Rattle.std.specs.Prelude.{◌≡◌, true, nat_lt, length}
+use Rattle.std.specs.List.{list_all}
+use Rattle.behaviour_tree.specs.Data.{ProgramParts}
+use Rattle.office_front.specs.Dealings.{Told, Dealings}
+use Rattle.line_front.specs.Reading.{Input, came_in, HasBrought}
+use Rattle.line_front.specs.Writing.{Output, HasSaid}
+
+-- the two sides of a front over lines
+pub record Sides : Type 0 where
+  pub input : Input
+  pub output : Output
+
+-- the same by its parts
+abbrev pub sides_of : Input → Output → Sides
+sides_of input output = record { input = input; output = output }
+
+-- What a front over lines brought and what was said to it, since its sides were the first: each place that it was told
+-- of was given.
+pub record HasDealt (parts : ProgramParts) (first now : Sides) (d : Dealings) : Type 0 where
+  pub brought : HasBrought first.input now.input d.brought
+  pub said : HasSaid parts (came_in now.input) first.output now.output d.said
+  pub places : list_all (λ (t : Told). nat_lt t.place (length now.input.reads)) d.said.told ≡ true

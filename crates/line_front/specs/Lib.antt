@@ -1,0 +1,6 @@
+pub mod Passing
+pub mod Told
+pub mod Reading
+pub mod Writing
+pub mod Dealt
+pub mod Steps

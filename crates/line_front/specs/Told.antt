@@ -1,0 +1,27 @@
+-- The lines that answer postings, by what their calls came to.
+use Rattle.std.specs.Prelude.{ℕ, List, [], ◌∷◌, ◌++◌, flat_map, None, Some, slice_get}
+use Rattle.behaviour_tree.specs.Data.{ProgramParts}
+use Rattle.behaviour_tree.specs.declared.words.Outcome.{Outcome}
+use Rattle.jsonrpc_text.specs.declared.message.ReadCall.{ReadCall}
+use Rattle.office_front.specs.Dealings.{Told}
+use Rattle.branch_workers.specs.Texts.{Came, said_to, response_of}
+use Rattle.branch_workers.specs.Lines.{line_if}
+
+-- the texts of calls of a service that ask for one, by their outcomes in order
+abbrev pub texts_told : ProgramParts → ℕ → List ReadCall → List Outcome → List (List ℕ)
+texts_told parts service [] outcomes = []
+texts_told parts service (c ∷ cs) [] = []
+texts_told parts service (c ∷ cs) (o ∷ os) = said_to parts service c (Some o) ++ texts_told parts service cs os
+
+-- the line that answers what came in, none where nothing is said
+abbrev pub line_to : ProgramParts → Came → List Outcome → List ℕ
+line_to parts came outcomes =
+    line_if (response_of came.read.batch (texts_told parts came.service came.read.calls outcomes))
+
+-- the line of what was told of a place, none where nothing came in there
+abbrev pub line_told : ProgramParts → List Came → Told → List ℕ
+line_told parts came t = elim (slice_get came t.place) [ None ↦ [] | Some c ↦ line_to parts c t.outcomes ]
+
+-- the lines of all that was told, in the order in which it was
+abbrev pub lines_told : ProgramParts → List Came → List Told → List ℕ
+lines_told parts came told = flat_map (line_told parts came) told

@@ -1,0 +1,57 @@
+-- What a front over lines wrote, by what it was told and what was noted.
+use Rattle.std.specs.Prelude.{◌≡◌, ◌⊎◌, ℕ, ◌+◌, ◌-◌, ◌^◌, min, Bool, true, false, List, Option}
+use Rattle.std.specs.Io.KnownBytes.{Appends}
+use Rattle.outside_traits.specs.Causes.{Rose}
+use Rattle.behaviour_tree.specs.Data.{ProgramParts}
+use Rattle.office_front.specs.Dealings.{Said}
+use Rattle.branch_workers.specs.Texts.{Came}
+use Rattle.branch_workers.specs.Lines.{IsFront, IsProperFront}
+use Rattle.line_front.specs.Told.{lines_told}
+
+-- a sink: what it took, where that is told, and how often it failed
+pub record Taking : Type 0 where
+  pub taken : Option (List ℕ)
+  pub faults : ℕ
+
+-- the same by its parts
+abbrev pub taking : Option (List ℕ) → ℕ → Taking
+taking taken faults = record { taken = taken; faults = faults }
+
+-- The output of a front: its two sinks; what was written to the first of them; and whether nothing more is written.
+pub record Output : Type 0 where
+  pub lines : Taking
+  pub notes : Taking
+  pub written : List ℕ
+  pub halted : Bool
+
+-- the same by its parts
+abbrev pub output_of : Taking → Taking → List ℕ → Bool → Output
+output_of lines notes written halted = record { lines = lines; notes = notes; written = written; halted = halted }
+
+-- how often one of the two sinks failed, as a number of 64 bits
+abbrev pub faults_of : Output → ℕ
+faults_of o = min (o.lines.faults + o.notes.faults) (2 ^ 64 - 1)
+
+-- lines that were to be written, and notes
+pub record Due : Type 0 where
+  pub lines : List ℕ
+  pub notes : List ℕ
+
+-- Of what was due all was written; or, where it halted, what was written are fronts of it, one of the two not all of
+-- it, since one of the two sinks failed.
+pub data HasWritten (first now : Output) (noted : List ℕ) (due : Due) : Type 0 where
+  entire : now.halted ≡ false → now.lines.faults ≡ first.lines.faults → now.notes.faults ≡ first.notes.faults
+      → now.written ≡ due.lines → noted ≡ due.notes → HasWritten first now noted due
+  in_part : now.halted ≡ true → Rose first.lines.faults now.lines.faults ⊎ Rose first.notes.faults now.notes.faults
+      → IsFront now.written due.lines → IsFront noted due.notes
+      → IsProperFront now.written due.lines ⊎ IsProperFront noted due.notes → HasWritten first now noted due
+
+-- What was said to a front, since its output was the first: the lines of what it was told, in the order in which it was,
+-- and the notes are what its sinks took, unless it halted.
+pub record HasSaid (parts : ProgramParts) (came : List Came) (first now : Output) (s : Said) : Type 0 where
+  pub written : Appends first.lines.taken now.lines.taken now.written
+  pub notes : List ℕ
+  pub noted : Appends first.notes.taken now.notes.taken notes
+  pub halted : s.halted ≡ now.halted
+  pub wrote : HasWritten first now notes (record { lines = lines_told parts came s.told; notes = s.noted })
+  pub faults : s.faults ≡ faults_of now
