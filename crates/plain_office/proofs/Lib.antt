@@ -1,0 +1,15 @@
+pub mod Adopting
+pub mod AnswerTaken
+pub mod Binding
+pub mod Bringing
+pub mod Closing
+pub mod Collecting
+pub mod Ending
+pub mod Fetching
+pub mod Posting
+pub mod Routing
+pub mod Sending
+pub mod Whole
+pub mod Replying
+pub mod Stopping
+pub mod Taking

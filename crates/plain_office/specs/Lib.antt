@@ -1,0 +1,4 @@
+pub mod View
+pub mod Facts
+pub mod Ways
+pub mod Taken
