@@ -1,4 +1,4 @@
-//! The types of a checked program, the words that sessions and the office share, and the calculus in definitions.
+//! The types of a checked program, and the words that sessions and the office share.
 #![tactic(auto)]
 
 mod behaviour;
