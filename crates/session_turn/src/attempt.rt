@@ -1,4 +1,4 @@
-ghost use Rattle.std.specs.Prelude.{◌≡◌, true, List, IfOk, IfSome, IsSome, MatchOption};
+ghost use Rattle.std.specs.Prelude.{◌≡◌, true, List, IfOk, IfSome, IsSome, MatchOption, OnOk};
 ghost use Rattle.behaviour_tree.specs.PartsView.{parts_of};
 ghost use Rattle.behaviour_tree.specs.declared.words.Event.{Event as Row};
 ghost use Rattle.calculus.specs.After.{HasEvent, after as after_of};
@@ -31,7 +31,7 @@ pub fn attempt<D: Desk, S: Session>(
     requires run { (D.office desk.now).setting ≡ run_of (parts_of player.program.now) }
     requires kept { ∥ ((es : List Row) × Kept (seat (D.office desk.now) player.number) es (moment (S.service_of session.old) (S.config_of session.old) (D.seen pass.old))) ∥₁ }
     requires enabled { IfSome (S.config_of session.old) (λ c. HasEvent (D.office desk.now).setting.parts (S.service_of session.old) c strand) }
-    ensures pass { D.is_pass desk.now pass.new player.entry.number }
+    ensures pass { OnOk result (D.is_pass desk.now pass.new player.entry.number) }
     ensures service { S.service_of session.new ≡ S.service_of session.old }
     ensures attempted { IfOk result (λ o. MatchOption o
         (StoodStill (seat (D.office desk.now) player.entry.number) strand (moment (S.service_of session.old) (S.config_of session.old) (D.seen pass.old)) (moment (S.service_of session.new) (S.config_of session.new) (D.seen pass.new)))
@@ -68,7 +68,7 @@ fn ask<D: Desk>(
 ) -> Result<Option<Given>, AllocError>
     requires pass { D.is_pass desk.now pass.old number }
     requires may { may (seat (D.office desk.now) number) (D.seen pass.old) need ≡ true }
-    ensures pass { D.is_pass desk.now pass.new number }
+    ensures pass { OnOk result (D.is_pass desk.now pass.new number) }
     ensures asked { IfOk result (λ o. MatchOption o
         (GaveNone (seat (D.office desk.now) number) need (D.seen pass.old) (D.seen pass.new))
         (Gave (seat (D.office desk.now) number) need (D.seen pass.old) (D.seen pass.new))) }
@@ -114,7 +114,7 @@ fn mail_for<D: Desk>(
 ) -> Result<Option<Given>, AllocError>
     requires pass { D.is_pass desk.now pass.old number }
     requires may { may (seat (D.office desk.now) number) (D.seen pass.old) (need.Take ops) ≡ true }
-    ensures pass { D.is_pass desk.now pass.new number }
+    ensures pass { OnOk result (D.is_pass desk.now pass.new number) }
     ensures asked { IfOk result (λ o. MatchOption o
         (GaveNone (seat (D.office desk.now) number) (need.Take ops) (D.seen pass.old) (D.seen pass.new))
         (Gave (seat (D.office desk.now) number) (need.Take ops) (D.seen pass.old) (D.seen pass.new))) }

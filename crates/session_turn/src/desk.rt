@@ -38,7 +38,7 @@ pub trait Desk {
     ) -> Result<Option<Mail>, AllocError>
         requires pass { is_pass self.now pass.old session }
         requires may { may (seat (office self.now) session) (seen pass.old) (need.Take ops.now) ≡ true }
-        ensures pass { is_pass self.now pass.new session }
+        ensures pass { OnOk result (is_pass self.now pass.new session) }
         ensures taken { IfOk result (λ o. MatchOption o
             (FoundNone (seat (office self.now) session) ops.now (seen pass.old) (seen pass.new))
             (Took (seat (office self.now) session) ops.now (seen pass.old) (seen pass.new))) }
@@ -53,7 +53,7 @@ pub trait Desk {
     ) -> Result<Option<Outcome>, AllocError>
         requires pass { is_pass self.now pass.old session }
         requires may { may (seat (office self.now) session) (seen pass.old) (need.Answer call) ≡ true }
-        ensures pass { is_pass self.now pass.new session }
+        ensures pass { OnOk result (is_pass self.now pass.new session) }
         ensures taken { IfOk result (λ o. MatchOption o
             (HasNone (seat (office self.now) session) call (seen pass.old) (seen pass.new))
             (λ outcome. Called (seat (office self.now) session) (seen pass.old) (seen pass.new) (act.Answer call outcome))) }
@@ -69,7 +69,7 @@ pub trait Desk {
     ) -> Result<BindReply, AllocError>
         requires pass { is_pass self.now pass.old session }
         requires may { may (seat (office self.now) session) (seen pass.old) (need.Bind variable value) ≡ true }
-        ensures pass { is_pass self.now pass.new session }
+        ensures pass { OnOk result (is_pass self.now pass.new session) }
         ensures bound { IfOk result (λ reply. Called (seat (office self.now) session) (seen pass.old) (seen pass.new) (act.Bind variable value reply)) }
         ensures err { OnErr result (Grew (seat (office self.now) session) (seen pass.old) (seen pass.new)) };
 
@@ -83,7 +83,7 @@ pub trait Desk {
     ) -> Result<(), AllocError>
         requires pass { is_pass self.now pass.old session }
         requires may { may (seat (office self.now) session) (seen pass.old) (need.Reply message outcome) ≡ true }
-        ensures pass { is_pass self.now pass.new session }
+        ensures pass { OnOk result (is_pass self.now pass.new session) }
         ensures replied { OnOk result (Called (seat (office self.now) session) (seen pass.old) (seen pass.new) (act.Reply message outcome)) }
         ensures err { OnErr result (Grew (seat (office self.now) session) (seen pass.old) (seen pass.new)) };
 
@@ -100,7 +100,7 @@ pub trait Desk {
     ) -> Result<(), AllocError>
         requires pass { is_pass self.now pass.old session }
         requires may { may (seat (office self.now) session) (seen pass.old) (need.Send call port op value wants) ≡ true }
-        ensures pass { is_pass self.now pass.new session }
+        ensures pass { OnOk result (is_pass self.now pass.new session) }
         ensures sent { OnOk result ((placed : Place) × Called (seat (office self.now) session) (seen pass.old) (seen pass.new) (act.Send call port op value wants placed)) }
         ensures err { OnErr result (Grew (seat (office self.now) session) (seen pass.old) (seen pass.new)) };
 
@@ -108,7 +108,7 @@ pub trait Desk {
     fn end(&self, pass: &mut Self::Pass, session: u32) -> Result<(), AllocError>
         requires pass { is_pass self.now pass.old session }
         requires may { may (seat (office self.now) session) (seen pass.old) need.Finish ≡ true }
-        ensures pass { is_pass self.now pass.new session }
+        ensures pass { OnOk result (is_pass self.now pass.new session) }
         ensures ended { OnOk result (Called (seat (office self.now) session) (seen pass.old) (seen pass.new) act.End) }
         ensures err { OnErr result (Grew (seat (office self.now) session) (seen pass.old) (seen pass.new)) };
 

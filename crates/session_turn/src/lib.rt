@@ -10,11 +10,13 @@ mod attempt;
 mod desk;
 mod laws;
 mod look;
+mod seating;
 mod session;
 mod turn;
 
 pub use desk::Desk;
 pub use laws::{kept_sessions_agree, sessions_may_ask};
 pub use look::may_act;
+pub use seating::Seating;
 pub use session::Session;
 pub use turn::{Player, Turn, turn_of};

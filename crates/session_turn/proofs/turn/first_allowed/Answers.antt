@@ -29,7 +29,7 @@ loop-k-preserved g c =
     let i = c.loop-k.invariant in
     let none = rw c.in-None.is at c.in_ok-event.ensures.attempted in
     record {
-      pass = c.attempt.ensures.pass;
+      pass = c.in_ok-event.ensures.pass;
       config = none.config ∙ i.config;
       service = none.service ∙ i.service;
       grew = grew_on i.grew none.grew;
