@@ -34,6 +34,13 @@ impl Log {
         &self.history
     }
 
+    /// The history in the end.
+    pub fn into_history(self) -> History
+        ensures { result.entries.items ≡ entries_of self }
+    {
+        self.history
+    }
+
     /// For how many entries room is kept.
     pub fn places(&self) -> u32
         ensures { result ≡ self.now.kept }

@@ -55,6 +55,13 @@ impl Office {
         self.log.history()
     }
 
+    /// The calls in the end.
+    pub fn into_history(self) -> History
+        ensures { result.entries.items ≡ entries_of self }
+    {
+        self.log.into_history()
+    }
+
     /// The program that it is for.
     pub fn program(&self) -> &Program
         ensures { result.now ≡ self.now.program }

@@ -1,0 +1,7 @@
+mod Lists
+mod Acting
+mod Served
+mod Taken
+mod Opened
+mod Finding
+mod Passing
