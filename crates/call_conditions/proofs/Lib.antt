@@ -1,0 +1,4 @@
+pub mod Acted
+pub mod Entered
+pub mod Opened
+pub mod Wanted

@@ -1,0 +1,6 @@
+//! What holds of the office that takes calls, beside what its calls say.
+#![tactic(auto)]
+
+mod laws;
+
+pub use laws::routed_messages_find_room;
