@@ -39,7 +39,7 @@ IsExhausted traffic e = IsAtEnd e.left ⊎ (most_postings ≤ length (said_lines
 
 -- The lines that were read are answered: all of them, where nothing failed and the source was exhausted; those that
 -- have their end, where the source failed; and where a front halted, the answer is cut short, of those that have their
--- end, or of all once the source has nothing left.
+-- end, or of all once the source came to its end without a failure.
 pub data AnswersLines (hands : Hands) (w : Setting) (traffic : Traffic) (e : Ending) : Type 0 where
   whole : e.now.source ≡ e.before.source → IsCalm e.before e.now → IsExhausted traffic e
       → IsAnswered hands w e.run.history.entries.items (all_of traffic) (output_of traffic e)
@@ -50,7 +50,7 @@ pub data AnswersLines (hands : Hands) (w : Setting) (traffic : Traffic) (e : End
   halted : Halted e.before e.now
       → IsCutShort hands w e.run.history.entries.items (whole_of traffic) (output_of traffic e)
       → AnswersLines hands w traffic e
-  halted_at_end : Halted e.before e.now → IsAtEnd e.left
+  halted_at_end : Halted e.before e.now → e.now.source ≡ e.before.source → IsAtEnd e.left
       → IsCutShort hands w e.run.history.entries.items (all_of traffic) (output_of traffic e)
       → AnswersLines hands w traffic e
 

@@ -1,2 +1,2 @@
-//! What a run over lines writes and how it ends, in definitions; the run itself comes later.
+//! What a run over lines writes and how it ends, in definitions; the run itself is that of `line_run`.
 #![tactic(auto)]

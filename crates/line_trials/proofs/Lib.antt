@@ -1,3 +1,4 @@
+mod Statuses
 mod HaltedBeside
 mod LeftInTheBox
 mod Stopped

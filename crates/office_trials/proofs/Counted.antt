@@ -30,7 +30,7 @@ use Rattle.office_trials.specs.Counts.{gives, is_legal_entry, legal_from, legal_
 
 -- ---- each is the same as itself
 
-number_itself : (n : ℕ) → nat_eq n n ≡ true
+pub number_itself : (n : ℕ) → nat_eq n n ≡ true
 number_itself n = (unsigned_Decides n n).1 refl
 
 int_itself : (n : ℤ) → int_eq n n ≡ true
@@ -39,11 +39,11 @@ int_itself n = (signed_Decides n n).1 refl
 text_itself : (t : List ℕ) → bytes_eq t t ≡ true
 text_itself t = (bytes_eq-Decides t t).1 refl
 
-bool_itself : (b : Bool) → same_bool b b ≡ true
+pub bool_itself : (b : Bool) → same_bool b b ≡ true
 bool_itself true = refl
 bool_itself false = refl
 
-root_itself : (r : Root) → same_root r r ≡ true
+pub root_itself : (r : Root) → same_root r r ≡ true
 root_itself root.Void = refl
 root_itself (root.Bool b) = bool_itself b
 root_itself (root.Int n) = int_itself n
@@ -51,7 +51,7 @@ root_itself (root.Long n) = int_itself n
 root_itself (root.Text t) = text_itself t
 
 mutual
-  tree_itself : (t : Tree) → same_tree t t ≡ true
+  pub tree_itself : (t : Tree) → same_tree t t ≡ true
   tree_itself (node r fs) = both_true (root_itself r) (fields_itself fs)
 
   fields_itself : (fs : Fields) → same_fields fs fs ≡ true
@@ -72,7 +72,7 @@ reason_itself reason.Stopped = refl
 reason_itself reason.SessionEnded = refl
 reason_itself (reason.Other c) = int_itself c
 
-outcome_itself : (o : Outcome) → same_outcome o o ≡ true
+pub outcome_itself : (o : Outcome) → same_outcome o o ≡ true
 outcome_itself (outcome.Value t) = tree_itself t
 outcome_itself (outcome.Fault f t) = both_true (text_itself f) (tree_itself t)
 outcome_itself (outcome.Refused r) = reason_itself r

@@ -37,6 +37,14 @@ use Rattle.office_trials.specs.Fronts.{told_from}
 use Rattle.office_trials.specs.Sessions.{event, agrees}
 use Rattle.office_trials.specs.Quiet.{is_quiet, is_still}
 use Rattle.office_trials.proofs.Told.{is_session}
+use Rattle.std.specs.Prelude.{◌++◌}
+use Rattle.run_record.specs.declared.record.Record.{Record}
+use Rattle.run_record.specs.Run.{alone, workers, IsRun, IsSpent}
+use Rattle.office_trials.proofs.Runs.{is_run, unstopped, unclosed, foreign, missing, too_many, restless}
+use Rattle.run_record.specs.Order.{IsOrder}
+use Rattle.office_trials.proofs.Workers.{is_run_of_workers, stranger, posts_apart, second_first, not_as_posted, not_without_one, not_twice}
+use Rattle.office_trials.specs.Quiet.{can_act}
+use Rattle.office_trials.proofs.Spends.{spends, is_spent, not_spent}
 
 -- the program
 abbrev program : ProgramParts

@@ -1,5 +1,12 @@
 mod Counted
 mod Told
+mod Standing
+mod Acting
+mod Quiets
+mod Agreeing
+mod Runs
+mod Workers
+mod Spends
 mod HaltedBeside
 mod Correlated
 mod LeftInTheBox
@@ -15,6 +22,7 @@ mod SmallRun
 mod SmallWeight
 mod FewSessions
 mod NoSession
+mod TwoWorkers
 mod Run001
 mod Run002
 mod Run006
@@ -23,6 +31,7 @@ mod Run029
 mod Run030
 mod Run034
 mod Run036
+mod Run038
 mod Run048
 mod Run057
 mod Run068

@@ -37,6 +37,14 @@ use Rattle.office_trials.specs.Fronts.{told_from}
 use Rattle.office_trials.specs.Sessions.{event, agrees}
 use Rattle.office_trials.specs.Quiet.{is_quiet, is_still}
 use Rattle.office_trials.proofs.Told.{is_session}
+use Rattle.std.specs.Prelude.{◌++◌}
+use Rattle.run_record.specs.declared.record.Record.{Record}
+use Rattle.run_record.specs.Run.{alone, workers, IsRun, IsSpent}
+use Rattle.office_trials.proofs.Runs.{is_run, unstopped, unclosed, foreign, missing, too_many, restless}
+use Rattle.run_record.specs.Order.{IsOrder}
+use Rattle.office_trials.proofs.Workers.{is_run_of_workers, stranger, posts_apart, second_first, not_as_posted, not_without_one, not_twice}
+use Rattle.office_trials.specs.Quiet.{can_act}
+use Rattle.office_trials.proofs.Spends.{spends, is_spent, not_spent}
 
 -- the program
 abbrev program : ProgramParts
@@ -231,6 +239,98 @@ still = refl
 pub together : stand_together history ≡ true
 together = refl
 
+pub run : (r : Record) → r.history.entries.items ≡ history → r.sessions ≡ sessions
+    → IsRun setting 1000 alone false r
+run = is_run setting 1000 history sessions
+    (record { legal = legal; stopped = refl; actors = refl; all = refl; each = (session_0, (session_1, tt)); within = refl; quiet = quiet; closed = refl; posted = together; still = still })
+
+pub spoilt_run_without_its_stop : (r : Record) → r.history.entries.items ≡ (with_at 48 [] history) → IsRun setting 1000 alone false r → ⊥
+spoilt_run_without_its_stop r has = unstopped setting 1000 false (with_at 48 [] history) r has refl
+
+pub spoilt_run_that_is_not_closed : (r : Record) → r.history.entries.items ≡ (with_at 47 [] history) → IsRun setting 1000 alone false r → ⊥
+spoilt_run_that_is_not_closed r has = unclosed setting 1000 false (with_at 47 [] history) r has refl
+
+pub spoilt_run_stopped_by_another : (r : Record) → r.history.entries.items ≡ (with_at 48 (record { actor = 4097; act = act.Stop } ∷ []) history) → IsRun setting 1000 alone false r → ⊥
+spoilt_run_stopped_by_another r has = foreign setting 1000 false (with_at 48 (record { actor = 4097; act = act.Stop } ∷ []) history) r has refl
+
+pub spoilt_run_that_lacks_a_session : (r : Record) → r.history.entries.items ≡ history → r.sessions ≡ (events_1 ∷ [])
+    → IsRun setting 1000 alone false r → ⊥
+spoilt_run_that_lacks_a_session r has events = missing setting 1000 false history r has (events_1 ∷ []) events refl
+
+pub spoilt_run_over_its_budget : (r : Record) → r.history.entries.items ≡ history → r.sessions ≡ sessions
+    → IsRun setting 75 alone false r → ⊥
+spoilt_run_over_its_budget r has events =
+    too_many setting 75 false history r has sessions events 0 events_0 refl refl
+
+-- the run, where it is stopped behind its first 29 entries
+abbrev stopped_early : List Entry
+stopped_early = take 29 history ++ record { actor = 4096; act = act.Stop } ∷ []
+
+abbrev early_0 : List Event
+early_0 = (
+    event 0 kind.Local 0 0 0 ∷
+    event 0 kind.Install 0 0 0 ∷
+    event 0 kind.In 0 2 0 ∷
+    event 0 kind.Solicit 0 0 0 ∷
+    event 0 kind.Answer 0 0 0 ∷
+    event 0 kind.EndScope 0 10 0 ∷
+    event 0 kind.Local 0 0 0 ∷
+    event 0 kind.Install 0 0 0 ∷
+    event 0 kind.In 1 1 0 ∷
+    event 0 kind.EndScope 0 10 0 ∷
+    event 0 kind.Local 0 0 0 ∷
+    event 0 kind.Install 0 0 0 ∷
+    event 0 kind.In 2 1 0 ∷
+    event 0 kind.EndScope 0 10 0 ∷
+    event 0 kind.Local 0 0 0 ∷
+    event 0 kind.Install 0 0 0 ∷
+    event 0 kind.In 3 1 0 ∷
+    event 0 kind.EndScope 0 10 0 ∷
+    event 0 kind.Local 0 0 0 ∷
+    event 0 kind.Install 0 0 0 ∷
+    event 0 kind.In 4 2 0 ∷
+    event 0 kind.Solicit 1 0 0 ∷
+    event 0 kind.Answer 1 0 0 ∷
+    event 0 kind.EndScope 0 10 0 ∷
+    event 0 kind.Local 0 0 0 ∷
+    event 0 kind.Install 0 0 0 ∷
+    event 0 kind.In 5 0 0 ∷
+    event 0 kind.Local 0 0 0 ∷
+    event 0 kind.Install 0 0 0 ∷
+    event 0 kind.Install 0 0 0 ∷
+    event 0 kind.Install 0 0 0 ∷
+    event 0 kind.Local 0 0 0 ∷
+    event 0 kind.EndScope 0 13 0 ∷
+    event 0 kind.Install 0 0 0 ∷
+    event 1 kind.Install 0 0 0 ∷
+    event 1 kind.Solicit 2 0 0 ∷
+    event 2 kind.Local 0 0 0 ∷
+    event 2 kind.Raise 0 10 9 ∷
+    event 3 kind.Handle 1 13 0 ∷ [])
+
+abbrev early_1 : List Event
+early_1 = (
+    event 0 kind.Local 0 0 0 ∷
+    event 0 kind.In 6 1 0 ∷
+    event 0 kind.Raise 2 8 14 ∷ [])
+
+early_session_0 : IsSession setting (before_stop stopped_early) 0 early_0
+unfolding digits
+early_session_0 = is_session setting (before_stop stopped_early) 0 0 early_0 refl refl (refl, ((refl, refl, refl, refl, refl), (refl, (refl, (refl, (refl, (refl, ((refl, refl, refl, refl, refl), (refl, (refl, ((refl, refl, refl, refl, refl), tt)))))))))))
+
+early_session_1 : IsSession setting (before_stop stopped_early) 1 early_1
+unfolding digits
+early_session_1 = is_session setting (before_stop stopped_early) 1 1 early_1 refl refl (refl, tt)
+
+left_to_do : is_quiet setting 1000 (before_stop stopped_early) (early_0 ∷ early_1 ∷ []) ≡ false
+unfolding digits
+left_to_do = refl
+
+pub spoilt_run_stopped_early : (r : Record) → r.history.entries.items ≡ stopped_early → r.sessions ≡ (early_0 ∷ early_1 ∷ [])
+    → IsRun setting 1000 alone false r → ⊥
+spoilt_run_stopped_early r has events =
+    restless setting 1000 false stopped_early r has (early_0 ∷ early_1 ∷ []) events (early_session_0, (early_session_1, tt)) left_to_do refl
+
 pub spoilt_event_cut_at_the_end : agrees setting history 1 (
     event 0 kind.Local 0 0 0 ∷
     event 0 kind.In 6 1 0 ∷
@@ -363,3 +463,10 @@ order = refl
 pub noted : notes setting history ≡ (116 ∷ 51 ∷ 54 ∷ 10 ∷ 116 ∷ 51 ∷ 54 ∷ 10 ∷ 116 ∷ 51 ∷ 54 ∷ 10 ∷ [])
 unfolding digits
 noted = refl
+
+could_act : spends setting 1000 (before_stop history) 0 sessions ≡ false
+unfolding digits
+could_act = refl
+
+pub spent : (r : Record) → r.history.entries.items ≡ history → r.sessions ≡ sessions → IsSpent setting 1000 r → ⊥
+spent = not_spent setting 1000 history sessions could_act

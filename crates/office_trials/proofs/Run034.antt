@@ -37,6 +37,14 @@ use Rattle.office_trials.specs.Fronts.{told_from}
 use Rattle.office_trials.specs.Sessions.{event, agrees}
 use Rattle.office_trials.specs.Quiet.{is_quiet, is_still}
 use Rattle.office_trials.proofs.Told.{is_session}
+use Rattle.std.specs.Prelude.{◌++◌}
+use Rattle.run_record.specs.declared.record.Record.{Record}
+use Rattle.run_record.specs.Run.{alone, workers, IsRun, IsSpent}
+use Rattle.office_trials.proofs.Runs.{is_run, unstopped, unclosed, foreign, missing, too_many, restless}
+use Rattle.run_record.specs.Order.{IsOrder}
+use Rattle.office_trials.proofs.Workers.{is_run_of_workers, stranger, posts_apart, second_first, not_as_posted, not_without_one, not_twice}
+use Rattle.office_trials.specs.Quiet.{can_act}
+use Rattle.office_trials.proofs.Spends.{spends, is_spent, not_spent}
 
 -- the program
 abbrev program : ProgramParts
@@ -138,6 +146,29 @@ still = refl
 
 pub together : stand_together history ≡ true
 together = refl
+
+pub run : (r : Record) → r.history.entries.items ≡ history → r.sessions ≡ sessions
+    → IsRun setting 10000 alone false r
+run = is_run setting 10000 history sessions
+    (record { legal = legal; stopped = refl; actors = refl; all = refl; each = (session_0, (session_1, tt)); within = refl; quiet = quiet; closed = refl; posted = together; still = still })
+
+pub spoilt_run_without_its_stop : (r : Record) → r.history.entries.items ≡ (with_at 22 [] history) → IsRun setting 10000 alone false r → ⊥
+spoilt_run_without_its_stop r has = unstopped setting 10000 false (with_at 22 [] history) r has refl
+
+pub spoilt_run_that_is_not_closed : (r : Record) → r.history.entries.items ≡ (with_at 21 [] history) → IsRun setting 10000 alone false r → ⊥
+spoilt_run_that_is_not_closed r has = unclosed setting 10000 false (with_at 21 [] history) r has refl
+
+pub spoilt_run_stopped_by_another : (r : Record) → r.history.entries.items ≡ (with_at 22 (record { actor = 4097; act = act.Stop } ∷ []) history) → IsRun setting 10000 alone false r → ⊥
+spoilt_run_stopped_by_another r has = foreign setting 10000 false (with_at 22 (record { actor = 4097; act = act.Stop } ∷ []) history) r has refl
+
+pub spoilt_run_that_lacks_a_session : (r : Record) → r.history.entries.items ≡ history → r.sessions ≡ (events_1 ∷ [])
+    → IsRun setting 10000 alone false r → ⊥
+spoilt_run_that_lacks_a_session r has events = missing setting 10000 false history r has (events_1 ∷ []) events refl
+
+pub spoilt_run_over_its_budget : (r : Record) → r.history.entries.items ≡ history → r.sessions ≡ sessions
+    → IsRun setting 12 alone false r → ⊥
+spoilt_run_over_its_budget r has events =
+    too_many setting 12 false history r has sessions events 0 events_0 refl refl
 
 pub spoilt_event_cut_at_the_end : agrees setting history 0 (
     event 0 kind.Install 0 0 0 ∷

@@ -37,6 +37,14 @@ use Rattle.office_trials.specs.Fronts.{told_from}
 use Rattle.office_trials.specs.Sessions.{event, agrees}
 use Rattle.office_trials.specs.Quiet.{is_quiet, is_still}
 use Rattle.office_trials.proofs.Told.{is_session}
+use Rattle.std.specs.Prelude.{◌++◌}
+use Rattle.run_record.specs.declared.record.Record.{Record}
+use Rattle.run_record.specs.Run.{alone, workers, IsRun, IsSpent}
+use Rattle.office_trials.proofs.Runs.{is_run, unstopped, unclosed, foreign, missing, too_many, restless}
+use Rattle.run_record.specs.Order.{IsOrder}
+use Rattle.office_trials.proofs.Workers.{is_run_of_workers, stranger, posts_apart, second_first, not_as_posted, not_without_one, not_twice}
+use Rattle.office_trials.specs.Quiet.{can_act}
+use Rattle.office_trials.proofs.Spends.{spends, is_spent, not_spent}
 
 -- the program
 abbrev program : ProgramParts
@@ -139,6 +147,29 @@ still = refl
 pub together : stand_together history ≡ true
 together = refl
 
+pub run : (r : Record) → r.history.entries.items ≡ history → r.sessions ≡ sessions
+    → IsRun setting 10 alone false r
+run = is_run setting 10 history sessions
+    (record { legal = legal; stopped = refl; actors = refl; all = refl; each = (session_0, tt); within = refl; quiet = quiet; closed = refl; posted = together; still = still })
+
+pub spoilt_run_without_its_stop : (r : Record) → r.history.entries.items ≡ (with_at 4 [] history) → IsRun setting 10 alone false r → ⊥
+spoilt_run_without_its_stop r has = unstopped setting 10 false (with_at 4 [] history) r has refl
+
+pub spoilt_run_that_is_not_closed : (r : Record) → r.history.entries.items ≡ (with_at 3 [] history) → IsRun setting 10 alone false r → ⊥
+spoilt_run_that_is_not_closed r has = unclosed setting 10 false (with_at 3 [] history) r has refl
+
+pub spoilt_run_stopped_by_another : (r : Record) → r.history.entries.items ≡ (with_at 4 (record { actor = 4097; act = act.Stop } ∷ []) history) → IsRun setting 10 alone false r → ⊥
+spoilt_run_stopped_by_another r has = foreign setting 10 false (with_at 4 (record { actor = 4097; act = act.Stop } ∷ []) history) r has refl
+
+pub spoilt_run_that_lacks_a_session : (r : Record) → r.history.entries.items ≡ history → r.sessions ≡ ([])
+    → IsRun setting 10 alone false r → ⊥
+spoilt_run_that_lacks_a_session r has events = missing setting 10 false history r has ([]) events refl
+
+pub spoilt_run_over_its_budget : (r : Record) → r.history.entries.items ≡ history → r.sessions ≡ sessions
+    → IsRun setting 9 alone false r → ⊥
+spoilt_run_over_its_budget r has events =
+    too_many setting 9 false history r has sessions events 0 events_0 refl refl
+
 pub spoilt_events_exchanged : agrees setting history 0 (
     event 0 kind.Local 0 0 0 ∷
     event 0 kind.In 0 0 0 ∷
@@ -175,3 +206,14 @@ order = refl
 pub noted : notes setting history ≡ []
 unfolding digits
 noted = refl
+
+at_the_stop : IsSession setting (before_stop history) 0 events_0
+unfolding digits
+at_the_stop = is_session setting (before_stop history) 0 0 events_0 refl refl (refl, tt)
+
+could_act : can_act setting (before_stop history) 0 events_0 ≡ true
+unfolding digits
+could_act = refl
+
+pub spent : (r : Record) → r.history.entries.items ≡ history → r.sessions ≡ sessions → IsSpent setting 10 r
+spent = is_spent setting 10 history sessions events_0 at_the_stop refl refl could_act

@@ -16,7 +16,7 @@ use Rattle.run_record.specs.Agrees.{asked_of, AreCalls, Agrees, IsSession}
 use Rattle.office_trials.specs.Sessions.{told_from, told_of}
 
 -- the events of steps
-abbrev events_of : List TakenStep → List Event
+abbrev pub events_of : List TakenStep → List Event
 events_of steps = map (λ s. s.event) steps
 
 is_there : {A : Type 0} (x y : A) → Some x ≡ Some y → x ≡ y
@@ -81,7 +81,7 @@ with_kind e es calls true rest = ap (λ l. e ∷ l) (rest (drop 1 calls))
 with_kind e es calls false rest = ap (λ l. e ∷ l) (rest calls)
 
 -- the steps of events are of these events
-of_events : (events : List Event) (calls : List Called) → events_of (steps_of events calls) ≡ events
+pub of_events : (events : List Event) (calls : List Called) → events_of (steps_of events calls) ≡ events
 of_events [] calls = refl
 of_events (e ∷ es) calls = with_kind e es calls (makes_call e.kind) (of_events es)
 
