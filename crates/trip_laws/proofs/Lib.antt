@@ -1,0 +1,5 @@
+pub mod Places
+pub mod Growing
+pub mod Fetched
+pub mod Settling
+pub mod Touring

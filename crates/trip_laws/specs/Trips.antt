@@ -1,0 +1,60 @@
+-- What calls that went out came to: the trips of a link, and the calls to the console.
+use Rattle.std.specs.Prelude.{◌≡◌, ℕ, List, [], ◌∷◌, Option, Some, Contains}
+use Rattle.jolie_trees.specs.Trees.{void_tree}
+use Rattle.behaviour_tree.specs.declared.words.Outcome.{Outcome}
+use Rattle.behaviour_tree.specs.declared.words.Outcome.TheVariants as outcome
+use Rattle.office_core.specs.declared.history.Entry.{Entry}
+use Rattle.office_core.specs.declared.message.Call.{Call}
+use Rattle.office_core.specs.declared.outgoing.Outgoing.{Outgoing}
+use Rattle.office_core.specs.Limits.{Setting, first_worker}
+use Rattle.office_core.specs.Past.{Past}
+use Rattle.office_core.specs.Accepted.{past_of}
+use Rattle.office_core.specs.Sessions.{service_of}
+use Rattle.office_core.specs.Calls.{result}
+use Rattle.run_record.specs.Outside.{console_calls, Trip, trips}
+use Rattle.outside_links.specs.Trips.{Made, Travels}
+use Rattle.jsonrpc_calls.specs.CallTexts.{call as call_text}
+use Rattle.jsonrpc_calls.specs.Heard.{heard}
+
+-- ---- trips
+
+-- a call as it goes out, from a session of a service
+abbrev pub outgoing : ℕ → Call → Outgoing
+outgoing service c = record {
+  session = c.session;
+  service = service;
+  call = c.number;
+  port = c.port;
+  op = c.op;
+  value = c.value;
+  wants = c.wants;
+}
+
+-- A trip is the one that its call asks for: to the location of its port, with its text; and what was heard of it is the
+-- outcome of the call.
+pub record IsTrip (w : Setting) (past : Past) (t : Trip) (m : Made) : Type 0 where
+  pub service : ℕ
+  pub born : service_of w past t.made.session ≡ Some service
+  pub location : m.location ≡ t.location
+  pub text : m.text ≡ call_text w.parts (outgoing service t.made)
+  pub outcome : result w past t.made.session t.made.number ≡ Some (heard (outgoing service t.made) m.came)
+
+-- the trips that were made are those that calls ask for, one for one and in order
+abbrev pub AreTrips : Setting → Past → List Trip → List Made → Type 0
+AreTrips w past [] [] = Unit {0}
+AreTrips w past (t ∷ ts) (m ∷ ms) = IsTrip w past t m × AreTrips w past ts ms
+AreTrips w past ts ms = ⊥
+
+-- The link of a run of this history made the trips that its calls to services elsewhere ask for, each once.
+pub record Travelled (w : Setting) (h : List Entry) (before now : Option (List Made)) : Type 0 where
+  pub made : List Made
+  pub are : AreTrips w (past_of w h) (trips w h first_worker) made
+  pub told : Travels before now made
+
+-- ---- the console
+
+-- the outcome of a call to the console is void
+abbrev pub AreVoid : Setting → Past → Type 0
+AreVoid w past =
+    (c : Call) (o : Outcome) → Contains (console_calls w past) c → result w past c.session c.number ≡ Some o
+    → o ≡ outcome.Value void_tree
