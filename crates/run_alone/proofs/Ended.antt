@@ -1,0 +1,247 @@
+-- What one worker has once it did what was left to do, stopped the run and told what was open.
+use Rattle.std.proofs.Common.{◌≡◌, ◌↔◌, ◌<◌, ◌≤◌, ℕ, Bool, true, false, List, [], ◌∷◌, ◌++◌, map, length, inl, inr, refl, sym, ap, subst, ◌∙◌, append_assoc, le_refl}
+use Rattle.std.specs.List.{filter, list_all}
+use Rattle.std.proofs.lemmas.Bool.{false≢true}
+use Rattle.behaviour_tree.specs.declared.words.Event.{Event}
+use Rattle.office_core.specs.declared.front.Posting.{Posting}
+use Rattle.office_core.specs.declared.history.Act.{Act}
+use Rattle.office_core.specs.declared.history.Act.TheVariants as act
+use Rattle.office_core.specs.declared.history.Entry.{Entry}
+use Rattle.office_core.specs.Limits.{Limits, Setting, first_worker}
+use Rattle.office_core.specs.Past.{closes, some_entry, stops}
+use Rattle.office_core.specs.Accepted.{past_of}
+use Rattle.office_core.specs.Legal.{IsLegal}
+use Rattle.office_front.specs.Dealings.{Brought, Dealings, Told}
+use Rattle.office_front.specs.Calls.{most_postings}
+use Rattle.quiet_laws.specs.Ends.{CameThrough, Ended, is_adoption, is_collect, stop_entry}
+use Rattle.quiet_laws.proofs.Ending.{Looked}
+use Rattle.run_record.specs.Order.{order_alone}
+use Rattle.run_cells.specs.Crews.{State, Stays, Team, closing, events_of, past_in}
+use Rattle.run_cells.specs.Rounds.{Adopted, HasSpent, IsQuietAt, IsStillAt}
+use Rattle.run_cells.proofs.Ends.{came_through, looked_by}
+use Rattle.run_posts.specs.Fates.{Wait, all_collected, is_finished, is_open, settled_in, told_of}
+use Rattle.run_posts.specs.Telling.{AreExpected, TellsAll}
+use Rattle.run_posts.proofs.Ending.{StandsInOrder, open_expected}
+use Rattle.run_posts.proofs.Opening.{IsOpen, is_between}
+use Rattle.trip_laws.specs.Going.{AreSettled, NotedSoFar, is_inward}
+use Rattle.trip_laws.proofs.Settling.{noted_on, over_all, settled_on}
+use Rattle.session_turn.proofs.Histories.{some_of}
+use Rattle.run_alone.specs.Between.{Passed}
+use Rattle.run_alone.specs.Overs.{IsOver, most_waits}
+use Rattle.run_alone.specs.declared.worker.Finished.{Finished}
+use Rattle.run_alone.proofs.Assembling.{HasEnded}
+use Rattle.run_alone.proofs.Finishing.{CanEnd, adoptions_add, adoptions_between, at_end, closed_by, closing_adds, closing_between, closing_by, closing_closes, open_end, open_gathered, order_end, settled_waits, stop_gathers}
+use Rattle.run_alone.proofs.Stepping.{all_weaker}
+use Rattle.run_alone.proofs.Taking.{collected_all, runs, still_halted}
+
+-- How a run was ended: what was left to do was done, or not where the front halted; the sessions that were born were
+-- adopted; the run was stopped, and the answers were collected.
+pub record Finishes (s0 s1 s2 s3 s4 : State) (xs0 xs1 : List Wait) : Type 0 where
+  pub setting_1 : s1.setting ≡ s0.setting
+  pub swept : List Entry
+  pub history_1 : s1.history ≡ s0.history ++ swept
+  pub between : list_all is_between swept ≡ true
+  pub settled : AreSettled s1.setting s1.history
+  pub adopt : Adopted s1 s2
+  pub stop : Stays s2 s3 (closing (past_in s2) ++ stop_entry ∷ [])
+  pub collect : Stays s3 s4 (all_collected s3.setting (past_in s3) xs0)
+  pub waits : xs1 ≡ map (settled_in s3.setting (past_in s3)) xs0
+
+module _ {s0 s1 s2 s3 s4 : State} {xs0 xs1 : List Wait} (f : Finishes s0 s1 s2 s3 s4 xs0 xs1) (team0 : Team s0) (team2 : Team s2)
+    (legal : IsLegal s4.setting s4.history) where
+  abbrev w : Setting
+  w = s0.setting
+
+  abbrev adoptions : List Entry
+  adoptions = f.adopt.adoptions.adoptions
+
+  abbrev was_closed : Bool
+  was_closed = some_entry (past_in s2) closes
+
+  setting_2 : s2.setting ≡ w
+  setting_2 = f.adopt.setting ∙ f.setting_1
+
+  setting_3 : s3.setting ≡ w
+  setting_3 = f.stop.setting ∙ setting_2
+
+  setting_4 : s4.setting ≡ w
+  setting_4 = f.collect.setting ∙ setting_3
+
+  history_2 : s2.history ≡ (s0.history ++ f.swept) ++ adoptions
+  history_2 = f.adopt.adoptions.is ∙ ap (λ (l : List Entry). l ++ adoptions) f.history_1
+
+  -- all that the end is made of
+  module _ (all : List Posting) where
+    abbrev the_end : List Entry
+    the_end = at_end w s0.history all xs0 f.swept adoptions (closing_by was_closed)
+
+    history_3 : s3.history ≡ (((s0.history ++ f.swept) ++ adoptions) ++ closing_by was_closed) ++ stop_entry ∷ []
+    history_3 =
+        f.stop.history ∙ ap (λ (l : List Entry). l ++ (closing_by was_closed ++ stop_entry ∷ [])) history_2
+        ∙ sym (append_assoc ((s0.history ++ f.swept) ++ adoptions) (closing_by was_closed) (stop_entry ∷ []))
+
+    history_4 : s4.history ≡ the_end
+    history_4 =
+        f.collect.history
+        ∙ (λ i. history_3 i ++ all_collected (setting_3 i) (past_of (setting_3 i) (history_3 i)) xs0)
+        ∙ append_assoc (((s0.history ++ f.swept) ++ adoptions) ++ closing_by was_closed) (stop_entry ∷ []) _
+
+    waits_1 : xs1 ≡ settled_waits w s0.history all xs0 f.swept adoptions (closing_by was_closed)
+    waits_1 = f.waits ∙ (λ i. map (settled_in (setting_3 i) (past_of (setting_3 i) (history_3 i))) xs0)
+
+    legal_end : IsLegal w the_end
+    legal_end = coe 0 1 (i. IsLegal (setting_4 i) (history_4 i)) legal
+
+    legal_2 : IsLegal w ((s0.history ++ f.swept) ++ adoptions)
+    legal_2 = coe 0 1 (i. IsLegal (setting_2 i) (history_2 i)) team2.legal
+
+    limit : w.limits.sessions ≤ first_worker
+    limit = subst (λ (l : Limits). l.sessions ≤ first_worker) (sym team0.limits) (le_refl first_worker)
+
+    module _ (ts : List Told) (calm : 0 < length all → f.swept ≡ []) (opens : IsOpen w s0.history all ts xs0)
+        (order : StandsInOrder w s0.history (length all) ts xs0) where
+      can : CanEnd w s0.history all xs0 f.swept adoptions (closing_by was_closed) ts
+      can = record {
+        legal = legal_end;
+        running = runs w s0.history team0.running;
+        between = f.between;
+        adopted = adoptions_between w (s0.history ++ f.swept) adoptions limit legal_2 f.adopt.adoptions.only;
+        adopts = adoptions_add adoptions f.adopt.adoptions.only;
+        ends = closing_between was_closed;
+        ends_none = closing_adds was_closed;
+        calm = calm;
+        opens = opens;
+        order = order;
+      }
+
+      -- what is open at the end
+      pub opens_end : IsOpen s4.setting s4.history all (ts ++ map told_of (filter is_finished xs1)) (filter is_open xs1)
+      opens_end =
+          coe 1 0
+          (i. IsOpen (setting_4 i) (history_4 i) all (ts ++ map told_of (filter is_finished (waits_1 i))) (filter is_open (waits_1 i)))
+          (open_end w s0.history all xs0 f.swept adoptions (closing_by was_closed) ts can)
+
+      -- in which order postings were told
+      pub order_at_end : map (λ (t : Told). t.place) (ts ++ map told_of (filter is_finished xs1))
+          ≡ order_alone s4.setting s4.history first_worker (length all)
+      order_at_end =
+          coe 1 0
+          (i. map (λ (t : Told). t.place) (ts ++ map told_of (filter is_finished (waits_1 i))) ≡ order_alone (setting_4 i) (history_4 i) first_worker (length all))
+          (order_end w s0.history all xs0 f.swept adoptions (closing_by was_closed) ts can)
+
+      -- the front expects to be told of what is open
+      pub expected_end : (d : Dealings) → d.brought.given ≡ all → d.said.told ≡ ts → AreExpected xs1 d
+      expected_end d given said =
+          coe 1 0 (i. AreExpected (waits_1 i) d)
+          (open_expected w the_end all ts (settled_waits w s0.history all xs0 f.swept adoptions (closing_by was_closed)) d given said
+          (subst (λ (l : List Entry). IsOpen w l all ts (settled_waits w s0.history all xs0 f.swept adoptions (closing_by was_closed)))
+          (stop_gathers w s0.history all xs0 f.swept adoptions (closing_by was_closed) ts can)
+          (open_gathered w s0.history all xs0 f.swept adoptions (closing_by was_closed) ts can)))
+
+  -- the history before the end, and at it
+  pub ended : Ended s2.history s4.history
+  ended = record {
+    closing = closing_by was_closed;
+    collects = all_collected s3.setting (past_in s3) xs0;
+    is =
+        f.collect.history
+        ∙ ap (λ (l : List Entry). l ++ all_collected s3.setting (past_in s3) xs0)
+        (f.stop.history ∙ sym (append_assoc s2.history (closing_by was_closed) (stop_entry ∷ [])))
+        ∙ append_assoc (s2.history ++ closing_by was_closed) (stop_entry ∷ []) (all_collected s3.setting (past_in s3) xs0);
+    running = sym (some_of s2.setting s2.history stops) ∙ runs s2.setting s2.history team2.running;
+    closed = closed_by s2.history was_closed (sym (some_of s2.setting s2.history closes));
+    closing_are = closing_closes was_closed;
+    collects_are = collected_all is_collect (λ m o. refl) s3.setting (past_in s3) xs0;
+  }
+
+  inward_adoptions : list_all is_inward adoptions ≡ true
+  inward_adoptions = all_weaker is_adoption is_inward (λ e g. inward e.actor e.act g) adoptions f.adopt.adoptions.only
+    where
+      inward : (n : ℕ) (a : Act) → is_adoption (record { actor = n; act = a }) ≡ true
+          → is_inward (record { actor = n; act = a }) ≡ true
+      inward n (act.Adopt d) h = refl
+      inward n a h = absurd (false≢true h)
+
+  legal_adopted : IsLegal s1.setting (s1.history ++ adoptions)
+  legal_adopted = coe 0 1 (i. IsLegal (f.adopt.setting i) (f.adopt.adoptions.is i)) team2.legal
+
+  -- how it stands with the calls before the end
+  pub settled_2 : AreSettled s2.setting s2.history
+  settled_2 =
+      coe 1 0 (i. AreSettled (f.adopt.setting i) (f.adopt.adoptions.is i))
+      (over_all s1.setting is_inward (AreSettled s1.setting) (settled_on s1.setting) s1.history adoptions inward_adoptions
+      legal_adopted f.settled)
+
+  pub noted_2 : (noted : List ℕ) → NotedSoFar s1.setting s1.history noted → NotedSoFar s2.setting s2.history noted
+  noted_2 noted so =
+      coe 1 0 (i. NotedSoFar (f.adopt.setting i) (f.adopt.adoptions.is i) noted)
+      (over_all s1.setting is_inward (λ g. NotedSoFar s1.setting g noted) (noted_on s1.setting noted) s1.history adoptions
+      inward_adoptions legal_adopted so)
+
+-- ---- what passed with the front
+
+-- why no posting was asked for any more
+over_then : (before now : Dealings) → now.brought ≡ before.brought
+    → (now.said.halted ≡ false → before.said.halted ≡ false) → IsOver before → IsOver now
+over_then before now same calm (inl e) = inl (ap (λ (b : Brought). b.ended) same ∙ e)
+over_then before now same calm (inr (inl e)) = inr (inl (still_halted before.said.halted now.said.halted calm e))
+over_then before now same calm (inr (inr (inl e))) =
+    inr (inr (inl (ap (λ (b : Brought). b.waits) same ∙ e)))
+over_then before now same calm (inr (inr (inr e))) =
+    inr (inr (inr (subst (λ (b : Brought). most_postings ≤ length b.given) (sym same) e)))
+
+-- What passed with the front to the end: the last sweep noted to it, and then it was told of all that was open.
+pub record SaidAll (s1 : State) (xs1 : List Wait) (before mid now : Dealings) : Type 0 where
+  pub told_mid : mid.said.told ≡ before.said.told
+  pub brought_mid : mid.brought ≡ before.brought
+  pub halted_mid : mid.said.halted ≡ false → before.said.halted ≡ false
+  pub noted : NotedSoFar s1.setting s1.history mid.said.noted
+  pub tells : TellsAll (map told_of (filter is_finished xs1)) mid now
+
+-- What a run leaves: the history and the sessions, no traffic, and what the look at the budgets said.
+pub record Leaves (s2 s4 : State) (finished : Finished) : Type 0 where
+  pub history : finished.report.history.entries.items ≡ s4.history
+  pub sessions : finished.report.sessions ≡ events_of s2.stands
+  pub traffic : finished.report.traffic ≡ []
+  pub spent : (finished.spent ≡ true) ↔ HasSpent s2
+
+module _ {s0 s1 s2 s3 s4 : State} {xs0 xs1 : List Wait} {n : ℕ} (f : Finishes s0 s1 s2 s3 s4 xs0 xs1) (team0 : Team s0)
+    (team2 : Team s2) (legal : IsLegal s4.setting s4.history) where
+  -- so it has ended
+  pub has_ended : (before mid now : Dealings) (finished : Finished) → Passed s0 xs0 n before → IsOver before
+      → SaidAll s1 xs1 before mid now → Leaves s2 s4 finished → (0 < n → f.swept ≡ [])
+      → (mid.said.halted ≡ false → IsQuietAt s2) → IsStillAt s2
+      → HasEnded (record { setting = s2.setting; budget = s2.budget }) s2.history (filter is_open xs1) now finished
+  has_ended before mid now finished passed over said left calm quiet still =
+      let brought : now.brought ≡ before.brought = said.tells.brought ∙ said.brought_mid in
+      let told : now.said.told ≡ before.said.told ++ map told_of (filter is_finished xs1)
+      = said.tells.told ∙ ap (λ (ts : List Told). ts ++ map told_of (filter is_finished xs1)) said.told_mid in
+      let idle : 0 < length before.brought.given → f.swept ≡ []
+      = λ some. calm (subst (λ (m : ℕ). 0 < m) passed.count some) in
+      let order : StandsInOrder s0.setting s0.history (length before.brought.given) before.said.told xs0
+      = subst (λ (m : ℕ). StandsInOrder s0.setting s0.history m before.said.told xs0) (sym passed.count) passed.order in
+      let setting : s4.setting ≡ s2.setting = f.collect.setting ∙ f.stop.setting in
+      record {
+        came =
+            subst (λ (ss : List (List Event)). CameThrough s2.setting s2.budget now.said.halted s2.history ss) (sym left.sessions)
+            (came_through s2 team2 (subst (λ (l : Limits). l.sessions ≤ first_worker) (sym team2.limits) (le_refl first_worker))
+            f.adopt.born (λ e. quiet (said.tells.calm e)) still);
+        end = subst (λ (l : List Entry). Ended s2.history l) (sym left.history) (ended f team0 team2 legal);
+        legal = coe 1 0 (i. IsLegal (sym setting i) (left.history i)) legal;
+        opens =
+            coe 1 0 (i. IsOpen (sym setting i) (left.history i) (brought i).given (told i) (filter is_open xs1))
+            (opens_end f team0 team2 legal before.brought.given before.said.told idle passed.opens order);
+        order =
+            coe 1 0
+            (i. map (λ (t : Told). t.place) (told i) ≡ order_alone (sym setting i) (left.history i) first_worker (length (brought i).given))
+            (order_at_end f team0 team2 legal before.brought.given before.said.told idle passed.opens order);
+        settled = settled_2 f team0 team2 legal;
+        noted =
+            subst (λ (t : List ℕ). NotedSoFar s2.setting s2.history t) (sym said.tells.noted)
+            (noted_2 f team0 team2 legal mid.said.noted said.noted);
+        over = over_then before now brought (λ e. said.halted_mid (said.tells.calm e)) over;
+        looked =
+            subst (λ (ss : List (List Event)). Looked s2.setting s2.budget s2.history ss finished.spent) (sym left.sessions)
+            (looked_by s2 finished.spent left.spent);
+        traffic = left.traffic;
+      }

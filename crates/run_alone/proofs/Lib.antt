@@ -1,0 +1,13 @@
+pub mod Asking
+pub mod Assembling
+pub mod Between
+pub mod Ended
+pub mod Finishing
+pub mod Looks
+pub mod Picking
+pub mod Quitting
+pub mod Rests
+pub mod Starting
+pub mod Stepping
+pub mod Taking
+pub mod Touring

@@ -1,0 +1,190 @@
+-- Look by look at the front: how it stands, and when no posting is asked for any more.
+use Rattle.std.specs.Prelude.{not, ◌&&◌, nat_lt}
+use Rattle.std.proofs.Common.{◌≡◌, ◌≤◌, ◌<◌, ◌+◌, ◌-◌, ◌*◌, ◌⊎◌, ℕ, suc, Bool, true, false, List, inl, inr, refl, sym, ap, subst, ◌∙◌, arith, ltb-true, ltb-false}
+use Rattle.std.proofs.lemmas.Bool.{and_parts, false≢true}
+use Rattle.behaviour_tree.specs.Data.{ProgramParts}
+use Rattle.office_core.specs.declared.front.Posting.{Posting}
+use Rattle.office_front.specs.declared.front.Next.{Next}
+use Rattle.office_front.specs.declared.front.Next.TheVariants as next
+use Rattle.office_front.specs.Calls.{After, Asks, most_postings}
+use Rattle.office_front.specs.Dealings.{Dealings, IsNew, Said}
+use Rattle.run_cells.specs.Crews.{State}
+use Rattle.run_posts.specs.Fates.{Wait}
+use Rattle.run_posts.specs.Telling.{TellsOn}
+use Rattle.run_alone.specs.Between.{Answered, Between, Brings, Closed, Passed}
+use Rattle.run_alone.specs.Overs.{IsOver, asks, most_waits}
+use Rattle.run_alone.proofs.Asking.{brings_next, ends_next, taken_looks, waits_next}
+
+-- What passed with a front until a look at it, before which so many in a row found no posting.
+pub record IsAt (s : State) (xs : List Wait) (n : ℕ) (calm : Bool) (looks : ℕ) (d : Dealings) : Type 0 where
+  pub passed : Passed s xs n d
+  pub waits : d.brought.waits ≡ looks
+  pub few : looks ≤ most_waits
+  pub going : d.brought.ended ≡ false
+  pub halted : calm ≡ false → d.said.halted ≡ true
+
+-- what a front has when it is asked for a posting
+abbrev pub Came : {F : Type 0} → (ProgramParts → F → F → Dealings → Type 0) → ProgramParts → F → F → Next → Type 0
+Came {F} dealt parts old now which =
+    (first : F) (before : Dealings) → dealt parts first old before → before.brought.ended ≡ false
+    → After (dealt parts first now) (Asks parts which before)
+
+-- the same of what is told
+pub tells_under : {F : Type 0} (dealt : ProgramParts → F → F → Dealings → Type 0) {p q : ProgramParts} (old now : F) (xs : List Wait)
+    (P : Dealings → Dealings → Type 0) → p ≡ q → TellsOn (dealt p) old now xs P → TellsOn (dealt q) old now xs P
+tells_under dealt old now xs P e t = coe 0 1 (i. TellsOn (dealt (e i)) old now xs P) t
+
+-- what passed with a front since some call, where something passed before
+abbrev pub Looked : {F : Type 0} → (ProgramParts → F → F → Dealings → Type 0) → ProgramParts → F → F
+    → (Dealings → Type 0) → (Dealings → Type 0) → Type 0
+Looked {F} dealt parts old now Was Is =
+    (first : F) (before : Dealings) → dealt parts first old before → IsNew before → Was before
+    → After (dealt parts first now) Is
+
+-- before the first look
+pub at_first : {s : State} {xs : List Wait} {n : ℕ} (d : Dealings) → Passed s xs n d → IsNew d → IsAt s xs n true 0 d
+at_first d passed new = record {
+  passed = passed;
+  waits = new.waits;
+  few = omega arith;
+  going = new.open_yet;
+  halted = λ e. absurd (false≢true (sym e));
+}
+
+module _ {s : State} {xs : List Wait} {n : ℕ} {calm : Bool} {looks : ℕ} {before : Dealings}
+    (x : IsAt s xs n calm looks before) {parts : ProgramParts} (dealt : Dealings → Type 0) where
+  -- a posting was given, and taken in
+  pub at_posting : {t : State} {ys : List Wait} {m : ℕ} {after : Bool} (p : Posting) (dealt_now : Dealings → Type 0)
+      → After dealt (Asks parts (next.Posting p) before)
+      → ((mid : Dealings) → dealt mid → Brings s xs n p mid → After dealt_now (Answered t ys m after mid))
+      → After dealt_now (IsAt t ys m after 0)
+  at_posting p dealt_now asked take =
+      let taken = take asked.0 asked.1 (brings_next x.passed asked.2) in
+      let looked = taken_looks (taken.2).said (asked.2).came.waits (asked.2).came.ended in (
+        taken.0,
+        taken.1,
+        record { passed = (taken.2).passed; waits = looked.0; few = omega arith; going = looked.1; halted = (taken.2).halted },
+      )
+
+  -- none yet
+  pub at_wait : looks < most_waits → After dealt (Asks parts next.NotYet before) → After dealt (IsAt s xs n calm (looks + 1))
+  at_wait few asked =
+      let one : suc looks ≡ looks + 1 = omega arith in
+      let w = waits_next x.passed asked.2 in (
+        asked.0,
+        asked.1,
+        record {
+          passed = w.0;
+          waits = w.1 ∙ ap (λ m. suc m) x.waits ∙ one;
+          few = omega (arith, few);
+          going = w.2;
+          halted = λ e. ap (λ (d : Said). d.halted) (asked.2).silent ∙ x.halted e;
+        },
+      )
+
+  -- none any more
+  pub at_end : After dealt (Asks parts next.End before) → After dealt (Closed s xs n calm)
+  at_end asked =
+      let w = ends_next x.passed asked.2 in (
+        asked.0,
+        asked.1,
+        record {
+          passed = w.0;
+          over = w.1;
+          halted = λ e. ap (λ (d : Said). d.halted) (asked.2).silent ∙ x.halted e;
+        },
+      )
+
+-- no look is left, and there were none too many
+all_looks : (looks : ℕ) → most_waits ≤ looks → looks ≤ most_waits → looks ≡ most_waits
+all_looks looks least most = omega (arith, least, most)
+
+-- why none is asked for
+abbrev pub Stops : ℕ → Bool → ℕ → Dealings → Type 0
+Stops n calm looks d =
+    (calm ≡ false) ⊎ (d.said.halted ≡ true) ⊎ (most_waits ≤ looks) ⊎ (most_postings ≤ n)
+
+pub at_stop : {s : State} {xs : List Wait} {n : ℕ} {calm : Bool} {looks : ℕ} (d : Dealings) → IsAt s xs n calm looks d
+    → Stops n calm looks d → Closed s xs n calm d
+at_stop {n = n} {calm = calm} {looks = looks} d x stops = record {
+  passed = x.passed;
+  over = over stops;
+  halted = x.halted;
+}
+  where
+    over : Stops n calm looks d → IsOver d
+    over (inl e) = inr (inl (x.halted e))
+    over (inr (inl e)) = inr (inl e)
+    over (inr (inr (inl e))) = inr (inr (inl (x.waits ∙ all_looks looks e x.few)))
+    over (inr (inr (inr e))) = inr (inr (inr (subst (λ (m : ℕ). most_postings ≤ m) (sym x.passed.count) e)))
+
+-- why none was asked for
+pub stops_by : {n : ℕ} {calm : Bool} {looks : ℕ} (d : Dealings) (halted going : Bool) → halted ≡ d.said.halted
+    → going ≡ asks calm halted looks n → going ≡ false → Stops n calm looks d
+stops_by {n} {calm} {looks} d halted going said is none = by calm halted refl said (sym is ∙ none)
+  where
+    last : (b : Bool) → nat_lt looks most_waits ≡ b → (b && nat_lt n most_postings) ≡ false → Stops n calm looks d
+    last false e h = inr (inr (inl (ltb-false looks most_waits e)))
+    last true e h = inr (inr (inr (ltb-false n most_postings h)))
+
+    by : (c s : Bool) → calm ≡ c → s ≡ d.said.halted → asks c s looks n ≡ false → Stops n calm looks d
+    by false s e f h = inl e
+    by true true e f h = inr (inl (sym f))
+    by true false e f h = last (nat_lt looks most_waits) refl h
+
+-- one was asked for
+pub asks_by : (n looks : ℕ) (calm halted going : Bool) → going ≡ asks calm halted looks n → going ≡ true
+    → (calm ≡ true) × (looks < most_waits) × (n < most_postings)
+asks_by n looks calm halted going is so =
+    let a = and_parts ((calm && not halted) && nat_lt looks most_waits) (nat_lt n most_postings) (sym is ∙ so) in
+    let b = and_parts (calm && not halted) (nat_lt looks most_waits) a.0 in
+    let e = and_parts calm (not halted) b.0 in
+    (e.0, ltb-true looks most_waits b.1, ltb-true n most_postings a.1)
+
+-- how many looks there may still be
+abbrev pub looks_left : ℕ → ℕ → ℕ
+looks_left n looks = (most_postings - n) * 1000001 + (most_waits - looks)
+
+pub fewer_posting : (n m looks : ℕ) → m ≡ suc n → n < most_postings → looks_left m 0 < looks_left n looks
+fewer_posting n m looks e within = omega (arith, e, within)
+
+pub fewer_wait : (n looks : ℕ) → looks < most_waits → looks_left n (looks + 1) < looks_left n looks
+fewer_wait n looks within = omega (arith, within)
+
+-- what came, of the same program and the same answer
+pub came_as : {F : Type 0} (dealt : ProgramParts → F → F → Dealings → Type 0) {p q : ProgramParts} (old now : F) {v w : Next}
+    → p ≡ q → v ≡ w → Came dealt p old now v → Came dealt q old now w
+came_as dealt old now e f t = coe 0 1 (i. Came dealt (e i) old now (f i)) t
+
+-- a run that is calm
+pub calm_between : {s : State} {xs : List Wait} {n : ℕ} {calm : Bool} → calm ≡ true → Between s xs n calm → Between s xs n true
+calm_between {s} {xs} {n} e b = subst (λ (x : Bool). Between s xs n x) e b
+
+-- none is asked for, or none came
+pub closes_at : {s : State} {xs : List Wait} {n : ℕ} {calm : Bool} {looks : ℕ} {dealt : Dealings → Type 0} (halted going : Bool)
+    → ((d : Dealings) → dealt d → halted ≡ d.said.halted) → going ≡ asks calm halted looks n → going ≡ false
+    → After dealt (IsAt s xs n calm looks) → After dealt (Closed s xs n calm)
+closes_at halted going said is none at =
+    (at.0, at.1, at_stop at.0 at.2 (stops_by at.0 halted going (said at.0 at.1) is none))
+
+-- ---- as the call hands its number
+
+pub asks_so : (n looks : ℕ) (calm halted going : Bool) (m : ℕ) → m ≡ n → going ≡ asks calm halted looks m → going ≡ true
+    → (calm ≡ true) × (looks < most_waits) × (n < most_postings)
+asks_so n looks calm halted going m e is so =
+    asks_by n looks calm halted going (subst (λ (k : ℕ). going ≡ asks calm halted looks k) e is) so
+
+pub closes_so : {s : State} {xs : List Wait} {n : ℕ} {calm : Bool} {looks : ℕ} {dealt : Dealings → Type 0} (halted going : Bool)
+    (m : ℕ) → m ≡ n → ((d : Dealings) → dealt d → halted ≡ d.said.halted) → going ≡ asks calm halted looks m
+    → going ≡ false → After dealt (IsAt s xs n calm looks) → After dealt (Closed s xs n calm)
+closes_so {calm = calm} {looks = looks} halted going m e said is none at =
+    closes_at halted going said (subst (λ (k : ℕ). going ≡ asks calm halted looks k) e is) none at
+
+-- what passed, under the same program
+pub after_under : {F : Type 0} {P : Dealings → Type 0} (dealt : ProgramParts → F → F → Dealings → Type 0) {p q : ProgramParts}
+    (first now : F) → p ≡ q → After (dealt p first now) P → After (dealt q first now) P
+after_under {P = P} dealt first now e x = coe 0 1 (i. After (dealt (e i) first now) P) x
+
+pub dealt_under : {F : Type 0} (dealt : ProgramParts → F → F → Dealings → Type 0) {p q : ProgramParts} (first now : F)
+    (d : Dealings) → p ≡ q → dealt p first now d → dealt q first now d
+dealt_under dealt first now d e x = coe 0 1 (i. dealt (e i) first now d) x

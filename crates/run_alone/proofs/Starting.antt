@@ -1,0 +1,74 @@
+-- Before the first posting.
+use Rattle.std.proofs.Common.{◌≡◌, ℕ, true, List, [], length, map, Option, inl, refl, sym, ap, subst}
+use Rattle.behaviour_tree.specs.Data.{ProgramParts}
+use Rattle.office_core.specs.declared.front.Posting.{Posting}
+use Rattle.office_core.specs.declared.history.Entry.{Entry}
+use Rattle.office_core.specs.Limits.{run_of}
+use Rattle.office_front.specs.Calls.{After}
+use Rattle.office_front.specs.Dealings.{Dealings, IsNew}
+use Rattle.outside_links.specs.Trips.{Made}
+use Rattle.order_laws.proofs.Ordering.{none_told}
+use Rattle.quiet_laws.proofs.Still.{still_first}
+use Rattle.run_record.specs.Quiet.{IsStill}
+use Rattle.run_cells.specs.Crews.{State, events_of}
+use Rattle.run_posts.specs.declared.pending.Pendings.{Pendings}
+use Rattle.run_posts.specs.Fates.{Wait, wait_of, waits}
+use Rattle.run_posts.specs.Open.{IsOpen, StandsInOrder}
+use Rattle.run_posts.proofs.Opening.{nothing_open}
+use Rattle.run_sweep.specs.Swept.{ToursBy}
+use Rattle.trip_laws.specs.Going.{AreSettled, NotedSoFar}
+use Rattle.trip_laws.specs.Trips.{Travelled}
+use Rattle.trip_laws.proofs.Settling.{noted_first, settled_first}
+use Rattle.run_alone.specs.Between.{Between, Passed}
+use Rattle.run_alone.specs.Ran.{Ran}
+use Rattle.run_alone.specs.declared.worker.Finished.{Finished}
+use Rattle.run_alone.proofs.Touring.{travelled_all}
+
+module _ (s : State) (xs : List Wait) (empty : s.history ≡ []) (none : xs ≡ []) where
+  pub between_first : Between s xs 0 true
+  between_first = record {
+    settled = subst (AreSettled s.setting) (sym empty) (settled_first s.setting);
+    still = subst (λ (h : List Entry). IsStill s.setting s.budget h (events_of s.stands)) (sym empty)
+        (still_first s.setting s.budget (events_of s.stands));
+    all = [];
+    said = [];
+    opens = coe 1 0 (i. IsOpen s.setting (empty i) [] [] (none i)) (nothing_open s.setting);
+    order = coe 1 0 (i. StandsInOrder s.setting (empty i) 0 [] (none i)) (none_told s.setting []);
+    count = refl;
+    quiet = λ e. inl (refl, empty);
+  }
+
+  -- with a new front
+  pub passed_first : (d : Dealings) → IsNew d → Passed s xs 0 d
+  passed_first d new = record {
+    opens = coe 1 0 (i. IsOpen s.setting (empty i) (new.given i) (new.told i) (none i)) (nothing_open s.setting);
+    order = coe 1 0 (i. StandsInOrder s.setting (empty i) 0 (new.told i) (none i)) (none_told s.setting []);
+    count = ap (λ (ps : List Posting). length ps) new.given;
+    noted = coe 1 0 (i. NotedSoFar s.setting (empty i) (new.noted i)) (noted_first s.setting);
+  }
+
+-- with the postings of a run that begins
+module _ (s : State) (p : Pendings) (empty : s.history ≡ []) (count : p.postings ≡ 0) (none : p.waiting.items ≡ []) where
+  no_waits : waits p ≡ []
+  no_waits = ap (map wait_of) none
+
+  pub between_starts : Between s (waits p) p.postings true
+  between_starts = subst (λ (n : ℕ). Between s (waits p) n true) (sym count) (between_first s (waits p) empty no_waits)
+
+  pub passed_starts : (d : Dealings) → IsNew d → Passed s (waits p) p.postings d
+  passed_starts d new = subst (λ (n : ℕ). Passed s (waits p) n d) (sym count) (passed_first s (waits p) empty no_waits d new)
+
+-- ---- under the program that the run was given
+
+pub ran_as : {F : Type 0} (dealt : ProgramParts → F → F → Dealings → Type 0) {p q : ProgramParts} {a b : ℕ} (first front : F)
+    (text : List ℕ) (finished : Finished) → p ≡ q → a ≡ b
+    → After (dealt p first front) (λ d. Ran (record { setting = run_of p; budget = a }) text d finished)
+    → After (dealt q first front) (λ d. Ran (record { setting = run_of q; budget = b }) text d finished)
+ran_as dealt first front text finished e f x =
+    coe 0 1 (i. After (dealt (e i) first front) (λ d. Ran (record { setting = run_of (e i); budget = f i }) text d finished)) x
+
+pub travelled_as : {p q r : ProgramParts} {g h k : List Entry} {before mid now : Option (List Made)} → r ≡ q → q ≡ p → g ≡ []
+    → ToursBy (run_of q) g h before mid → ToursBy (run_of r) h k mid now → Travelled (run_of p) k before now
+travelled_as {p} {q} {r} {g} {h} {k} {before} {mid} {now} e f none one two =
+    coe 0 1 (i. Travelled (run_of (f i)) k before now)
+    (travelled_all none one (coe 0 1 (i. ToursBy (run_of (e i)) h k mid now) two))

@@ -1,0 +1,34 @@
+-- What is left to do is done, or nothing.
+use Rattle.std.proofs.Common.{sym, ◌∙◌}
+use Rattle.run_alone.proofs.Rests.{quiet_not, quiet_swept, rested_calm, rested_not, was_calm}
+use Rattle.run_alone.proofs.Taking.{between_brought}
+use Rattle.run_alone.proofs.alone.Alone.rest.Goals as goal
+
+pub sweep-requires-clause-brought : goal.sweep-requires-clause-brought
+sweep-requires-clause-brought g c =
+    between_brought (was_calm c.args.calm c.halted-halted.result (sym c.is_stopped-stopped.ensures ∙ c.if-stopped.false))
+    c.requires.between
+
+pub returns-then-stopped-clause-rested : goal.returns-then-stopped-clause-rested
+returns-then-stopped-clause-rested g c = rested_not _ c.requires.between.settled
+
+pub returns-then-stopped-clause-toured : goal.returns-then-stopped-clause-toured
+returns-then-stopped-clause-toured g c = λ first toured. toured
+
+pub returns-then-stopped-clause-noted : goal.returns-then-stopped-clause-noted
+returns-then-stopped-clause-noted g c =
+    λ parts first before so halted.
+    quiet_not _ _ _ _ before so halted (c.halted-halted.ensures parts first before so)
+    (sym c.is_stopped-stopped.ensures ∙ c.if-stopped.true)
+
+pub returns-clause-rested : goal.returns-clause-rested
+returns-clause-rested g c =
+    rested_calm (was_calm c.args.calm c.halted-halted.result (sym c.is_stopped-stopped.ensures ∙ c.if-stopped.false))
+    c.in_ok-sweep.ensures.swept c.in_ok-sweep.ensures.still
+
+pub returns-clause-noted : goal.returns-clause-noted
+returns-clause-noted g c =
+    λ parts first before so halted.
+    quiet_swept _ _ before c.in_ok-sweep.ensures.swept.setting (c.in_ok-sweep.ensures.noted parts first before so)
+    c.in_ok-sweep.ensures.quiet
+    (λ stopped now is. c.in_ok-sweep.ensures.halted stopped parts first now is)

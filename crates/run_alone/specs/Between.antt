@@ -1,0 +1,90 @@
+-- These definitions serve the proofs alone: no promise speaks of them.
+-- Where a run stands between two postings.
+use Rattle.std.specs.Prelude.{◌≡◌, ◌⊎◌, ℕ, Bool, true, false, List, [], ◌∷◌, ◌++◌, length}
+use Rattle.std.specs.List.{list_all}
+use Rattle.office_core.specs.declared.front.Posting.{Posting}
+use Rattle.office_core.specs.declared.history.Entry.{Entry}
+use Rattle.office_front.specs.Dealings.{Dealings, Told}
+use Rattle.run_sweep.specs.Courses.{Goes}
+use Rattle.run_cells.specs.Crews.{State}
+use Rattle.run_cells.specs.Rounds.{IsQuietAt, IsStillAt}
+use Rattle.run_posts.specs.Fates.{Wait}
+use Rattle.run_posts.specs.Open.{IsOpen, StandsInOrder}
+use Rattle.run_sweep.specs.Swept.{StaysQuiet, is_swept}
+use Rattle.trip_laws.specs.Going.{AreSettled, NotedSoFar}
+use Rattle.run_alone.specs.Overs.{IsOver}
+
+-- nothing is left to do; before the first posting nothing happened
+abbrev pub IsCalm : ℕ → State → Type 0
+IsCalm n s = ((n ≡ 0) × (s.history ≡ [])) ⊎ IsQuietAt s
+
+-- Between two postings, so many of which were taken in: how it stands with the calls that went out, and with postings
+-- that wait and that were told; that before each posting nothing was left to do; and if it is calm, that nothing is.
+pub record Between (s : State) (xs : List Wait) (n : ℕ) (calm : Bool) : Type 0 where
+  pub settled : AreSettled s.setting s.history
+  pub still : IsStillAt s
+  pub all : List Posting
+  pub said : List Told
+  pub opens : IsOpen s.setting s.history all said xs
+  pub order : StandsInOrder s.setting s.history n said xs
+  pub count : length all ≡ n
+  pub quiet : calm ≡ true → IsCalm n s
+
+-- What passed with a front until then.
+pub record Passed (s : State) (xs : List Wait) (n : ℕ) (d : Dealings) : Type 0 where
+  pub opens : IsOpen s.setting s.history d.brought.given d.said.told xs
+  pub order : StandsInOrder s.setting s.history n d.said.told xs
+  pub count : length d.brought.given ≡ n
+  pub noted : NotedSoFar s.setting s.history d.said.noted
+
+-- The same, and then it gave a posting that was not taken in yet.
+pub record Brings (s : State) (xs : List Wait) (n : ℕ) (p : Posting) (d : Dealings) : Type 0 where
+  pub all : List Posting
+  pub given : d.brought.given ≡ all ++ p ∷ []
+  pub opens : IsOpen s.setting s.history all d.said.told xs
+  pub order : StandsInOrder s.setting s.history n d.said.told xs
+  pub count : length all ≡ n
+  pub noted : NotedSoFar s.setting s.history d.said.noted
+
+-- Something more passed with a front: nothing was brought, and it halted no less.
+pub record SaidMore (before now : Dealings) : Type 0 where
+  pub brought : now.brought ≡ before.brought
+  pub halted : now.said.halted ≡ false → before.said.halted ≡ false
+
+-- What was left to do was done, unless the front halted: entries of sessions came, and errands; and nothing where
+-- nothing was left to do, or where it was not calm.
+pub record Rested (calm : Bool) (old new : State) : Type 0 where
+  pub setting : new.setting ≡ old.setting
+  pub budget : new.budget ≡ old.budget
+  pub more : List Entry
+  pub history : new.history ≡ old.history ++ more
+  pub each : list_all is_swept more ≡ true
+  pub settled : AreSettled new.setting new.history
+  pub still : IsStillAt old → IsStillAt new
+  pub quiet : StaysQuiet old new
+  pub stopped : calm ≡ false → new.history ≡ old.history
+  pub goes : Goes old new
+
+-- The texts that were noted are those of the history now, where they were those of the history before, and nothing else
+-- passed.
+pub record NotedOn (old new : State) (before now : Dealings) : Type 0 where
+  pub told : now.said.told ≡ before.said.told
+  pub said : SaidMore before now
+  pub noted : NotedSoFar old.setting old.history before.said.noted → NotedSoFar new.setting new.history now.said.noted
+
+-- What passed with a front while a posting was taken in; if that did not end calm, the front halted.
+pub record Answered (s : State) (xs : List Wait) (n : ℕ) (calm : Bool) (before now : Dealings) : Type 0 where
+  pub passed : Passed s xs n now
+  pub said : SaidMore before now
+  pub halted : calm ≡ false → now.said.halted ≡ true
+
+-- What passed with a front when no posting is asked for any more.
+pub record Closed (s : State) (xs : List Wait) (n : ℕ) (calm : Bool) (now : Dealings) : Type 0 where
+  pub passed : Passed s xs n now
+  pub over : IsOver now
+  pub halted : calm ≡ false → now.said.halted ≡ true
+
+-- What passed with a front when what was left to do was done: unless it halted nothing is left.
+pub record LeftQuiet (old new : State) (before now : Dealings) : Type 0 where
+  pub noted : NotedOn old new before now
+  pub quiet : now.said.halted ≡ false → IsQuietAt new

@@ -1,0 +1,4 @@
+pub mod Between
+pub mod Overs
+pub mod Picks
+pub mod Ran

@@ -1,0 +1,57 @@
+-- What one worker that runs a program alone leaves: the record, and what its front was told.
+use Rattle.std.specs.Prelude.{◌≡◌, ◌↔◌, ℕ, Bool, true, false, List, [], length, map}
+use Rattle.std.specs.Prelude.{Some, Contains, slice_get}
+use Rattle.std.specs.List.{list_all}
+use Rattle.office_core.specs.declared.front.Posting.{Posting}
+use Rattle.office_core.specs.declared.history.Entry.{Entry}
+use Rattle.office_core.specs.Limits.{Setting, first_worker}
+use Rattle.office_core.specs.Past.{Past}
+use Rattle.office_core.specs.Accepted.{past_of}
+use Rattle.run_record.specs.Postings.{posts_by, posts_of, told}
+use Rattle.run_record.specs.Order.{order_alone}
+use Rattle.run_record.specs.Outside.{notes}
+use Rattle.run_record.specs.Run.{alone, IsRun, IsSpent}
+use Rattle.branch_workers.specs.Lines.{is_by_first, IsFront}
+use Rattle.office_front.specs.Dealings.{Told, Dealings}
+pub use Rattle.trip_laws.specs.Trips.{AreVoid, Travelled}
+pub use Rattle.run_alone.specs.Overs.{IsOver, most_waits}
+use Rattle.run_alone.specs.declared.worker.Finished.{Finished}
+
+-- what a run is under: what it works by, and how many events a session may have
+pub record Rules : Type 0 where
+  pub setting : Setting
+  pub budget : ℕ
+
+-- ---- the front
+
+-- what the front was told of a place is what the calls of its posting came to
+abbrev pub IsTold : Setting → Past → List Posting → Told → Type 0
+IsTold w past given t =
+    (p : Posting) × (slice_get given t.place ≡ Some p) × (told w past first_worker t.place p ≡ Some t.outcomes)
+
+-- What was noted is what the history notes; after a halt it is the front of that.
+abbrev pub AreNotes : Bool → List ℕ → List ℕ → Type 0
+AreNotes halted noted all = IsFront noted all × (halted ≡ false → noted ≡ all)
+
+-- What passed between a run of this history and its front: each posting that was given was posted, in order, and was
+-- answered once, in order, with what its calls came to; and what the history notes was noted.
+pub record Dealt (w : Setting) (h : List Entry) (d : Dealings) : Type 0 where
+  pub posted : posts_by first_worker h ≡ posts_of 0 d.brought.given
+  pub posters : list_all is_by_first h ≡ true
+  pub order : map (λ (t : Told). t.place) d.said.told ≡ order_alone w h first_worker (length d.brought.given)
+  pub told : (t : Told) → Contains d.said.told t → IsTold w (past_of w h) d.brought.given t
+  pub noted : AreNotes d.said.halted d.said.noted (notes w h)
+  pub over : IsOver d
+
+-- ---- the run
+
+-- A run of one worker that works alone: its record is that of a run, of this text; its front was dealt with as the
+-- history says, its console calls came to void; and it tells whether a session used its whole budget and could act all
+-- the same.
+pub record Ran (r : Rules) (text : List ℕ) (d : Dealings) (finished : Finished) : Type 0 where
+  pub run : IsRun r.setting r.budget alone d.said.halted finished.report
+  pub program : finished.report.program ≡ text
+  pub traffic : finished.report.traffic ≡ []
+  pub dealt : Dealt r.setting finished.report.history.entries.items d
+  pub consoles : AreVoid r.setting (past_of r.setting finished.report.history.entries.items)
+  pub spent : (finished.spent ≡ true) ↔ IsSpent r.setting r.budget finished.report

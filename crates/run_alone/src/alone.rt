@@ -1,0 +1,59 @@
+//! A run under way, and how a posting is taken in.
+ghost use Rattle.std.specs.Prelude.{◌≡◌, ◌<◌, suc, true, IfOk, OnOk};
+ghost use Rattle.behaviour_tree.specs.PartsView.{parts_of};
+ghost use Rattle.office_front.specs.Calls.{After, most_postings};
+ghost use Rattle.office_front.specs.Dealings.{Dealings};
+ghost use Rattle.run_sweep.specs.Courses.{Goes};
+ghost use Rattle.run_cells.specs.Crews.{AtWork, state_of};
+ghost use Rattle.run_posts.specs.Fates.{waits};
+ghost use Rattle.run_sweep.specs.Swept.{ToursBy};
+ghost use Rattle.run_alone.specs.Between.{Answered, Between, Brings};
+
+use office_core::Posting;
+use office_front::Front;
+use outside_links::Link;
+use run_cells::{Cells, Crewed};
+use run_posts::Pendings;
+use run_sweep::sweep;
+use session_turn::{Seating, Session};
+use std::alloc::{AllocError, Global};
+
+/// A run under way: its sessions with their office, and the postings that were not answered yet.
+#[derive(Drop)]
+pub(crate) struct Alone<'p, S: Session> {
+    pub alloc: Global,
+    pub cells: Cells<'p, S>,
+    pub pendings: Pendings,
+}
+
+impl<S: Seating> Alone<'_, S> {
+    /// Takes in a posting: its calls are posted, all that can be done is done, and what is finished is answered. It says
+    /// whether nothing is left to do; else the front halted.
+    pub fn take_in<F: Front, L: Link>(
+        &mut self,
+        front: &mut F,
+        link: &mut L,
+        posting: &Posting,
+    ) -> Result<bool, AllocError>
+        requires work { AtWork (⟦<Cells<'static, S> as Crewed>⟧.crew self.old.cells) }
+        requires between { Between (state_of (⟦<Cells<'static, S> as Crewed>⟧.crew self.old.cells)) (waits self.old.pendings) self.old.pendings.postings true }
+        requires room { self.old.pendings.postings < most_postings }
+        ensures program { self.new.cells.program ≡ self.old.cells.program }
+        ensures budget { OnOk result ((state_of (⟦<Cells<'static, S> as Crewed>⟧.crew self.new.cells)).budget ≡ (state_of (⟦<Cells<'static, S> as Crewed>⟧.crew self.old.cells)).budget) }
+        ensures work { OnOk result (AtWork (⟦<Cells<'static, S> as Crewed>⟧.crew self.new.cells)) }
+        ensures goes { OnOk result (Goes (state_of (⟦<Cells<'static, S> as Crewed>⟧.crew self.old.cells)) (state_of (⟦<Cells<'static, S> as Crewed>⟧.crew self.new.cells))) }
+        ensures count { OnOk result (self.new.pendings.postings ≡ suc self.old.pendings.postings) }
+        ensures between { IfOk result (Between (state_of (⟦<Cells<'static, S> as Crewed>⟧.crew self.new.cells)) (waits self.new.pendings) self.new.pendings.postings) }
+        ensures toured { OnOk result (ToursBy (state_of (⟦<Cells<'static, S> as Crewed>⟧.crew self.old.cells)).setting (state_of (⟦<Cells<'static, S> as Crewed>⟧.crew self.old.cells)).history (state_of (⟦<Cells<'static, S> as Crewed>⟧.crew self.new.cells)).history (L.trips link.old) (L.trips link.new)) }
+        ensures passed { IfOk result (λ calm. (first : F) (before : Dealings) → F.dealt (parts_of self.old.cells.program) first front.old before
+            → Brings (state_of (⟦<Cells<'static, S> as Crewed>⟧.crew self.old.cells)) (waits self.old.pendings) self.old.pendings.postings posting.now before
+            → After (F.dealt (parts_of self.old.cells.program) first front.new)
+            (Answered (state_of (⟦<Cells<'static, S> as Crewed>⟧.crew self.new.cells)) (waits self.new.pendings) self.new.pendings.postings calm before)) }
+    {
+        self.pendings.post(&mut self.cells, posting)?;
+        let calm = sweep(self.alloc, &mut self.cells, front, link)?;
+        self.pendings.collect_all(&mut self.cells)?;
+        self.pendings.tell_finished(self.cells.program(), front)?;
+        Ok(calm)
+    }
+}

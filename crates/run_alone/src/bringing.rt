@@ -1,0 +1,71 @@
+//! Postings are brought in until no more comes.
+ghost use Rattle.std.specs.Prelude.{◌≡◌, ◌<◌, true, IfOk, OnOk, length};
+ghost use Rattle.behaviour_tree.specs.PartsView.{parts_of};
+ghost use Rattle.office_front.specs.Calls.{After};
+ghost use Rattle.office_front.specs.Dealings.{Dealings, IsNew};
+ghost use Rattle.run_sweep.specs.Courses.{Goes};
+ghost use Rattle.run_cells.specs.Crews.{AtWork, state_of};
+ghost use Rattle.run_posts.specs.Fates.{waits};
+ghost use Rattle.run_sweep.specs.Swept.{ToursBy};
+ghost use Rattle.run_alone.specs.Between.{Between, Closed, Passed};
+ghost use Rattle.run_alone.specs.Overs.{asks};
+
+use crate::alone::Alone;
+use office_front::{Front, Next};
+use outside_links::Link;
+use run_cells::{Cells, Crewed};
+use session_turn::Seating;
+use std::alloc::AllocError;
+
+/// The most looks in a row that find no posting.
+const MOST_LOOKS: u32 = 1_000_000;
+
+impl<S: Seating> Alone<'_, S> {
+    /// Takes in what a new front brings, until no more comes or the front halts. It says whether nothing is left to do;
+    /// else the front halted.
+    pub fn bring_in<F: Front, L: Link>(
+        &mut self,
+        front: &mut F,
+        link: &mut L,
+    ) -> Result<bool, AllocError>
+        requires some { 0 < length (parts_of self.old.cells.program).services }
+        requires work { AtWork (⟦<Cells<'static, S> as Crewed>⟧.crew self.old.cells) }
+        requires between { Between (state_of (⟦<Cells<'static, S> as Crewed>⟧.crew self.old.cells)) (waits self.old.pendings) self.old.pendings.postings true }
+        ensures program { self.new.cells.program ≡ self.old.cells.program }
+        ensures budget { OnOk result ((state_of (⟦<Cells<'static, S> as Crewed>⟧.crew self.new.cells)).budget ≡ (state_of (⟦<Cells<'static, S> as Crewed>⟧.crew self.old.cells)).budget) }
+        ensures work { OnOk result (AtWork (⟦<Cells<'static, S> as Crewed>⟧.crew self.new.cells)) }
+        ensures goes { OnOk result (Goes (state_of (⟦<Cells<'static, S> as Crewed>⟧.crew self.old.cells)) (state_of (⟦<Cells<'static, S> as Crewed>⟧.crew self.new.cells))) }
+        ensures between { IfOk result (Between (state_of (⟦<Cells<'static, S> as Crewed>⟧.crew self.new.cells)) (waits self.new.pendings) self.new.pendings.postings) }
+        ensures toured { OnOk result (ToursBy (state_of (⟦<Cells<'static, S> as Crewed>⟧.crew self.old.cells)).setting (state_of (⟦<Cells<'static, S> as Crewed>⟧.crew self.old.cells)).history (state_of (⟦<Cells<'static, S> as Crewed>⟧.crew self.new.cells)).history (L.trips link.old) (L.trips link.new)) }
+        ensures passed { IfOk result (λ calm. (first : F) (before : Dealings) → F.dealt (parts_of self.old.cells.program) first front.old before
+            → IsNew before
+            → Passed (state_of (⟦<Cells<'static, S> as Crewed>⟧.crew self.old.cells)) (waits self.old.pendings) self.old.pendings.postings before
+            → After (F.dealt (parts_of self.old.cells.program) first front.new)
+            (Closed (state_of (⟦<Cells<'static, S> as Crewed>⟧.crew self.new.cells)) (waits self.new.pendings) self.new.pendings.postings calm)) }
+    {
+        let mut looks = 0;
+        let mut calm = true;
+        'looks: loop {
+            let halted = front.halted();
+            let going = may_ask(calm, halted, looks, self.pendings.postings());
+            if !going {
+                return Ok(calm);
+            }
+            match front.next(self.cells.program())? {
+                Next::Posting(posting) => {
+                    looks = 0;
+                    calm = self.take_in(front, link, &posting)?;
+                }
+                Next::NotYet => looks += 1,
+                Next::End => return Ok(calm),
+            }
+        }
+    }
+}
+
+/// Whether a posting may be asked for.
+fn may_ask(calm: bool, halted: bool, looks: u32, postings: u32) -> bool
+    ensures { result ≡ asks calm halted looks postings }
+{
+    calm && !halted && looks < MOST_LOOKS && postings < u32::MAX
+}

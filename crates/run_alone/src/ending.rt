@@ -1,0 +1,115 @@
+//! The end of a run.
+ghost use Rattle.std.specs.Prelude.{◌≡◌, ◌||◌, true, false, not, [], IfOk, OnOk};
+ghost use Rattle.behaviour_tree.specs.Data.{ProgramParts};
+ghost use Rattle.behaviour_tree.specs.PartsView.{parts_of};
+ghost use Rattle.office_core.specs.Legal.{IsLegal};
+ghost use Rattle.office_front.specs.Calls.{After};
+ghost use Rattle.office_front.specs.Dealings.{Dealings};
+ghost use Rattle.run_cells.specs.Crews.{AtWork, IsOurs, events_of, state_of};
+ghost use Rattle.run_posts.specs.Fates.{waits};
+ghost use Rattle.run_sweep.specs.Swept.{ToursBy};
+ghost use Rattle.run_alone.specs.Between.{Between, Closed, LeftQuiet, Rested};
+ghost use Rattle.run_alone.specs.Picks.{GoesTo};
+ghost use Rattle.run_alone.specs.Ran.{Ran};
+
+use crate::alone::Alone;
+use crate::worker::Finished;
+use jolie_trees::Bytes;
+use office_front::Front;
+use outside_links::Link;
+use run_cells::{Cells, Crewed};
+use run_record::Record;
+use run_sweep::sweep;
+use session_turn::Seating;
+use sqlite_items::Items;
+use std::alloc::{AllocError, Global};
+
+impl<S: Seating> Alone<'_, S> {
+    /// Does what is left to do, unless the front halted, stops the run, and answers what is still open.
+    pub fn finish<F: Front, L: Link>(
+        mut self,
+        front: &mut F,
+        link: &mut L,
+        text: &[u8],
+        calm: bool,
+    ) -> Result<Finished, AllocError>
+        requires work { AtWork (⟦<Cells<'static, S> as Crewed>⟧.crew self.cells) }
+        requires between { Between (state_of (⟦<Cells<'static, S> as Crewed>⟧.crew self.cells)) (waits self.pendings) self.pendings.postings calm }
+        ensures ran { IfOk result (λ finished. (first : F) (before : Dealings) → F.dealt (parts_of self.entry.cells.program) first front.old before
+            → Closed (state_of (⟦<Cells<'static, S> as Crewed>⟧.crew self.entry.cells)) (waits self.entry.pendings) self.entry.pendings.postings calm before
+            → After (F.dealt (parts_of self.entry.cells.program) first front.new)
+            (λ d. Ran (record { setting = (state_of (⟦<Cells<'static, S> as Crewed>⟧.crew self.entry.cells)).setting; budget = (state_of (⟦<Cells<'static, S> as Crewed>⟧.crew self.entry.cells)).budget }) text.now d finished)) }
+        ensures goes { IfOk result (λ finished. GoesTo (state_of (⟦<Cells<'static, S> as Crewed>⟧.crew self.entry.cells)) finished.report) }
+        ensures toured { IfOk result (λ finished. ToursBy (state_of (⟦<Cells<'static, S> as Crewed>⟧.crew self.entry.cells)).setting (state_of (⟦<Cells<'static, S> as Crewed>⟧.crew self.entry.cells)).history finished.report.history.entries.items (L.trips link.old) (L.trips link.new)) }
+    {
+        self.rest(front, link, calm)?;
+        let mut cells = self.cells;
+        let mut pendings = self.pendings;
+        cells.adopt_all()?;
+        let spent = cells.is_spent()?;
+        cells.stop();
+        pendings.collect_all(&mut cells)?;
+        pendings.tell_finished(cells.program(), front)?;
+        let report = record_of(self.alloc, text, cells)?;
+        Ok(Finished { report, spent })
+    }
+
+    /// Does what is left to do, unless the front halted.
+    fn rest<F: Front, L: Link>(
+        &mut self,
+        front: &mut F,
+        link: &mut L,
+        calm: bool,
+    ) -> Result<(), AllocError>
+        requires work { AtWork (⟦<Cells<'static, S> as Crewed>⟧.crew self.old.cells) }
+        requires between { Between (state_of (⟦<Cells<'static, S> as Crewed>⟧.crew self.old.cells)) (waits self.old.pendings) self.old.pendings.postings calm }
+        ensures program { self.new.cells.program ≡ self.old.cells.program }
+        ensures pendings { self.new.pendings ≡ self.old.pendings }
+        ensures work { OnOk result (AtWork (⟦<Cells<'static, S> as Crewed>⟧.crew self.new.cells)) }
+        ensures rested { OnOk result (Rested calm (state_of (⟦<Cells<'static, S> as Crewed>⟧.crew self.old.cells)) (state_of (⟦<Cells<'static, S> as Crewed>⟧.crew self.new.cells))) }
+        ensures toured { OnOk result (ToursBy (state_of (⟦<Cells<'static, S> as Crewed>⟧.crew self.old.cells)).setting (state_of (⟦<Cells<'static, S> as Crewed>⟧.crew self.old.cells)).history (state_of (⟦<Cells<'static, S> as Crewed>⟧.crew self.new.cells)).history (L.trips link.old) (L.trips link.new)) }
+        ensures noted { OnOk result ((parts : ProgramParts) (first : F) (before : Dealings) → F.dealt parts first front.old before
+            → (calm ≡ false → before.said.halted ≡ true)
+            → After (F.dealt parts first front.new)
+            (LeftQuiet (state_of (⟦<Cells<'static, S> as Crewed>⟧.crew self.old.cells)) (state_of (⟦<Cells<'static, S> as Crewed>⟧.crew self.new.cells)) before)) }
+    {
+        let halted = front.halted();
+        let stopped = is_stopped(calm, halted);
+        if stopped {
+            return Ok(());
+        }
+        sweep(self.alloc, &mut self.cells, front, link)?;
+        Ok(())
+    }
+}
+
+/// Whether nothing more is done: it was not calm, or the front halted.
+fn is_stopped(calm: bool, halted: bool) -> bool
+    ensures { result ≡ (not calm || halted) }
+{
+    !calm || halted
+}
+
+/// The record of a run, which has no traffic yet.
+fn record_of<S: Seating>(
+    alloc: Global,
+    text: &[u8],
+    cells: Cells<'_, S>,
+) -> Result<Record, AllocError>
+    requires ours { IsOurs (⟦<Cells<'static, S> as Crewed>⟧.crew cells) }
+    ensures program { IfOk result (λ report. report.program ≡ text.now) }
+    ensures history { IfOk result (λ report. report.history.entries.items ≡ (state_of (⟦<Cells<'static, S> as Crewed>⟧.crew cells.entry)).history) }
+    ensures sessions { IfOk result (λ report. report.sessions ≡ events_of (⟦<Cells<'static, S> as Crewed>⟧.crew cells.entry).stands) }
+    ensures traffic { IfOk result (λ report. report.traffic ≡ []) }
+    ensures legal { OnOk result (IsLegal (state_of (⟦<Cells<'static, S> as Crewed>⟧.crew cells.entry)).setting (state_of (⟦<Cells<'static, S> as Crewed>⟧.crew cells.entry)).history) }
+{
+    let program = Bytes::from_slice(alloc, text)?;
+    let traffic = Items::new(alloc);
+    let (history, sessions) = cells.into_parts()?;
+    Ok(Record {
+        program,
+        history,
+        sessions,
+        traffic,
+    })
+}

@@ -1,0 +1,9 @@
+//! One worker runs a program: it posts what a front brings in, gives the sessions their turns, and answers.
+#![tactic(auto)]
+
+mod alone;
+mod bringing;
+mod ending;
+mod worker;
+
+pub use worker::{Finished, Worker, run_alone, run_over};

@@ -1,0 +1,12 @@
+pub mod Births
+pub mod Ends
+pub mod Foreign
+pub mod Going
+pub mod Looping
+pub mod Offices
+pub mod Resting
+pub mod Seeing
+pub mod Stilling
+pub mod Teams
+pub mod Turning
+pub mod Unadopted

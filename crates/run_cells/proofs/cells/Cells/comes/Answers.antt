@@ -1,0 +1,14 @@
+-- A session is at hand, or the next one is adopted.
+use Rattle.std.proofs.Common.{◌∙◌}
+use Rattle.run_cells.proofs.Looping.{came_among, came_behind, came_ok, came_there}
+use Rattle.run_cells.proofs.cells.Cells.comes.Goals as goal
+
+pub returns-then-number-count-clause-came : goal.returns-then-number-count-clause-came
+returns-then-number-count-clause-came g c =
+    came_there _ _ (came_among _ c.args.self.now.cells.items c.args.number c.len-count.result (c.len-count.ensures ∙ c.args.self.now.cells.ok.0) c.if-number-count.true)
+
+pub returns-clause-came : goal.returns-clause-came
+returns-clause-came g c =
+    came_ok c.args.number _ _ c.adopt_next.result
+    (came_behind _ c.args.self.now.cells.items c.args.number c.len-count.result (c.len-count.ensures ∙ c.args.self.now.cells.ok.0) c.requires.within c.if-number-count.false)
+    c.adopt_next.ensures.adopts c.adopt_next.ensures.work

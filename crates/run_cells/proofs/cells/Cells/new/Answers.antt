@@ -1,0 +1,22 @@
+-- Before the first call the office has no history, and there are no sessions.
+use Rattle.std.proofs.Common.{map, ◌∙◌}
+use Rattle.behaviour_tree.specs.PartsView.{parts_of}
+use Rattle.office_core.specs.Limits.{run_of}
+use Rattle.run_cells.specs.Crews.{stand_by}
+use Rattle.run_cells.proofs.Offices.{works_begun}
+use Rattle.run_cells.proofs.cells.Cells.new.Goals as goal
+
+pub returns-clause-begun : goal.returns-clause-begun
+returns-clause-begun g c = λ i. record {
+  setting = run_of (parts_of c.args.program);
+  budget = c.args.budget;
+  history = c.in_ok-office.ensures.entries i;
+  stands = map (λ d. stand_by (g.S.Session.service_of d.session) (g.S.Session.config_of d.session) d.events) (c.new-cells.ensures.items i);
+  picks = c.args.picks.now;
+}
+
+pub returns-clause-work : goal.returns-clause-work
+returns-clause-work g c =
+    works_begun _ c.args.program c.in_ok-office.office c.args.budget _ c.args.picks.now
+    (c.in_ok-office.ensures.program ∙ c.in_ok-copy.ensures.parts) c.in_ok-office.ensures.entries
+    c.in_ok-office.ensures.ready c.new-cells.ensures.items

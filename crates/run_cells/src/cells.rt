@@ -1,0 +1,109 @@
+ghost use Rattle.std.specs.Prelude.{◌≡◌, ◌<◌, [], ◌∷◌, ◌++◌, IfOk, OnOk, length, map};
+ghost use Rattle.behaviour_tree.specs.PartsView.{parts_of};
+ghost use Rattle.office_core.specs.Limits.{run_of};
+ghost use Rattle.run_cells.specs.Crews.{AtWork, Crew, crew_by, stand_by, state_of};
+ghost use Rattle.run_cells.specs.Turns.{Adopts, fresh};
+
+use behaviour_tree::{Events, Program};
+use office_core::Birth;
+use plain_office::Office;
+use session_turn::{Seating, Session};
+use sqlite_items::Items;
+use std::alloc::{AllocError, Global};
+
+/// A session that was adopted, and its events.
+#[derive(Drop)]
+pub struct Cell<S: Session> {
+    pub(crate) session: S,
+    pub(crate) events: Events,
+}
+
+/// The sessions of a run by number, as far as they were adopted, and their office. A session has at most as many events
+/// as the budget, and each turn takes the next pick, or 0 behind the last.
+#[derive(Drop)]
+pub struct Cells<'p, S: Session> {
+    pub(crate) alloc: Global,
+    pub(crate) program: Program,
+    pub(crate) office: Office,
+    pub(crate) budget: u32,
+    pub(crate) cells: Vec<Cell<S>>,
+    pub(crate) picks: &'p [u32],
+}
+
+/// What proofs see of the sessions of a run.
+pub trait Crewed {
+    ghost crew: { Self → Crew };
+}
+
+impl<S: Session> Crewed for Cells<'_, S> {
+    ghost crew = { λ c. crew_by c.program c.office c.budget
+        (map (λ d. stand_by (S.service_of d.session) (S.config_of d.session) d.events) c.cells.items) c.picks.now };
+}
+
+impl<'p, S: Seating> Cells<'p, S> {
+    /// Before the first call.
+    pub fn new(
+        alloc: Global,
+        program: Program,
+        budget: u32,
+        picks: &'p [u32],
+    ) -> Result<Cells<'p, S>, AllocError>
+        ensures program { IfOk result (λ c. parts_of c.program ≡ parts_of program) }
+        ensures begun { IfOk result (λ c. state_of (⟦<Cells<'static, S> as Crewed>⟧.crew c)
+            ≡ record { setting = run_of (parts_of program); budget = budget; history = []; stands = []; picks = picks.now }) }
+        ensures work { IfOk result (λ c. AtWork (⟦<Cells<'static, S> as Crewed>⟧.crew c)) }
+    {
+        let copy = program.again()?;
+        let office = Office::new(alloc, copy)?;
+        let cells = Vec::new(alloc);
+        Ok(Cells {
+            alloc,
+            program,
+            office,
+            budget,
+            cells,
+            picks,
+        })
+    }
+
+    /// The program that is run.
+    pub fn program(&self) -> &Program
+        ensures { result.now ≡ self.now.program }
+    {
+        &self.program
+    }
+
+    /// Adopts the next session, if it was born.
+    pub(crate) fn adopt_next(&mut self) -> Result<bool, AllocError>
+        requires work { AtWork (⟦<Cells<'static, S> as Crewed>⟧.crew self.old) }
+        ensures program { self.new.program ≡ self.old.program }
+        ensures adopts { IfOk result (Adopts (state_of (⟦<Cells<'static, S> as Crewed>⟧.crew self.old)) (state_of (⟦<Cells<'static, S> as Crewed>⟧.crew self.new))) }
+        ensures work { OnOk result (AtWork (⟦<Cells<'static, S> as Crewed>⟧.crew self.new)) }
+    {
+        let count = self.cells.len();
+        let number = count as u32;
+        let born = self.office.adopt(number)?;
+        let Some(birth) = born else {
+            return Ok(false);
+        };
+        self.seat(birth)?;
+        Ok(true)
+    }
+
+    /// Seats the session that was adopted last, at the start of its service.
+    fn seat(&mut self, birth: Birth) -> Result<(), AllocError>
+        requires known { birth.service < length (parts_of self.old.program).services }
+        ensures program { self.new.program ≡ self.old.program }
+        ensures office { self.new.office ≡ self.old.office }
+        ensures budget { self.new.budget ≡ self.old.budget }
+        ensures picks { self.new.picks.now ≡ self.old.picks.now }
+        ensures stands { OnOk result ((⟦<Cells<'static, S> as Crewed>⟧.crew self.new).stands
+            ≡ (⟦<Cells<'static, S> as Crewed>⟧.crew self.old).stands ++ fresh (run_of (parts_of self.old.program)) birth.service ∷ []) }
+    {
+        let session = S::start(self.alloc, &self.program, birth.service)?;
+        let events = Items::new(self.alloc);
+        let cell = Cell { session, events };
+        self.cells.push(cell)?;
+        Ok(())
+    }
+}

@@ -1,0 +1,12 @@
+//! The sessions of a run on one thread and their office: adoption, turns, and the calls of the one worker.
+#![tactic(auto)]
+
+mod cells;
+mod look;
+mod parts;
+mod rounds;
+mod turns;
+mod worker;
+
+pub use cells::{Cell, Cells, Crewed};
+pub use worker::WORKER;

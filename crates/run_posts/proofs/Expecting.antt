@@ -1,0 +1,187 @@
+-- Postings are told one by one: what was told and what is still to be told are together all that is told.
+use Rattle.std.proofs.Common.{◌≡◌, ℕ, Bool, true, false, not, ◌||◌, List, [], ◌∷◌, ◌++◌, map, cond, refl, sym, ap}
+use Rattle.std.proofs.Common.{subst, ◌∙◌}
+use Rattle.std.specs.Prelude.{nat_eq, slice_get, MatchResult, Result, Ok, Err}
+use Rattle.std.specs.List.{list_any, filter}
+use Rattle.behaviour_tree.specs.declared.words.Outcome.{Outcome}
+use Rattle.office_front.specs.Dealings.{Told, Dealings}
+use Rattle.office_front.specs.Calls.{After, Tells, IsDue}
+use Rattle.order_laws.proofs.Lists.{false_left, false_right, turned, append_nil, append_assoc, any_append}
+use Rattle.run_posts.specs.declared.pending.Pending.{Pending}
+use Rattle.run_posts.specs.Fates.{Wait, is_finished, is_open, outcomes_in, told_of, wait_of}
+use Rattle.run_posts.specs.Telling.{Answers, AnswersNone, AreExpected, TellsAll, TellsOn}
+
+-- ---- the lists
+
+-- the first of a filtered list
+pub kept : {A : Type 0} (p : A → Bool) (x : A) (xs : List A) → p x ≡ true → filter p (x ∷ xs) ≡ x ∷ filter p xs
+kept p x xs h = ap (λ b. cond b (x ∷ filter p xs) (filter p xs)) h
+
+pub passed : {A : Type 0} (p : A → Bool) (x : A) (xs : List A) → p x ≡ false → filter p (x ∷ xs) ≡ filter p xs
+passed p x xs h = ap (λ b. cond b (x ∷ filter p xs) (filter p xs)) h
+
+-- Postings that stay: those that were passed by and are not finished, and those of the others that are not.
+pub kept_open : (all done rest : List Wait) (x : Wait) → is_finished x ≡ false
+    → done ++ filter is_open (x ∷ rest) ≡ filter is_open all
+    → (done ++ x ∷ []) ++ filter is_open rest ≡ filter is_open all
+kept_open all done rest x h before =
+    append_assoc done (x ∷ []) (filter is_open rest)
+    ∙ ap (λ l. done ++ l) (sym (kept is_open x rest (ap not h)))
+    ∙ before
+
+pub passed_open : (all done rest : List Wait) (x : Wait) → is_finished x ≡ true
+    → done ++ filter is_open (x ∷ rest) ≡ filter is_open all → done ++ filter is_open rest ≡ filter is_open all
+passed_open all done rest x h before = ap (λ l. done ++ l) (sym (passed is_open x rest (ap not h))) ∙ before
+
+-- the same of what stands in memory
+pub kept_pushed : (all : List Wait) (done now before rest : List Pending) (p : Pending) → before ≡ p ∷ rest
+    → is_finished (wait_of p) ≡ false → now ≡ done ++ p ∷ []
+    → map wait_of done ++ filter is_open (map wait_of before) ≡ filter is_open all
+    → map wait_of now ++ filter is_open (map wait_of rest) ≡ filter is_open all
+kept_pushed all done now before rest p steps open_yet pushed h =
+    ap (λ l. l ++ filter is_open (map wait_of rest)) (ap (map wait_of) pushed ∙ more done)
+    ∙ kept_open all (map wait_of done) (map wait_of rest) (wait_of p) open_yet
+    (subst (λ l. map wait_of done ++ filter is_open (map wait_of l) ≡ filter is_open all) steps h)
+  where
+    more : (xs : List Pending) → map wait_of (xs ++ p ∷ []) ≡ map wait_of xs ++ wait_of p ∷ []
+    more [] = refl
+    more (x ∷ xs) = ap (λ l. wait_of x ∷ l) (more xs)
+
+-- ---- what passed so far
+
+-- Of all postings those before the rest were told, as far as they are finished, and the rest is expected.
+pub record IsTelling (all rest : List Wait) (before now : Dealings) : Type 0 where
+  pub said : List Told
+  pub tells : TellsAll said before now
+  pub all_of : said ++ map told_of (filter is_finished rest) ≡ map told_of (filter is_finished all)
+  pub expected : AreExpected rest now
+
+pub telling_starts : (all : List Wait) (d : Dealings) → AreExpected all d → IsTelling all all d d
+telling_starts all d h = record {
+  said = [];
+  tells = record { told = sym (append_nil d.said.told); noted = refl; calm = λ c. c; brought = refl };
+  all_of = refl;
+  expected = h;
+}
+
+-- a posting that is not finished is passed by
+pub telling_passes : (all rest : List Wait) (x : Wait) (before now : Dealings) → is_finished x ≡ false
+    → IsTelling all (x ∷ rest) before now → IsTelling all rest before now
+telling_passes all rest x before now h t = record {
+  said = t.said;
+  tells = t.tells;
+  all_of = ap (λ l. t.said ++ map told_of l) (sym (passed is_finished x rest h)) ∙ t.all_of;
+  expected = t.expected.2;
+}
+
+-- a posting that is finished is due
+pub is_due : (all rest : List Wait) (x : Wait) (before now : Dealings) → is_finished x ≡ true
+    → IsTelling all (x ∷ rest) before now → IsDue x.place (outcomes_in x.fates) now
+is_due all rest x before now h t = record {
+  posting = t.expected.0.posting;
+  given = t.expected.0.given;
+  fit = t.expected.0.fit h;
+  untold = t.expected.0.untold;
+}
+
+expected_still : (x : Wait) (outcomes : List Outcome) (xs : List Wait) (now next : Dealings)
+    → Tells x.place outcomes now next
+    → list_any (λ (y : Wait). nat_eq x.place y.place) xs ≡ false → AreExpected xs now → AreExpected xs next
+expected_still x outcomes [] now next t apart h = tt
+expected_still x outcomes (y ∷ xs) now next t apart h = (
+  record {
+    posting = h.0.posting;
+    given = ap (λ b. slice_get b.given y.place) t.brought ∙ h.0.given;
+    fit = h.0.fit;
+    untold =
+        ap (list_any (λ (u : Told). nat_eq y.place u.place)) t.told
+        ∙ any_append (λ (u : Told). nat_eq y.place u.place) now.said.told
+        ((record { place = x.place; outcomes = outcomes }) ∷ [])
+        ∙ (λ i. h.0.untold i || (turned y.place x.place i || false))
+        ∙ ap (λ b. b || false)
+        (false_left (nat_eq x.place y.place) (list_any (λ (z : Wait). nat_eq x.place z.place) xs) apart);
+  },
+  h.1,
+  expected_still x outcomes xs now next t
+      (false_right (nat_eq x.place y.place) (list_any (λ (z : Wait). nat_eq x.place z.place) xs) apart) h.2,
+)
+
+halted_before : (now next : Dealings) (x : ℕ) (outcomes : List Outcome) → Tells x outcomes now next
+    → next.said.halted ≡ false → now.said.halted ≡ false
+halted_before now next x outcomes t h = (t.halts.calm h).0
+
+-- and it is told
+pub telling_turn : (all rest : List Wait) (x : Wait) (before now next : Dealings) → is_finished x ≡ true
+    → Tells x.place (outcomes_in x.fates) now next → IsTelling all (x ∷ rest) before now
+    → IsTelling all rest before next
+telling_turn all rest x before now next h t s = record {
+  said = s.said ++ told_of x ∷ [];
+  tells = record {
+    told =
+        t.told ∙ ap (λ l. l ++ told_of x ∷ []) s.tells.told
+        ∙ append_assoc before.said.told s.said (told_of x ∷ []);
+    noted = t.noted ∙ s.tells.noted;
+    calm = λ c. s.tells.calm (halted_before now next x.place (outcomes_in x.fates) t c);
+    brought = t.brought ∙ s.tells.brought;
+  };
+  all_of =
+      append_assoc s.said (told_of x ∷ []) (map told_of (filter is_finished rest))
+      ∙ ap (λ l. s.said ++ map told_of l) (sym (kept is_finished x rest h))
+      ∙ s.all_of;
+  expected = expected_still x (outcomes_in x.fates) rest now next t s.expected.1 s.expected.2;
+}
+
+-- at the end all were told that are finished
+pub telling_ends : (all : List Wait) (before now : Dealings) → IsTelling all [] before now
+    → TellsAll (map told_of (filter is_finished all)) before now
+telling_ends all before now t =
+    subst (λ l. TellsAll l before now) (sym (append_nil t.said) ∙ t.all_of) t.tells
+
+-- ---- a front
+
+pub tells_starts : {F : Type 0} (dealt : F → F → Dealings → Type 0) (f : F) (xs : List Wait)
+    → TellsOn dealt f f xs (IsTelling xs xs)
+tells_starts dealt f xs first before was expected = (before, was, telling_starts xs before expected)
+
+pub tells_passes : {F : Type 0} (dealt : F → F → Dealings → Type 0) (old now : F) (all rest : List Wait) (x : Wait)
+    → is_finished x ≡ false → TellsOn dealt old now all (IsTelling all (x ∷ rest))
+    → TellsOn dealt old now all (IsTelling all rest)
+tells_passes dealt old now all rest x h t first before was expected =
+    let g : After (dealt first now) (IsTelling all (x ∷ rest) before) = t first before was expected in
+    (g.0, g.1, telling_passes all rest x before g.0 h g.2)
+
+-- what a front says of it
+pub answer_said : {F T E : Type 0} (dealt : F → F → Dealings → Type 0) (old now : F) (x : Wait)
+    (outcomes : List Outcome)
+    (r : Result T E) → outcomes ≡ outcomes_in x.fates
+    → ((first : F) (before : Dealings) → dealt first old before → IsDue x.place outcomes before
+    → MatchResult r (λ _. After (dealt first now) (Tells x.place outcomes before)) (λ _. dealt first now before))
+    → MatchResult r (λ _. Answers dealt old now x) (λ _. AnswersNone dealt old now x)
+answer_said dealt old now x outcomes (Ok t) same call = λ first before was due.
+    subst (λ os. After (dealt first now) (Tells x.place os before)) same
+    (call first before was (subst (λ os. IsDue x.place os before) (sym same) due))
+answer_said dealt old now x outcomes (Err e) same call = λ first before was due.
+    call first before was (subst (λ os. IsDue x.place os before) (sym same) due)
+
+-- where memory was wanting before, nothing passed
+pub answer_not_said : {F T E : Type 0} (dealt : F → F → Dealings → Type 0) (f : F) (x : Wait) (r : Result T E) (e : E)
+    → r ≡ Err e → MatchResult r (λ _. Answers dealt f f x) (λ _. AnswersNone dealt f f x)
+answer_not_said dealt f x r e is =
+    subst (λ v. MatchResult v (λ _. Answers dealt f f x) (λ _. AnswersNone dealt f f x)) (sym is)
+    (λ first before was due. was)
+
+pub tells_turn : {F : Type 0} (dealt : F → F → Dealings → Type 0) (old mid now : F) (all rest : List Wait) (x : Wait)
+    → is_finished x ≡ true → Answers dealt mid now x → TellsOn dealt old mid all (IsTelling all (x ∷ rest))
+    → TellsOn dealt old now all (IsTelling all rest)
+tells_turn dealt old mid now all rest x h call t first before was expected =
+    let g : After (dealt first mid) (IsTelling all (x ∷ rest) before) = t first before was expected in
+    let n : After (dealt first now) (Tells x.place (outcomes_in x.fates) g.0) =
+    call first g.0 g.1 (is_due all rest x before g.0 h g.2) in
+    (n.0, n.1, telling_turn all rest x before g.0 n.0 h n.2 g.2)
+
+pub tells_ends : {F : Type 0} (dealt : F → F → Dealings → Type 0) (old now : F) (all : List Wait)
+    → TellsOn dealt old now all (IsTelling all [])
+    → TellsOn dealt old now all (TellsAll (map told_of (filter is_finished all)))
+tells_ends dealt old now all t first before was expected =
+    let g : After (dealt first now) (IsTelling all [] before) = t first before was expected in
+    (g.0, g.1, telling_ends all before g.0 g.2)

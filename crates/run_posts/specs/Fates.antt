@@ -1,0 +1,147 @@
+-- These definitions serve the proofs of runs: no promise of the program speaks of them.
+-- What becomes of the calls of postings: the entries by which they are posted, and their answers collected.
+use Rattle.std.specs.Prelude.{ℕ, suc, Bool, true, false, not, List, [], ◌∷◌, ◌++◌, map, flat_map}
+use Rattle.std.specs.Prelude.{Option, None, Some}
+use Rattle.std.specs.List.{list_all, filter_map}
+use Rattle.behaviour_tree.specs.declared.words.Outcome.{Outcome}
+use Rattle.behaviour_tree.specs.declared.words.Outcome.TheVariants as outcome
+use Rattle.office_core.specs.declared.front.CallIn.{CallIn}
+use Rattle.office_core.specs.declared.front.CallIn.TheVariants as call
+use Rattle.office_core.specs.declared.history.Act.TheVariants as act
+use Rattle.office_core.specs.declared.history.Entry.{Entry}
+use Rattle.office_core.specs.declared.post.Posted.{Posted}
+use Rattle.office_core.specs.declared.post.PostReply.{PostReply}
+use Rattle.office_core.specs.declared.post.PostReply.TheVariants as answer
+use Rattle.office_core.specs.Limits.{Setting, first_worker}
+use Rattle.office_core.specs.Past.{Past}
+use Rattle.office_core.specs.Keys.{first}
+use Rattle.office_core.specs.Accepted.{then_all}
+use Rattle.office_core.specs.Answers.{answers}
+use Rattle.office_core.specs.Route.{route, post_reply}
+use Rattle.office_front.specs.Dealings.{Told}
+use Rattle.run_posts.specs.declared.pending.Fate.{Fate}
+use Rattle.run_posts.specs.declared.pending.Fate.TheVariants.{Message, Known}
+use Rattle.run_posts.specs.declared.pending.Pending.{Pending}
+use Rattle.run_posts.specs.declared.pending.Pendings.{Pendings}
+
+-- a posting that was not answered yet, with what became of its calls
+pub record Wait : Type 0 where
+  pub place : ℕ
+  pub fates : List Fate
+
+-- a posting that waits, as it stands in memory
+abbrev pub wait_of : Pending → Wait
+wait_of p = record { place = p.place; fates = p.fates.items }
+
+-- those that were not answered yet, in order
+abbrev pub waits : Pendings → List Wait
+waits p = map wait_of p.waiting.items
+
+-- ---- posting
+
+-- what becomes of a call by the reply to its post
+abbrev pub fate_of : PostReply → Fate
+fate_of (answer.Accepted n) = Message n
+fate_of (answer.Refused why) = Known (outcome.Refused why)
+
+-- the reply to a post
+abbrev pub reply_to : Setting → Past → Posted → PostReply
+reply_to w past q = post_reply past (route w past q)
+
+-- what call i of posting j adds: its post, unless it was answered before
+abbrev pub call_entries : Setting → Past → ℕ × ℕ → CallIn → List Entry
+call_entries w past ji (call.Post q) =
+    record { actor = first_worker; act = act.Post ji.0 ji.1 q (reply_to w past q) } ∷ []
+call_entries w past ji (call.Answered o) = []
+
+-- what becomes of it
+abbrev pub call_fate : Setting → Past → CallIn → Fate
+call_fate w past (call.Post q) = fate_of (reply_to w past q)
+call_fate w past (call.Answered o) = Known o
+
+-- what calls of posting j add, the first of which has the number i
+abbrev pub posted_entries : Setting → Past → ℕ × ℕ → List CallIn → List Entry
+posted_entries w past ji [] = []
+posted_entries w past ji (c ∷ cs) =
+    call_entries w past ji c ++ posted_entries w (then_all w past (call_entries w past ji c)) (ji.0, suc ji.1) cs
+
+-- what becomes of them
+abbrev pub fates_of : Setting → Past → ℕ × ℕ → List CallIn → List Fate
+fates_of w past ji [] = []
+fates_of w past ji (c ∷ cs) =
+    call_fate w past c ∷ fates_of w (then_all w past (call_entries w past ji c)) (ji.0, suc ji.1) cs
+
+-- ---- collecting
+
+-- the message of a call whose outcome is not known yet
+abbrev pub message_in : Fate → Option ℕ
+message_in (Message n) = Some n
+message_in (Known o) = None
+
+-- those of calls
+abbrev pub messages_in : List Fate → List ℕ
+messages_in fates = filter_map message_in fates
+
+-- those of postings
+abbrev pub messages_of : List Wait → List ℕ
+messages_of xs = flat_map (λ (x : Wait). messages_in x.fates) xs
+
+-- the collection of the answer of a message, where there is one
+abbrev pub collection : ℕ → Option Outcome → List Entry
+collection n None = []
+collection n (Some o) = record { actor = first_worker; act = act.Collect n o } ∷ []
+
+-- what a call adds when its answer is collected, if it waits for one that is there
+abbrev pub collected : Setting → Past → Fate → List Entry
+collected w past (Message n) = collection n (first (answers w past n))
+collected w past (Known o) = []
+
+-- what calls add
+abbrev pub collected_in : Setting → Past → List Fate → List Entry
+collected_in w past fates = flat_map (collected w past) fates
+
+-- what postings add
+abbrev pub all_collected : Setting → Past → List Wait → List Entry
+all_collected w past xs = flat_map (λ (x : Wait). collected_in w past x.fates) xs
+
+-- a call that waits for an answer, if it is there
+abbrev pub settled_by : ℕ → Option Outcome → Fate
+settled_by n None = Message n
+settled_by n (Some o) = Known o
+
+-- what becomes of a call when its answer is collected
+abbrev pub settled : Setting → Past → Fate → Fate
+settled w past (Message n) = settled_by n (first (answers w past n))
+settled w past (Known o) = Known o
+
+-- the same of a posting
+abbrev pub settled_in : Setting → Past → Wait → Wait
+settled_in w past x = record { place = x.place; fates = map (settled w past) x.fates }
+
+-- ---- telling
+
+-- the outcome of a call, where it is known
+abbrev pub outcome_in : Fate → Option Outcome
+outcome_in (Message n) = None
+outcome_in (Known o) = Some o
+
+-- whether the outcome of a call is known
+abbrev pub is_known : Fate → Bool
+is_known (Message n) = false
+is_known (Known o) = true
+
+-- the outcomes that are known
+abbrev pub outcomes_in : List Fate → List Outcome
+outcomes_in fates = filter_map outcome_in fates
+
+-- the outcome of each call of a posting is known
+abbrev pub is_finished : Wait → Bool
+is_finished x = list_all is_known x.fates
+
+-- or not
+abbrev pub is_open : Wait → Bool
+is_open x = not (is_finished x)
+
+-- what is told of a posting
+abbrev pub told_of : Wait → Told
+told_of x = record { place = x.place; outcomes = outcomes_in x.fates }

@@ -1,0 +1,129 @@
+//! The answers of messages are collected as far as they are there.
+
+ghost use Rattle.std.specs.Prelude.{◌≡◌, ◌∷◌, [], IfOk, OnOk, map};
+ghost use Rattle.order_laws.specs.Uncollected.{AreUncollected};
+ghost use Rattle.run_cells.specs.Crews.{AtWork, IsOurs, Stays, past_in, state_of};
+ghost use Rattle.run_posts.specs.Fates.{
+  all_collected,
+  collected,
+  collected_in,
+  messages_in,
+  messages_of,
+  settled,
+  settled_by,
+  settled_in,
+  wait_of,
+  waits,
+};
+
+use crate::counter::Counter;
+use crate::pending::{Fate, Pending, Pendings};
+use behaviour_tree::Outcome;
+use std::alloc::{AllocError, Global};
+use std::mem;
+
+impl Pendings {
+    /// Collects the answers that are there.
+    pub fn collect_all<C: Counter>(&mut self, cells: &mut C) -> Result<(), AllocError>
+        requires ours { IsOurs (C.crew cells.old) }
+        requires collectable { AreUncollected (past_in (state_of (C.crew cells.old))) (messages_of (waits self.old)) }
+        ensures program { (C.crew cells.new).program ≡ (C.crew cells.old).program }
+        ensures ours { IsOurs (C.crew cells.new) }
+        ensures work { AtWork (C.crew cells.old) → OnOk result (AtWork (C.crew cells.new)) }
+        ensures collected { OnOk result (Stays (state_of (C.crew cells.old)) (state_of (C.crew cells.new))
+            (all_collected (state_of (C.crew cells.old)).setting (past_in (state_of (C.crew cells.old)))
+            (waits self.old))) }
+        ensures waiting { OnOk result (waits self.new
+            ≡ map (settled_in (state_of (C.crew cells.old)).setting (past_in (state_of (C.crew cells.old))))
+            (waits self.old)) }
+        ensures postings { self.new.postings ≡ self.old.postings }
+    {
+        let waiting = mem::replace(&mut self.waiting, Vec::new(self.alloc));
+        self.waiting = gather(self.alloc, cells, waiting)?;
+        Ok(())
+    }
+}
+
+/// Collects the answers of postings, as far as they are there.
+fn gather<C: Counter>(
+    alloc: Global,
+    cells: &mut C,
+    waiting: Vec<Pending>,
+) -> Result<Vec<Pending>, AllocError>
+    requires ours { IsOurs (C.crew cells.old) }
+    requires collectable { AreUncollected (past_in (state_of (C.crew cells.old))) (messages_of
+        (map wait_of waiting.items)) }
+    ensures program { (C.crew cells.new).program ≡ (C.crew cells.old).program }
+    ensures ours { IsOurs (C.crew cells.new) }
+    ensures work { AtWork (C.crew cells.old) → OnOk result (AtWork (C.crew cells.new)) }
+    ensures collected { OnOk result (Stays (state_of (C.crew cells.old)) (state_of (C.crew cells.new))
+        (all_collected (state_of (C.crew cells.old)).setting (past_in (state_of (C.crew cells.old)))
+        (map wait_of waiting.items))) }
+    ensures settled { IfOk result (λ all. map wait_of all.items
+        ≡ map (settled_in (state_of (C.crew cells.old)).setting (past_in (state_of (C.crew cells.old))))
+        (map wait_of waiting.items)) }
+{
+    let mut all = Vec::new(alloc);
+    for pending in waiting {
+        let place = pending.place;
+        let fates = settle_all(alloc, cells, pending.fates)?;
+        all.push(Pending { place, fates })?;
+    }
+    Ok(all)
+}
+
+/// Collects the answers of the messages of a posting, as far as they are there.
+fn settle_all<C: Counter>(
+    alloc: Global,
+    cells: &mut C,
+    fates: Vec<Fate>,
+) -> Result<Vec<Fate>, AllocError>
+    requires ours { IsOurs (C.crew cells.old) }
+    requires collectable { AreUncollected (past_in (state_of (C.crew cells.old))) (messages_in fates.items) }
+    ensures program { (C.crew cells.new).program ≡ (C.crew cells.old).program }
+    ensures ours { IsOurs (C.crew cells.new) }
+    ensures work { AtWork (C.crew cells.old) → OnOk result (AtWork (C.crew cells.new)) }
+    ensures collected { OnOk result (Stays (state_of (C.crew cells.old)) (state_of (C.crew cells.new))
+        (collected_in (state_of (C.crew cells.old)).setting (past_in (state_of (C.crew cells.old))) fates.items)) }
+    ensures settled { IfOk result (λ all. all.items
+        ≡ map (settled (state_of (C.crew cells.old)).setting (past_in (state_of (C.crew cells.old)))) fates.items) }
+{
+    let mut all = Vec::new(alloc);
+    for fate in fates {
+        let now = settle(cells, fate)?;
+        all.push(now)?;
+    }
+    Ok(all)
+}
+
+/// Collects the answer of a message, if it is there.
+#[tactic(auto, using(crate::proofs::Settling::collected_one, crate::proofs::Settling::settled_one, crate::proofs::Settling::collects_it))]
+fn settle<C: Counter>(cells: &mut C, fate: Fate) -> Result<Fate, AllocError>
+    requires ours { IsOurs (C.crew cells.old) }
+    requires collectable { AreUncollected (past_in (state_of (C.crew cells.old))) (messages_in (fate ∷ [])) }
+    ensures program { (C.crew cells.new).program ≡ (C.crew cells.old).program }
+    ensures ours { IsOurs (C.crew cells.new) }
+    ensures work { AtWork (C.crew cells.old) → OnOk result (AtWork (C.crew cells.new)) }
+    ensures collected { OnOk result (Stays (state_of (C.crew cells.old)) (state_of (C.crew cells.new))
+        (collected (state_of (C.crew cells.old)).setting (past_in (state_of (C.crew cells.old))) fate)) }
+    ensures settled { IfOk result (λ now. now ≡ settled (state_of (C.crew cells.old)).setting (past_in (state_of
+        (C.crew cells.old))) fate) }
+{
+    match fate {
+        Fate::Message(message) => {
+            let answer = cells.collect(message)?;
+            Ok(answered(message, answer))
+        }
+        Fate::Known(outcome) => Ok(Fate::Known(outcome)),
+    }
+}
+
+/// What becomes of a call by the answer of its message, if there is one.
+fn answered(message: u32, answer: Option<Outcome>) -> Fate
+    ensures { result ≡ settled_by message answer }
+{
+    match answer {
+        Some(outcome) => Fate::Known(outcome),
+        None => Fate::Message(message),
+    }
+}

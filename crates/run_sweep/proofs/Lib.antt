@@ -1,0 +1,4 @@
+pub mod Notes
+pub mod Errands
+pub mod Heard
+pub mod Rounds

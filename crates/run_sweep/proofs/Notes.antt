@@ -1,0 +1,101 @@
+-- Texts that are noted to a front, one after the other.
+use Rattle.std.proofs.Common.{◌≡◌, ◌⊎◌, ℕ, ◌≤◌, true, List, [], ◌++◌, refl, sym}
+use Rattle.std.proofs.Common.{ap, ◌∙◌, inl, inr, le_refl, append_assoc, append-nil, arith, Result, Ok, Err}
+use Rattle.std.proofs.Common.{MatchResult, IsErrAnd}
+use Rattle.outside_traits.specs.Causes.{Rose}
+use Rattle.behaviour_tree.specs.Data.{ProgramParts}
+use Rattle.office_front.specs.Dealings.{Said, Dealings}
+use Rattle.office_front.specs.Calls.{Halts, Notes}
+use Rattle.run_sweep.specs.Swept.{PassedOn, NotesMore}
+
+rose_later : (a b c : ℕ) → Rose a b → b ≤ c → Rose a c
+rose_later a b c h g = omega arith
+
+rose_sooner : (a b c : ℕ) → a ≤ b → Rose b c → Rose a c
+rose_sooner a b c h g = omega arith
+
+le_both : (a b c : ℕ) → a ≤ b → b ≤ c → a ≤ c
+le_both a b c h g = omega arith
+
+-- it halted nowhere
+halts_not : (s : Said) → Halts s s
+halts_not s = record { cause = λ h. inl h; calm = λ h. (h, refl); faults = le_refl s.faults }
+
+-- it halted in the one or in the other
+halts_on : (a b c : Said) → Halts a b → Halts b c → Halts a c
+halts_on a b c x y =
+    record {
+      cause = λ h. elim
+          (y.cause h) [ inl g ↦ before (x.cause g) | inr g ↦ inr (rose_sooner a.faults b.faults c.faults x.faults g) ];
+      calm = λ h. ((x.calm (y.calm h).0).0, (y.calm h).1 ∙ (x.calm (y.calm h).0).1);
+      faults = le_both a.faults b.faults c.faults x.faults y.faults;
+    }
+  where
+    before : (a.halted ≡ true) ⊎ Rose a.faults b.faults → (a.halted ≡ true) ⊎ Rose a.faults c.faults
+    before (inl g) = inl g
+    before (inr g) = inr (rose_later a.faults b.faults c.faults g y.faults)
+
+-- nothing was noted
+pub notes_none : (d : Dealings) → NotesMore d d
+notes_none d =
+    record {
+      text = [];
+      notes = record {
+        told = refl;
+        noted = sym (append-nil d.said.noted);
+        halts = halts_not d.said;
+        brought = refl;
+      };
+    }
+
+-- one text was noted
+pub notes_one : (text : List ℕ) (a b : Dealings) → Notes text a b → NotesMore a b
+notes_one text a b x = record { text = text; notes = x }
+
+-- some texts were noted, and then some more
+pub notes_on : (a b c : Dealings) → NotesMore a b → NotesMore b c → NotesMore a c
+notes_on a b c x y =
+    record {
+      text = x.text ++ y.text;
+      notes = record {
+        told = y.notes.told ∙ x.notes.told;
+        noted = y.notes.noted ∙ ap (λ n. n ++ y.text) x.notes.noted ∙ append_assoc a.said.noted x.text y.text;
+        halts = halts_on a.said b.said c.said x.notes.halts y.notes.halts;
+        brought = y.notes.brought ∙ x.notes.brought;
+      };
+    }
+
+-- nothing passed
+pub passed_none : {F : Type 0} (dealt : ProgramParts → F → F → Dealings → Type 0) (front : F)
+    (P : Dealings → Dealings → Type 0)
+    → ((d : Dealings) → P d d) → PassedOn dealt front front P
+passed_none dealt front P none parts first before d = (before, d, none before)
+
+-- what passed first, and then
+pub passed_on : {F : Type 0} (dealt : ProgramParts → F → F → Dealings → Type 0) (old mid new : F)
+    (P Q R : Dealings → Dealings → Type 0)
+    → PassedOn dealt old mid P → PassedOn dealt mid new Q → ((a b c : Dealings) → P a b → Q b c → R a c)
+    → PassedOn dealt old new R
+passed_on dealt old mid new P Q R x y join parts first before d =
+    let one = x parts first before d in
+    let two = y parts first one.0 one.1 in
+    (two.0, two.1, join before one.0 two.0 one.2 two.2)
+
+-- what passed says less
+pub passed_as : {F : Type 0} (dealt : ProgramParts → F → F → Dealings → Type 0) (old new : F)
+    (P Q : Dealings → Dealings → Type 0)
+    → PassedOn dealt old new P → ((a b : Dealings) → P a b → Q a b) → PassedOn dealt old new Q
+passed_as dealt old new P Q x imply parts first before d =
+    let one = x parts first before d in
+    (one.0, one.1, imply before one.0 one.2)
+
+-- what holds both where a call succeeds and where it fails
+pub both_ways : {T E : Type 0} {A B : Type 0} (r : Result T E) → A → B → MatchResult r (λ _. A) (λ _. B)
+both_ways (Ok x) a b = a
+both_ways (Err e) a b = b
+
+-- what holds where a call failed
+pub failing : {T E B : Type 0} (A : Type 0) (Q : E → Type 0) (r : Result T E) → IsErrAnd r Q → B
+    → MatchResult r (λ _. A) (λ _. B)
+failing A Q (Ok x) h b = absurd h
+failing A Q (Err y) h b = b

@@ -1,0 +1,27 @@
+-- The calls that were fetched so far were noted; those that wait are fewer each time.
+use Rattle.std.proofs.Common.{◌≡◌, List, length, Option}
+use Rattle.office_core.specs.declared.outgoing.OutKind.TheVariants as kind
+use Rattle.office_core.specs.Calls.{outgoing}
+use Rattle.outside_links.specs.Trips.{Made}
+use Rattle.run_cells.specs.Crews.{AtWork, past_in, state_of}
+use Rattle.run_sweep.specs.Swept.{Errands, NotesBy, PassedOn, ToursBy}
+use Rattle.run_sweep.proofs.console.note_all.Given as goal
+
+abbrev pub invariant-loop-out : goal.invariant-loop-out
+invariant-loop-out g l = record {
+  program : (g.C.Sessions.crew l.cells).program ≡ (g.C.Sessions.crew l.initial.cells).program;
+  work : AtWork (g.C.Sessions.crew l.cells);
+  errands : Errands (state_of (g.C.Sessions.crew l.initial.cells)).setting kind.Console
+      (state_of (g.C.Sessions.crew l.initial.cells)) (state_of (g.C.Sessions.crew l.cells)) l.moved;
+  toured : (now : Option (List Made))
+      → ToursBy (state_of (g.C.Sessions.crew l.initial.cells)).setting
+      (state_of (g.C.Sessions.crew l.initial.cells)).history (state_of (g.C.Sessions.crew l.cells)).history now now;
+  noted : PassedOn g.F.Front.dealt l.initial.front l.front
+      (NotesBy (state_of (g.C.Sessions.crew l.initial.cells)).setting
+      (state_of (g.C.Sessions.crew l.initial.cells)).history (state_of (g.C.Sessions.crew l.cells)).history);
+}
+
+abbrev pub decreases-loop-out : goal.decreases-loop-out
+decreases-loop-out g l =
+    length (outgoing (state_of (g.C.Sessions.crew l.cells)).setting
+    (past_in (state_of (g.C.Sessions.crew l.cells))) kind.Console)

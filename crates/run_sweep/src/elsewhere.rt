@@ -1,0 +1,67 @@
+//! Calls to services elsewhere.
+ghost use Rattle.std.specs.Prelude.{◌≡◌, ℕ, List, ◌∷◌, [], IfOk, OnOk};
+ghost use Rattle.std.specs.declared.option.Option.{Option};
+ghost use Rattle.behaviour_tree.specs.PartsView.{parts_of};
+ghost use Rattle.office_core.specs.declared.outgoing.OutKind.TheVariants as kind;
+ghost use Rattle.outside_links.specs.Trips.{Made, Travels};
+ghost use Rattle.run_cells.specs.Crews.{AtWork, state_of};
+ghost use Rattle.trip_laws.specs.Going.{AreSettled, IsHeard, NotedSoFar};
+ghost use Rattle.run_sweep.specs.Swept.{Cleared, ToursBy};
+
+use crate::sessions::Sessions;
+use behaviour_tree::{Outcome, Program};
+use jsonrpc_calls::{call_text, location_called, nothing_heard, outcome_heard};
+use office_core::{OutKind, Outgoing};
+use outside_links::Link;
+use outside_traits::CallError;
+use std::alloc::{AllocError, Global};
+
+/// Makes the trips of all calls to services elsewhere that wait; it says whether there was any.
+pub(crate) fn trip_all<C: Sessions, L: Link>(
+    alloc: Global,
+    cells: &mut C,
+    link: &mut L,
+) -> Result<bool, AllocError>
+    requires work { AtWork (C.crew cells.old) }
+    requires settled { AreSettled (state_of (C.crew cells.old)).setting (state_of (C.crew cells.old)).history }
+    ensures program { (C.crew cells.new).program ≡ (C.crew cells.old).program }
+    ensures work { OnOk result (AtWork (C.crew cells.new)) }
+    ensures cleared { IfOk result
+        (λ moved. Cleared (state_of (C.crew cells.old)).setting kind.Remote (state_of (C.crew cells.old))
+        (state_of (C.crew cells.new)) moved) }
+    ensures toured { OnOk result
+        (ToursBy (state_of (C.crew cells.old)).setting (state_of (C.crew cells.old)).history
+        (state_of (C.crew cells.new)).history (L.trips link.old) (L.trips link.new)) }
+    ensures noted { OnOk result
+        ((noted : List ℕ) → NotedSoFar (state_of (C.crew cells.old)).setting
+        (state_of (C.crew cells.old)).history noted
+        → NotedSoFar (state_of (C.crew cells.old)).setting (state_of (C.crew cells.new)).history noted) }
+{
+    let mut moved = false;
+    while let Some(out) = cells.fetch(OutKind::Remote)? {
+        let outcome = trip(alloc, cells.program(), link, &out)?;
+        cells.answered(out.session, out.call, outcome)?;
+        moved = true;
+    }
+    Ok(moved)
+}
+
+/// Makes the trip of a call, and gives what is heard of it.
+fn trip<L: Link>(
+    alloc: Global,
+    program: &Program,
+    link: &mut L,
+    out: &Outgoing,
+) -> Result<Outcome, AllocError>
+    ensures { IfOk result
+        (λ o. (m : Made) × (IsHeard (parts_of program.now) out.now m o)
+        × (Travels (L.trips link.old) (L.trips link.new) (m ∷ []))) }
+{
+    let text = call_text(alloc, out, program)?;
+    let location = location_called(program, out);
+    match link.trip(location, text.as_str().as_bytes()) {
+        Ok(bytes) => outcome_heard(alloc, out, bytes.as_slice()),
+        Err(CallError::Failed) => nothing_heard(alloc),
+        Err(CallError::Memory(error)) => Err(error),
+    }
+}
