@@ -118,10 +118,10 @@ said_longer parts came later first now s same h = record {
 
 -- ---- calls
 
-module _ (parts : ProgramParts) (A B C : Type 0) (a : A) (b : B) (c : C) (first before : Sides) (d : Dealings) (h : HasDealt parts first before d) where
+module _ (parts : ProgramParts) (A B C E F : Type 0) (a : A) (b : B) (c : C) (e : E) (f : F) (first before : Sides) (d : Dealings) (h : HasDealt parts first before d) where
   -- the same front, as far as its outside is concerned
   abbrev pub Same : Sides → Dealings → Type 0
-  Same now e = A × B × C × HasDealt parts first now e
+  Same now x = A × B × C × E × F × HasDealt parts first now x
 
   -- a posting is asked for
   module _ (now : Sides) (unsaid : now.output ≡ before.output) (more : List Read) (longer : now.input.reads ≡ before.input.reads ++ more) where
@@ -150,8 +150,8 @@ module _ (parts : ProgramParts) (A B C : Type 0) (a : A) (b : B) (c : C) (first 
         → MatchResult result (λ next. (x : Brought) × HasBrought first.input now.input x × Came parts next d.brought x) (λ _. HasBrought first.input now.input d.brought)
         → MatchResult result (λ next. After (Same now) (Asks parts next d)) (λ _. Same now d)
     asked-so (Ok next) came =
-        (record { brought = came.0; said = d.said }, (a, b, c, with_brought came.0 came.1), record { came = came.2; silent = refl })
-    asked-so (Err e) kept = (a, b, c, with_brought d.brought kept)
+        (record { brought = came.0; said = d.said }, (a, b, c, e, f, with_brought came.0 came.1), record { came = came.2; silent = refl })
+    asked-so (Err error) kept = (a, b, c, e, f, with_brought d.brought kept)
 
   -- something is said
   module _ (now : Sides) (unasked : now.input ≡ before.input) where
@@ -187,7 +187,7 @@ module _ (parts : ProgramParts) (A B C : Type 0) (a : A) (b : B) (c : C) (first 
         let s = went.0 in
         let placed = subst (λ l. list_all (is_given (length before.input.reads)) l ≡ true) (sym went.2) (placed_more (record { place = place; outcomes = outcomes }) (due_given place outcomes due)) in (
           record { brought = d.brought; said = s },
-          (a, b, c, with_said s went.1 placed),
+          (a, b, c, e, f, with_said s went.1 placed),
           record { told = went.2; noted = went.3; halts = went.4; brought = refl },
         )
 
@@ -199,13 +199,13 @@ module _ (parts : ProgramParts) (A B C : Type 0) (a : A) (b : B) (c : C) (first 
         let s = went.0 in
         let placed = subst (λ l. list_all (is_given (length before.input.reads)) l ≡ true) (sym went.2) h.places in (
           record { brought = d.brought; said = s },
-          (a, b, c, with_said s went.1 placed),
+          (a, b, c, e, f, with_said s went.1 placed),
           record { told = went.2; noted = went.3; halts = went.4; brought = refl },
         )
 
   -- want of memory before anything is said
-  pub untold-so : {T E : Type 0} (r : Result T E) (e : E) (now : Sides) (place : ℕ) (outcomes : List Outcome) → now ≡ before → r ≡ Err e
+  pub untold-so : {T X : Type 0} (r : Result T X) (x : X) (now : Sides) (place : ℕ) (outcomes : List Outcome) → now ≡ before → r ≡ Err x
       → MatchResult r (λ _. After (Same now) (Tells place outcomes d)) (λ _. Same now d)
-  untold-so r e now place outcomes same is =
+  untold-so r x now place outcomes same is =
       subst (λ v. MatchResult v (λ _. After (Same now) (Tells place outcomes d)) (λ _. Same now d)) (sym is)
-      (a, b, c, subst (λ s. HasDealt parts first s d) (sym same) h)
+      (a, b, c, e, f, subst (λ s. HasDealt parts first s d) (sym same) h)

@@ -9,6 +9,7 @@ use Rattle.line_front.specs.declared.piece.Piece.{Piece}
 use Rattle.line_front.specs.declared.piece.Piece.TheVariants as piece
 use Rattle.line_front.specs.declared.next_line.Step.{Step}
 use Rattle.line_front.specs.declared.next_line.Step.TheVariants as step
+use Rattle.line_front.specs.Reading.{Fails}
 use Rattle.line_front.specs.Steps.{Reading, reading, Grows, ReadsPiece, IsAsBefore, IsNext, Looks, IsIdle, Comes, last_step, step_after}
 use Rattle.line_front.proofs.Splitting.{lines-passed}
 use Rattle.line_front.proofs.Postings.{said_lines-more_blank}
@@ -126,6 +127,22 @@ module _ (before now : Reading) (unended : IsOpen before.passing.rest) (ended : 
 -- the line that comes next is there
 pub line_there : (s : Step) (n : ℕ) (before now : Reading) → s ≡ step.Line n → Looks s before now → IsLine n now.passing.rest
 line_there s n before now is looks = let k : IsNext (step.Line n) before now = subst (λ v. IsNext v before now) is looks.found in k.1
+
+-- what was found, by the step that it is
+pub found_as : (s t : Step) (before now : Reading) → s ≡ t → Looks s before now → IsNext t before now
+found_as s t before now is looks = subst (λ v. IsNext v before now) is looks.found
+
+-- ---- failures
+
+-- where the source did not fail, what was said of it still holds
+pub fails-calm : (failed later : Bool) (count before now : ℕ) → later ≡ failed → now ≡ before → Fails failed count before → Fails later count now
+fails-calm failed later count before now same calm h = subst (λ b. Fails b count now) (sym same) (subst (Fails failed count) (sym calm) h)
+
+-- where it failed, it failed since
+pub fails-cut : (failed later : Bool) (count before now : ℕ) → later ≡ true → Rose before now → before ≤ now → Fails failed count before → Fails later count now
+fails-cut false later count before now is rose more h = subst (λ b. Fails b count now) (sym is) (subst (λ n. Rose n now) h rose)
+fails-cut true later count before now is rose more h =
+    let since : Rose count now = omega arith in subst (λ b. Fails b count now) (sym is) since
 
 -- ---- want of memory
 

@@ -3,4 +3,5 @@ pub mod Told
 pub mod Reading
 pub mod Writing
 pub mod Dealt
+pub mod Keeping
 pub mod Steps

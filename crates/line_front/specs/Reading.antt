@@ -37,6 +37,11 @@ came_in now = map came_by now.reads
 abbrev pub asked_of : ℕ → List Asked
 asked_of count = map (λ n. record { traffic = 0; request = n }) (numbers_from 0 count)
 
+-- a source that had failed so often before failed since then, or did not
+abbrev pub Fails : Bool → ℕ → ℕ → Type 0
+Fails false before now = now ≡ before
+Fails true before now = Rose before now
+
 -- What came in, until the front has no posting any more and then: of the lines that were passed; of all lines, the last
 -- of which needs no end, once the source is at its end; of those that were passed, where there were the most postings;
 -- and of all that have their end, once the source failed.

@@ -46,8 +46,8 @@ pub data HasWritten (first now : Output) (noted : List ℕ) (due : Due) : Type 0
       → IsFront now.written due.lines → IsFront noted due.notes
       → IsProperFront now.written due.lines ⊎ IsProperFront noted due.notes → HasWritten first now noted due
 
--- What was said to a front, since its output was the first: the lines of what it was told, in the order in which it was,
--- and the notes are what its sinks took, unless it halted.
+-- What was said to a front, since its output was the first: the lines of what it was told, in the order in which it
+-- was, and the notes are what its sinks took, unless it halted.
 pub record HasSaid (parts : ProgramParts) (came : List Came) (first now : Output) (s : Said) : Type 0 where
   pub written : Appends first.lines.taken now.lines.taken now.written
   pub notes : List ℕ

@@ -3,6 +3,7 @@
 #![tactic(auto)]
 
 mod front;
+mod kept;
 mod lines;
 mod next_line;
 mod piece;
@@ -12,3 +13,4 @@ mod response;
 mod writing;
 
 pub use front::LineFront;
+pub use kept::Kept;

@@ -1,12 +1,12 @@
 //! The postings of the lines of a source.
 
-ghost use Rattle.std.specs.Prelude.{◌≡◌, ◌<◌, ◌+◌, ◌++◌, ◌∷◌, ◌||◌, [], false, true, length, nat_le, take, drop, List, IfOk, OnOk, OnErr, MatchResult};
+ghost use Rattle.std.specs.Prelude.{◌≡◌, ℕ, ◌<◌, ◌+◌, ◌++◌, ◌∷◌, ◌||◌, [], false, true, length, nat_le, take, drop, List, IfOk, OnOk, OnErr, MatchResult};
 ghost use Rattle.behaviour_tree.specs.Data.{ProgramParts};
 ghost use Rattle.jsonrpc_text.specs.declared.message.Read.{Read as Said};
 ghost use Rattle.office_front.specs.Dealings.{Brought};
 ghost use Rattle.office_front.specs.Calls.{most_postings, Came};
 ghost use Rattle.line_front.specs.Passing.{nothing_read, read_in, IsLine};
-ghost use Rattle.line_front.specs.Reading.{Input, input_of, HasBrought};
+ghost use Rattle.line_front.specs.Reading.{Input, input_of, Fails, HasBrought};
 ghost use Rattle.line_front.specs.Steps.{GivesLine};
 
 use crate::lines::Lines;
@@ -21,12 +21,13 @@ use std::alloc::{AllocError, Global};
 /// The most postings of a front: the lines behind them are passed over.
 const MOST_POSTINGS: usize = 4_294_967_295;
 
-/// What was read of a source, what its lines said, and whether nothing more is read.
+/// What was read of a source, what its lines said, whether nothing more is read, and whether the source failed.
 #[derive(Drop)]
 pub(crate) struct Reader {
     pub(crate) lines: Lines,
     pub(crate) reads: Items<Read>,
     pub(crate) over: bool,
+    pub(crate) failed: bool,
 }
 
 impl Reader {
@@ -34,11 +35,13 @@ impl Reader {
         ensures lines { result.lines ≡ nothing_read }
         ensures reads { result.reads ≡ [] }
         ensures over { result.over ≡ false }
+        ensures failed { result.failed ≡ false }
     {
         Reader {
             lines: Lines::new(alloc),
             reads: Items::new(alloc),
             over: false,
+            failed: false,
         }
     }
 
@@ -54,6 +57,7 @@ impl Reader {
             (λ next. (now : Brought) × HasBrought first (input_of self.new.lines self.new.reads self.new.over (S.left source.new) (S.faults source.new)) now × Came parts next before now)
             (λ _. HasBrought first (input_of self.new.lines self.new.reads self.new.over (S.left source.new) (S.faults source.new)) before) }
         ensures longer { (more : List Said) × (self.new.reads ≡ self.old.reads ++ more) }
+        ensures failed { (count : ℕ) → Fails self.old.failed count (S.faults source.old) → Fails self.new.failed count (S.faults source.new) }
     {
         if self.has_all() {
             return Ok(Next::End);
@@ -63,7 +67,10 @@ impl Reader {
             Step::Line(length) => self.give_line(alloc, length),
             Step::Last => self.give_last(alloc),
             Step::End => Ok(self.end()),
-            Step::Cut => Ok(self.end()),
+            Step::Cut => {
+                self.failed = true;
+                Ok(self.end())
+            }
         }
     }
 
@@ -81,6 +88,7 @@ impl Reader {
         ensures passed { OnOk result (self.new.lines.passed ≡ self.old.lines.passed ++ take length self.old.lines.rest ++ 10 ∷ []) }
         ensures rest { OnOk result (self.new.lines.rest ≡ drop (length + 1) self.old.lines.rest) }
         ensures over { self.new.over ≡ self.old.over }
+        ensures failed { self.new.failed ≡ self.old.failed }
         ensures lines { OnErr result (self.new.lines ≡ self.old.lines) }
         ensures reads { OnErr result (self.new.reads ≡ self.old.reads) }
     {
@@ -95,6 +103,7 @@ impl Reader {
         ensures over { OnOk result (self.new.over ≡ true) }
         ensures lines { self.new.lines ≡ self.old.lines }
         ensures still { OnErr result (self.new.over ≡ self.old.over) }
+        ensures failed { self.new.failed ≡ self.old.failed }
         ensures reads { OnErr result (self.new.reads ≡ self.old.reads) }
     {
         let next = keep(alloc, self.lines.rest(), &mut self.reads)?;
@@ -106,6 +115,7 @@ impl Reader {
     fn end(&mut self) -> Next
         ensures end { result ≡ Next.End }
         ensures over { self.new.over ≡ true }
+        ensures failed { self.new.failed ≡ self.old.failed }
         ensures lines { self.new.lines ≡ self.old.lines }
         ensures reads { self.new.reads ≡ self.old.reads }
     {
@@ -121,6 +131,7 @@ impl Reader {
             lines,
             reads: _,
             over: _,
+            failed: _,
         } = self;
         lines.into_bytes()
     }

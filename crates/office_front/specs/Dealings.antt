@@ -9,8 +9,8 @@ pub record Asked : Type 0 where
   pub traffic : ℕ
   pub request : ℕ
 
--- The postings that a front gave, each with whose request it is, and those that are left, where they are told; how often
--- in a row it had none yet; whether it ended; and how often what it reads failed.
+-- The postings that a front gave, each with whose request it is, and those that are left, where they are told; how
+-- often in a row it had none yet; whether it ended; and how often what it reads failed.
 pub record Brought : Type 0 where
   pub given : List Posting
   pub asked : List Asked

@@ -5,6 +5,7 @@ use Rattle.behaviour_tree.specs.PartsView.{parts_of}
 use Rattle.line_front.specs.Reading.{input_of}
 use Rattle.line_front.specs.Writing.{taking, output_of}
 use Rattle.line_front.specs.Dealt.{sides_of}
+use Rattle.line_front.specs.Keeping.{sides_in}
 use Rattle.line_front.proofs.Saying.{told-halted, told-written}
 use Rattle.line_front.proofs.Dealing.{told-so, untold-so}
 use Rattle.line_front.proofs.front.LineFrontFront.answer.Goals as goal
@@ -12,20 +13,20 @@ use Rattle.line_front.proofs.front.LineFrontFront.answer.Goals as goal
 pub returns-then-self : goal.returns-then-self
 returns-then-self g c = record {
   told = λ first before h due.
-      told-so (parts_of c.args.program.now) _ _ _ h.0 h.1 h.2 _ _ before h.3
-      (sides_of (input_of c.args.self.now.reader.lines c.args.self.now.reader.reads c.args.self.now.reader.over (g.S.Source.left c.args.self.now.source.now) (g.S.Source.faults c.args.self.now.source.now))
-      (output_of (taking (g.K.Sink.taken c.args.self.now.output.now) (g.K.Sink.faults c.args.self.now.output.now)) (taking (g.N.Sink.taken c.args.self.now.notes.now) (g.N.Sink.faults c.args.self.now.notes.now)) c.args.self.now.written.items c.args.self.now.halted))
+      told-so (parts_of c.args.program.now) _ _ _ _ _ h.0 h.1 h.2 h.3 h.4 _ _ before h.5
+      (sides_in c.args.self.now.kept.now (g.S.Source.left c.args.self.now.source.now) (g.S.Source.faults c.args.self.now.source.now)
+      (taking (g.K.Sink.taken c.args.self.now.output.now) (g.K.Sink.faults c.args.self.now.output.now)) (taking (g.N.Sink.taken c.args.self.now.notes.now) (g.N.Sink.faults c.args.self.now.notes.now)))
       refl c.args.place c.args.outcomes.now due
-      (told-halted (parts_of c.args.program.now) _ _ _ before.said h.3.said (record { place = c.args.place; outcomes = c.args.outcomes.now }) c.if-self.true);
+      (told-halted (parts_of c.args.program.now) _ _ _ before.said h.5.said (record { place = c.args.place; outcomes = c.args.outcomes.now }) c.if-self.true);
 }
 
 pub returns-in_err-line : goal.returns-in_err-line
 returns-in_err-line g c = record {
   told = λ first before h due.
       let wanting = err_from_is_err_and c.from_residual.result c.from_residual.ensures.1 in
-      untold-so (parts_of c.args.program.now) _ _ _ h.0 h.1 h.2 _ _ before h.3 c.from_residual.result wanting.0
-      (sides_of (input_of c.args.self.now.reader.lines c.args.self.now.reader.reads c.args.self.now.reader.over (g.S.Source.left c.args.self.now.source.now) (g.S.Source.faults c.args.self.now.source.now))
-      (output_of (taking (g.K.Sink.taken c.args.self.now.output.now) (g.K.Sink.faults c.args.self.now.output.now)) (taking (g.N.Sink.taken c.args.self.now.notes.now) (g.N.Sink.faults c.args.self.now.notes.now)) c.args.self.now.written.items c.args.self.now.halted))
+      untold-so (parts_of c.args.program.now) _ _ _ _ _ h.0 h.1 h.2 h.3 h.4 _ _ before h.5 c.from_residual.result wanting.0
+      (sides_in c.args.self.now.kept.now (g.S.Source.left c.args.self.now.source.now) (g.S.Source.faults c.args.self.now.source.now)
+      (taking (g.K.Sink.taken c.args.self.now.output.now) (g.K.Sink.faults c.args.self.now.output.now)) (taking (g.N.Sink.taken c.args.self.now.notes.now) (g.N.Sink.faults c.args.self.now.notes.now)))
       c.args.place c.args.outcomes.now refl wanting.1;
 }
 
@@ -33,23 +34,23 @@ pub returns-in_err-cut : goal.returns-in_err-cut
 returns-in_err-cut g c = record {
   told = λ first before h due.
       let wanting = err_from_is_err_and c.from_residual-in_err-cut.result c.from_residual-in_err-cut.ensures.1 in
-      untold-so (parts_of c.args.program.now) _ _ _ h.0 h.1 h.2 _ _ before h.3 c.from_residual-in_err-cut.result wanting.0
-      (sides_of (input_of c.args.self.now.reader.lines c.args.self.now.reader.reads c.args.self.now.reader.over (g.S.Source.left c.args.self.now.source.now) (g.S.Source.faults c.args.self.now.source.now))
-      (output_of (taking (g.K.Sink.taken c.write_kept.new.sink) (g.K.Sink.faults c.write_kept.new.sink)) (taking (g.N.Sink.taken c.args.self.now.notes.now) (g.N.Sink.faults c.args.self.now.notes.now)) c.write_kept.new.written.items c.args.self.now.halted))
+      untold-so (parts_of c.args.program.now) _ _ _ _ _ h.0 h.1 h.2 h.3 h.4 _ _ before h.5 c.from_residual-in_err-cut.result wanting.0
+      (sides_in (record c.args.self.now.kept.now { written = c.write_kept.new.written }) (g.S.Source.left c.args.self.now.source.now) (g.S.Source.faults c.args.self.now.source.now)
+      (taking (g.K.Sink.taken c.write_kept.new.sink) (g.K.Sink.faults c.write_kept.new.sink)) (taking (g.N.Sink.taken c.args.self.now.notes.now) (g.N.Sink.faults c.args.self.now.notes.now)))
       c.args.place c.args.outcomes.now
-      (ap₂ (λ k w. (sides_of (input_of c.args.self.now.reader.lines c.args.self.now.reader.reads c.args.self.now.reader.over (g.S.Source.left c.args.self.now.source.now) (g.S.Source.faults c.args.self.now.source.now))
-      (output_of (taking (g.K.Sink.taken k) (g.K.Sink.faults k)) (taking (g.N.Sink.taken c.args.self.now.notes.now) (g.N.Sink.faults c.args.self.now.notes.now)) w c.args.self.now.halted))) c.in_err-cut.ensures.1 c.in_err-cut.ensures.0)
+      (ap₂ (λ k w. (sides_of (input_of c.args.self.now.kept.now.reader.lines c.args.self.now.kept.now.reader.reads c.args.self.now.kept.now.reader.over (g.S.Source.left c.args.self.now.source.now) (g.S.Source.faults c.args.self.now.source.now))
+      (output_of (taking (g.K.Sink.taken k) (g.K.Sink.faults k)) (taking (g.N.Sink.taken c.args.self.now.notes.now) (g.N.Sink.faults c.args.self.now.notes.now)) w c.args.self.now.kept.now.halted))) c.in_err-cut.ensures.1 c.in_err-cut.ensures.0)
       wanting.1;
 }
 
 pub returns : goal.returns
 returns g c = record {
   told = λ first before h due.
-      told-so (parts_of c.args.program.now) _ _ _ h.0 h.1 h.2 _ _ before h.3
-      (sides_of (input_of c.args.self.now.reader.lines c.args.self.now.reader.reads c.args.self.now.reader.over (g.S.Source.left c.args.self.now.source.now) (g.S.Source.faults c.args.self.now.source.now))
-      (output_of (taking (g.K.Sink.taken c.write_kept.new.sink) (g.K.Sink.faults c.write_kept.new.sink)) (taking (g.N.Sink.taken c.args.self.now.notes.now) (g.N.Sink.faults c.args.self.now.notes.now)) c.write_kept.new.written.items c.in_ok-cut.cut))
+      told-so (parts_of c.args.program.now) _ _ _ _ _ h.0 h.1 h.2 h.3 h.4 _ _ before h.5
+      (sides_in (record c.args.self.now.kept.now { written = c.write_kept.new.written; halted = c.in_ok-cut.cut }) (g.S.Source.left c.args.self.now.source.now) (g.S.Source.faults c.args.self.now.source.now)
+      (taking (g.K.Sink.taken c.write_kept.new.sink) (g.K.Sink.faults c.write_kept.new.sink)) (taking (g.N.Sink.taken c.args.self.now.notes.now) (g.N.Sink.faults c.args.self.now.notes.now)))
       refl c.args.place c.args.outcomes.now due
-      (told-written (parts_of c.args.program.now) _ _ _ before.said h.3.said (record { place = c.args.place; outcomes = c.args.outcomes.now })
+      (told-written (parts_of c.args.program.now) _ _ _ before.said h.5.said (record { place = c.args.place; outcomes = c.args.outcomes.now })
       (output_of (taking (g.K.Sink.taken c.write_kept.new.sink) (g.K.Sink.faults c.write_kept.new.sink)) (taking (g.N.Sink.taken c.args.self.now.notes.now) (g.N.Sink.faults c.args.self.now.notes.now)) c.write_kept.new.written.items c.in_ok-cut.cut)
       c.as_bytes.result.now c.in_ok-cut.ensures.0 c.if-self.false (c.as_bytes.ensures.value ∙ c.in_ok-line.ensures)
       c.in_ok-cut.ensures.1 refl c.in_ok-cut.ensures.3 c.in_ok-cut.ensures.2);

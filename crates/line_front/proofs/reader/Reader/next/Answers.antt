@@ -4,9 +4,10 @@ use Rattle.std.proofs.lemmas.Result.{err_from_is_err_and}
 use Rattle.office_front.specs.Dealings.{Brought}
 use Rattle.office_front.specs.Calls.{Came}
 use Rattle.line_front.specs.Reading.{input_of, HasBrought}
+use Rattle.line_front.specs.declared.next_line.Step.TheVariants as step
 use Rattle.line_front.specs.Steps.{reading}
 use Rattle.line_front.proofs.Postings.{all_passed, brought-ended, looked-unfound, looked-line, looked-last, looked-end, looked-cut, no_longer, longer-by}
-use Rattle.line_front.proofs.Pieces.{at_error, line_there}
+use Rattle.line_front.proofs.Pieces.{at_error, line_there, found_as, fails-calm, fails-cut}
 use Rattle.line_front.proofs.reader.Reader.next.Goals as goal
 
 pub returns-then-has_all-clause-came : goal.returns-then-has_all-clause-came
@@ -16,6 +17,9 @@ returns-then-has_all-clause-came g c = λ parts first before has_one h yet.
 
 pub returns-then-has_all-clause-longer : goal.returns-then-has_all-clause-longer
 returns-then-has_all-clause-longer g c = no_longer c.args.self.now.reads c.args.self.now.reads refl
+
+pub returns-then-has_all-clause-failed : goal.returns-then-has_all-clause-failed
+returns-then-has_all-clause-failed g c = λ count h. h
 
 pub returns-in_err-step-clause-came : goal.returns-in_err-step-clause-came
 returns-in_err-step-clause-came g c = λ parts first before has_one h yet.
@@ -28,6 +32,10 @@ returns-in_err-step-clause-came g c = λ parts first before has_one h yet.
 
 pub returns-in_err-step-clause-longer : goal.returns-in_err-step-clause-longer
 returns-in_err-step-clause-longer g c = no_longer c.args.self.now.reads c.args.self.now.reads refl
+
+pub returns-in_err-step-clause-failed : goal.returns-in_err-step-clause-failed
+returns-in_err-step-clause-failed g c = λ count.
+    fails-calm c.args.self.now.failed c.args.self.now.failed count (g.S.Source.faults c.args.source.now) (g.S.Source.faults c.next_line.new.source) refl c.in_err-step.ensures.1
 
 pub give_line-requires : goal.give_line-requires
 give_line-requires g c = line_there c.in_ok-step.step c.in-Line.length (reading c.args.self.now.lines (g.S.Source.left c.args.source.now) (g.S.Source.faults c.args.source.now))
@@ -45,6 +53,12 @@ pub returns-in-Line-clause-longer : goal.returns-in-Line-clause-longer
 returns-in-Line-clause-longer g c =
     longer-by c.give_line.result (take c.in-Line.length c.next_line.new.lines.rest) c.args.self.now.reads c.give_line.new.self.reads c.give_line.ensures.gives c.give_line.ensures.reads
 
+pub returns-in-Line-clause-failed : goal.returns-in-Line-clause-failed
+returns-in-Line-clause-failed g c = λ count.
+    fails-calm c.args.self.now.failed c.give_line.new.self.failed count (g.S.Source.faults c.args.source.now) (g.S.Source.faults c.next_line.new.source) c.give_line.ensures.failed
+    (found_as c.in_ok-step.step (step.Line c.in-Line.length) (reading c.args.self.now.lines (g.S.Source.left c.args.source.now) (g.S.Source.faults c.args.source.now))
+    (reading c.next_line.new.lines (g.S.Source.left c.next_line.new.source) (g.S.Source.faults c.next_line.new.source)) c.in-Line.is c.in_ok-step.ensures).0
+
 pub returns-in-Last-clause-came : goal.returns-in-Last-clause-came
 returns-in-Last-clause-came g c = λ parts first before has_one h yet.
     looked-last first c.args.self.now.reads c.args.self.now.over (reading c.args.self.now.lines (g.S.Source.left c.args.source.now) (g.S.Source.faults c.args.source.now))
@@ -56,6 +70,12 @@ pub returns-in-Last-clause-longer : goal.returns-in-Last-clause-longer
 returns-in-Last-clause-longer g c =
     longer-by c.give_last.result c.next_line.new.lines.rest c.args.self.now.reads c.give_last.new.self.reads c.give_last.ensures.gives c.give_last.ensures.reads
 
+pub returns-in-Last-clause-failed : goal.returns-in-Last-clause-failed
+returns-in-Last-clause-failed g c = λ count.
+    fails-calm c.args.self.now.failed c.give_last.new.self.failed count (g.S.Source.faults c.args.source.now) (g.S.Source.faults c.next_line.new.source) c.give_last.ensures.failed
+    (found_as c.in_ok-step.step step.Last (reading c.args.self.now.lines (g.S.Source.left c.args.source.now) (g.S.Source.faults c.args.source.now))
+    (reading c.next_line.new.lines (g.S.Source.left c.next_line.new.source) (g.S.Source.faults c.next_line.new.source)) c.in-Last.is c.in_ok-step.ensures).0
+
 pub returns-in-End-clause-came : goal.returns-in-End-clause-came
 returns-in-End-clause-came g c = λ parts first before has_one h yet.
     looked-end first c.args.self.now.reads c.args.self.now.over (reading c.args.self.now.lines (g.S.Source.left c.args.source.now) (g.S.Source.faults c.args.source.now))
@@ -66,6 +86,12 @@ returns-in-End-clause-came g c = λ parts first before has_one h yet.
 pub returns-in-End-clause-longer : goal.returns-in-End-clause-longer
 returns-in-End-clause-longer g c = no_longer c.args.self.now.reads c.end.new.self.reads c.end.ensures.reads
 
+pub returns-in-End-clause-failed : goal.returns-in-End-clause-failed
+returns-in-End-clause-failed g c = λ count.
+    fails-calm c.args.self.now.failed c.end.new.self.failed count (g.S.Source.faults c.args.source.now) (g.S.Source.faults c.next_line.new.source) c.end.ensures.failed
+    (found_as c.in_ok-step.step step.End (reading c.args.self.now.lines (g.S.Source.left c.args.source.now) (g.S.Source.faults c.args.source.now))
+    (reading c.next_line.new.lines (g.S.Source.left c.next_line.new.source) (g.S.Source.faults c.next_line.new.source)) c.in-End.is c.in_ok-step.ensures).0
+
 pub returns-in-Cut-clause-came : goal.returns-in-Cut-clause-came
 returns-in-Cut-clause-came g c = λ parts first before has_one h yet.
     looked-cut first c.args.self.now.reads c.args.self.now.over (reading c.args.self.now.lines (g.S.Source.left c.args.source.now) (g.S.Source.faults c.args.source.now))
@@ -75,3 +101,9 @@ returns-in-Cut-clause-came g c = λ parts first before has_one h yet.
 
 pub returns-in-Cut-clause-longer : goal.returns-in-Cut-clause-longer
 returns-in-Cut-clause-longer g c = no_longer c.args.self.now.reads c.end-in-Cut.new.self.reads c.end-in-Cut.ensures.reads
+
+pub returns-in-Cut-clause-failed : goal.returns-in-Cut-clause-failed
+returns-in-Cut-clause-failed g c = λ count.
+    fails-cut c.args.self.now.failed c.end-in-Cut.new.self.failed count (g.S.Source.faults c.args.source.now) (g.S.Source.faults c.next_line.new.source) c.end-in-Cut.ensures.failed
+    (found_as c.in_ok-step.step step.Cut (reading c.args.self.now.lines (g.S.Source.left c.args.source.now) (g.S.Source.faults c.args.source.now))
+    (reading c.next_line.new.lines (g.S.Source.left c.next_line.new.source) (g.S.Source.faults c.next_line.new.source)) c.in-Cut.is c.in_ok-step.ensures).0 c.in_ok-step.ensures.same.grows.later
