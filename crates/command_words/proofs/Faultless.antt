@@ -13,9 +13,8 @@ use Rattle.clap.specs.Kinds.{check_kinds, or_else}
 use Rattle.clap.specs.Faults.{check_fault, defaults_fault, entered_fault, level_fault, other_fault, settle_fault, step_fault, turn_fault, walk_fault, word_fault}
 use Rattle.clap.specs.declared.error.kind.ErrorKind.TheVariants as kind
 use Rattle.command_words.specs.Grammar.{program}
-use Rattle.command_words.specs.Usage.{action_of, command_entered, file_in, with_file}
+use Rattle.command_words.specs.Usage.{Asked, Values, action_of, asked_in, file_in, values_in, with_file}
 use Rattle.command_words.specs.declared.table.Action.{Action}
-use Rattle.command_words.specs.declared.words.Command.{Command}
 use Rattle.command_words.proofs.Entered.{HasName, subcommand_or_other_named}
 use Rattle.command_words.proofs.Origins.{IsFit, both_true, cons_nil, first_is_there, fit_is, fits}
 use Rattle.command_words.proofs.ProgramBuilt.{Suits, bare_names, each_of, file, found_each, found_shape, is_command, is_known, shapes_known, shapes_suit}
@@ -117,9 +116,11 @@ given_of (a ∷ rest) rows none some =
     go true false false same given none some later = absurd (true≢false none)
     go false b g same given none some later = later none some
 
-with_both : (asked : Option Action) (file : Option Text) → is_some asked ≡ true → (v : Text) × (file ≡ Some v) → (c : Command) × (with_file asked file ≡ Some c)
-with_both None file e there = absurd (true≢false (sym e))
-with_both (Some a) file e there = (record { action = a; file = there.0 }, ap (with_file (Some a)) there.1)
+with_both : (asked : Option Action) (file : Option Text) (values : Values) → is_some asked ≡ true → (v : Text) × (file ≡ Some v)
+    → (a : Asked) × (with_file asked file values ≡ Some a)
+with_both None file values e there = absurd (true≢false (sym e))
+with_both (Some act) file values e there =
+    (record { action = act; file = there.0; values = values }, ap (λ file. with_file (Some act) file values) there.1)
 
 -- the kinds of one level but those of its words
 abbrev pub end_of : Shape → Names → List Text → Held
@@ -144,23 +145,23 @@ not_first true b e f = absurd (true≢false e)
 not_first false b e f = f
 
 shape_enters : (s : Shape) (words : List Text) → Suits s → is_known s ≡ true → IsOther s.name → level_fault s [] nothing_held words false [] ≡ []
-    → (c : Command) × (command_entered (Some (rows_at s words)) ≡ Some c)
+    → (a : Asked) × (asked_in (Some (rows_at s words)) ≡ Some a)
 shape_enters s words suit known other none =
     let is = both_true (is_some (action_of s.name)) (list_any wants_file s.rules) (not_first (bytes_eq s.name (codes "help")) (is_command s) other known) in
     let rows = rows_after s.rules [] words in
     let checks = (level_checks s [] words false [] none).2 in
     let given = given_of s.rules rows (beside_no_subcommand s.subcommand_negates_reqs (list_any (lacks rows) s.rules) (no_third _ _ _ checks)) is.1 in
-    with_both (action_of s.name) (file_in rows) is.0
+    with_both (action_of s.name) (file_in rows) (values_in rows) is.0
     (first_is_there file s.rules (each_of (fits file) (IsFit file) s.rules (fit_is file) suit.1) words given)
 
 found_enters : (found : Option Shape) (word : Text) (words : List Text) → IfSome found (λ s. Suits s × (s.name ≡ word)) → IfSome found (λ s. is_known s ≡ true)
     → IsOther word → is_some (option_map (λ s. rows_at s words) found) ≡ true → option_map_or (λ s. level_fault s [] nothing_held words false []) found [] ≡ []
-    → (c : Command) × (command_entered (option_map (λ s. rows_at s words) found) ≡ Some c)
+    → (a : Asked) × (asked_in (option_map (λ s. rows_at s words) found) ≡ Some a)
 found_enters None word words suit known other there none = absurd (true≢false (sym there))
 found_enters (Some s) word words suit known other there none = shape_enters s words suit.0 known (subst IsOther (sym suit.1) other) none
 
 stop_enters : (stop : Option (Text × List Text)) → NotHelp stop → is_some (entered (built program) stop) ≡ true → entered_fault (built program) stop ≡ []
-    → (c : Command) × (command_entered (entered (built program) stop) ≡ Some c)
+    → (a : Asked) × (asked_in (entered (built program) stop) ≡ Some a)
 stop_enters None other there none = absurd (true≢false (sym there))
 stop_enters (Some p) other there none =
     found_enters (find (λ s. answers_to p.0 (label_of s)) (built program).subs) p.0 p.1 (found_shape p.0 (built program).subs shapes_suit)
@@ -174,7 +175,7 @@ has_subcommand false false x none = absurd (cons_nil kind.MissingSubcommand [] n
 abbrev pub stop_at : List Text → Option (Text × List Text)
 stop_at line = (walk (built program).top.rules (names_of (built program)) nothing_held line).stopped
 
-pub faultless_enters : (line : List Text) → fault_of program line ≡ [] → (c : Command) × (command_entered (subcommand_of program line) ≡ Some c)
+pub faultless_enters : (line : List Text) → fault_of program line ≡ [] → (a : Asked) × (asked_in (subcommand_of program line) ≡ Some a)
 faultless_enters line none =
     let stop = stop_at line in
     let has = is_some (entered (built program) stop) in

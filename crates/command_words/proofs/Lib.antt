@@ -1,8 +1,11 @@
+pub mod TableFolds
 pub mod Entered
 pub mod Origins
-pub mod TableFolds
+pub mod Walking
 pub mod Plain
 pub mod ProgramBuilt
 pub mod Faultless
-pub mod WordsUnderstood
 pub mod AmongMatches
+pub mod WordsUnderstood
+pub mod Picks
+pub mod Budgets

@@ -46,7 +46,7 @@ pub nothing_in : {X : Type 0} (xs : List X) → has_none xs ≡ true → xs ≡ 
 nothing_in [] e = refl
 nothing_in (x ∷ xs) e = absurd (true≢false (sym e))
 
-is_no_flag : (b : Bool) → not b ≡ true → b ≡ false
+pub is_no_flag : (b : Bool) → not b ≡ true → b ≡ false
 is_no_flag true e = absurd (true≢false (sym e))
 is_no_flag false e = refl
 

@@ -1,10 +1,14 @@
 -- What is understood of words, from what the parser makes of them.
-use Rattle.std.specs.Prelude.{◌≡◌, ℕ, List, [], Option, Some, None, option_map, find, refl, IfSome, IsSome, is_some, Contains}
+use Rattle.std.specs.Prelude.{◌≡◌, ◌≤◌, ℕ, Bool, true, false, List, [], ◌∷◌, Option, Some, None, option_map, if◌then◌else◌, codes, find, refl, IfSome, IsSome, is_some, Contains}
+use Rattle.std.specs.Str.Parse.{digits_value, without_leading_plus}
 use Rattle.std.specs.List.{AllByRecursion as Each}
-use Rattle.std.proofs.Common.{◌∙◌, ap, sym, subst, inl, inr}
+use Rattle.std.proofs.Common.{◌∙◌, ap, sym, subst, inl, inr, arith}
 use Rattle.std.proofs.lemmas.Option.{none-some, same_Some}
 use Rattle.std.proofs.lemmas.List.Elements.{All-contains_itself, recursion_from_All}
 use Rattle.clap.specs.Walk.{Text, answers_to, rows_after, stop_after}
+use Rattle.clap.specs.ValueTests.{is_unsigned_in}
+use Rattle.clap.specs.declared.builder.value_parser.ValueParser.TheVariants as parser
+use Rattle.clap.proofs.ValueTestLemmas.{accepts-Accepts}
 use Rattle.clap.specs.Simple.{Shape, built, entered, label_of, names_of, rows_at}
 use Rattle.clap.specs.Words.{HasKind, IsAmong, fault_of, kind_of, subcommand_of}
 use Rattle.clap.specs.declared.error.Error.{Error}
@@ -12,71 +16,119 @@ use Rattle.clap.specs.declared.error.kind.ErrorKind.{ErrorKind}
 use Rattle.clap.specs.declared.error.kind.ErrorKind.TheVariants as kind
 use Rattle.command_words.specs.Grammar.{program}
 use Rattle.command_words.specs.Said.{IsFound, IsToldOf, command_in}
-use Rattle.command_words.specs.Usage.{IsCaused, IsUnderstood, action_of, command_entered, file_in, name_of, with_file}
+use Rattle.command_words.specs.Numbers.{budget_of, most_events}
+use Rattle.command_words.specs.Usage.{Asked, IsCaused, IsUnderstood, Values, action_of, asked_in, budget_by, command_of, file_in, name_of, picks_by, said_by, values_in, with_file}
 use Rattle.command_words.specs.Usage as usage
 use Rattle.command_words.specs.declared.table.Action.{Action}
 use Rattle.command_words.specs.declared.words.Command.{Command}
 use Rattle.command_words.specs.declared.words.Words.{Words}
 use Rattle.command_words.specs.declared.words.Words.TheVariants as words
-use Rattle.command_words.proofs.Plain.{command_of, name_is, plain_line_enters, plain_line_is_faultless}
+use Rattle.command_words.proofs.Plain.{AsksFor, asked_of, asks_for, name_is, plain_line_enters, plain_line_is_faultless}
 use Rattle.command_words.proofs.Origins.{IsFit, first_comes, fit_is, fits}
 use Rattle.command_words.proofs.Entered.{HasStop, stop_has}
 use Rattle.command_words.proofs.ProgramBuilt.{Suits, bare_names, each_of, file, found_shape, shapes_suit, top_rules}
 use Rattle.command_words.proofs.Faultless.{faultless_enters}
 
--- ---- a command comes from the words
+-- ---- what is asked for comes from the words
 
 module _ (P : Text → Type 0) where
-  abbrev pub ComesFrom : Command → Type 0
-  ComesFrom c = P (name_of c.action) × P c.file
+  abbrev pub ComesFrom : Asked → Type 0
+  ComesFrom a = P (name_of a.action) × P a.file
 
-  command_comes : (asked : Action) (file : Option Text) (c : Command) → P (name_of asked) → IfSome file P → with_file (Some asked) file ≡ Some c → ComesFrom c
-  command_comes asked None c name has e = absurd (none-some c e)
-  command_comes asked (Some file) c name has e = subst ComesFrom (same_Some (command_of asked file) c e) (name, has)
+  asked_comes : (act : Action) (file : Option Text) (values : Values) (a : Asked) → P (name_of act) → IfSome file P → with_file (Some act) file values ≡ Some a
+      → ComesFrom a
+  asked_comes act None values a name has e = absurd (none-some a e)
+  asked_comes act (Some file) values a name has e = subst ComesFrom (same_Some (asked_of act file values) a e) (name, has)
 
-  named_comes : (word : Text) (asked : Option Action) (file : Option Text) (c : Command) → action_of word ≡ asked → P word → IfSome file P
-      → with_file asked file ≡ Some c → ComesFrom c
-  named_comes word None file c is name has e = absurd (none-some c e)
-  named_comes word (Some asked) file c is name has e = command_comes asked file c (subst P (name_is word asked is) name) has e
+  named_comes : (word : Text) (asked : Option Action) (file : Option Text) (values : Values) (a : Asked) → action_of word ≡ asked → P word → IfSome file P
+      → with_file asked file values ≡ Some a → ComesFrom a
+  named_comes word None file values a is name has e = absurd (none-some a e)
+  named_comes word (Some act) file values a is name has e = asked_comes act file values a (subst P (name_is word act is) name) has e
 
-  shape_comes : (s : Shape) (words : List Text) (c : Command) → Suits s → P s.name → Each P words → command_entered (Some (rows_at s words)) ≡ Some c → ComesFrom c
-  shape_comes s words c suit name has e =
-      named_comes s.name (action_of s.name) (file_in (rows_after s.rules [] words)) c refl name
+  shape_comes : (s : Shape) (words : List Text) (a : Asked) → Suits s → P s.name → Each P words → asked_in (Some (rows_at s words)) ≡ Some a → ComesFrom a
+  shape_comes s words a suit name has e =
+      named_comes s.name (action_of s.name) (file_in (rows_after s.rules [] words)) (values_in (rows_after s.rules [] words)) a refl name
       (first_comes file P s.rules (each_of (fits file) (IsFit file) s.rules (fit_is file) suit.1) words has) e
 
-  found_comes : (found : Option Shape) (word : Text) (words : List Text) (c : Command) → IfSome found (λ s. Suits s × (s.name ≡ word)) → P word → Each P words
-      → command_entered (option_map (λ s. rows_at s words) found) ≡ Some c → ComesFrom c
-  found_comes None word words c is p has e = absurd (none-some c e)
-  found_comes (Some s) word words c is p has e = shape_comes s words c is.0 (subst P (sym is.1) p) has e
+  found_comes : (found : Option Shape) (word : Text) (words : List Text) (a : Asked) → IfSome found (λ s. Suits s × (s.name ≡ word)) → P word → Each P words
+      → asked_in (option_map (λ s. rows_at s words) found) ≡ Some a → ComesFrom a
+  found_comes None word words a is p has e = absurd (none-some a e)
+  found_comes (Some s) word words a is p has e = shape_comes s words a is.0 (subst P (sym is.1) p) has e
 
-  stop_comes : (stop : Option (Text × List Text)) (c : Command) → HasStop P top_rules (names_of (built program)) bare_names stop
-      → command_entered (entered (built program) stop) ≡ Some c → ComesFrom c
-  stop_comes None c has e = absurd (none-some c e)
-  stop_comes (Some p) c has e =
-      found_comes (find (λ s. answers_to p.0 (label_of s)) (built program).subs) p.0 p.1 c (found_shape p.0 (built program).subs shapes_suit) has.0 has.1 e
+  stop_comes : (stop : Option (Text × List Text)) (a : Asked) → HasStop P top_rules (names_of (built program)) bare_names stop
+      → asked_in (entered (built program) stop) ≡ Some a → ComesFrom a
+  stop_comes None a has e = absurd (none-some a e)
+  stop_comes (Some p) a has e =
+      found_comes (find (λ s. answers_to p.0 (label_of s)) (built program).subs) p.0 p.1 a (found_shape p.0 (built program).subs shapes_suit) has.0 has.1 e
 
-  line_comes : (line : List Text) (c : Command) → Each P line → command_entered (subcommand_of program line) ≡ Some c → ComesFrom c
-  line_comes line c has e = stop_comes (stop_after top_rules (names_of (built program)) line) c (stop_has P top_rules (names_of (built program)) bare_names line has) e
+  line_comes : (line : List Text) (a : Asked) → Each P line → asked_in (subcommand_of program line) ≡ Some a → ComesFrom a
+  line_comes line a has e = stop_comes (stop_after top_rules (names_of (built program)) line) a (stop_has P top_rules (names_of (built program)) bare_names line has) e
 
-line_has_command : (line : List (List ℕ)) (c : Command) → command_entered (subcommand_of program line) ≡ Some c → Contains line (name_of c.action) × Contains line c.file
-line_has_command line c e = line_comes (Contains line) line c (recursion_from_All (Contains line) line (All-contains_itself line)) e
+-- a command was asked for
+abbrev pub IsEntered : List (List ℕ) → Asked → Type 0
+IsEntered line a = asked_in (subcommand_of program line) ≡ Some a
+
+line_has_asked : (line : List (List ℕ)) (a : Asked) → IsEntered line a → Contains line (name_of a.action) × Contains line a.file
+line_has_asked line a e = line_comes (Contains line) line a (recursion_from_All (Contains line) line (All-contains_itself line)) e
+
+-- ---- a command that was asked for
+
+-- a budget is one from 1 to the most events
+budget_within : (text : List ℕ) (b : Bool) → is_unsigned_in 1 most_events text ≡ b
+    → (1 ≤ (if b then digits_value 10 (without_leading_plus text) else most_events))
+    × ((if b then digits_value 10 (without_leading_plus text) else most_events) ≤ most_events)
+budget_within text true is = let has = accepts-Accepts false (parser.Unsigned 1 most_events) text is in (has.2, has.3)
+budget_within text false is = (omega arith, omega arith)
+
+budget_in_range : (given : Option (List ℕ)) → (1 ≤ budget_by given) × (budget_by given ≤ most_events)
+budget_in_range None = (omega arith, omega arith)
+budget_in_range (Some text) = budget_within text (is_unsigned_in 1 most_events text) refl
+
+-- it has the action, the file and the budget that were asked for
+record IsMade (a : Asked) (c : Command) : Type 0 where
+  by_action : a.action ≡ c.action
+  of_file : a.file ≡ c.file
+  budget : budget_by a.values.budget ≡ c.budget
+
+made_by : (a : Asked) (c : Command) (picks : Option (List ℕ))
+    → option_map (λ picks. record { action = a.action; file = a.file; budget = budget_by a.values.budget; picks = picks }) picks ≡ Some c
+    → IsMade a c
+made_by a c None e = absurd (none-some c e)
+made_by a c (Some picks) e =
+    let made : Command = record { action = a.action; file = a.file; budget = budget_by a.values.budget; picks = picks } in
+    let same = same_Some made c e in
+    record {
+      by_action = ap (λ (c : Command). c.action) same;
+      of_file = ap (λ (c : Command). c.file) same;
+      budget = ap (λ (c : Command). c.budget) same;
+    }
+
+made_of : (a : Asked) (c : Command) → command_of a ≡ Some c → IsMade a c
+made_of a c e = made_by a c (picks_by a.values.list) e
+
+-- plain words ask for what the words ask for
+same_asked : (line : List (List ℕ)) (a : Asked) (c : Command) → IsEntered line a → (asks : AsksFor line c) → command_of a ≡ Some c
+same_asked line a c is asks =
+    ap command_of (same_Some a asks.asked (sym is ∙ plain_line_enters line asks.asked asks.plain)) ∙ asks.command
 
 -- ---- what was understood
 
 same_command : (c d : Command) → words.Command c ≡ words.Command d → c ≡ d
 same_command c d e = same_Some c d (ap command_in e)
 
--- a command
-abbrev pub IsEntered : List (List ℕ) → Command → Type 0
-IsEntered line c = command_entered (subcommand_of program line) ≡ Some c
-
-said_command : (line : List (List ℕ)) (c : Command) → fault_of program line ≡ [] → IsEntered line c → IsUnderstood line (words.Command c)
-said_command line c none is = record {
-  cause = usage.command c none is;
-  plainly = λ d plain. ap (λ (c : Command). words.Command c) (same_Some c d (sym is ∙ plain_line_enters line d plain));
-  by_name = λ d said. (line_has_command line d (subst (IsEntered line) (same_command c d said) is)).0;
-  of_file = λ d said. (line_has_command line d (subst (IsEntered line) (same_command c d said) is)).1;
-}
+said_command : (line : List (List ℕ)) (a : Asked) (c : Command) → fault_of program line ≡ [] → IsEntered line a → command_of a ≡ Some c
+    → IsUnderstood line (words.Command c)
+said_command line a c none is made_so =
+    let made = made_of a c made_so in
+    let has = line_has_asked line a is in
+    record {
+      cause = usage.command a c none is made_so;
+      plainly = λ d plain. ap (λ (c : Command). words.Command c) (same_Some c d (sym made_so ∙ same_asked line a d is (asks_for line d plain)));
+      by_name = λ d said. subst (λ (act : Action). Contains line (name_of act)) (made.by_action ∙ ap (λ (c : Command). c.action) (same_command c d said)) has.0;
+      of_file = λ d said. subst (λ (file : List ℕ). Contains line file) (made.of_file ∙ ap (λ (c : Command). c.file) (same_command c d said)) has.1;
+      budget = λ d said. subst (λ (n : ℕ). (1 ≤ n) × (n ≤ most_events)) (made.budget ∙ ap (λ (c : Command). c.budget) (same_command c d said))
+          (budget_in_range a.values.budget);
+    }
 
 -- something else, of words that are no plain ones
 said_otherwise : (line : List (List ℕ)) (said : Words) → command_in said ≡ None → IsCaused line said → ((c : Command) → usage.plain line ≡ Some c → ⊥)
@@ -86,26 +138,37 @@ said_otherwise line said none why not_plain = record {
   plainly = λ c plain. absurd (not_plain c plain);
   by_name = λ c is. absurd (none-some c (sym none ∙ ap command_in is));
   of_file = λ c is. absurd (none-some c (sym none ∙ ap command_in is));
+  budget = λ c is. absurd (none-some c (sym none ∙ ap command_in is));
 }
 
-by_matches : (line : List (List ℕ)) (said : Words) (found : Option Command) → command_entered (subcommand_of program line) ≡ found → fault_of program line ≡ []
+-- what is said of what was asked for
+said_asked : (line : List (List ℕ)) (a : Asked) (made : Option Command) → command_of a ≡ made → fault_of program line ≡ [] → IsEntered line a
+    → IsUnderstood line (elim made [ None ↦ words.UsageError (codes "picks\n") | Some c ↦ words.Command c ])
+said_asked line a (Some c) made none is = said_command line a c none is made
+said_asked line a None made none is =
+    said_otherwise line (words.UsageError (codes "picks\n")) refl (usage.no_list a none is made)
+    (λ c plain. none-some c (sym made ∙ same_asked line a c is (asks_for line c plain)))
+
+by_matches : (line : List (List ℕ)) (said : Words) (found : Option Asked) → asked_in (subcommand_of program line) ≡ found → fault_of program line ≡ []
     → IsFound found said → IsUnderstood line said
-by_matches line said (Some c) is none same = subst (IsUnderstood line) (sym same) (said_command line c none is)
+by_matches line said (Some a) is none same = subst (IsUnderstood line) (sym same) (said_asked line a (command_of a) refl none is)
 by_matches line said None is none same = absurd same
 
--- the command is there, where the parser finds no fault
-pub command_is_there : (line : List (List ℕ)) (rows : _) → rows ≡ subcommand_of program line → fault_of program line ≡ [] → IsSome (command_entered rows)
+-- a command is there, where the parser finds no fault
+pub command_is_there : (line : List (List ℕ)) (rows : _) → rows ≡ subcommand_of program line → fault_of program line ≡ [] → IsSome (asked_in rows)
 command_is_there line rows is none =
-    ap is_some (ap command_entered is ∙ (faultless_enters line none).1)
+    ap is_some (ap asked_in is ∙ (faultless_enters line none).1)
 
 -- of words in which the parser finds no fault
-pub understood_entered : (line : List (List ℕ)) (said : Words) (rows : _) → rows ≡ subcommand_of program line → fault_of program line ≡ [] → IsFound (command_entered rows) said
+pub understood_entered : (line : List (List ℕ)) (said : Words) (rows : _) → rows ≡ subcommand_of program line → fault_of program line ≡ [] → IsFound (asked_in rows) said
     → IsUnderstood line said
 understood_entered line said rows is none found =
-    by_matches line said (command_entered (subcommand_of program line)) refl none (subst (λ rows. IsFound (command_entered rows) said) is found)
+    by_matches line said (asked_in (subcommand_of program line)) refl none (subst (λ rows. IsFound (asked_in rows) said) is found)
 
 faults_are_there : (line : List (List ℕ)) (k : ErrorKind) → IsAmong k (fault_of program line) → (c : Command) → usage.plain line ≡ Some c → ⊥
-faults_are_there line k among c plain = subst (IsAmong k) (plain_line_is_faultless line c plain) among
+faults_are_there line k among c plain =
+    let asks = asks_for line c plain in
+    subst (IsAmong k) (plain_line_is_faultless line asks.asked asks.plain) among
 
 told_of_kind : (line : List (List ℕ)) (said : Words) (k : ErrorKind) → IsAmong k (fault_of program line) → IsToldOf k said → IsUnderstood line said
 told_of_kind line (words.Command c) k among told = absurd told

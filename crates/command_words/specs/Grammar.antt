@@ -1,19 +1,27 @@
 -- The program as `clap` reads it, folded over the table of the commands.
 use Rattle.std.specs.Prelude.{List, ℕ, Some, true, codes, map, fold}
 use Rattle.clap.specs.Words.{App, Rule, new_app, new_rule, with_rule, with_subcommand}
+use Rattle.clap.specs.declared.builder.value_parser.ValueParser.{ValueParser}
 use Rattle.clap.specs.declared.builder.value_parser.ValueParser.TheVariants as parser
+use Rattle.command_words.specs.declared.table.Takes.{Takes}
+use Rattle.command_words.specs.declared.table.Takes.TheVariants as takes
 use Rattle.command_words.specs.Table.{CommandWords, OptionWords, commands}
 
 -- an operand, which has to be given
 abbrev pub operand_rule : List ℕ → Rule
 operand_rule name = record (new_rule name) { required = true }
 
--- an option, with its number in the range
+-- which values are let through: numbers in the range, or any text
+abbrev pub parser_of : Takes → ValueParser
+parser_of (takes.Number least most) = parser.Unsigned least most
+parser_of takes.List = parser.String
+
+-- an option, with its value
 abbrev pub option_rule : OptionWords → Rule
 option_rule option = record (new_rule option.name) {
   long = Some option.name;
   value_names = 1;
-  parser = Some (parser.Unsigned option.least option.most);
+  parser = Some (parser_of option.takes);
 }
 
 -- a command with further arguments

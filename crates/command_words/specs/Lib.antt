@@ -1,3 +1,5 @@
+pub mod Numbers
+pub mod Steps
 pub mod Table
 pub mod Rows
 pub mod Grammar

@@ -10,9 +10,9 @@ use Rattle.command_words.specs.Table.{CommandWords, OptionWords}
 abbrev pub operand_words : OperandRow → List ℕ
 operand_words row = row.name.now
 
--- an option with its name and the least and the greatest number that it takes
+-- an option with its name and what it takes
 abbrev pub option_words : OptionRow → OptionWords
-option_words row = record { name = row.name.now; least = row.least; most = row.most }
+option_words row = record { name = row.name.now; takes = row.takes }
 
 -- a command with what it does, its name, its operands and its options
 abbrev pub command_words : CommandRow → CommandWords

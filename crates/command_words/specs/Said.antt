@@ -6,6 +6,7 @@ use Rattle.clap.specs.declared.error.kind.ErrorKind.TheVariants as kind
 use Rattle.command_words.specs.declared.words.Command.{Command}
 use Rattle.command_words.specs.declared.words.Words.{Words}
 use Rattle.command_words.specs.declared.words.Words.TheVariants as words
+use Rattle.command_words.specs.Usage.{Asked, said_by}
 
 -- the command that was understood
 abbrev pub command_in : Words → Option Command
@@ -18,7 +19,7 @@ IsToldOf k (words.Command c) = ⊥
 IsToldOf k (words.Help text) = (k ≢ kind.OutOfMemory) × ((k ≡ kind.DisplayHelp) ⊎ (k ≡ kind.DisplayVersion))
 IsToldOf k (words.UsageError text) = (k ≢ kind.OutOfMemory) × (k ≢ kind.DisplayHelp) × (k ≢ kind.DisplayVersion)
 
--- what is said of a command that was found
-abbrev pub IsFound : Option Command → Words → Type 0
+-- what is said of what was asked for
+abbrev pub IsFound : Option Asked → Words → Type 0
 IsFound None said = ⊥
-IsFound (Some c) said = said ≡ words.Command c
+IsFound (Some a) said = said ≡ said_by a

@@ -2,12 +2,13 @@
 use Rattle.std.specs.Prelude.{ℕ, List, [], ◌∷◌, codes}
 use Rattle.command_words.specs.declared.table.Action.{Action}
 use Rattle.command_words.specs.declared.table.Action.TheVariants as action
+use Rattle.command_words.specs.declared.table.Takes.{Takes}
+use Rattle.command_words.specs.declared.table.Takes.TheVariants as takes
 
--- an option `--NAME N`, where N is a number from `least` to `most`
+-- an option `--NAME N`, where N is a number from a least to a most, or `--NAME LIST`
 pub record OptionWords : Type 0 where
   pub name : List ℕ
-  pub least : ℕ
-  pub most : ℕ
+  pub takes : Takes
 
 -- a command: how it is called, its operands in order, and its options
 pub record CommandWords : Type 0 where
@@ -16,10 +17,17 @@ pub record CommandWords : Type 0 where
   pub operands : List (List ℕ)
   pub options : List OptionWords
 
+-- the options of a run
+abbrev pub run_options : List OptionWords
+run_options =
+    record { name = codes "budget"; takes = takes.Number 1 10000 }
+    ∷ record { name = codes "picks"; takes = takes.List }
+    ∷ []
+
 -- the commands
 abbrev pub commands : List CommandWords
 commands =
     record { action = action.Check; name = codes "check"; operands = codes "FILE" ∷ []; options = [] }
     ∷ record { action = action.Print; name = codes "print"; operands = codes "FILE" ∷ []; options = [] }
-    ∷ record { action = action.Run; name = codes "run"; operands = codes "FILE" ∷ []; options = [] }
+    ∷ record { action = action.Run; name = codes "run"; operands = codes "FILE" ∷ []; options = run_options }
     ∷ []

@@ -1,12 +1,16 @@
 -- What is understood of the words of the command line.
-use Rattle.std.specs.Prelude.{◌≡◌, ◌≢◌, List, [], ◌∷◌, ℕ, Bool, false, ◌==◌, Option, Some, None, codes, find, map}
-use Rattle.std.specs.Prelude.{option_map, option_and_then, Contains, String, string_bytes, if◌then◌else◌}
+use Rattle.std.specs.Prelude.{◌≡◌, ◌≢◌, ◌≤◌, List, [], ◌∷◌, ℕ, Bool, false, not, ◌&&◌, ◌==◌, Option, Some, None}
+use Rattle.std.specs.Prelude.{is_some, codes, find, map, option_map, option_and_then, Contains, String, string_bytes}
+use Rattle.std.specs.Prelude.{if◌then◌else◌}
+use Rattle.std.specs.Option.{option_map_or}
 use Rattle.std.specs.Str.{bytes_eq}
 use Rattle.std.specs.declared.alloc.Global.{Global}
+use Rattle.clap.specs.ValueTests.{is_unsigned_in}
 use Rattle.clap.specs.Words.{IsAmong, Row, fault_of, first_of, subcommand_of}
 use Rattle.clap.specs.declared.error.kind.ErrorKind.{ErrorKind}
 use Rattle.clap.specs.declared.error.kind.ErrorKind.TheVariants as kind
 use Rattle.command_words.specs.Grammar.{program}
+use Rattle.command_words.specs.Numbers.{budget_of, most_events, picks_of}
 use Rattle.command_words.specs.Table.{CommandWords, commands}
 use Rattle.command_words.specs.declared.table.Action.{Action}
 use Rattle.command_words.specs.declared.table.Action.TheVariants as action
@@ -38,14 +42,47 @@ action_of = action_in commands
 abbrev pub file_in : List Row → Option (List ℕ)
 file_in = first_of (codes "FILE")
 
--- a command over its FILE, where both are there
-abbrev pub with_file : Option Action → Option (List ℕ) → Option Command
-with_file asked file =
-    option_and_then (λ action. option_map (λ file. record { action = action; file = file }) file) asked
+-- what the options of a run were given, as texts
+pub record Values : Type 0 where
+  pub budget : Option (List ℕ)
+  pub list : Option (List ℕ)
 
--- the command that a parse entered, by its name and what was found
-abbrev pub command_entered : Option (List ℕ × List Row) → Option Command
-command_entered = option_and_then (λ entered. with_file (action_of entered.0) (file_in entered.1))
+-- the values of options among what was found
+abbrev pub values_in : List Row → Values
+values_in rows = record { budget = first_of (codes "budget") rows; list = first_of (codes "picks") rows }
+
+-- what was asked for: a command over its FILE, with what its options were given
+pub record Asked : Type 0 where
+  pub action : Action
+  pub file : List ℕ
+  pub values : Values
+
+-- a command over its FILE, where both are there
+abbrev pub with_file : Option Action → Option (List ℕ) → Values → Option Asked
+with_file asked file values =
+    option_and_then (λ action. option_map (λ file. record { action = action; file = file; values = values }) file) asked
+
+-- what the command asks for that a parse entered, by its name and what was found
+abbrev pub asked_in : Option (List ℕ × List Row) → Option Asked
+asked_in = option_and_then (λ entered. with_file (action_of entered.0) (file_in entered.1) (values_in entered.1))
+
+-- how many events a session may have: the budget that was given, or the most
+abbrev pub budget_by : Option (List ℕ) → ℕ
+budget_by given = option_map_or budget_of given most_events
+
+-- the picks, where the LIST that was given is one; none where none was given
+abbrev pub picks_by : Option (List ℕ) → Option (List ℕ)
+picks_by given = elim given [ None ↦ Some [] | Some list ↦ picks_of list ]
+
+-- the command that was asked for, where its LIST is one
+abbrev pub command_of : Asked → Option Command
+command_of a =
+    option_map (λ picks. record { action = a.action; file = a.file; budget = budget_by a.values.budget; picks = picks })
+    (picks_by a.values.list)
+
+-- what is said then: the command, or that its LIST is none
+abbrev pub said_by : Asked → Words
+said_by a = elim (command_of a) [ None ↦ words.UsageError (codes "picks\n") | Some c ↦ words.Command c ]
 
 -- ---- words in their plain form
 
@@ -54,30 +91,70 @@ abbrev pub is_option : List ℕ → Bool
 is_option [] = false
 is_option (b ∷ bs) = b == 45
 
--- the command of words in their plain form: its name and one FILE, which is no option
+-- the word begins a budget, and the one behind it is its number
+abbrev pub is_budget : List ℕ → List ℕ → Bool
+is_budget word value =
+    bytes_eq word (codes "--budget") && (not (is_option value) && is_unsigned_in 1 most_events value)
+
+-- the word begins picks, and the one behind it is their LIST
+abbrev pub are_picks : List ℕ → List ℕ → Bool
+are_picks word list = bytes_eq word (codes "--picks") && (not (is_option list) && is_some (picks_of list))
+
+-- the values of options of a run in their plain form, each at most once and in any order
+abbrev pub plain_values : List (List ℕ) → Option Values
+plain_values [] = Some (record { budget = None; list = None })
+plain_values (word ∷ []) = None
+plain_values (word ∷ value ∷ []) =
+    if is_budget word value then Some (record { budget = Some value; list = None })
+    else if are_picks word value then Some (record { budget = None; list = Some value })
+    else None
+plain_values (word ∷ value ∷ other ∷ []) = None
+plain_values (word ∷ value ∷ other ∷ last ∷ []) =
+    if is_budget word value && are_picks other last then Some (record { budget = Some value; list = Some last })
+    else if are_picks word value && is_budget other last then Some (record { budget = Some last; list = Some value })
+    else None
+plain_values (word ∷ value ∷ other ∷ last ∷ more ∷ rest) = None
+
+-- the values of options of a command: of a run alone there are some
+abbrev pub plain_of : Action → List (List ℕ) → Option Values
+plain_of action.Run options = plain_values options
+plain_of other [] = Some (record { budget = None; list = None })
+plain_of other (word ∷ rest) = None
+
+-- what words in their plain form ask for: a command by its name, one FILE, which is no option, and its options
+abbrev pub plain_asked : List (List ℕ) → Option Asked
+plain_asked [] = None
+plain_asked (name ∷ []) = None
+plain_asked (name ∷ file ∷ options) =
+    if is_option file then None
+    else option_and_then
+    (λ asked. option_and_then (λ values. with_file (Some asked) (Some file) values) (plain_of asked options))
+    (action_of name)
+
+-- the command of words in their plain form
 abbrev pub plain : List (List ℕ) → Option Command
-plain [] = None
-plain (name ∷ []) = None
-plain (name ∷ file ∷ []) = if is_option file then None else with_file (action_of name) (Some file)
-plain (name ∷ file ∷ more ∷ rest) = None
+plain line = option_and_then command_of (plain_asked line)
 
 -- ---- what was understood
 
 -- Why that is said of the words, by the kinds of fault that `clap` finds in them: the command that they enter where it
--- finds none, help where help or the version is asked for, and a usage error where it finds another kind. The texts are
--- those of `clap`.
+-- finds none, or that its LIST is no list; help where help or the version is asked for; and a usage error where it
+-- finds another kind. The texts of these two are those of `clap`.
 pub data IsCaused (line : List (List ℕ)) : Words → Type 0 where
-  command : (c : Command) → fault_of program line ≡ [] → command_entered (subcommand_of program line) ≡ Some c
-      → IsCaused line (words.Command c)
+  command : (a : Asked) (c : Command) → fault_of program line ≡ [] → asked_in (subcommand_of program line) ≡ Some a
+      → command_of a ≡ Some c → IsCaused line (words.Command c)
+  no_list : (a : Asked) → fault_of program line ≡ [] → asked_in (subcommand_of program line) ≡ Some a
+      → command_of a ≡ None → IsCaused line (words.UsageError (codes "picks\n"))
   help : (text : List ℕ) → IsAmong kind.DisplayHelp (fault_of program line) → IsCaused line (words.Help text)
   version : (text : List ℕ) → IsAmong kind.DisplayVersion (fault_of program line) → IsCaused line (words.Help text)
   fault : (text : List ℕ) (k : ErrorKind) → IsAmong k (fault_of program line)
       → k ≢ kind.DisplayHelp → k ≢ kind.DisplayVersion → IsCaused line (words.UsageError text)
 
--- What was understood of the words: what is said has its cause, plain words ask for their command, and a command has
--- its name and its file from the words.
+-- What was understood of the words: what is said has its cause, plain words ask for their command, a command has its
+-- name and its file from the words, and a session of it may have from one event to the most.
 pub record IsUnderstood (line : List (List ℕ)) (said : Words) : Type 0 where
   pub cause : IsCaused line said
   pub plainly : (c : Command) → plain line ≡ Some c → said ≡ words.Command c
   pub by_name : (c : Command) → said ≡ words.Command c → Contains line (name_of c.action)
   pub of_file : (c : Command) → said ≡ words.Command c → Contains line c.file
+  pub budget : (c : Command) → said ≡ words.Command c → (1 ≤ c.budget) × (c.budget ≤ most_events)

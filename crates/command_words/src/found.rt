@@ -1,20 +1,24 @@
-//! The command among what the parser found.
+//! What the parser found, as words that were understood.
 
-ghost use Rattle.std.specs.Prelude.{◌≡◌, IfOk, map, option_map};
-ghost use Rattle.clap.specs.Words.{found_of, rows_of, subcommand_rows_of};
+ghost use Rattle.std.specs.Prelude.{◌≡◌, IfOk, codes, map, option_map};
+ghost use Rattle.clap.specs.Words.{first_of, found_of, rows_of, subcommand_rows_of};
 ghost use Rattle.command_words.specs.Rows.{command_words};
-ghost use Rattle.command_words.specs.Usage.{action_in, action_of, command_entered, file_in};
+ghost use Rattle.command_words.specs.Usage.{action_in, action_of, asked_in, budget_by, file_in, picks_by, said_by};
 
+use crate::numbers::{MOST_EVENTS, budget_of, picks_of};
 use crate::table::{Action, COMMANDS, CommandRow};
-use crate::words::Command;
+use crate::words::{Command, Words};
 use clap::ArgMatches;
 use jolie_trees::Text;
+use sqlite_items::Items;
 use std::alloc::{AllocError, Global};
 
-/// The command that the parser entered, with its FILE.
-#[tactic(auto, using(crate::proofs::AmongMatches::entered_as))]
-pub fn command_found(alloc: Global, matches: &ArgMatches<'_>) -> Result<Option<Command>, AllocError>
-    ensures { IfOk result (λ found. found ≡ command_entered (subcommand_rows_of matches.now)) }
+/// What is said of picks that are no list.
+const NO_LIST: &str = "picks\n";
+
+/// What the command says that the parser entered: the command, or that its LIST is none.
+pub fn words_found(alloc: Global, matches: &ArgMatches<'_>) -> Result<Option<Words>, AllocError>
+    ensures { IfOk result (λ found. found ≡ option_map said_by (asked_in (subcommand_rows_of matches.now))) }
 {
     let Some((name, given)) = matches.subcommand() else {
         return Ok(None);
@@ -25,15 +29,44 @@ pub fn command_found(alloc: Global, matches: &ArgMatches<'_>) -> Result<Option<C
     let Some(file) = file_given(given) else {
         return Ok(None);
     };
+    let Some(picks) = picks_given(alloc, given)? else {
+        return Ok(Some(Words::UsageError(Text::new(alloc, NO_LIST)?)));
+    };
+    let budget = budget_given(given);
     let file = Text::new(alloc, file)?;
-    Ok(Some(Command { action, file }))
+    Ok(Some(Words::Command(Command {
+        action,
+        file,
+        budget,
+        picks,
+    })))
 }
 
-#[tactic(auto, using(crate::proofs::AmongMatches::file_found))]
+#[tactic(auto, using(crate::proofs::AmongMatches::value_found))]
 fn file_given<'a>(given: &ArgMatches<'a>) -> Option<&'a str>
     ensures { option_map (λ file. file.now) result ≡ file_in (rows_of (found_of given.now)) }
 {
     given.get_str("FILE")
+}
+
+/// How many events a session may have.
+fn budget_given(given: &ArgMatches<'_>) -> u32
+    ensures { result ≡ budget_by (first_of (codes "budget") (rows_of (found_of given.now))) }
+{
+    match given.get_str("budget") {
+        Some(text) => budget_of(text),
+        None => MOST_EVENTS,
+    }
+}
+
+/// The picks, where the LIST is one.
+fn picks_given(alloc: Global, given: &ArgMatches<'_>) -> Result<Option<Items<u32>>, AllocError>
+    ensures { IfOk result (λ picks. picks ≡ picks_by (first_of (codes "picks") (rows_of (found_of given.now)))) }
+{
+    match given.get_str("picks") {
+        Some(list) => picks_of(alloc, list),
+        None => Ok(Some(Items::new(alloc))),
+    }
 }
 
 /// The command of that name in the table.

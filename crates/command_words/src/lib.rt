@@ -2,10 +2,11 @@
 #![tactic(auto)]
 
 mod found;
+mod numbers;
 mod program;
 pub mod status;
 mod table;
 mod words;
 
-pub use table::{Action, COMMANDS, CommandRow, OperandRow, OptionRow};
+pub use table::{Action, COMMANDS, CommandRow, OperandRow, OptionRow, Takes};
 pub use words::{Command, Words, understood};

@@ -7,7 +7,7 @@ ghost use Rattle.command_words.specs.Rows.{command_words, operand_words, option_
 ghost use Rattle.command_words.specs.Grammar.{bare_program, command_app, operand_rule, option_rule, program, with_commands, with_rules};
 
 use crate::status::MEANINGS;
-use crate::table::{COMMANDS, CommandRow, OperandRow, OptionRow};
+use crate::table::{COMMANDS, CommandRow, OperandRow, OptionRow, Takes};
 use clap::builder::ValueParser;
 use clap::{Arg, Command};
 use std::alloc::{AllocError, Global};
@@ -100,9 +100,11 @@ fn option<'a>(alloc: Global, row: &OptionRow) -> Arg<'a>
     ensures rule { rule_of result ≡ option_rule (option_words row.now) }
     ensures local { result.global ≡ false }
 {
-    Arg::new(alloc, row.name)
-        .long(row.name)
-        .value_name("N")
-        .value_parser(ValueParser::Unsigned(row.least, row.most))
-        .help(row.help)
+    let arg = Arg::new(alloc, row.name).long(row.name).help(row.help);
+    match row.takes {
+        Takes::Number { least, most } => arg
+            .value_name("N")
+            .value_parser(ValueParser::Unsigned(least, most)),
+        Takes::List => arg.value_name("LIST").value_parser(ValueParser::String),
+    }
 }

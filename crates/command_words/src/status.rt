@@ -15,8 +15,11 @@ pub const REFUSED: u8 = 3;
 /// The input failed.
 pub const INPUT_FAILED: u8 = 4;
 
-/// The output failed.
+/// The output or the notes failed.
 pub const OUTPUT_FAILED: u8 = 5;
+
+/// A session used its whole budget of events and could act all the same.
+pub const BUDGET_USED: u8 = 6;
 
 /// Memory ran out: what the program makes of an error of `run`.
 pub const OUT_OF_MEMORY: u8 = 9;
@@ -28,5 +31,6 @@ pub const MEANINGS: &str = "Status:
   2  FILE can't be read
   3  FILE is refused, by one line with the reason and the place
   4  the input failed
-  5  the output failed
+  5  the output or the notes failed
+  6  a session used its whole budget and could act all the same
   9  out of memory";

@@ -15,13 +15,21 @@ pub struct OperandRow {
     pub help: &'static str,
 }
 
-/// An option `--NAME N` of a command, where N is a number from `least` to `most`.
+/// What stands behind the name of an option.
+#[derive(Clone, Copy)]
+pub enum Takes {
+    /// A number N from `least` to `most`.
+    Number { least: u64, most: u64 },
+    /// A LIST, as it is given.
+    List,
+}
+
+/// An option `--NAME N` or `--NAME LIST` of a command.
 #[derive(Clone, Copy)]
 pub struct OptionRow {
     pub name: &'static str,
     pub help: &'static str,
-    pub least: u64,
-    pub most: u64,
+    pub takes: Takes,
 }
 
 /// A command, with its operands in order and its options.
@@ -38,6 +46,23 @@ pub struct CommandRow {
 const FILE: OperandRow = OperandRow {
     name: "FILE",
     help: "The file of the service",
+};
+
+/// How many events a session may have.
+const BUDGET: OptionRow = OptionRow {
+    name: "budget",
+    help: "The most events of a session, from 1 to 10000; without it 10000",
+    takes: Takes::Number {
+        least: 1,
+        most: 10_000,
+    },
+};
+
+/// Which of the strands of a session a turn looks at first.
+const PICKS: OptionRow = OptionRow {
+    name: "picks",
+    help: "The strands that turns look at first, as numbers with commas between",
+    takes: Takes::List,
 };
 
 /// The commands.
@@ -59,8 +84,8 @@ pub static COMMANDS: [CommandRow; 3] = [
     CommandRow {
         action: Action::Run,
         name: "run",
-        about: "Runs the service of FILE over lines of JSON-RPC from the standard input",
+        about: "Runs the services of FILE over lines of JSON-RPC from the standard input",
         operands: &[FILE],
-        options: &[],
+        options: &[BUDGET, PICKS],
     },
 ];

@@ -4,25 +4,28 @@ ghost use Rattle.std.specs.Prelude.{◌≡◌, ◌≢◌, IfOk, IsSome, []};
 ghost use Rattle.clap.specs.Words.{FailsBy, fault_of, kind_of, subcommand_of, subcommand_rows_of};
 ghost use Rattle.command_words.specs.Grammar.{program};
 ghost use Rattle.command_words.specs.Said.{IsFound, IsToldOf};
-ghost use Rattle.command_words.specs.Usage.{IsUnderstood, command_entered, spelled};
+ghost use Rattle.command_words.specs.Usage.{IsUnderstood, asked_in, spelled};
 
-use crate::found::command_found;
+use crate::found::words_found;
 use crate::program::program;
 use crate::table::Action;
 use clap::error::ErrorKind;
 use clap::{ArgMatches, Error};
 use jolie_trees::Text;
+use sqlite_items::Items;
 use std::alloc::{AllocError, Global};
 
-/// A command and its FILE.
-#[derive(Debug, Drop, PartialEq, Eq)]
+/// A command and its FILE; and of a run how many events a session may have, and where its turns begin to look.
+#[derive(Debug, Drop)]
 pub struct Command {
     pub action: Action,
     pub file: Text,
+    pub budget: u32,
+    pub picks: Items<u32>,
 }
 
 /// What the words of the command line say.
-#[derive(Debug, Drop, PartialEq, Eq)]
+#[derive(Debug, Drop)]
 pub enum Words {
     Command(Command),
     /// A text of help, or of the version.
@@ -49,13 +52,13 @@ fn parsed<'a>(alloc: Global, words: &'a [String]) -> Result<ArgMatches<'a>, Erro
     program.try_get_matches_from(words)
 }
 
-/// The command that the parser entered.
+/// What the command says that the parser entered.
 fn entered(alloc: Global, matches: &ArgMatches<'_>) -> Result<Words, AllocError>
-    requires { IsSome (command_entered (subcommand_rows_of matches.now)) }
-    ensures { IfOk result (IsFound (command_entered (subcommand_rows_of matches.now))) }
+    requires { IsSome (asked_in (subcommand_rows_of matches.now)) }
+    ensures { IfOk result (IsFound (asked_in (subcommand_rows_of matches.now))) }
 {
-    match command_found(alloc, matches)? {
-        Some(command) => Ok(Words::Command(command)),
+    match words_found(alloc, matches)? {
+        Some(words) => Ok(words),
         None => unreachable!(),
     }
 }
