@@ -1,3 +1,4 @@
+// Orders of a shop: what is ordered is reserved and paid at the same time, and what was done of a failed order is undone.
 type Order: void { id: string sku: string n: int price: int }
 type Item: void { sku: string n: int }
 type Pay: void { id: string amount: int }
@@ -13,7 +14,9 @@ interface StockI {
 }
 
 interface BankI {
-  RequestResponse: pay(Pay)(void) throws NoFunds
+  RequestResponse:
+    pay(Pay)(int) throws NoFunds,
+    refund(Pay)(int)
 }
 
 service Shop {
@@ -24,19 +27,30 @@ service Shop {
   main {
     order(o)(y) {
       scope(all) {
-        install(Short => y = "short", NoFunds => comp(stock) ; y = "nofunds") ;
-        scope(stock) {
-          reserve@Stock({ sku = o.sku, n = o.n })(left) [
-            this => release@Stock({ sku = o.sku, n = o.n })(left)
-          ]
+        install(
+          Short => comp(payment) ; y = "short",
+          NoFunds => comp(goods) ; y = "no funds"
+        ) ;
+        {
+          scope(goods) {
+            reserve@Stock({ sku = o.sku, n = o.n })(left) [
+              this => release@Stock({ sku = o.sku, n = o.n })(left)
+            ]
+          }
+        |
+          scope(payment) {
+            pay@Bank({ id = o.id, amount = o.n * o.price })(funds) [
+              this => refund@Bank({ id = o.id, amount = o.n * o.price })(funds)
+            ]
+          }
         } ;
-        pay@Bank({ id = o.id, amount = o.n * o.price })() ;
-        y = "ok " + left
+        y = "ok, " + left + " left, " + funds + " to spend"
       }
     }
   }
 }
 
+// The goods: one session, which lives as long as the run. A fault of one turn leaves the next ones as they are.
 service StockS {
   execution: single
   inputPort In { location: "local://stock" interfaces: StockI }
@@ -59,12 +73,25 @@ service StockS {
   }
 }
 
+// The money of all customers together.
 service BankS {
-  execution: concurrent
+  execution: single
   inputPort In { location: "local://bank" interfaces: BankI }
+  init { funds = 100 }
   main {
-    pay(p)() {
-      if (p.amount > 100) { throw(NoFunds) }
+    while (true) {
+      scope(turn) {
+        install(NoFunds => nullProcess) ;
+        [ pay(p)(r) {
+            if (p.amount > funds) { throw(NoFunds) } ;
+            funds = funds - p.amount ;
+            r = funds
+        } ] { nullProcess }
+        [ refund(p)(r) {
+            funds = funds + p.amount ;
+            r = funds
+        } ] { nullProcess }
+      }
     }
   }
 }

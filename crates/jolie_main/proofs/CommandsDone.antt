@@ -3,97 +3,202 @@ use Rattle.std.proofs.Common.{◌≡◌, refl, sym, subst, ℕ, List, Option, If
 use Rattle.std.specs.Prelude.{MatchResult, codes}
 use Rattle.std.specs.declared.alloc.AllocError.{AllocError}
 use Rattle.jolie_ast.specs.declared.tree.Definition.{Definition}
+use Rattle.jolie_ast.specs.Printed.{printed_text}
+use Rattle.behaviour_tree.specs.Data.{ProgramParts}
 use Rattle.behaviour_tree.specs.PartsView.{parts_of}
 use Rattle.behaviour_tree.specs.declared.program.Program.{Program}
-use Rattle.jolie_main.specs.declared.record.Ended.{Ended}
-use Rattle.jolie_main.specs.declared.refusal.Refusal.{Refusal}
-use Rattle.jolie_main.specs.declared.verdict.Verdict.{Verdict}
-use Rattle.jolie_main.specs.declared.verdict.Verdict.TheVariants as verdict
+use Rattle.office_core.specs.Limits.{run_of}
+use Rattle.outside_links.specs.Trips.{Made}
+use Rattle.line_front.specs.Writing.{Taking}
+use Rattle.line_run.specs.declared.run.Ended.{Ended}
+use Rattle.line_run.specs.Lined.{Giving, Outside as Lines, outside as lines, task, IsLined}
 use Rattle.command_words.specs.declared.table.Action.{Action}
 use Rattle.command_words.specs.declared.table.Action.TheVariants as action
 use Rattle.command_words.specs.declared.words.Command.{Command}
 use Rattle.command_words.specs.declared.words.Words.{Words}
 use Rattle.command_words.specs.declared.words.Words.TheVariants as words
 use Rattle.command_words.specs.Usage.{IsUnderstood}
-use Rattle.jolie_ast.specs.Printed.{printed_text}
-use Rattle.jolie_main.specs.Programs.{IsChecked, IsUncheckedBy, IsProgram, IsNotRunBy}
+use Rattle.jolie_main.specs.declared.refusal.Refusal.{Refusal}
+use Rattle.jolie_main.specs.declared.verdict.Verdict.{Verdict}
+use Rattle.jolie_main.specs.declared.verdict.Verdict.TheVariants as verdict
+use Rattle.jolie_main.specs.Programs.{IsChecked, IsUncheckedBy}
 use Rattle.jolie_main.specs.RefusalLines.{IsVerdict, refusal_line}
-use Rattle.jolie_main.specs.Outside.{Stream, Outside, outside, program_bytes, IsWritten}
-use Rattle.jolie_main.specs.Headline.{Says, Checks, Prints, Runs, IsEmptyRecord, Does, Obeys, Promises}
+use Rattle.jolie_main.specs.Outside.{Outside, outside, program_bytes, FirstTravelled, IsWritten}
+use Rattle.jolie_main.specs.Headline.{Says, Checks, Prints, Runs, ShowsAlone, IsEmptyRecord, Does, Obeys, Promises}
 use Rattle.jolie_main.specs.Headline as headline
 
+-- ---- a text
+
 -- a text with definitions is printed
-pub printed : (text : List ℕ) (v : Verdict) (file : List Definition) (said : List ℕ) (r : Result Ended AllocError) (before now : Stream) → IsVerdict text v → v ≡ verdict.File file
-    → said ≡ printed_text file → IfOk r (λ ended. Says said ended.status before now) → IfOk r (λ ended. Prints text ended.status before now)
-printed text v file said (Ok ended) before now right is same says =
-    headline.accepted file (subst (λ x. IsVerdict text x) is right) (subst (λ t. Says t ended.status before now) same says)
-printed text v file said (Err e) before now right is same says = tt
+pub printed : (text : List ℕ) (v : Verdict) (file : List Definition) (said : List ℕ) (status : ℕ) (before now : Taking)
+    → IsVerdict text v → v ≡ verdict.File file → said ≡ printed_text file → Says said status before now
+    → Prints text status before now
+printed text v file said status before now right is same says =
+    headline.accepted file (subst (λ x. IsVerdict text x) is right) (subst (λ t. Says t status before now) same says)
 
 -- and another is refused
-pub not_printed : (text : List ℕ) (v : Verdict) (refusal : Refusal) (r : Result Ended AllocError) (before now : Stream) → IsVerdict text v → v ≡ verdict.Refused refusal
-    → IfOk r (λ ended. ended.status ≡ 3) → IfOk r (λ ended. IsWritten (refusal_line refusal) before now) → IfOk r (λ ended. Prints text ended.status before now)
-not_printed text v refusal (Ok ended) before now right is status written = headline.refused (refusal_line refusal) (subst (λ x. IsVerdict text x) is right) status written
+pub not_printed : (text : List ℕ) (v : Verdict) (refusal : Refusal) (r : Result Ended AllocError) (before now : Taking)
+    → IsVerdict text v → v ≡ verdict.Refused refusal → IfOk r (λ ended. ended.status ≡ 3)
+    → IfOk r (λ ended. IsWritten (refusal_line refusal) before now) → IfOk r (λ ended. Prints text ended.status before now)
+not_printed text v refusal (Ok ended) before now right is status written =
+    headline.refused (refusal_line refusal) (subst (λ x. IsVerdict text x) is right) status written
 not_printed text v refusal (Err e) before now right is status written = tt
 
+-- what was found of a text
+abbrev IsFound : List ℕ → Result Program Refusal → Type 0
+IsFound text found =
+    MatchResult found (λ p. IsChecked text (parts_of p)) (λ why. IsUncheckedBy text (refusal_line why))
+
 -- `ok` is said of a program
-pub passed : (text said : List ℕ) (found : Result Program Refusal) (program : Program) (r : Result Ended AllocError) (before now : Stream)
-    → MatchResult found (λ p. IsChecked text (parts_of p)) (λ why. IsUncheckedBy text (refusal_line why)) → found ≡ Ok program → said ≡ codes "ok\n"
-    → IfOk r (λ ended. Says said ended.status before now) → IfOk r (λ ended. Checks text ended.status before now)
-passed text said found program (Ok ended) before now right is same says =
-    headline.passed (parts_of program) (subst (λ x. MatchResult x (λ p. IsChecked text (parts_of p)) (λ why. IsUncheckedBy text (refusal_line why))) is right)
-    (subst (λ t. Says t ended.status before now) same says)
-passed text said found program (Err e) before now right is same says = tt
+pub passed : (text said : List ℕ) (found : Result Program Refusal) (program : Program) (status : ℕ) (before now : Taking)
+    → IsFound text found → found ≡ Ok program → said ≡ codes "ok\n" → Says said status before now
+    → Checks text status before now
+passed text said found program status before now right is same says =
+    headline.passed (parts_of program) (subst (λ x. IsFound text x) is right) (subst (λ t. Says t status before now) same says)
 
 -- and another text is refused
-pub not_passed : (text : List ℕ) (found : Result Program Refusal) (refusal : Refusal) (r : Result Ended AllocError) (before now : Stream)
-    → MatchResult found (λ p. IsChecked text (parts_of p)) (λ why. IsUncheckedBy text (refusal_line why)) → found ≡ Err refusal
-    → IfOk r (λ ended. ended.status ≡ 3) → IfOk r (λ ended. IsWritten (refusal_line refusal) before now) → IfOk r (λ ended. Checks text ended.status before now)
+pub not_passed : (text : List ℕ) (found : Result Program Refusal) (refusal : Refusal) (r : Result Ended AllocError)
+    (before now : Taking) → IsFound text found → found ≡ Err refusal → IfOk r (λ ended. ended.status ≡ 3)
+    → IfOk r (λ ended. IsWritten (refusal_line refusal) before now) → IfOk r (λ ended. Checks text ended.status before now)
 not_passed text found refusal (Ok ended) before now right is status written =
-    headline.unchecked (refusal_line refusal) (subst (λ x. MatchResult x (λ p. IsChecked text (parts_of p)) (λ why. IsUncheckedBy text (refusal_line why))) is right) status written
+    headline.unchecked (refusal_line refusal) (subst (λ x. IsFound text x) is right) status written
 not_passed text found refusal (Err e) before now right is status written = tt
 
--- a text that is not run is refused
-pub run_refused : (text given : List ℕ) (found : Result Program Refusal) (refusal : Refusal) (r : Result Ended AllocError) (input output output_now : Stream)
-    → MatchResult found (λ p. IsProgram given (parts_of p)) (λ why. IsNotRunBy given (refusal_line why)) → found ≡ Err refusal → given ≡ text
-    → IfOk r (λ ended. ended.status ≡ 3) → IfOk r (λ ended. IsWritten (refusal_line refusal) output output_now) → IfOk r (λ ended. IsEmptyRecord ended.report)
-    → IfOk r (λ ended. Runs text ended input input output output_now)
-run_refused text given found refusal (Ok ended) input output output_now right is same status written empty =
-    headline.refused (refusal_line refusal) (subst (λ t. IsNotRunBy t (refusal_line refusal)) same (subst (λ x. MatchResult x (λ p. IsProgram given (parts_of p)) (λ why. IsNotRunBy given (refusal_line why))) is right)) status empty refl written
-run_refused text given found refusal (Err e) input output output_now right is same status written empty = tt
+-- ---- a run
 
--- A command over a file that was read, by the name that it was read by.
-module _ (given : Action) (held : List ℕ → Option (List ℕ)) (file name text : List ℕ) (named : name ≡ file) (read : IfSome (held name) (λ all. text ≡ program_bytes all)) where
-  obeys : (act : Action) (ended : Ended) (before now : Outside) → given ≡ act → now.file_faults ≡ before.file_faults → Does act text ended before now → Obeys given (held file) ended before now
+-- a program runs
+pub ran : (c : Command) (text : List ℕ) (found : Result Program Refusal) (program : Program) (r : Result Ended AllocError)
+    (before now : Outside) → IsFound text found → found ≡ Ok program
+    → IfOk r (IsLined (task (parts_of program) text c.budget c.picks) before.lines now.lines)
+    → IfOk r (λ ended. FirstTravelled (run_of (parts_of program)) ended.report.history.entries.items before.trips now.trips)
+    → IfOk r (λ ended. Runs c text ended before now)
+ran c text found program (Ok ended) before now right is lined travelled =
+    headline.ran (parts_of program) (subst (λ x. IsFound text x) is right) lined travelled
+ran c text found program (Err e) before now right is lined travelled = tt
+
+-- and another text is refused
+pub not_run : (c : Command) (text : List ℕ) (found : Result Program Refusal) (refusal : Refusal) (r : Result Ended AllocError)
+    (file_faults : ℕ) (source : Giving) (output output_now notes : Taking) (trips : List (Option (List Made)))
+    → IsFound text found → found ≡ Err refusal → IfOk r (λ ended. ended.status ≡ 3)
+    → IfOk r (λ ended. IsWritten (refusal_line refusal) output output_now) → IfOk r (λ ended. IsEmptyRecord ended.report)
+    → IfOk r (λ ended. Runs c text ended
+    (outside file_faults (lines source output notes) trips) (outside file_faults (lines source output_now notes) trips))
+not_run c text found refusal (Ok ended) file_faults source output output_now notes trips right is status written empty =
+    headline.refused (refusal_line refusal) (subst (λ x. IsFound text x) is right) status written
+    (record { empty = empty; input = refl; notes = refl; trips = refl })
+not_run c text found refusal (Err e) file_faults source output output_now notes trips right is status written empty = tt
+
+-- ---- a command over a file that was read, by the name that it was read by
+
+-- what each action does
+abbrev DoesBy : Command → List ℕ → Ended → (Outside × Outside) → Action → Type 0
+DoesBy c text ended around act = elim act [
+  | action.Check ↦ Checks text ended.status around.0.lines.output around.1.lines.output
+      × ShowsAlone ended around.0 around.1
+  | action.Print ↦ Prints text ended.status around.0.lines.output around.1.lines.output
+      × ShowsAlone ended around.0 around.1
+  | action.Run ↦ Runs c text ended around.0 around.1
+]
+
+module _ (c : Command) (held : List ℕ → Option (List ℕ)) (name text : List ℕ) (named : name ≡ c.file)
+    (read : IfSome (held name) (λ all. text ≡ program_bytes all)) where
+  obeys : (act : Action) (ended : Ended) (before now : Outside) → c.action ≡ act → now.file_faults ≡ before.file_faults
+      → DoesBy c text ended (before, now) act → Obeys c (held c.file) ended before now
   obeys act ended before now is calm does =
-      headline.read text (subst (λ n. IfSome (held n) (λ all. text ≡ program_bytes all)) named read) calm (subst (λ a. Does a text ended before now) (sym is) does)
+      headline.read text (subst (λ n. IfSome (held n) (λ all. text ≡ program_bytes all)) named read) calm
+      (subst (λ a. DoesBy c text ended (before, now) a) (sym is) does)
 
-  pub obeys_check : (shown : List ℕ) (faults faults_now : ℕ) (input output output_now : Stream) (r : Result Ended AllocError) → given ≡ action.Check → faults_now ≡ faults → shown ≡ text
-      → IfOk r (λ ended. Checks shown ended.status output output_now) → IfOk r (λ ended. IsEmptyRecord ended.report)
-      → IfOk r (λ ended. (notes : Stream) → Obeys given (held file) ended (outside faults input output notes) (outside faults_now input output_now notes))
-  obeys_check shown faults faults_now input output output_now (Ok ended) is calm same shows empty =
-      λ notes. obeys action.Check ended (outside faults input output notes) (outside faults_now input output_now notes) is calm
-      (subst (λ t. Checks t ended.status output output_now) same shows, (empty, refl))
-  obeys_check shown faults faults_now input output output_now (Err e) is calm same shows empty = tt
+  pub obeys_check : (shown : List ℕ) (faults faults_now : ℕ) (source : Giving) (output output_now notes : Taking)
+      (trips : List (Option (List Made))) (r : Result Ended AllocError) → c.action ≡ action.Check → faults_now ≡ faults
+      → shown ≡ text → IfOk r (λ ended. Checks shown ended.status output output_now) → IfOk r (λ ended. IsEmptyRecord ended.report)
+      → IfOk r (λ ended. Obeys c (held c.file) ended
+      (outside faults (lines source output notes) trips) (outside faults_now (lines source output_now notes) trips))
+  obeys_check shown faults faults_now source output output_now notes trips (Ok ended) is calm same shows empty =
+      obeys action.Check ended (outside faults (lines source output notes) trips)
+      (outside faults_now (lines source output_now notes) trips) is calm (
+        subst (λ t. Checks t ended.status output output_now) same shows,
+        record { empty = empty; input = refl; notes = refl; trips = refl },
+      )
+  obeys_check shown faults faults_now source output output_now notes trips (Err e) is calm same shows empty = tt
 
-  pub obeys_print : (shown : List ℕ) (faults faults_now : ℕ) (input output output_now : Stream) (r : Result Ended AllocError) → given ≡ action.Print → faults_now ≡ faults → shown ≡ text
-      → IfOk r (λ ended. Prints shown ended.status output output_now) → IfOk r (λ ended. IsEmptyRecord ended.report)
-      → IfOk r (λ ended. (notes : Stream) → Obeys given (held file) ended (outside faults input output notes) (outside faults_now input output_now notes))
-  obeys_print shown faults faults_now input output output_now (Ok ended) is calm same shows empty =
-      λ notes. obeys action.Print ended (outside faults input output notes) (outside faults_now input output_now notes) is calm
-      (subst (λ t. Prints t ended.status output output_now) same shows, (empty, refl))
-  obeys_print shown faults faults_now input output output_now (Err e) is calm same shows empty = tt
+  pub obeys_print : (shown : List ℕ) (faults faults_now : ℕ) (source : Giving) (output output_now notes : Taking)
+      (trips : List (Option (List Made))) (r : Result Ended AllocError) → c.action ≡ action.Print → faults_now ≡ faults
+      → shown ≡ text → IfOk r (λ ended. Prints shown ended.status output output_now) → IfOk r (λ ended. IsEmptyRecord ended.report)
+      → IfOk r (λ ended. Obeys c (held c.file) ended
+      (outside faults (lines source output notes) trips) (outside faults_now (lines source output_now notes) trips))
+  obeys_print shown faults faults_now source output output_now notes trips (Ok ended) is calm same shows empty =
+      obeys action.Print ended (outside faults (lines source output notes) trips)
+      (outside faults_now (lines source output_now notes) trips) is calm (
+        subst (λ t. Prints t ended.status output output_now) same shows,
+        record { empty = empty; input = refl; notes = refl; trips = refl },
+      )
+  obeys_print shown faults faults_now source output output_now notes trips (Err e) is calm same shows empty = tt
 
-  pub obeys_run : (faults faults_now : ℕ) (input input_now output output_now : Stream) (r : Result Ended AllocError) → given ≡ action.Run → faults_now ≡ faults
-      → IfOk r (λ ended. Runs text ended input input_now output output_now)
-      → IfOk r (λ ended. (notes : Stream) → Obeys given (held file) ended (outside faults input output notes) (outside faults_now input_now output_now notes))
-  obeys_run faults faults_now input input_now output output_now (Ok ended) is calm runs =
-      λ notes. obeys action.Run ended (outside faults input output notes) (outside faults_now input_now output_now notes) is calm runs
-  obeys_run faults faults_now input input_now output output_now (Err e) is calm runs = tt
+  -- around a run the files are left alone
+  again : (text : List ℕ) (ended : Ended) (faults faults_now : ℕ) (before now : Lines) (trips trips_now : List (Option (List Made)))
+      → Runs c text ended (outside faults before trips) (outside faults now trips_now)
+      → Runs c text ended (outside faults before trips) (outside faults_now now trips_now)
+  again text ended faults faults_now before now trips trips_now (headline.ran parts checked lined travelled) =
+      headline.ran parts checked lined travelled
+  again text ended faults faults_now before now trips trips_now (headline.refused line why status written alone) =
+      headline.refused line why status written
+      (record { empty = alone.empty; input = alone.input; notes = alone.notes; trips = alone.trips })
+
+  pub obeys_run : (shown : List ℕ) (faults faults_now : ℕ) (before now : Lines) (trips trips_now : List (Option (List Made)))
+      (r : Result Ended AllocError) → c.action ≡ action.Run → faults_now ≡ faults → shown ≡ text
+      → ((n : ℕ) → IfOk r (λ ended. Runs c shown ended (outside n before trips) (outside n now trips_now)))
+      → IfOk r (λ ended. Obeys c (held c.file) ended (outside faults before trips) (outside faults_now now trips_now))
+  obeys_run shown faults faults_now before now trips trips_now (Ok ended) is calm same runs =
+      obeys action.Run ended (outside faults before trips) (outside faults_now now trips_now) is calm
+      (subst (λ t. Runs c t ended (outside faults before trips) (outside faults_now now trips_now)) same
+      (again shown ended faults faults_now before now trips trips_now (runs faults)))
+  obeys_run shown faults faults_now before now trips trips_now (Err e) is calm same runs = tt
+
+-- ---- the words
 
 -- words that are a command
-pub promised : (line : List (List ℕ)) (said : Words) (c : Command) (held : List ℕ → Option (List ℕ)) (faults faults_now : ℕ) (input input_now output output_now notes : Stream) (r : Result Ended AllocError)
-    → IsUnderstood line said → said ≡ words.Command c
-    → IfOk r (λ ended. (notes : Stream) → Obeys c.action (held c.file) ended (outside faults input output notes) (outside faults_now input_now output_now notes))
-    → IfOk r (λ ended. (w : Words) × IsUnderstood line w × Promises w held ended (outside faults input output notes) (outside faults_now input_now output_now notes))
-promised line said c held faults faults_now input input_now output output_now notes (Ok ended) right is obeyed = (words.Command c, subst (λ w. IsUnderstood line w) is right, (obeyed notes, refl))
-promised line said c held faults faults_now input input_now output output_now notes (Err e) right is obeyed = tt
+pub promised : (line : List (List ℕ)) (said : Words) (c : Command) (held : List ℕ → Option (List ℕ)) (before now : Outside)
+    (r : Result Ended AllocError) → IsUnderstood line said → said ≡ words.Command c
+    → IfOk r (λ ended. Obeys c (held c.file) ended before now)
+    → IfOk r (λ ended. (w : Words) × IsUnderstood line w × Promises w held ended before now)
+promised line said c held before now (Ok ended) right is obeyed =
+    (words.Command c, subst (λ w. IsUnderstood line w) is right, obeyed)
+promised line said c held before now (Err e) right is obeyed = tt
+
+-- words that ask for help
+pub helped : (line : List (List ℕ)) (said : Words) (text shown : List ℕ) (held : List ℕ → Option (List ℕ)) (ended : Ended)
+    (faults : ℕ) (source : Giving) (output output_now notes : Taking) (trips : List (Option (List Made)))
+    → IsUnderstood line said → said ≡ words.Help text → shown ≡ text → Says shown ended.status output output_now
+    → IsEmptyRecord ended.report
+    → (w : Words) × IsUnderstood line w × Promises w held ended
+    (outside faults (lines source output notes) trips) (outside faults (lines source output_now notes) trips)
+helped line said text shown held ended faults source output output_now notes trips right is same says empty = (
+  words.Help text,
+  subst (λ w. IsUnderstood line w) is right,
+  record {
+    said = subst (λ t. Says t ended.status output output_now) same says;
+    files = refl;
+    alone = record { empty = empty; input = refl; notes = refl; trips = refl };
+  },
+)
+
+-- words that are wrong
+pub mistaken : (line : List (List ℕ)) (said : Words) (text shown : List ℕ) (held : List ℕ → Option (List ℕ)) (ended : Ended)
+    (faults : ℕ) (source : Giving) (output notes notes_now : Taking) (trips : List (Option (List Made)))
+    → IsUnderstood line said → said ≡ words.UsageError text → shown ≡ text → ended.status ≡ 1
+    → IsWritten shown notes notes_now → IsEmptyRecord ended.report
+    → (w : Words) × IsUnderstood line w × Promises w held ended
+    (outside faults (lines source output notes) trips) (outside faults (lines source output notes_now) trips)
+mistaken line said text shown held ended faults source output notes notes_now trips right is same status written empty = (
+  words.UsageError text,
+  subst (λ w. IsUnderstood line w) is right,
+  record {
+    status = status;
+    noted = subst (λ t. IsWritten t notes notes_now) same written;
+    empty = empty;
+    files = refl;
+    input = refl;
+    output = refl;
+    trips = refl;
+  },
+)

@@ -1,21 +1,28 @@
--- Which program a text is, and whether it runs.
-use Rattle.std.proofs.Common.{◌≡◌, ℕ, Bool, true, false, List, Result, Ok, Err, subst, sym, ◌∙◌}
+-- Which program a text is.
+use Rattle.std.proofs.Common.{◌≡◌, ◌<◌, ℕ, List, [], ◌∷◌, ◌++◌, length, None, Result, Ok, Err, subst, sym, ap, arith}
 use Rattle.std.specs.Prelude.{MatchResult}
+use Rattle.std.proofs.lemmas.List.{length-map}
+use Rattle.std.proofs.lemmas.Option.{none-some}
+use Rattle.behaviour_tree.specs.Data.{ProgramParts}
 use Rattle.behaviour_tree.specs.PartsView.{parts_of}
 use Rattle.behaviour_tree.specs.declared.program.Program.{Program}
 use Rattle.jolie_ast.specs.declared.tree.Definition.{Definition}
+use Rattle.jolie_ast.specs.declared.service.Service.{Service}
 use Rattle.check_base.specs.declared.refusal.CheckName.{CheckName}
 use Rattle.check_base.specs.declared.refusal.CheckError.{CheckError}
 use Rattle.check_base.specs.declared.refusal.CheckError.TheVariants as error
+use Rattle.check_base.specs.declared.refusal.Refusal.{Refusal as Refused}
+use Rattle.check_base.specs.Least.{least}
+use Rattle.check_base.specs.Files.{services_of}
 use Rattle.service_check.specs.Answers.{Checks}
+use Rattle.service_check.specs.Programs.{program_of}
+use Rattle.service_check.specs.Refusals.{no_service, refusal_of, refusals}
 use Rattle.jolie_main.specs.declared.refusal.Refusal.{Refusal}
 use Rattle.jolie_main.specs.declared.verdict.Verdict.{Verdict}
 use Rattle.jolie_main.specs.declared.verdict.Verdict.TheVariants as verdict
-use Rattle.jolie_main.specs.BuiltPrograms.{is_built_program}
 use Rattle.jolie_main.specs.Verdicts.{check_line}
 use Rattle.jolie_main.specs.RefusalLines.{refusal_line, IsVerdict}
-use Rattle.jolie_main.specs.Programs.{IsChecked, IsUncheckedBy, no_file, no_program, IsProgram, form_line, IsNotRunBy}
-use Rattle.jolie_main.specs.Programs as program
+use Rattle.jolie_main.specs.Programs.{IsChecked, IsUncheckedBy, no_file, no_program}
 
 -- a text that has no definitions is no program
 pub unread : (text : List ℕ) (v : Verdict) (r : Refusal) → IsVerdict text v → v ≡ verdict.Refused r → IsUncheckedBy text (refusal_line r)
@@ -35,20 +42,28 @@ refused text v file result name at r right is checks err line =
     subst (λ l. IsUncheckedBy text l) (sym line)
     (no_program file name at (subst (λ x. IsVerdict text x) is right) (subst (λ x. Checks file x) err checks))
 
--- a program of a form that runs
-pub runs : (text : List ℕ) (found : Result Program Refusal) (p : Program) (b : Bool) → MatchResult found (λ p. IsChecked text (parts_of p)) (λ why. IsUncheckedBy text (refusal_line why)) → found ≡ Ok p
-    → b ≡ is_built_program (parts_of p) → b ≡ true → IsProgram text (parts_of p)
-runs text found p b right is same yes_ =
-    record { checked = subst (λ x. MatchResult x (λ p. IsChecked text (parts_of p)) (λ why. IsUncheckedBy text (refusal_line why))) is right; built = sym same ∙ yes_ }
+-- ---- a program has a service
 
--- a text that is no program
-pub unchecked : (text : List ℕ) (found : Result Program Refusal) (r : Refusal) → MatchResult found (λ p. IsChecked text (parts_of p)) (λ why. IsUncheckedBy text (refusal_line why)) → found ≡ Err r
-    → IsNotRunBy text (refusal_line r)
-unchecked text found r right is = program.unchecked (refusal_line r) (subst (λ x. MatchResult x (λ p. IsChecked text (parts_of p)) (λ why. IsUncheckedBy text (refusal_line why))) is right)
+-- where the first of what is refused is that there is none, there is one
+none_refused : (ss : List Service) (a b c d : List Refused) → least (no_service ss ++ a ++ b ++ c ++ d) ≡ None → 0 < length ss
+none_refused [] a b c d none = absurd (none-some _ (sym none))
+none_refused (s ∷ ss) a b c d none = omega arith
 
--- a program of a form that does not run yet
-pub unbuilt : (text : List ℕ) (found : Result Program Refusal) (p : Program) (b : Bool) (r : Refusal) → MatchResult found (λ p. IsChecked text (parts_of p)) (λ why. IsUncheckedBy text (refusal_line why)) → found ≡ Ok p
-    → b ≡ is_built_program (parts_of p) → b ≡ false → refusal_line r ≡ form_line → IsNotRunBy text (refusal_line r)
-unbuilt text found p b r right is same no_ line =
-    subst (λ l. IsNotRunBy text l) (sym line)
-    (program.unbuilt (parts_of p) (subst (λ x. MatchResult x (λ p. IsChecked text (parts_of p)) (λ why. IsUncheckedBy text (refusal_line why))) is right) (sym same ∙ no_))
+has_service : (file : List Definition) → refusal_of file ≡ None → 0 < length (services_of file)
+unfolding refusals
+has_service file none = none_refused (services_of file) _ _ _ _ none
+
+checked_has_some : (text : List ℕ) (parts : ProgramParts) → IsChecked text parts → 0 < length parts.services
+unfolding program_of
+checked_has_some text parts is =
+    let there : 0 < length (services_of is.file) = has_service is.file is.passes in
+    let many : length (program_of is.file).services ≡ length (services_of is.file) = length-map (services_of is.file) _ in
+    let same : length parts.services ≡ length (program_of is.file).services = ap (λ (p : ProgramParts). length p.services) is.means in
+    omega arith
+
+pub has_some : (text : List ℕ) (found : Result Program Refusal) (program : Program)
+    → MatchResult found (λ p. IsChecked text (parts_of p)) (λ why. IsUncheckedBy text (refusal_line why)) → found ≡ Ok program
+    → 0 < length (parts_of program).services
+has_some text found program right is =
+    checked_has_some text (parts_of program)
+    (subst (λ x. MatchResult x (λ p. IsChecked text (parts_of p)) (λ why. IsUncheckedBy text (refusal_line why))) is right)

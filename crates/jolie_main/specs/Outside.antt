@@ -1,28 +1,25 @@
 -- What the outside tells, and what went out.
-use Rattle.std.specs.Prelude.{◌≡◌, ◌⊎◌, ℕ, List, take, Option, IfSome, Bool, MatchBool}
+use Rattle.std.specs.Prelude.{◌≡◌, ◌⊎◌, ℕ, List, ◌∷◌, take, Option, IfSome, Bool, MatchBool}
 use Rattle.std.specs.Io.KnownBytes.{Appends}
 use Rattle.outside_traits.specs.Causes.{Rose}
-use Rattle.jolie_main.specs.Written.{IsProperFront}
+use Rattle.outside_links.specs.Trips.{Made}
+use Rattle.office_core.specs.declared.history.Entry.{Entry}
+use Rattle.office_core.specs.Limits.{Setting}
+use Rattle.branch_workers.specs.Lines.{IsProperFront}
+use Rattle.line_front.specs.Writing.{Taking}
+use Rattle.line_run.specs.Lined.{Outside as Lines}
+use Rattle.run_alone.specs.Ran.{Travelled}
 
--- what a stream tells at a moment: the bytes that are left of an input or that an output took, and how often it failed
-pub record Stream : Type 0 where
-  pub bytes : Option (List ℕ)
-  pub faults : ℕ
-
--- a stream from its parts
-abbrev pub stream : Option (List ℕ) → ℕ → Stream
-stream bytes faults = record { bytes = bytes; faults = faults }
-
--- what the outside tells at a moment: how often the files failed, and the three streams
+-- what the outside tells at a moment: how often the files failed; the input, the output and the notes; and the trips of
+-- each link, where they are told
 pub record Outside : Type 0 where
   pub file_faults : ℕ
-  pub input : Stream
-  pub output : Stream
-  pub notes : Stream
+  pub lines : Lines
+  pub trips : List (Option (List Made))
 
 -- the outside from its parts
-abbrev pub outside : ℕ → Stream → Stream → Stream → Outside
-outside file_faults input output notes = record { file_faults = file_faults; input = input; output = output; notes = notes }
+abbrev pub outside : ℕ → Lines → List (Option (List Made)) → Outside
+outside file_faults lines trips = record { file_faults = file_faults; lines = lines; trips = trips }
 
 -- ---- files
 
@@ -37,21 +34,28 @@ IsReadOf told text = IfSome told (λ file. text ≡ program_bytes file)
 -- ---- outputs
 
 -- All of the text went out.
-pub record IsWhole (text : List ℕ) (before now : Stream) : Type 0 where
-  pub bytes : Appends before.bytes now.bytes text
+pub record IsWhole (text : List ℕ) (before now : Taking) : Type 0 where
+  pub bytes : Appends before.taken now.taken text
   pub calm : now.faults ≡ before.faults
 
 -- The output failed, and a part of the text went out before.
-pub record IsCut (text : List ℕ) (before now : Stream) : Type 0 where
+pub record IsCut (text : List ℕ) (before now : Taking) : Type 0 where
   pub piece : List ℕ
   pub part : IsProperFront piece text
-  pub bytes : Appends before.bytes now.bytes piece
+  pub bytes : Appends before.taken now.taken piece
   pub cause : Rose before.faults now.faults
 
 -- the text went out, whole or cut
-abbrev pub IsWritten : List ℕ → Stream → Stream → Type 0
+abbrev pub IsWritten : List ℕ → Taking → Taking → Type 0
 IsWritten text before now = IsWhole text before now ⊎ IsCut text before now
 
 -- and which of the two it was
-abbrev pub IsSaid : Bool → List ℕ → Stream → Stream → Type 0
+abbrev pub IsSaid : Bool → List ℕ → Taking → Taking → Type 0
 IsSaid all text before now = MatchBool all (IsWhole text before now) (IsCut text before now)
+
+-- ---- links
+
+-- the first link made the trips that a run of this history asks for, and the others made none
+abbrev pub FirstTravelled : Setting → List Entry → List (Option (List Made)) → List (Option (List Made)) → Type 0
+FirstTravelled w h (before ∷ others) (now ∷ same) = Travelled w h before now × (same ≡ others)
+FirstTravelled w h before now = ⊥

@@ -18,7 +18,6 @@ abbrev pub stage_word : Stage → List ℕ
 stage_word stage.Lex = codes "lex"
 stage_word stage.Parse = codes "parse"
 stage_word stage.Check = codes "check"
-stage_word stage.First = codes "first"
 
 -- the word of a cause
 abbrev pub cause_word : Cause → List ℕ
@@ -30,7 +29,6 @@ cause_word cause.BadNumber = codes "BadNumber"
 cause_word cause.Syntax = codes "Syntax"
 cause_word cause.TooDeep = codes "TooDeep"
 cause_word (cause.Check name) = check_word name
-cause_word cause.Form = codes "Form"
 
 -- the line of a refusal
 abbrev pub refusal_line : Refusal → List ℕ

@@ -1,11 +1,10 @@
-//! Which program a text is, and whether it runs.
+//! Which program a text is.
 
 ghost use Rattle.std.specs.Prelude.{IfOk, MatchResult};
 ghost use Rattle.behaviour_tree.specs.PartsView.{parts_of};
-ghost use Rattle.jolie_main.specs.Programs.{IsChecked, IsUncheckedBy, IsProgram, IsNotRunBy};
+ghost use Rattle.jolie_main.specs.Programs.{IsChecked, IsUncheckedBy};
 ghost use Rattle.jolie_main.specs.RefusalLines.{refusal_line};
 
-use crate::built::can_run;
 use crate::refusal::Refusal;
 use crate::verdict::{Verdict, verdict_of};
 use behaviour_tree::Program;
@@ -14,7 +13,7 @@ use std::alloc::{AllocError, Global};
 
 /// The program that a text is, or why it is none.
 #[tactic(auto, using(crate::proofs::TextsAsPrograms::unread, crate::proofs::TextsAsPrograms::passed, crate::proofs::TextsAsPrograms::refused))]
-pub fn checked_program(alloc: Global, text: &[u8]) -> Result<Result<Program, Refusal>, AllocError>
+pub fn program_in(alloc: Global, text: &[u8]) -> Result<Result<Program, Refusal>, AllocError>
     ensures { IfOk result (λ found. MatchResult found (λ program. IsChecked text.now (parts_of program)) (λ refusal. IsUncheckedBy text.now (refusal_line refusal))) }
 {
     let file = match verdict_of(alloc, text)? {
@@ -25,21 +24,5 @@ pub fn checked_program(alloc: Global, text: &[u8]) -> Result<Result<Program, Ref
         Ok(program) => Ok(Ok(program)),
         Err(CheckError::Refused(name, at)) => Ok(Err(Refusal::by_check(name, at))),
         Err(CheckError::Memory(cause)) => Err(cause),
-    }
-}
-
-/// The program that a text is, if it runs, or why it does not.
-#[tactic(auto, using(crate::proofs::TextsAsPrograms::runs, crate::proofs::TextsAsPrograms::unchecked))]
-pub fn program_in(alloc: Global, text: &[u8]) -> Result<Result<Program, Refusal>, AllocError>
-    ensures { IfOk result (λ found. MatchResult found (λ program. IsProgram text.now (parts_of program)) (λ refusal. IsNotRunBy text.now (refusal_line refusal))) }
-{
-    let program = match checked_program(alloc, text)? {
-        Ok(program) => program,
-        Err(refusal) => return Ok(Err(refusal)),
-    };
-    if can_run(&program) {
-        Ok(Ok(program))
-    } else {
-        Ok(Err(Refusal::of_form()))
     }
 }

@@ -1,7 +1,6 @@
 //! Why a text is refused.
 
 ghost use Rattle.std.specs.Prelude.{◌≡◌, Some, IfOk, string_bytes};
-ghost use Rattle.jolie_main.specs.Programs.{form_line};
 ghost use Rattle.jolie_main.specs.Verdicts.{check_word as spelled_check, check_line};
 ghost use Rattle.jolie_main.specs.RefusalLines.{stage_word, cause_word, refusal_line, IsLexRefusal, IsParseRefusal};
 
@@ -11,13 +10,12 @@ use service_check::CheckName;
 use std::alloc::{AllocError, Global};
 use std::fmt;
 
-/// What refuses a text: its tokens, its grammar, a check, or that its form does not run yet.
+/// What refuses a text: its tokens, its grammar, or a check.
 #[derive(Clone, Copy, Debug, PartialEq, Eq)]
 pub enum Stage {
     Lex,
     Parse,
     Check,
-    First,
 }
 
 impl Stage {
@@ -28,7 +26,6 @@ impl Stage {
             Stage::Lex => "lex",
             Stage::Parse => "parse",
             Stage::Check => "check",
-            Stage::First => "first",
         }
     }
 }
@@ -44,7 +41,6 @@ pub enum Cause {
     Syntax,
     TooDeep,
     Check(CheckName),
-    Form,
 }
 
 impl Cause {
@@ -60,7 +56,6 @@ impl Cause {
             Cause::Syntax => "Syntax",
             Cause::TooDeep => "TooDeep",
             Cause::Check(name) => check_word(name),
-            Cause::Form => "Form",
         }
     }
 }
@@ -84,8 +79,8 @@ fn check_word(name: CheckName) -> &'static str
     }
 }
 
-/// Why a text is refused, and the place of the byte that is at fault, counted from 0: that of the first byte too many where
-/// the text is too long, and 0 where its form does not run.
+/// Why a text is refused, and the place of the byte that is at fault, counted from 0: that of the first byte too many
+/// where the text is too long.
 #[derive(Clone, Copy, Debug, PartialEq, Eq)]
 pub struct Refusal {
     pub stage: Stage,
@@ -94,17 +89,6 @@ pub struct Refusal {
 }
 
 impl Refusal {
-    /// The refusal of a program of a form that does not run yet.
-    pub fn of_form() -> Refusal
-        ensures { refusal_line result ≡ form_line }
-    {
-        Refusal {
-            stage: Stage::First,
-            cause: Cause::Form,
-            at: 0,
-        }
-    }
-
     /// The refusal of a text that has no tokens. Want of memory refuses none.
     pub fn by_lex(error: LexError) -> Result<Refusal, AllocError>
         ensures { IfOk result (λ refusal. IsLexRefusal error refusal) }

@@ -2,31 +2,31 @@
 
 ghost use Rattle.std.specs.Prelude.{IfOk};
 ghost use Rattle.jolie_main.specs.Headline.{Checks, Prints, IsEmptyRecord};
-ghost use Rattle.jolie_main.specs.Outside.{stream};
+ghost use Rattle.line_front.specs.Writing.{taking};
 
-use crate::checked::checked_program;
-use crate::record::Ended;
+use crate::checked::program_in;
 use crate::say::{refuse, tell};
 use crate::verdict::{Verdict, verdict_of};
 use jolie_ast::print;
+use line_run::Ended;
 use outside_traits::Sink;
 use std::alloc::{AllocError, Global};
 
 /// Says `ok` of a text that is a program.
 pub fn check_text<K: Sink>(alloc: Global, text: &[u8], output: &mut K) -> Result<Ended, AllocError>
-    ensures shows { IfOk result (λ ended. Checks text.now ended.status (stream (K.taken output.old) (K.faults output.old)) (stream (K.taken output.new) (K.faults output.new))) }
+    ensures shows { IfOk result (λ ended. Checks text.now ended.status (taking (K.taken output.old) (K.faults output.old)) (taking (K.taken output.new) (K.faults output.new))) }
     ensures empty { IfOk result (λ ended. IsEmptyRecord ended.report) }
 {
-    match checked_program(alloc, text)? {
+    match program_in(alloc, text)? {
         Ok(_) => {}
         Err(refusal) => return refuse(alloc, &refusal, output),
     }
-    tell(alloc, b"ok\n", output)
+    Ok(tell(alloc, b"ok\n", output))
 }
 
 /// Prints the definitions of a text.
 pub fn print_text<K: Sink>(alloc: Global, text: &[u8], output: &mut K) -> Result<Ended, AllocError>
-    ensures shows { IfOk result (λ ended. Prints text.now ended.status (stream (K.taken output.old) (K.faults output.old)) (stream (K.taken output.new) (K.faults output.new))) }
+    ensures shows { IfOk result (λ ended. Prints text.now ended.status (taking (K.taken output.old) (K.faults output.old)) (taking (K.taken output.new) (K.faults output.new))) }
     ensures empty { IfOk result (λ ended. IsEmptyRecord ended.report) }
 {
     let file = match verdict_of(alloc, text)? {
@@ -34,5 +34,5 @@ pub fn print_text<K: Sink>(alloc: Global, text: &[u8], output: &mut K) -> Result
         Verdict::Refused(refusal) => return refuse(alloc, &refusal, output),
     };
     let printed = print(alloc, &file)?;
-    tell(alloc, printed.as_str().as_bytes(), output)
+    Ok(tell(alloc, printed.as_str().as_bytes(), output))
 }

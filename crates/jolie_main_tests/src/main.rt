@@ -1,4 +1,4 @@
-//! Runs of the program over a file and streams in memory, what its words ask for, and the events of its sessions.
+//! Runs of the program over a file, streams and a link in memory, what its words ask for, and what runs record.
 #![tactic(auto)]
 
 mod objects;
@@ -6,8 +6,8 @@ mod runs;
 mod sessions;
 mod words;
 
-use crate::runs::{ended, expected_end};
-use crate::sessions::{events_of_run, events_of_session};
+use crate::runs::{ended, expected_end, travelled};
+use crate::sessions::{counts, kinds, recorded};
 use crate::words::{asked, refused_by};
 use std::alloc::Global;
 use std::io;
@@ -30,8 +30,10 @@ fn told(alloc: Global, row: &Row<'_>) -> anyhow::Result<String> {
     match row.text(alloc, "call")?.as_str() {
         "words" => asked(alloc, row),
         "sentence" => refused_by(alloc, row),
-        "record" => events_of_run(alloc, row),
-        "session" => events_of_session(alloc, row),
+        "record" => recorded(alloc, row),
+        "kinds" => kinds(alloc, row),
+        "counts" => counts(alloc, row),
+        "trips" => travelled(alloc, row),
         _ => ended(alloc, row),
     }
 }
@@ -39,7 +41,9 @@ fn told(alloc: Global, row: &Row<'_>) -> anyhow::Result<String> {
 /// What is expected of a row, as `told` writes it.
 fn expected(alloc: Global, row: &Row<'_>) -> anyhow::Result<String> {
     match row.text(alloc, "call")?.as_str() {
-        "words" | "sentence" | "record" | "session" => Ok(row.text(alloc, "gives")?),
+        "words" | "sentence" | "record" | "kinds" | "counts" | "trips" => {
+            Ok(row.text(alloc, "gives")?)
+        }
         _ => expected_end(alloc, row),
     }
 }

@@ -1,5 +1,8 @@
 //! The objects in memory that a row describes.
 
+ghost use Rattle.std.specs.Prelude.{◌<◌, IfOk, length};
+
+use outside_links::ScriptedLink;
 use outside_traits::{Script, ScriptedFiles, ScriptedSink, ScriptedSource};
 use std::alloc::Global;
 use test_rows::{Row, TableError};
@@ -10,12 +13,41 @@ const NEVER: u64 = 1 << 60;
 /// Longer than each input and each output.
 const AT_ONCE: u32 = 100_000;
 
-/// The words of the row's command over the file `twice.ol`.
+/// The words of the row's command over the file `twice.ol`, with the row's options.
 pub fn words(alloc: Global, row: &Row<'_>) -> anyhow::Result<Vec<String>> {
     let mut words = Vec::new(alloc);
     words.push(row.text(alloc, "command")?)?;
     words.push(String::from_str(alloc, "twice.ol")?)?;
+    if let Some(options) = text(alloc, row, "options")? {
+        for word in options.as_str().split(' ') {
+            words.push(String::from_str(alloc, word)?)?;
+        }
+    }
     Ok(words)
+}
+
+/// One link, whose first trip brings back what the row says, or fails.
+pub fn links(alloc: Global, row: &Row<'_>) -> anyhow::Result<Vec<ScriptedLink>>
+    ensures { IfOk result (λ links. 0 < length links.items) }
+{
+    let script = trips(alloc, row)?;
+    let mut links = Vec::new(alloc);
+    links.push(ScriptedLink::new(alloc, script))?;
+    Ok(links)
+}
+
+fn trips(alloc: Global, row: &Row<'_>) -> anyhow::Result<Vec<Option<Vec<u8>>>> {
+    let mut script = Vec::new(alloc);
+    script.push(comes(alloc, row)?)?;
+    Ok(script)
+}
+
+fn comes(alloc: Global, row: &Row<'_>) -> anyhow::Result<Option<Vec<u8>>> {
+    match row.bytes(alloc, "comes") {
+        Ok(bytes) => Ok(Some(bytes)),
+        Err(TableError::Missing(_)) => Ok(None),
+        Err(error) => Err(error.into()),
+    }
 }
 
 pub fn files(alloc: Global, row: &Row<'_>) -> anyhow::Result<ScriptedFiles> {
@@ -78,6 +110,15 @@ fn script(alloc: Global, row: &Row<'_>, fails_at: &'static str) -> anyhow::Resul
 fn number(alloc: Global, row: &Row<'_>, key: &'static str) -> Result<Option<u32>, TableError> {
     match row.number(alloc, key) {
         Ok(number) => Ok(Some(number)),
+        Err(TableError::Missing(_)) => Ok(None),
+        Err(error) => Err(error),
+    }
+}
+
+/// A text of the row, if it has it.
+fn text(alloc: Global, row: &Row<'_>, key: &'static str) -> Result<Option<String>, TableError> {
+    match row.text(alloc, key) {
+        Ok(text) => Ok(Some(text)),
         Err(TableError::Missing(_)) => Ok(None),
         Err(error) => Err(error),
     }

@@ -1,20 +1,59 @@
 //! How runs end, and what they write.
 
-use crate::objects::{files, notes, output, source, words};
+ghost use Rattle.std.specs.Prelude.{◌<◌, length};
+
+use crate::objects::{files, links, notes, output, source, words};
 use jolie_main::run;
-use outside_traits::{ScriptedFiles, ScriptedSink, ScriptedSource};
+use outside_links::{ScriptedLink, Trip};
+use outside_traits::{ScriptedFiles, ScriptedSource};
 use std::alloc::{AllocError, Global};
 use test_rows::Row;
 
 /// How the run of a row ends: its status, its output and its notes.
 pub fn ended(alloc: Global, row: &Row<'_>) -> anyhow::Result<String> {
-    let mut files = files(alloc, row)?;
-    ended_over(alloc, row, &mut files)
+    let mut links = links(alloc, row)?;
+    ended_by(alloc, row, &mut links)
 }
 
-fn ended_over(alloc: Global, row: &Row<'_>, files: &mut ScriptedFiles) -> anyhow::Result<String> {
+/// The trips that the link of a row makes in its run, one a line: where to, and the text.
+pub fn travelled(alloc: Global, row: &Row<'_>) -> anyhow::Result<String> {
+    let mut links = links(alloc, row)?;
+    drop(ended_by(alloc, row, &mut links)?);
+    match links.first() {
+        Some(link) => trips_words(alloc, link.trips()),
+        None => Ok(String::new(alloc)),
+    }
+}
+
+fn trips_words(alloc: Global, trips: &[Trip]) -> anyhow::Result<String> {
+    let mut words = String::new(alloc);
+    for trip in trips {
+        words.push_str(trip.location())?;
+        words.push_str(" ")?;
+        let text = text_of(alloc, trip.text())?;
+        words.push_str(text.as_str())?;
+        words.push_str("\n")?;
+    }
+    Ok(words)
+}
+
+fn ended_by(alloc: Global, row: &Row<'_>, links: &mut Vec<ScriptedLink>) -> anyhow::Result<String>
+    requires link { 0 < length links.old.items }
+{
+    let mut files = files(alloc, row)?;
+    ended_over(alloc, row, &mut files, links)
+}
+
+fn ended_over(
+    alloc: Global,
+    row: &Row<'_>,
+    files: &mut ScriptedFiles,
+    links: &mut Vec<ScriptedLink>,
+) -> anyhow::Result<String>
+    requires link { 0 < length links.old.items }
+{
     let mut source = source(alloc, row)?;
-    ended_on(alloc, row, files, &mut source)
+    ended_on(alloc, row, files, &mut source, links)
 }
 
 fn ended_on(
@@ -22,27 +61,18 @@ fn ended_on(
     row: &Row<'_>,
     files: &mut ScriptedFiles,
     source: &mut ScriptedSource,
-) -> anyhow::Result<String> {
+    links: &mut Vec<ScriptedLink>,
+) -> anyhow::Result<String>
+    requires link { 0 < length links.old.items }
+{
     let words = words(alloc, row)?;
     let mut output = output(alloc, row)?;
     let mut notes = notes(alloc, row)?;
-    let status = status(alloc, &words, files, source, &mut output, &mut notes)?;
+    let ended = run(alloc, &words, files, source, &mut output, &mut notes, links)?;
+    let status = u32::from(ended.status);
     let written = written(alloc, row, output.bytes())?;
     let noted = text_of(alloc, notes.bytes())?;
     Ok(end_words(alloc, status, written.as_str(), noted.as_str())?)
-}
-
-/// The status of a run.
-fn status(
-    alloc: Global,
-    words: &[String],
-    files: &mut ScriptedFiles,
-    source: &mut ScriptedSource,
-    output: &mut ScriptedSink,
-    notes: &mut ScriptedSink,
-) -> Result<u32, AllocError> {
-    let ended = run(alloc, words, files, source, output, notes)?;
-    Ok(u32::from(ended.status))
 }
 
 /// The output of a run, as far as the row speaks of it.

@@ -1,6 +1,6 @@
 //! What words ask for.
 
-use command_words::{Command, Words, understood};
+use command_words::{Action, Command, Words, understood};
 use std::alloc::{AllocError, Global};
 use test_rows::Row;
 
@@ -39,7 +39,17 @@ fn said_words(alloc: Global, said: &Words) -> Result<String, AllocError> {
 
 fn shown_command(alloc: Global, command: &Command) -> Result<String, AllocError> {
     let action = command.action;
-    format!(in alloc; "{action:?} {}", command.file.as_str())
+    let mut shown = format!(in alloc; "{action:?} {}", command.file.as_str())?;
+    if action == Action::Run {
+        let budget = command.budget;
+        let run = format!(in alloc; ", {budget} events, picks:")?;
+        shown.push_str(run.as_str())?;
+    }
+    for pick in command.picks.as_slice() {
+        let pick = format!(in alloc; " {pick}")?;
+        shown.push_str(pick.as_str())?;
+    }
+    Ok(shown)
 }
 
 fn refusal_words(alloc: Global, said: &Words) -> Result<String, AllocError> {

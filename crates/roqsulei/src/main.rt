@@ -1,9 +1,13 @@
 //! The program over the words of the command line, real files and the three streams.
 #![tactic(auto)]
 
+ghost use Rattle.std.specs.Prelude.{◌<◌, IfOk, length};
+
 use command_words::status::{OUT_OF_MEMORY, USAGE_ERROR};
 use jolie_main::run;
+use outside_links::NoLink;
 use outside_traits::{Inputs, Outputs, Storage};
+use std::alloc::{AllocError, Global};
 use std::process::ExitCode;
 use std::{env, io};
 
@@ -22,6 +26,10 @@ fn main(rt: HostRuntime) -> ExitCode {
     let mut input = Inputs::new(rt.stdin());
     let mut output = Outputs::new(rt.stdout());
     let mut notes = Outputs::new(rt.stderr());
+    let mut links = match no_links(alloc) {
+        Ok(links) => links,
+        Err(_) => return ExitCode::from(OUT_OF_MEMORY),
+    };
     match run(
         alloc,
         &words,
@@ -29,10 +37,20 @@ fn main(rt: HostRuntime) -> ExitCode {
         &mut input,
         &mut output,
         &mut notes,
+        &mut links,
     ) {
         Ok(ended) => ExitCode::from(ended.status),
         Err(_) => ExitCode::from(OUT_OF_MEMORY),
     }
+}
+
+/// The links: one whose trips fail, until there is one over HTTP.
+fn no_links(alloc: Global) -> Result<Vec<NoLink>, AllocError>
+    ensures { IfOk result (λ links. 0 < length links.items) }
+{
+    let mut links = Vec::new(alloc);
+    links.push(NoLink::new())?;
+    Ok(links)
 }
 
 /// The words after the program's name.

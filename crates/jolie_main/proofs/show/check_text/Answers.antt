@@ -8,4 +8,4 @@ returns-in-Err-clause-shows g c =
     not_passed c.args.text.now _ c.in-Err.refusal c.refuse.result _ _ c.in_ok-refusal.ensures c.in-Err.is c.refuse.ensures.status c.refuse.ensures.written
 
 pub returns-clause-shows : goal.returns-clause-shows
-returns-clause-shows g c = passed c.args.text.now _ _ _ c.tell.result _ _ c.in_ok-refusal.ensures c.in-Ok.is refl c.tell.ensures.says
+returns-clause-shows g c = passed c.args.text.now _ _ _ c.tell.result.status _ _ c.in_ok-refusal.ensures c.in-Ok.is refl c.tell.ensures.says

@@ -9,5 +9,5 @@ returns-in-Refused-clause-shows g c =
 
 pub returns-clause-shows : goal.returns-clause-shows
 returns-clause-shows g c =
-    printed c.args.text.now _ _ _ c.tell.result _ _ c.in_ok-file.ensures c.in-File.is (c.as_bytes.ensures.value ∙ c.as_str.ensures ∙ c.in_ok-printed.ensures)
+    printed c.args.text.now _ _ _ c.tell.result.status _ _ c.in_ok-file.ensures c.in-File.is (c.as_bytes.ensures.value ∙ c.as_str.ensures ∙ c.in_ok-printed.ensures)
     c.tell.ensures.says

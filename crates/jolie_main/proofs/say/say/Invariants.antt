@@ -1,0 +1,13 @@
+use Rattle.std.proofs.Common.{◌≡◌, ◌-◌, ◌≤◌, length, take}
+use Rattle.std.specs.Io.KnownBytes.{Appends}
+use Rattle.jolie_main.proofs.say.say.Given as goal
+
+abbrev pub invariant-loop-done : goal.invariant-loop-done
+invariant-loop-done g l = record {
+  within : l.done ≤ length l.text;
+  written : Appends (g.K.Sink.taken l.fn.output) (g.K.Sink.taken l.output) (take l.done l.text);
+  calm : g.K.Sink.faults l.output ≡ g.K.Sink.faults l.fn.output;
+}
+
+abbrev pub decreases-loop-done : goal.decreases-loop-done
+decreases-loop-done g l = length l.text - l.done
