@@ -1,6 +1,7 @@
 #!/bin/sh
-# Refuses each allocation of calls of the proved program in turn, over the lines and texts of the worked rows: each run has to end with status 9 and a
-# part of the right output at most. It needs a C compiler and a program that `rt ci` has proved, outside the gate: bench/allocations.sh
+# Refuses each allocation of calls of the proved program in turn, over the lines and texts of the worked rows: each run
+# has to end with status 9 and a part of the right output at most. It needs a C compiler and a program that `rt ci` has
+# proved, outside the gate: bench/allocations.sh
 # shellcheck source=bench/common.sh
 . "$(dirname "$0")/common.sh"
 find_program
@@ -15,6 +16,27 @@ cat > "$work/calls.jsonl" <<'END'
 {"jsonrpc":"2.0","method":"twice","params":{"n":"x"},"id":3}
 x
 END
+# A scope that waits for an install, a scope that is killed, one that waits for an answer, and a request that is killed.
+for name in install killed waits request; do
+    printf '{"jsonrpc":"2.0","method":"go","params":{},"id":1}\n{"jsonrpc":"2.0","method":"halt"}\n' > "$work/go.jsonl"
+    {
+        echo 'type Res: void { c?: string end?: string t?: string }'
+        echo 'interface GoI { RequestResponse: go(void)(undefined) OneWay: pause(void), halt(void) }'
+        echo 'interface AskI { RequestResponse: ask(int)(int) }'
+        echo 'service S { inputPort In { location: "socket://localhost:8000" protocol: jsonrpc interfaces: GoI }'
+        echo 'outputPort P { location: "local://p" interfaces: AskI }'
+        case $name in
+            install) echo 'main { go()(y) { scope(s) { throw(f) | install(f => y = 1) } } } }' ;;
+            killed) echo 'main { go()(y) { scope(outer) { install(bad => y.end = "handled") ; { scope(left) {
+install(this => comp(child) ; comp(child) ; y.t = "term") ; scope(child) { install(this => y.c = y.c + "c") } ;
+pause() } | scope(right) { throw(bad) } } } } } }' ;;
+            waits) echo 'main { go()(y) { scope(q) { install(f => comp(q) ; y = c) ;
+{ ask@P(1)(r) [this => c = 1] | throw(f) } } } } }' ;;
+            request) echo 'main { go()(y) { pause() } | { halt() ; throw(g) } } }' ;;
+        esac
+        echo 'service T { inputPort In { location: "local://p" interfaces: AskI } main { ask(a)(b) { b = a } } }'
+    } > "$work/$name.ol"
+done
 # What faults before it takes a message, and what it is called by.
 cat > "$work/faulty.ol" <<'END'
 interface GoI { RequestResponse: go(any)(any) OneWay: tell(any) }
@@ -87,9 +109,14 @@ each() {
 
 input=$work/calls.jsonl
 each run "$top/examples/twice.ol"
-each run "$top/examples/order.ol"
-input=$top/examples/calculator.jsonl
-each run "$top/examples/calculator.ol"
+for lines in "$top"/examples/*.jsonl; do
+    input=$lines
+    each run "${lines%.jsonl}.ol"
+done
+input=$work/go.jsonl
+for name in install killed waits request; do
+    each run "$work/$name.ol" --picks 0,1
+done
 input=$work/faulty.jsonl
 each run "$work/faulty.ol"
 input=$work/nothing

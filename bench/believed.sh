@@ -1,7 +1,8 @@
 #!/bin/sh
-# Counts the lines of definitions that a reader must believe, crate by crate, without blanks, comments and imports: those that the
-# contracts of public calls reach, and the views of public types, each name followed through its `use` line to where it is defined.
-# Lines of files that say that they serve the proofs alone are counted apart, and it ends with 1 where a contract reaches one.
+# Counts the lines of definitions that a reader must believe, crate by crate, without blanks, comments and imports:
+# those that the contracts of public calls reach, and the views of public types, each name followed through its `use`
+# line to where it is defined. What no contract reaches of files that say that they serve the proofs is counted apart;
+# where a file says that it serves them alone and a contract reaches it, it ends with 1.
 #   bench/believed.sh       the table as text
 #   bench/believed.sh -m    as markdown, for docs/claims.md
 #   bench/believed.sh -u    the definitions that no contract reaches and whose file does not say so
@@ -91,7 +92,8 @@ function begin(name) {
 
 # A line of a file of definitions.
 function definition_line(line,    bare, words, count, i, indent, start) {
-    if (line ~ /^-- These definitions serve the proofs alone/) marked[FILENAME]
+    if (line ~ /^-- These definitions serve the proofs/) marked[FILENAME]
+    if (line ~ /^-- These definitions serve the proofs alone/) alone[FILENAME]
     sub(/(^|[ \t])--.*/, "", line)
     if (line ~ /^[ \t]*$/) return
     if (line ~ /^ *use / && line ~ /^ *use [A-Za-z]+\./) { import(place, line); return }
@@ -124,7 +126,8 @@ function definition_line(line,    bare, words, count, i, indent, start) {
     }
 }
 
-# A line of the root of a library: what it gives to others. The parts of the checks give to `check` alone, which promises.
+# A line of the root of a library: what it gives to others. The parts of the checks give to `check` alone, which
+# promises.
 function root_line(line,    list, names, count, i) {
     if (crate ~ /^(check_base|type_checks|port_checks|process_checks|type_lowering|process_lowering)$/) return
     if (line ~ /^pub mod /) {
@@ -211,7 +214,7 @@ END {
         count[crate_of[block], kind] += lines_of[block]
         all[kind] += lines_of[block]
         if (kind == "loose" && how == "-u") print file_of[block] ": " name_of[block] ", " lines_of[block]
-        if (kind == "believed" && file_of[block] in marked) {
+        if (kind == "believed" && file_of[block] in alone) {
             print file_of[block] ": a contract reaches " name_of[block] ", and the file says that it serves the proofs alone" > "/dev/stderr"
             failed = 1
         }

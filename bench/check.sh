@@ -1,7 +1,7 @@
 #!/bin/sh
-# Times `check` of the proved program over a file with 200 types, operations and services and over one with 2,000, from its start to its
-# end, and prints both times and their ratio, which is to be at most 25. It needs a program that `rt ci` has proved, outside the gate:
-# bench/check.sh
+# Times `check` of the proved program over a file with 200 types, operations and services and over one with 2,000, from
+# its start to its end, and prints both times and their ratio, which is to be at most 25. It needs a program that
+# `rt ci` has proved, outside the gate: bench/check.sh
 # shellcheck source=bench/common.sh
 . "$(dirname "$0")/common.sh"
 find_program

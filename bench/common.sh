@@ -1,5 +1,5 @@
-# What the benches share. A bench that has read this has the top of the repository in `top`, and in `work` a scratch folder that is gone
-# when it ends.
+# What the benches share. A bench that has read this has the top of the repository in `top`, and in `work` a scratch
+# folder that is gone when it ends.
 # shellcheck shell=sh
 set -eu
 top=$(cd "$(dirname "$0")/.." && pwd)
@@ -12,8 +12,8 @@ find_program() {
     [ -x "$program" ] || { echo "no proved program: run rt ci first" >&2; exit 2; }
 }
 
-# Makes a repository in the scratch folder: copies of the crates that the further words name, and over them a crate with the line of
-# crates.txt that is the first word, and with the input as its main.
+# Makes a repository in the scratch folder: copies of the crates that the further words name, and over them a crate with
+# the line of crates.txt that is the first word, and with the input as its main.
 make_crate() {
     entry=$1
     name=${entry%%:*}
@@ -32,6 +32,30 @@ make_crate() {
 build_crate() {
     cd "$work/crates/$name"
     rt run -- "$@" > "$work/log" 2>&1 || { cat "$work/log" >&2; exit 1; }
+}
+
+# Proves and builds that crate alone, over the libraries of the repository that PROVED names, where `rt ci` passed, or
+# else of this one.
+build_over_proved() {
+    kit=$(dirname "$(rt doc)")
+    proved=$(cd "${PROVED:-$top}" && pwd)
+    cd "$work/crates/$name"
+    mkdir out
+    set -- --extern "std=$kit/rlibs/std.rlib" -L "dependency=$kit/rlibs"
+    for library in ${entry#*:}; do
+        folder=$kit/rlibs
+        [ -d "$folder/$library.rlib" ] || folder=$proved/crates/$library/out/rlib
+        [ -d "$folder/$library.rlib" ] || { echo "$library is not proved: run rt ci first" >&2; exit 2; }
+        set -- "$@" --extern "$library=$folder/$library.rlib"
+    done
+    for folder in "$proved"/crates/*/out/rlib; do
+        set -- "$@" -L "dependency=$folder"
+    done
+    "$kit/bin/rattle" build --crate-name "$name" src/main.rt "$@" --links "$name=" --jobs 1 \
+        --antt-project "$kit/rattle/logic/antt-project.json" --logic-built "$kit/logic_built" \
+        --toolchain "$kit/toolchain" -o "out/$name.o" > "$work/log" 2>&1 || { cat "$work/log" >&2; exit 1; }
+    "$kit/bin/rattle-link" --target x86_64-unknown-linux-gnu --toolchain "$kit/toolchain" -o "out/$name" \
+        "out/$name.o" "$kit/c/libos_c.a" "$kit/c/liblibc_c.a"
 }
 
 # Runs that crate as it was built.

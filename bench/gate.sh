@@ -1,11 +1,13 @@
 #!/bin/sh
-# Runs `rt ci` and writes what each of its checks costs into a file; `-t` prints such a file as a table. The gate does what it
-# does without it: its checks are looked at from outside, five times a second.
-#   bench/gate.sh FILE [NAME..]    runs RT_JOBS=4 rt ci [NAME..], and ends with its status
-#   bench/gate.sh -t FILE          for each crate the processor seconds of its proof, its tests, the check that its edits begin
-#                                  with and its edits, their sum, and the seconds by the clock that its checks took together
-# What an earlier run kept costs nothing and is not in it. The proof of a program has its two builds in it. What the whole run took
-# has the tests and programs that ran in it too, and `rt` itself.
+# Runs `rt ci` and writes what each of its checks costs into a file; `-t` prints such a file as a table. The gate does
+# what it does without it: its checks are looked at from outside, five times a second.
+#   bench/gate.sh FILE [NAME..]    runs RT_JOBS=4 rt ci [NAME..], and ends with its status; names are for a kit whose
+#                                  `rt ci` takes them, as 13f does and 13b does not
+#   bench/gate.sh -t FILE          for each crate the processor seconds of its proof, its tests, the check that its
+#                                  edits begin with and its edits, their sum, and the seconds by the clock that its
+#                                  checks took together
+# What an earlier run kept, where the kit keeps it, costs nothing and is not in it. The proof of a program has its two
+# builds in it. What the whole run took has the tests and programs that ran in it too, and `rt` itself.
 set -eu
 
 # The table of a file of times, whose lines are a crate, a stage, processor seconds and seconds by the clock.

@@ -1,13 +1,16 @@
 #!/bin/sh
-# Times the reading of a line of 6,000 and of one of 60,000 bytes, and the writing of an answer with the same tree, and prints
-# the times and their ratios, each of which is to be at most 12. It runs in a folder of its own, outside the gate: bench/lines.sh
+# Times the reading of a line of 6,000 and of one of 60,000 bytes, and the writing of an answer with the same tree, and
+# prints the times and their ratios, each of which is to be at most 12. It runs in a folder of its own, outside the
+# gate: bench/lines.sh
 # shellcheck source=bench/common.sh
 . "$(dirname "$0")/common.sh"
 
-make_crate 'line_times: jsonrpc_text service_check jolie_parse jolie_ast jolie_tokens behaviour_tree jolie_trees' \
-    jolie_trees jolie_tokens jolie_ast jolie_parse behaviour_tree service_check jsonrpc_text <<'END'
-//! The times of reading the line that the argument names and of writing an answer with its params, in microseconds, and the
-//! bytes of both.
+make_crate "line_times: jsonrpc_text service_check type_checks port_checks process_checks type_lowering \
+process_lowering check_base jolie_parse jolie_ast jolie_tokens behaviour_tree jolie_trees" \
+    jolie_trees jolie_tokens jolie_ast jolie_parse behaviour_tree check_base type_checks port_checks process_checks \
+    type_lowering process_lowering service_check jsonrpc_text <<'END'
+//! The times of reading the line that the argument names and of writing an answer with its params, in microseconds, and
+//! the bytes of both.
 #![tactic(auto)]
 
 use behaviour_tree::{Outcome, Program, TypeDef};

@@ -1,6 +1,6 @@
 #!/bin/sh
-# Times the parsing of a service of 100 KiB and of one of 1 MiB, and prints both times and their ratio, which is to be at
-# most 12. It runs in a folder of its own, outside the gate: bench/parse.sh
+# Times the parsing of a service of 100 KiB and of one of 1 MiB, and prints both times and their ratio, which is to be
+# at most 12. It runs in a folder of its own, outside the gate: bench/parse.sh
 # shellcheck source=bench/common.sh
 . "$(dirname "$0")/common.sh"
 

@@ -1,6 +1,7 @@
 #!/bin/sh
-# Runs the proved program as a person would, over real words, files and streams, and compares what it prints and its status: what `main`
-# of `crates/roqsulei` and the adapters over files and streams do, which no contract says. Outside the gate: bench/program.sh
+# Runs the proved program as a person would, over real words, files and streams, and compares what it prints and its
+# status: what `main` of `crates/roqsulei` and the adapters over files and streams do, which no contract says. Outside
+# the gate: bench/program.sh
 # shellcheck source=bench/common.sh
 . "$(dirname "$0")/common.sh"
 find_program
@@ -69,8 +70,24 @@ over "$work/empty" run "$twice"
 row 'an empty input is read to its end' 0 '' ''
 over "$work" run "$twice"
 row 'an input that is a directory fails' 4 '' ''
-over "$work/one" run "$top/examples/order.ol"
-row 'a program that does not run yet is refused' 3 'refused first Form 0' ''
+for lines in "$top"/examples/*.jsonl; do
+    example=${lines%.jsonl}
+    over "$lines" run "$example.ol"
+    : > "$work/notes"
+    row "an example prints what stands beside it: $example" 0 "$(cat "$example.out")" ''
+done
+printf '{"jsonrpc":"2.0","method":"quotes","params":{"item":"nut","n":10},"id":2}\n' > "$work/quotes"
+over "$work/quotes" run "$top/examples/quotes.ol"
+row 'console output is told on standard error' 0 '{"id":2,"jsonrpc":"2.0","result":{"error":"not sold by all","north":30,"south":25}}' \
+    'nut: not sold by all'
+over "$work/one" run "$twice" --budget 2
+row 'a session that used its budget is stopped' 6 '{"error":{"code":-32004,"message":"stopped"},"id":1,"jsonrpc":"2.0"}' ''
+over "$work/one" run "$twice" --picks 1,,2
+row 'picks that are no list are a usage error' 1 '' 'picks'
+over "$work/one" run "$twice" --budget 0
+row 'a budget of nothing is a usage error' 1 '' "error: invalid value '0' for '--budget <N>': 0 is not in 1..=10000
+
+For more information, try '--help'."
 over "$work/empty" run
 row 'words without a FILE are a usage error' 1 '' "error: the following required arguments were not provided:
   <FILE>

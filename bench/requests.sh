@@ -1,13 +1,14 @@
 #!/bin/sh
-# Counts the instructions, by callgrind, of reading 1,000,000 requests in one piece and of parsing their heads alone by httparse, of which
-# the first are to be at most 3 times the second; and of reading 2,000 and 20,000 requests byte by byte, whose ratio is to be at most 12.
-# What making the requests takes is taken off. It runs in a folder of its own, outside the gate: bench/requests.sh
+# Counts the instructions, by callgrind, of reading 1,000,000 requests in one piece and of parsing their heads alone by
+# httparse, of which the first are to be at most 3 times the second; and of reading 2,000 and 20,000 requests byte by
+# byte, whose ratio is to be at most 12. What making the requests takes is taken off. It runs in a folder of its own,
+# outside the gate: bench/requests.sh
 # shellcheck source=bench/common.sh
 . "$(dirname "$0")/common.sh"
 
 make_crate 'request_times: http_port jolie_trees outside_traits httparse http1 memchr' jolie_trees outside_traits http_port <<'EOF'
-//! Reads so many requests: `whole` in one piece, `bytes` byte by byte, `heads` by httparse alone, or `none` of them; and says how many were
-//! read.
+//! Reads so many requests: `whole` in one piece, `bytes` byte by byte, `heads` by httparse alone, or `none` of them;
+//! and says how many were read.
 #![tactic(auto)]
 
 use http_port::{Fed, HeadReader};

@@ -1,7 +1,8 @@
 #!/bin/sh
-# Times the proved program: lines a second of `run` on a body of one statement and on bodies of 10, 100 and 1,000, with those of a plain
-# program in Rust of the same kind (bench/baseline.rs) where there is a compiler for it, and `check` on a file of 2,000 types,
-# operations and services. It has no limits; it needs a program that `rt ci` has proved, outside the gate: bench/runs.sh
+# Times the proved program: lines a second of `run` on a body of one statement and on bodies of 10, 100 and 1,000, with
+# those of a plain program in Rust of the same kind (bench/baseline.rs) where there is a compiler for it, and `check` on
+# a file of 2,000 types, operations and services. It has no limits; it needs a program that `rt ci` has proved, outside
+# the gate: bench/runs.sh
 # shellcheck source=bench/common.sh
 . "$(dirname "$0")/common.sh"
 find_program

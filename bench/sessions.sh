@@ -1,16 +1,15 @@
 #!/bin/sh
 # Counts what sessions cost, by the instructions of callgrind and by the bytes of the heap, and prints it with the most
-# that each ratio is to be: of 10,000 events to 1,000; of the strands that are enabled, and of a step, to a look at each
-# strand, for 10 and 100 strands; of a look in a large store to one in a small store; and of an assignment that is
-# looked at and done to one evaluation of its value. It runs in a folder of its own, outside the gate: bench/sessions.sh
+# that each ratio is to be: of 10,000 events to 1,000; of a step to a look at each strand that is enabled, for 10 and
+# 100 strands, beside that of the list of these strands, which has no limit; of a look in a large store to one in a
+# small store; and of an assignment that is looked at and done to one evaluation of its value. It proves a crate of its
+# own over the libraries that `rt ci` proved here, or in the repository that PROVED names, and needs valgrind. Outside
+# the gate: bench/sessions.sh
 # shellcheck source=bench/common.sh
 . "$(dirname "$0")/common.sh"
 
 make_crate "session_times: term_session service_check type_checks port_checks process_checks type_lowering \
-process_lowering check_base jolie_parse jolie_ast jolie_tokens jolie_expr behaviour_tree jolie_trees anyhow" \
-    jolie_trees jolie_tokens jolie_ast jolie_parse behaviour_tree check_base type_checks port_checks process_checks \
-    type_lowering process_lowering service_check jolie_expr message_types calculus calculus_laws handler_table \
-    running_terms term_faults place_values place_events answer_events term_session <<'EOF'
+process_lowering check_base jolie_parse jolie_ast jolie_tokens jolie_expr behaviour_tree jolie_trees anyhow" <<'EOF'
 //! Does a task so many times with a session of the service of a file, to which the office gives nothing, and says how
 //! much it did. The words are the task, the file, how many events are done first, and how many times the task is done:
 //!
@@ -269,7 +268,7 @@ beside 100 > "$work/hundred.ol"
 growing 1 > "$work/small.ol"
 growing 10 > "$work/large.ol"
 adding 500 > "$work/sum.ol"
-build_crate starts "$work/few.ol" 0 1
+build_over_proved
 
 # Puts into `count` what a tool of valgrind, with its words, counts in a run that must do so much; a text stands before
 # it.
@@ -324,9 +323,9 @@ for strands in 10:ten 100:hundred; do
     steps=$(instructions "$number" steps "$file" 0 10)
     echo "$number $enabled $looks $((steps / number))" | awk '{
         printf "%d strands: %d instructions for a look at each\n", $1, $3
-        printf "- those enabled: %d, ratio %.2f (at most 1.1)\n", $2, $2 / $3
+        printf "- those enabled: %d, ratio %.2f\n", $2, $2 / $3
         printf "- a step: %d, ratio %.2f (at most 1)\n", $4, $4 / $3
-        exit !($2 <= 1.1 * $3 && $4 <= $3)
+        exit !($4 <= $3)
     }' || failed=1
 done
 echo "$small $large" | awk '{

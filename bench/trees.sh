@@ -1,14 +1,15 @@
 #!/bin/sh
-# Times 10,000 `get` and 10,000 `set` of twenty paths in a tree of about 60 nodes and in one of about 60,000, and prints the times
-# and their ratios; that of `get` is to be at most 4. The third line tells what 10,000 `get` of as many paths cost in the large
-# tree, where each waits for the memory. It runs in a folder of its own, outside the gate: bench/trees.sh
+# Times 10,000 `get` and 10,000 `set` of twenty paths in a tree of about 60 nodes and in one of about 60,000, and prints
+# the times and their ratios; that of `get` is to be at most 4. The third line tells what 10,000 `get` of as many paths
+# cost in the large tree, where each waits for the memory. It runs in a folder of its own, outside the gate:
+# bench/trees.sh
 # shellcheck source=bench/common.sh
 . "$(dirname "$0")/common.sh"
 
 make_crate 'tree_times: jolie_trees sqlite_items' jolie_trees <<'END'
-//! The time of 10,000 `get` of twenty prices, or with a second word `set` or `all` of 10,000 `set` or of `get` of other prices each
-//! time, in an order of as many lines as the first word says, each with an id and a price, in microseconds, and how many nodes the
-//! order has.
+//! The time of 10,000 `get` of twenty prices, or with a second word `set` or `all` of 10,000 `set` or of `get` of other
+//! prices each time, in an order of as many lines as the first word says, each with an id and a price, in microseconds,
+//! and how many nodes the order has.
 #![tactic(auto)]
 
 use jolie_trees::{Path, Root, SetError, Step, Text, Tree};

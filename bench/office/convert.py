@@ -17,7 +17,7 @@ class Run:
         self.parsed = Parser(program)
         self.program = Emitter(self.parsed).program()
         self.entries, self.events, self.sessions, self.limits, self.budget = [], {}, None, None, 10000
-        self.order, self.notes = None, None
+        self.order, self.notes, self.workers = None, None, None
         for line in record.split('\n'):
             w = Line(line)
             word = w.word()
@@ -27,6 +27,8 @@ class Run:
                 self.sessions = w.number()
             elif word == 'budget':
                 self.budget = w.number()
+            elif word == 'workers':
+                self.workers = w.number()
             elif word == 'order':
                 self.order = line.split()[1:]
             elif word == 'notes':
@@ -170,6 +172,20 @@ IMPORTS = [
 ]
 
 
+# what office_trials imports beside that
+RUNS = [
+    ('std.specs.Prelude', '◌++◌'),
+    ('run_record.specs.declared.record.Record', 'Record'),
+    ('run_record.specs.Run', 'alone workers IsRun IsSpent'),
+    ('office_trials.proofs.Runs', 'is_run unstopped unclosed foreign missing too_many restless'),
+    ('run_record.specs.Order', 'IsOrder'),
+    ('office_trials.proofs.Workers',
+     'is_run_of_workers stranger posts_apart second_first not_as_posted not_without_one not_twice'),
+    ('office_trials.specs.Quiet', 'can_act'),
+    ('office_trials.proofs.Spends', 'spends is_spent not_spent'),
+]
+
+
 def head(title):
     out = [f'-- {title}']
     for module, names in IMPORTS:
@@ -223,8 +239,124 @@ def sessions(run):
         out.append(f'\npub session_{s} : IsSession setting history {s} events_{s}\nunfolding digits\n'
                    f'session_{s} = is_session setting history {s} {run.service_of(s)} events_{s} refl refl {proof}\n')
     out.append(f'\npub quiet : is_quiet setting {run.budget} (before_stop history) sessions ≡ true\nunfolding digits\nquiet = refl\n')
-    out.append(f'\npub still : is_still setting {run.budget} history sessions ≡ true\nunfolding digits\nstill = refl\n')
-    out.append('\npub together : stand_together history ≡ true\ntogether = refl\n')
+    if run.workers is None:
+        out.append(f'\npub still : is_still setting {run.budget} history sessions ≡ true\nunfolding digits\nstill = refl\n')
+        out.append('\npub together : stand_together history ≡ true\ntogether = refl\n')
+    return ''.join(out)
+
+
+def nested(names):
+    proof = 'tt'
+    for name in reversed(names):
+        proof = f'({name}, {proof})'
+    return proof
+
+
+def cut(run, i):
+    """The events of each session when the first i entries were there: those before the first whose call came later."""
+    out = []
+    for s in range(run.sessions):
+        left, events = sum(1 for actor, a in run.entries[:i] if actor == s and a[0] != 'adopt'), []
+        for e in run.events.get(s, []):
+            if e[1] in CALLS:
+                if left == 0:
+                    break
+                left -= 1
+            events.append(e)
+        out.append(events)
+    return out
+
+
+NO_RUN = '(r : Record) → r.history.entries.items ≡ {} → IsRun setting {} alone false r → ⊥'
+
+
+def no_run(name, history, budget, lemma):
+    """That no record of a spoilt history is a run."""
+    return (f'\npub spoilt_{name} : {NO_RUN.format(history, budget)}\n'
+            f'spoilt_{name} r has = {lemma.format(f"setting {budget} false {history} r has")}\n')
+
+
+def runs(run):
+    """That a record of the history and the events is a run, and that spoilt ones are none."""
+    words = [a[0] for _, a in run.entries]
+    if run.sessions is None or 'stop' not in words or len(run.entries) > MOST:
+        return ''
+    each = nested([f'session_{s}' for s in range(run.sessions)])
+    shared = f'legal = legal; stopped = refl; actors = refl; all = refl; each = {each}; within = refl; quiet = quiet'
+    if run.workers is not None:
+        return (f'\npub run : (r : Record) → r.history.entries.items ≡ history → r.sessions ≡ sessions\n'
+                f'    → IsRun setting {run.budget} (workers {run.workers}) false r\n'
+                f'run = is_run_of_workers setting {run.budget} {run.workers} history sessions (record {{ {shared}; posted = refl }})\n'
+                + ordered(run, words.index('stop')))
+    out = [f'\npub run : (r : Record) → r.history.entries.items ≡ history → r.sessions ≡ sessions\n'
+           f'    → IsRun setting {run.budget} alone false r\n'
+           f'run = is_run setting {run.budget} history sessions\n'
+           f'    (record {{ {shared}; closed = refl; posted = together; still = still }})\n']
+    stop, close = words.index('stop'), words.index('close')
+    out.append(no_run('run_without_its_stop', f'(with_at {stop} [] history)', run.budget, 'unstopped {} refl'))
+    out.append(no_run('run_that_is_not_closed', f'(with_at {close} [] history)', run.budget, 'unclosed {} refl'))
+    out.append(no_run('run_stopped_by_another', f'(with_at {stop} (record {{ actor = 4097; act = act.Stop }} ∷ []) history)',
+                      run.budget, 'foreign {} refl'))
+    if run.sessions:
+        names = ' ∷ '.join([f'events_{s}' for s in range(1, run.sessions)] + ['[]'])
+        out.append(f'\npub spoilt_run_that_lacks_a_session : (r : Record) → r.history.entries.items ≡ history → r.sessions ≡ ({names})\n'
+                   f'    → IsRun setting {run.budget} alone false r → ⊥\n'
+                   f'spoilt_run_that_lacks_a_session r has events = missing setting {run.budget} false history r has ({names}) events refl\n')
+        s = max(range(run.sessions), key=lambda s: len(run.events.get(s, [])))
+        most = len(run.events.get(s, [])) - 1
+        if most >= 0:
+            out.append(f'\npub spoilt_run_over_its_budget : (r : Record) → r.history.entries.items ≡ history → r.sessions ≡ sessions\n'
+                       f'    → IsRun setting {most} alone false r → ⊥\n'
+                       f'spoilt_run_over_its_budget r has events =\n'
+                       f'    too_many setting {most} false history r has sessions events {s} events_{s} refl refl\n')
+    i = next((i for i, (s, a) in enumerate(run.entries) if a[0] in ('reply', 'end')), None)
+    if i is not None and run.sessions:
+        out.append(left_early(run, i))
+    return ''.join(out)
+
+
+def ordered(run, stop):
+    """The order of two postings, of which the second was collected first; and what is no run, and no order of them."""
+    place = {a[1]: i for i, (_, a) in enumerate(run.entries) if a[0] == 'collect'}
+    message = {a[1]: a[6][1] for _, a in run.entries if a[0] == 'post'}
+    by = f'setting history first_worker {place[message[1]]} {place[message[0]]} refl refl refl'
+    hands, order = f'setting {run.budget} {run.workers} false', 'IsOrder setting history first_worker 2'
+    other = f'(with_at {stop} (record {{ actor = {4097 + run.workers}; act = act.Stop }} ∷ []) history)'
+    again = f'(with_at {stop} ({entry(run.entries[0])} ∷ record {{ actor = 4096; act = act.Stop }} ∷ []) history)'
+    record = '(r : Record) → r.history.entries.items ≡ {} → IsRun setting {} (workers {}) false r → ⊥'
+    return (f'\npub order : {order} (1 ∷ 0 ∷ [])\norder = second_first {by}\n'
+            f'\npub spoilt_order_as_posted : {order} (0 ∷ 1 ∷ []) → ⊥\nspoilt_order_as_posted = not_as_posted {by}\n'
+            f'\npub spoilt_order_without_one : {order} (1 ∷ []) → ⊥\n'
+            f'spoilt_order_without_one = not_without_one setting history first_worker\n'
+            f'\npub spoilt_order_with_one_twice : {order} (1 ∷ 0 ∷ 0 ∷ []) → ⊥\n'
+            f'spoilt_order_with_one_twice = not_twice setting history first_worker\n'
+            f'\npub spoilt_run_stopped_by_a_stranger : {record.format(other, run.budget, run.workers)}\n'
+            f'spoilt_run_stopped_by_a_stranger r has = stranger {hands} {other} r has refl\n'
+            f'\npub spoilt_run_posted_apart : {record.format(again, run.budget, run.workers)}\n'
+            f'spoilt_run_posted_apart r has = posts_apart {hands} {again} r has 4096 refl\n')
+
+
+def left_early(run, i):
+    """A run that was stopped in the middle, where a session could go on."""
+    out = [f'\n-- the run, where it is stopped behind its first {i} entries\nabbrev stopped_early : List Entry\n'
+           f'stopped_early = take {i} history ++ record {{ actor = 4096; act = act.Stop }} ∷ []\n']
+    names = []
+    for s, events in enumerate(cut(run, i)):
+        out.append(f'\nabbrev early_{s} : List Event\nearly_{s} = {lines([event(e) for e in events])}\n')
+        names.append(f'early_{s}')
+    born = [s for s in range(run.sessions) if any(actor == s and a[0] == 'adopt' for actor, a in run.entries[:i])]
+    if len(born) < run.sessions:
+        return ''
+    for s in born:
+        proof = nested([PROOFS[a[0]] for actor, a in run.entries[:i] if actor == s and a[0] != 'adopt'])
+        out.append(f'\nearly_session_{s} : IsSession setting (before_stop stopped_early) {s} early_{s}\nunfolding digits\n'
+                   f'early_session_{s} = is_session setting (before_stop stopped_early) {s} {run.service_of(s)} early_{s} refl refl {proof}\n')
+    sessions = f'({" ∷ ".join(names + ["[]"])})'
+    out.append(f'\nleft_to_do : is_quiet setting {run.budget} (before_stop stopped_early) {sessions} ≡ false\nunfolding digits\nleft_to_do = refl\n')
+    out.append(f'\npub spoilt_run_stopped_early : (r : Record) → r.history.entries.items ≡ stopped_early → r.sessions ≡ {sessions}\n'
+               f'    → IsRun setting {run.budget} alone false r → ⊥\n'
+               f'spoilt_run_stopped_early r has events =\n'
+               f'    restless setting {run.budget} false stopped_early r has {sessions} events {nested([f"early_session_{s}" for s in born])} left_to_do refl\n')
     return ''.join(out)
 
 
@@ -265,6 +397,28 @@ def fronts(run):
     out.append(f'\npub order : order_alone setting history first_worker {len(run.order)} ≡ {listed(run.order)}\norder = refl\n')
     out.append(f'\npub noted : notes setting history ≡ {text(run.notes)}\nunfolding digits\nnoted = refl\n')
     return ''.join(out)
+
+
+def spent(run):
+    """Whether a session used its whole budget and could act all the same."""
+    if run.budget == 10000 or run.sessions is None or run.workers is not None:
+        return ''
+    used = [s for s in range(run.sessions) if len(run.events.get(s, [])) == run.budget]
+    spends = used == [0] and run.events[0][-1][1] != 'Finish'
+    if used and not spends and any(run.events[s][-1][1] != 'Finish' for s in used):
+        return ''
+    head = '\npub spent : (r : Record) → r.history.entries.items ≡ history → r.sessions ≡ sessions → IsSpent setting {0} r'
+    out = ('\ncould_act : can_act setting (before_stop history) 0 events_0 ≡ {1}\nunfolding digits\ncould_act = refl\n' + head)
+    if spends:
+        proof = nested([PROOFS[a[0]] for a in calls(run, 0)])
+        out = (f'\nat_the_stop : IsSession setting (before_stop history) 0 events_0\nunfolding digits\n'
+               f'at_the_stop = is_session setting (before_stop history) 0 {run.service_of(0)} events_0 refl refl {proof}\n' + out
+               + '\nspent = is_spent setting {0} history sessions events_0 at_the_stop refl refl could_act\n')
+    else:
+        out = out.replace('could_act : can_act setting (before_stop history) 0 events_0',
+                          'could_act : spends setting {0} (before_stop history) 0 sessions') + (
+            ' → ⊥\nspent = not_spent setting {0} history sessions could_act\n')
+    return out.format(run.budget, 'true' if spends else 'false')
 
 
 def says(name, what, value):
@@ -496,8 +650,11 @@ def cut_short(run, written):
 
 
 def module(run, title, kinds):
+    global IMPORTS
+    IMPORTS = IMPORTS + RUNS
     good = legal(run) if len(run.entries) <= MOST else counted(run)
-    return given(run, title) + good + ''.join(some_spoils(run, kinds, 1)) + sessions(run) + spoilt_sessions(run) + fronts(run)
+    return (given(run, title) + good + ''.join(some_spoils(run, kinds, 1)) + sessions(run) + runs(run) + spoilt_sessions(run)
+            + fronts(run) + spent(run))
 
 
 if __name__ == '__main__':
