@@ -72,7 +72,7 @@ pub record Stays (old new : State) (more : List Entry) : Type 0 where
   pub stands : new.stands ≡ old.stands
   pub picks : new.picks ≡ old.picks
 
--- ---- these definitions serve the proofs alone: no promise speaks of them
+-- ---- a crew, of which the contracts of `Cells` and of what stands on it speak, and no promise of the program
 
 -- the sessions of a run by number, as far as they were adopted, with their office, and the picks that are left
 pub record Crew : Type 0 where

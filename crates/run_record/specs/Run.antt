@@ -38,7 +38,8 @@ ArePosted (workers n) h = (actor : ℕ) → stand_together (filter (λ e. nat_eq
 
 -- The record of a run that came to its end: the history is legal, ended by a stop, and is of those who work at the
 -- run; each session's events agree with it and keep to the budget; and each accepted message has exactly one answer.
--- Unless a front halted, nothing was left to do at the stop; and for one worker before each posting but the first.
+-- Unless a front halted, nothing was left to do at the stop. For one worker it was so before each posting but the
+-- first, whether a front halted or not.
 pub record IsRun (w : Setting) (budget : ℕ) (hands : Hands) (halted : Bool) (run : Record) : Type 0 where
   pub legal : IsLegal w run.history.entries.items
   pub stopped : some_entry (past_of w run.history.entries.items) stops ≡ true
