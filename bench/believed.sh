@@ -6,6 +6,7 @@
 #   bench/believed.sh       the table as text
 #   bench/believed.sh -m    as markdown, for docs/claims.md
 #   bench/believed.sh -u    the definitions that no contract reaches and whose file does not say so
+#   bench/believed.sh -r    the table as text, of what the contract of `run` alone reaches
 set -eu
 cd "$(dirname "$0")/.."
 crates=$(sed -n 's/^\([a-z][a-z0-9_]*\)\( staticlib\)*:.*/\1/p' crates.txt)
@@ -20,7 +21,7 @@ function module_of(path) {
 
 # The names that a use line brings into a file, also under another name, and the names of whole modules.
 function import(place, line,    path, list, names, count, i, pair) {
-    sub(/^ *(ghost )?use /, "", line)
+    sub(/^ *(ghost |pub )?use /, "", line)
     sub(/;? *$/, "", line)
     if (line !~ /^Rattle\.[a-z_0-9]+\.specs\./) return
     if (line ~ / as [^ }]*$/ && line !~ /\{/) {
@@ -40,10 +41,14 @@ function import(place, line,    path, list, names, count, i, pair) {
     }
 }
 
-# The definition of a name in a module, or in the type of that name in the module above.
-function definition(module, name,    above, last) {
+# The definition of a name in a module, or where that has it from, or in the type of that name in the module above.
+function definition(module, name,    above, last, from) {
     if ((module, name) in defined) return defined[module, name]
     if ((module, name) in part) return part[module, name]
+    if ((module, name) in brought) {
+        split(brought[module, name], from, SUBSEP)
+        return definition(from[1], from[2])
+    }
     above = module
     sub(/\.[^.]*$/, "", above)
     last = substr(module, length(above) + 2)
@@ -96,7 +101,7 @@ function definition_line(line,    bare, words, count, i, indent, start) {
     if (line ~ /^-- These definitions serve the proofs alone/) alone[FILENAME]
     sub(/(^|[ \t])--.*/, "", line)
     if (line ~ /^[ \t]*$/) return
-    if (line ~ /^ *use / && line ~ /^ *use [A-Za-z]+\./) { import(place, line); return }
+    if (line ~ /^ *(pub )?use [A-Za-z]+\./) { import(place, line); return }
     if (line ~ /^(pub )?mod /) return
     match(line, /^ */)
     indent = RLENGTH
@@ -200,7 +205,7 @@ FILENAME ~ /\.rt$/ { code_line($0); next }
 { definition_line($0) }
 
 END {
-    for (file in seeds) reach(file, seeds[file])
+    for (file in seeds) if (how != "-r" || file == "crates/jolie_main/src/top.rt") reach(file, seeds[file])
     for (at = 1; at <= queued; at++) {
         block = queue[at]
         if (frame_of[block] && !(frame_of[block] in reached)) {
