@@ -1,3 +1,4 @@
+pub mod Awake
 pub mod Births
 pub mod Ends
 pub mod Foreign

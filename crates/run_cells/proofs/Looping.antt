@@ -12,7 +12,9 @@ use Rattle.office_core.specs.Sessions.{births}
 use Rattle.session_turn.specs.declared.turn.Turn.{Turn}
 use Rattle.run_cells.specs.Crews.{AtWork, Crew, Stand, State, Team, events_of, past_in, state_of}
 use Rattle.run_cells.specs.Turns.{Adoptions, Adopts, CameTo, Comes, IsAdoption, IsNoBirth, IsTurn, RoundFrom, TurnsOf, and_next, fresh as first_stand, here, is_did, last, more, next, nobody, nobody_yet, none, now, one, over, there}
+use Rattle.run_cells.specs.Visits.{Skips}
 use Rattle.run_cells.specs.Rounds.{Adopted, CouldAct, HasSpent, IsStillAt, OnlyAdoptions, Went}
+use Rattle.run_cells.proofs.Awake.{skipped_round}
 use Rattle.run_cells.proofs.Going.{only_none, only_on, none_short, went_round}
 use Rattle.run_cells.proofs.Stilling.{adoption_still}
 
@@ -63,6 +65,16 @@ rounding_next {n} {start} {at} {mid} {new} moved {a} either e f c x = λ fin b r
   where
     plus : (k : ℕ) → k + 1 ≡ suc k
     plus k = omega arith
+
+-- behind those that have ended
+pub rounding_skips : {n m : ℕ} {start at mid : State} (moved : Bool) → Rounding n start at moved → Skips n m at mid
+    → Rounding m start mid moved
+rounding_skips moved f x = λ new b rest. f new b (skipped_round x rest)
+
+-- at an equal state
+pub rounding_at : {n : ℕ} {start at mid : State} (moved : Bool) → mid ≡ at → Rounding n start at moved
+    → Rounding n start mid moved
+rounding_at {n} {start} {at} {mid} moved e f = subst (λ (s : State). Rounding n start s moved) (sym e) f
 
 pub rounding_over : {n : ℕ} {start at new : State} {moved : Bool} → Team start → Rounding n start at moved
     → n ≡ length at.stands → IsNoBirth at new → Went start new moved
@@ -210,22 +222,25 @@ cells_there f xs ys n e l =
     let same : length ys ≡ length xs = sym (length-map ys f) ∙ e ∙ length-map xs f in
     omega arith
 
--- so is the next place
-pub came_within : {X : Type 0} (f : X → Stand) (xs : List X) (k n : ℕ) → n < k → length (map f xs) ≡ k → n + 1 ≤ length xs
-came_within f xs k n l e =
-    let same : length (map f xs) ≡ length xs = length-map xs f in
-    omega arith
-
 pub came_below : {X : Type 0} (f : X → Stand) (xs : List X) (n : ℕ) → n < length (map f xs) → n < length xs
 came_below f xs n l =
     let same : length (map f xs) ≡ length xs = length-map xs f in
     omega arith
 
+-- also behind its turns
+pub turned_below : {X : Type 0} (f : X → Stand) (xs : List X) (n k : ℕ) → n < k → length (map f xs) ≡ k → n < length xs
+turned_below f xs n k l e = came_below f xs n (subst (λ (m : ℕ). n < m) (sym e) l)
+
+pub came_within : {X : Type 0} (f : X → Stand) (xs : List X) (n : ℕ) → n ≤ length (map f xs) → n ≤ length xs
+came_within f xs n l =
+    let same : length (map f xs) ≡ length xs = length-map xs f in
+    omega arith
+
 -- a session more leaves less to come
-pub came_less : (n k : ℕ) → n < k → k ≤ first_worker → first_worker - (n + 1) < first_worker - n
-came_less n k l few =
-    let m : k ≤ 4096 = few in
-    let less : 4096 - (n + 1) < 4096 - n = omega arith in
+pub came_less : (n m k : ℕ) → n ≤ m → m < k → k ≤ first_worker → first_worker - (m + 1) < first_worker - n
+came_less n m k rising l few =
+    let most : k ≤ 4096 = few in
+    let less : 4096 - (m + 1) < 4096 - n = omega arith in
     less
 
 pub adopted_less : {X : Type 0} (f : X → Stand) (xs ys : List X) (x : Stand) → map f ys ≡ map f xs ++ x ∷ []
@@ -273,6 +288,11 @@ seat_more {X} f items items' x st longer is =
 -- how many cells there are
 pub count_is : {X : Type 0} (f : X → Stand) (items : List X) (count : ℕ) → count ≡ length items → count ≡ length (map f items)
 count_is f items count e = e ∙ sym (length-map items f)
+
+-- the number of the next session is its place
+pub seated_awake : {X : Type 0} (f : X → Stand) (items : List X) (awake awake' : List ℕ) {n : ℕ}
+    → awake' ≡ awake ++ n ∷ [] → n ≡ length items → awake' ≡ awake ++ length (map f items) ∷ []
+seated_awake f items awake awake' e is = e ∙ ap (λ (k : ℕ). awake ++ k ∷ []) (is ∙ sym (length-map items f))
 
 pub cells_same : {X : Type 0} (f : X → Stand) (xs ys : List X) → length (map f ys) ≡ length (map f xs) → length ys ≡ length xs
 cells_same f xs ys e = sym (length-map ys f) ∙ e ∙ length-map xs f

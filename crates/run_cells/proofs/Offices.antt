@@ -27,8 +27,10 @@ use Rattle.plain_desk.specs.Passes.{IsReady}
 use Rattle.plain_office.specs.declared.office.Office.{Office}
 use Rattle.plain_office.specs.View.{Adds, entries_of, with_entry}
 use Rattle.run_cells.specs.Crews.{AtWork, Crew, IsOurs, Stand, Stays, Team, closing, crew_by, list_of, past_in, state_of}
+use Rattle.run_cells.specs.Crews.{with_awake}
 use Rattle.run_cells.specs.Turns.{Adopts, IsAdoption, IsTurn, Turned, adoption, fresh as first_stand, none, spot}
 use Rattle.session_turn.specs.declared.turn.Turn.{Turn}
+use Rattle.run_cells.proofs.Awake.{awake_begun, awake_more, awake_same, awake_turn}
 use Rattle.run_cells.proofs.Births.{born_known}
 use Rattle.run_cells.proofs.Foreign.{some_with}
 use Rattle.run_cells.proofs.Stilling.{next_unadopted}
@@ -58,6 +60,7 @@ pub record Beside (old new : Crew) : Type 0 where
   pub budget : new.budget ≡ old.budget
   pub stands : new.stands ≡ old.stands
   pub picks : new.picks ≡ old.picks
+  pub awake : new.awake ≡ old.awake
 
 with_list : (h : List Entry) (more : Option Entry) → with_entry h more ≡ h ++ list_of more
 with_list h None = sym (append_nil h)
@@ -123,6 +126,7 @@ works_by {old} {new} {more} work b a ready works goes =
     record {
       desk = r;
       team = team_stays work.team s works (legal_of new.office r.program) (runs_of r);
+      awake = awake_same b.awake b.stands work.awake;
     }
 
 -- what each call of the worker adds is its own
@@ -206,6 +210,7 @@ pub record Seated (old new : Crew) (birth : Birth) : Type 0 where
   pub budget : new.budget ≡ old.budget
   pub picks : new.picks ≡ old.picks
   pub stands : new.stands ≡ old.stands ++ first_stand (run_of (parts_of old.program)) birth.service ∷ []
+  pub awake : new.awake ≡ old.awake ++ length old.stands ∷ []
 
 pub adopts_one : {old new : Crew} {birth : Birth} → AtWork old → Seated old new birth → (n : ℕ) → n ≡ length old.stands
     → Adds (Some (entry n (act.Adopt birth.service))) old.office new.office
@@ -233,25 +238,28 @@ works_one {old} {new} {birth} n work s a ready x =
     record {
       desk = r;
       team = team_adopted work.team x (legal_of new.office r.program) (runs_of r);
+      awake = awake_same s.awake s.stands
+          (awake_more (first_stand (run_of (parts_of old.program)) birth.service) work.awake);
     }
 
 -- ---- turns
 
 pub works_turn : {old new : Crew} {n : ℕ} {t : Turn} → AtWork old → IsReady (parts_of new.program) new.office
-    → IsTurn n (state_of old) (state_of new) t → AtWork new
-works_turn {old} {new} work r x = record {
+    → new.awake ≡ old.awake → IsTurn n (state_of old) (state_of new) t → AtWork new
+works_turn {old} {new} work r same x = record {
   desk = r;
   team = team_turn work.team x (legal_of new.office r.program) (runs_of r);
+  awake = awake_same same refl (awake_turn x work.awake);
 }
 
 -- ---- what a call of the office gave
 
 -- the crew with another office
 abbrev pub with_office : Crew → Office → Crew
-with_office c o = crew_by c.program o c.budget c.stands c.picks
+with_office c o = with_awake c.awake (crew_by c.program o c.budget c.stands c.picks)
 
 unchanged : (c : Crew) (o : Office) → Beside c (with_office c o)
-unchanged c o = record { program = refl; budget = refl; stands = refl; picks = refl }
+unchanged c o = record { program = refl; budget = refl; stands = refl; picks = refl; awake = refl }
 
 pub stays_ok : (c : Crew) (o : Office) {X E : Type 0} (r : Result X E) (f : X → Option Entry)
     → IfOk r (λ x. Adds (f x) c.office o)
@@ -372,17 +380,17 @@ count_fits f items count e few =
     omega arith
 
 pub works_turn_ok : {old : Crew} (new : Crew) (n : ℕ) {E : Type 0} (r : Result Turn E) → AtWork old
-    → OnOk r (IsReady (parts_of new.program) new.office)
+    → OnOk r (IsReady (parts_of new.program) new.office) → new.awake ≡ old.awake
     → IfOk r (IsTurn n (state_of old) (state_of new)) → OnOk r (AtWork new)
-works_turn_ok new n (Ok t) work ready x = works_turn work ready x
-works_turn_ok new n (Err e) work ready x = tt
+works_turn_ok new n (Ok t) work ready same x = works_turn work ready same x
+works_turn_ok new n (Err e) work ready same x = tt
 
 -- ---- before the first call
 
-pub works_begun : {X : Type 0} (f : X → Stand) (program : Program) (o : Office) (budget : ℕ) (items : List X) (picks : List ℕ)
-    → parts_of o.program ≡ parts_of program → entries_of o ≡ [] → o.spent ≡ false → items ≡ []
-    → AtWork (crew_by program o budget (map f items) picks)
-works_begun f program o budget items picks same none_yet ready nobody_yet = record {
+pub works_begun : {X : Type 0} (f : X → Stand) (program : Program) (o : Office) (budget : ℕ) (items : List X)
+    (picks awake : List ℕ) → parts_of o.program ≡ parts_of program → entries_of o ≡ [] → o.spent ≡ false → items ≡ [] → awake ≡ []
+    → AtWork (with_awake awake (crew_by program o budget (map f items) picks))
+works_begun f program o budget items picks awake same none_yet ready nobody_yet nobody_awake = record {
   desk = record {
     program = same;
     ready = ready;
@@ -395,6 +403,7 @@ works_begun f program o budget items picks same none_yet ready nobody_yet = reco
     stands = map f (sym nobody_yet i);
     picks = picks;
   }) (team_begun (run_of (parts_of program)) budget picks refl);
+  awake = awake_begun nobody_awake (ap (map f) nobody_yet);
 }
 
 -- ---- the next session
@@ -460,5 +469,6 @@ look_works {c} o (Ok x) work ready e = record {
     stands = c.stands;
     picks = c.picks;
   }) work.team;
+  awake = work.awake;
 }
 look_works {c} o (Err x) work ready e = tt

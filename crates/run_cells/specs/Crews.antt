@@ -1,6 +1,6 @@
 -- The sessions of a run on one thread: where each stands, the state of a run, and what holds of it between two calls.
-use Rattle.std.specs.Prelude.{◌≡◌, ℕ, ◌≤◌, true, List, [], ◌∷◌, ◌++◌, length, map, nat_lt, Option, None, Some, slice_get}
-use Rattle.std.specs.Prelude.{if◌then◌else◌}
+use Rattle.std.specs.Prelude.{◌≡◌, ℕ, ◌≤◌, ◌<◌, true, List, [], ◌∷◌, ◌++◌, length, map, nat_lt, Option, None, Some}
+use Rattle.std.specs.Prelude.{if◌then◌else◌, slice_get}
 use Rattle.behaviour_tree.specs.declared.program.Program.{Program}
 use Rattle.behaviour_tree.specs.declared.words.Event.{Event}
 use Rattle.behaviour_tree.specs.PartsView.{parts_of}
@@ -74,15 +74,17 @@ pub record Stays (old new : State) (more : List Entry) : Type 0 where
 
 -- ---- a crew, of which the contracts of `Cells` and of what stands on it speak, and no promise of the program
 
--- the sessions of a run by number, as far as they were adopted, with their office, and the picks that are left
+-- the sessions of a run by number, as far as they were adopted, with their office, the picks that are left, and the
+-- numbers of the sessions that a round visits
 pub record Crew : Type 0 where
   pub program : Program
   pub office : Office
   pub budget : ℕ
   pub stands : List Stand
   pub picks : List ℕ
+  pub awake : List ℕ
 
--- a crew by its parts
+-- a crew by its parts, of which no session is visited
 abbrev pub crew_by : Program → Office → ℕ → List Stand → List ℕ → Crew
 crew_by program office budget stands picks = record {
   program = program;
@@ -90,6 +92,18 @@ crew_by program office budget stands picks = record {
   budget = budget;
   stands = stands;
   picks = picks;
+  awake = [];
+}
+
+-- a crew of which the sessions with these numbers are visited
+abbrev pub with_awake : List ℕ → Crew → Crew
+with_awake awake c = record {
+  program = c.program;
+  office = c.office;
+  budget = c.budget;
+  stands = c.stands;
+  picks = c.picks;
+  awake = awake;
 }
 
 -- the state of the run of a crew
@@ -106,10 +120,28 @@ state_of c = record {
 abbrev pub IsOurs : Crew → Type 0
 IsOurs c = parts_of c.office.program ≡ parts_of c.program
 
--- The office is at work at the program of the run, and its sessions are a team.
+-- A session that stands so has ended.
+pub record HasEnded (st : Stand) : Type 0 where
+  pub config : Config
+  pub at : st.config ≡ Some config
+  pub ended : config.ended ≡ true
+
+-- a session is visited, or it has ended
+pub data IsSeenTo (awake : List ℕ) (n : ℕ) (st : Stand) : Type 0 where
+  visited : (place : ℕ) → slice_get awake place ≡ Some n → IsSeenTo awake n st
+  asleep : HasEnded st → IsSeenTo awake n st
+
+-- The numbers of those that are visited rise, each is of a session at hand, and all others have ended.
+pub record AreAwake (awake : List ℕ) (stands : List Stand) : Type 0 where
+  pub rising : (i j m n : ℕ) → i < j → slice_get awake i ≡ Some m → slice_get awake j ≡ Some n → m < n
+  pub there : (place n : ℕ) → slice_get awake place ≡ Some n → n < length stands
+  pub each : (n : ℕ) (st : Stand) → slice_get stands n ≡ Some st → IsSeenTo awake n st
+
+-- The office is at work at the program of the run, its sessions are a team, and those that are not visited have ended.
 pub record AtWork (c : Crew) : Type 0 where
   pub desk : IsReady (parts_of c.program) c.office
   pub team : Team (state_of c)
+  pub awake : AreAwake c.awake c.stands
 
 -- an entry that may be there as a list
 abbrev pub list_of : Option Entry → List Entry

@@ -1,3 +1,4 @@
 pub mod Crews
 pub mod Turns
 pub mod Rounds
+pub mod Visits

@@ -1,7 +1,7 @@
-ghost use Rattle.std.specs.Prelude.{◌≡◌, ◌<◌, [], ◌∷◌, ◌++◌, IfOk, OnOk, length, map};
+ghost use Rattle.std.specs.Prelude.{◌≡◌, ◌<◌, [], ◌∷◌, ◌++◌, true, IfOk, OnOk, length, map};
 ghost use Rattle.behaviour_tree.specs.PartsView.{parts_of};
 ghost use Rattle.office_core.specs.Limits.{run_of};
-ghost use Rattle.run_cells.specs.Crews.{AtWork, Crew, crew_by, stand_by, state_of};
+ghost use Rattle.run_cells.specs.Crews.{AtWork, Crew, crew_by, stand_by, state_of, with_awake};
 ghost use Rattle.run_cells.specs.Turns.{Adopts, fresh};
 
 use behaviour_tree::{Events, Program};
@@ -19,7 +19,8 @@ pub struct Cell<S: Session> {
 }
 
 /// The sessions of a run by number, as far as they were adopted, and their office. A session has at most as many events
-/// as the budget, and each turn takes the next pick, or 0 behind the last.
+/// as the budget, and each turn takes the next pick, or 0 behind the last. Rounds visit the sessions that are awake, in
+/// rising order: all others have ended.
 #[derive(Drop)]
 pub struct Cells<'p, S: Session> {
     pub(crate) alloc: Global,
@@ -27,6 +28,7 @@ pub struct Cells<'p, S: Session> {
     pub(crate) office: Office,
     pub(crate) budget: u32,
     pub(crate) cells: Vec<Cell<S>>,
+    pub(crate) awake: Vec<u32>,
     pub(crate) picks: &'p [u32],
 }
 
@@ -36,8 +38,8 @@ pub trait Crewed {
 }
 
 impl<S: Session> Crewed for Cells<'_, S> {
-    ghost crew = { λ c. crew_by c.program c.office c.budget
-        (map (λ d. stand_by (S.service_of d.session) (S.config_of d.session) d.events) c.cells.items) c.picks.now };
+    ghost crew = { λ c. with_awake c.awake.items (crew_by c.program c.office c.budget
+        (map (λ d. stand_by (S.service_of d.session) (S.config_of d.session) d.events) c.cells.items) c.picks.now) };
 }
 
 impl<'p, S: Seating> Cells<'p, S> {
@@ -56,12 +58,14 @@ impl<'p, S: Seating> Cells<'p, S> {
         let copy = program.again()?;
         let office = Office::new(alloc, copy)?;
         let cells = Vec::new(alloc);
+        let awake = Vec::new(alloc);
         Ok(Cells {
             alloc,
             program,
             office,
             budget,
             cells,
+            awake,
             picks,
         })
     }
@@ -78,6 +82,7 @@ impl<'p, S: Seating> Cells<'p, S> {
         requires work { AtWork (⟦<Cells<'static, S> as Crewed>⟧.crew self.old) }
         ensures program { self.new.program ≡ self.old.program }
         ensures adopts { IfOk result (Adopts (state_of (⟦<Cells<'static, S> as Crewed>⟧.crew self.old)) (state_of (⟦<Cells<'static, S> as Crewed>⟧.crew self.new))) }
+        ensures awake { IfOk result (λ adopted. adopted ≡ true → self.new.awake.items ≡ self.old.awake.items ++ length self.old.cells.items ∷ []) }
         ensures work { OnOk result (AtWork (⟦<Cells<'static, S> as Crewed>⟧.crew self.new)) }
     {
         let count = self.cells.len();
@@ -86,12 +91,12 @@ impl<'p, S: Seating> Cells<'p, S> {
         let Some(birth) = born else {
             return Ok(false);
         };
-        self.seat(birth)?;
+        self.seat(number, birth)?;
         Ok(true)
     }
 
-    /// Seats the session that was adopted last, at the start of its service.
-    fn seat(&mut self, birth: Birth) -> Result<(), AllocError>
+    /// Seats the session that was adopted last, at the start of its service. It is awake.
+    fn seat(&mut self, number: u32, birth: Birth) -> Result<(), AllocError>
         requires known { birth.service < length (parts_of self.old.program).services }
         ensures program { self.new.program ≡ self.old.program }
         ensures office { self.new.office ≡ self.old.office }
@@ -99,11 +104,13 @@ impl<'p, S: Seating> Cells<'p, S> {
         ensures picks { self.new.picks.now ≡ self.old.picks.now }
         ensures stands { OnOk result ((⟦<Cells<'static, S> as Crewed>⟧.crew self.new).stands
             ≡ (⟦<Cells<'static, S> as Crewed>⟧.crew self.old).stands ++ fresh (run_of (parts_of self.old.program)) birth.service ∷ []) }
+        ensures awake { OnOk result (self.new.awake.items ≡ self.old.awake.items ++ number ∷ []) }
     {
         let session = S::start(self.alloc, &self.program, birth.service)?;
         let events = Items::new(self.alloc);
         let cell = Cell { session, events };
         self.cells.push(cell)?;
+        self.awake.push(number)?;
         Ok(())
     }
 }

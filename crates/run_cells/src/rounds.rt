@@ -1,11 +1,13 @@
 //! Rounds: each session has its turns.
-ghost use Rattle.std.specs.Prelude.{◌≡◌, ◌≤◌, ◌||◌, IfOk, OnOk, length};
+ghost use Rattle.std.specs.Prelude.{◌≡◌, ℕ, ◌+◌, ◌≤◌, ◌<◌, ◌||◌, true, IfOk, IfSome, OnOk, Some, length, slice_get, unwrap_or};
 ghost use Rattle.run_cells.specs.Crews.{AtWork, state_of};
 ghost use Rattle.run_cells.specs.Turns.{CameTo};
 ghost use Rattle.run_cells.specs.Rounds.{Adopted, Went};
+ghost use Rattle.run_cells.specs.Visits.{ArePassed, IsNext, Skips};
 
-use crate::cells::{Cells, Crewed};
-use session_turn::Seating;
+use crate::cells::{Cell, Cells, Crewed};
+use crate::turns::picks_behind;
+use session_turn::{Seating, Session};
 use std::alloc::AllocError;
 
 impl<S: Seating> Cells<'_, S> {
@@ -18,17 +20,68 @@ impl<S: Seating> Cells<'_, S> {
         ensures work { OnOk result (AtWork (⟦<Cells<'static, S> as Crewed>⟧.crew self.new)) }
     {
         let mut moved = false;
+        let mut place = 0;
         let mut number = 0;
         'round: loop {
-            let came = self.comes(number)?;
+            let next = self.skip(place, number);
+            let came = self.comes(next)?;
             if !came {
                 return Ok(moved);
             }
-            let did = self.turns_of(number)?;
+            let did = self.turns_of(next)?;
             let both = either(moved, did);
             moved = both;
-            number += 1;
+            place = self.leave(place, next);
+            number = next + 1;
         }
+    }
+
+    /// The number of the session that is visited at a place, or else of the one that is born next. Those from a number
+    /// on to it have ended: the picks for their turns are dropped.
+    fn skip(&mut self, place: usize, number: usize) -> usize
+        requires work { AtWork (⟦<Cells<'static, S> as Crewed>⟧.crew self.old) }
+        requires passed { ArePassed place number (⟦<Cells<'static, S> as Crewed>⟧.crew self.old) }
+        ensures program { self.new.program ≡ self.old.program }
+        ensures next { IsNext (⟦<Cells<'static, S> as Crewed>⟧.crew self.new) place result }
+        ensures skipped { Skips number result (state_of (⟦<Cells<'static, S> as Crewed>⟧.crew self.old)) (state_of (⟦<Cells<'static, S> as Crewed>⟧.crew self.new)) }
+        ensures within { result ≤ length self.new.cells.items }
+        ensures work { AtWork (⟦<Cells<'static, S> as Crewed>⟧.crew self.new) }
+    {
+        let next = self.number_at(place);
+        let count = next - number;
+        self.picks = picks_behind(self.picks, count);
+        next
+    }
+
+    /// The number of the session that is visited at a place, or else of the one that is born next.
+    fn number_at(&self, place: usize) -> usize
+        ensures { result ≡ unwrap_or (slice_get self.now.awake.items place) (length self.now.cells.items) }
+    {
+        match self.awake.get(place) {
+            Some(number) => *number as usize,
+            None => self.cells.len(),
+        }
+    }
+
+    /// Leaves the session that is visited at a place for the next one, whose place it gives. One that has ended is not
+    /// visited again.
+    fn leave(&mut self, place: usize, number: usize) -> usize
+        requires work { AtWork (⟦<Cells<'static, S> as Crewed>⟧.crew self.old) }
+        requires there { number < length self.old.cells.items }
+        requires place { place < length self.old.awake.items }
+        requires visited { slice_get self.old.awake.items place ≡ Some number }
+        ensures program { self.new.program ≡ self.old.program }
+        ensures same { state_of (⟦<Cells<'static, S> as Crewed>⟧.crew self.new) ≡ state_of (⟦<Cells<'static, S> as Crewed>⟧.crew self.old) }
+        ensures passed { ArePassed result (number + 1) (⟦<Cells<'static, S> as Crewed>⟧.crew self.new) }
+        ensures work { AtWork (⟦<Cells<'static, S> as Crewed>⟧.crew self.new) }
+    {
+        let cell = &self.cells[number];
+        let ended = has_ended(cell);
+        if ended {
+            self.awake.remove(place);
+            return place;
+        }
+        place + 1
     }
 
     /// Whether there is a session of a number; one that was born is adopted.
@@ -37,6 +90,7 @@ impl<S: Seating> Cells<'_, S> {
         requires within { number ≤ length self.old.cells.items }
         ensures program { self.new.program ≡ self.old.program }
         ensures came { IfOk result (CameTo number (state_of (⟦<Cells<'static, S> as Crewed>⟧.crew self.old)) (state_of (⟦<Cells<'static, S> as Crewed>⟧.crew self.new))) }
+        ensures awake { IfOk result (λ came. came ≡ true → (place : ℕ) → IsNext (⟦<Cells<'static, S> as Crewed>⟧.crew self.old) place number → slice_get self.new.awake.items place ≡ Some number) }
         ensures work { OnOk result (AtWork (⟦<Cells<'static, S> as Crewed>⟧.crew self.new)) }
     {
         let count = self.cells.len();
@@ -60,6 +114,13 @@ impl<S: Seating> Cells<'_, S> {
             }
         }
     }
+}
+
+/// Whether the session of a cell has ended.
+fn has_ended<S: Session>(cell: &Cell<S>) -> bool
+    ensures { IfSome (S.config_of cell.now.session) (λ c. result ≡ c.ended) }
+{
+    cell.session.ended()
 }
 
 /// Whether one of two things is so.

@@ -20,6 +20,7 @@ impl<S: Seating> Cells<'_, S> {
         requires work { AtWork (⟦<Cells<'static, S> as Crewed>⟧.crew self.old) }
         requires there { number < length self.old.cells.items }
         ensures program { self.new.program ≡ self.old.program }
+        ensures awake { self.new.awake.items ≡ self.old.awake.items }
         ensures turns { IfOk result (TurnsOf number (state_of (⟦<Cells<'static, S> as Crewed>⟧.crew self.old)) (state_of (⟦<Cells<'static, S> as Crewed>⟧.crew self.new))) }
         ensures work { OnOk result (AtWork (⟦<Cells<'static, S> as Crewed>⟧.crew self.new)) }
     {
@@ -39,11 +40,12 @@ impl<S: Seating> Cells<'_, S> {
         requires work { AtWork (⟦<Cells<'static, S> as Crewed>⟧.crew self.old) }
         requires there { number < length self.old.cells.items }
         ensures program { self.new.program ≡ self.old.program }
+        ensures awake { self.new.awake.items ≡ self.old.awake.items }
         ensures turn { IfOk result (IsTurn number (state_of (⟦<Cells<'static, S> as Crewed>⟧.crew self.old)) (state_of (⟦<Cells<'static, S> as Crewed>⟧.crew self.new))) }
         ensures work { OnOk result (AtWork (⟦<Cells<'static, S> as Crewed>⟧.crew self.new)) }
     {
         let pick = first_pick(self.picks);
-        self.picks = other_picks(self.picks);
+        self.picks = picks_behind(self.picks, 1);
         let player = Player {
             program: &self.program,
             number: number as u32,
@@ -111,12 +113,13 @@ fn first_pick(picks: &[u32]) -> u32
     }
 }
 
-/// The picks behind the next one.
-fn other_picks<'a>(picks: &'a [u32]) -> &'a [u32]
-    ensures { result.now ≡ drop 1 picks.now }
+/// The picks behind so many.
+pub(crate) fn picks_behind<'a>(picks: &'a [u32], count: usize) -> &'a [u32]
+    ensures { result.now ≡ drop count picks.now }
 {
-    if picks.is_empty() {
-        return picks;
+    let left = picks.len();
+    if left < count {
+        return &[];
     }
-    &picks[1..]
+    &picks[count..]
 }

@@ -2,7 +2,7 @@
 use Rattle.std.proofs.Common.{◌≡◌, map}
 use Rattle.behaviour_tree.specs.PartsView.{parts_of}
 use Rattle.run_sweep.specs.Courses.{Goes}
-use Rattle.run_cells.specs.Crews.{AtWork, crew_by, stand_by, state_of}
+use Rattle.run_cells.specs.Crews.{AtWork, crew_by, stand_by, state_of, with_awake}
 use Rattle.run_posts.specs.Fates.{waits}
 use Rattle.run_sweep.specs.Swept.{ToursBy}
 use Rattle.run_alone.specs.Between.{Between, Passed}
@@ -14,7 +14,7 @@ invariant-looks g l = record {
   program : l.self.cells.program ≡ l.fn.self.cells.program;
   budget : (state_of (crew_by l.self.cells.program l.self.cells.office l.self.cells.budget (map (λ d. stand_by (g.S.Session.service_of d.session) (g.S.Session.config_of d.session) d.events) l.self.cells.cells.items) l.self.cells.picks.now)).budget ≡ (state_of (crew_by l.fn.self.cells.program l.fn.self.cells.office l.fn.self.cells.budget (map (λ d. stand_by (g.S.Session.service_of d.session) (g.S.Session.config_of d.session) d.events) l.fn.self.cells.cells.items) l.fn.self.cells.picks.now)).budget;
   setting : (state_of (crew_by l.self.cells.program l.self.cells.office l.self.cells.budget (map (λ d. stand_by (g.S.Session.service_of d.session) (g.S.Session.config_of d.session) d.events) l.self.cells.cells.items) l.self.cells.picks.now)).setting ≡ (state_of (crew_by l.fn.self.cells.program l.fn.self.cells.office l.fn.self.cells.budget (map (λ d. stand_by (g.S.Session.service_of d.session) (g.S.Session.config_of d.session) d.events) l.fn.self.cells.cells.items) l.fn.self.cells.picks.now)).setting;
-  work : AtWork (crew_by l.self.cells.program l.self.cells.office l.self.cells.budget (map (λ d. stand_by (g.S.Session.service_of d.session) (g.S.Session.config_of d.session) d.events) l.self.cells.cells.items) l.self.cells.picks.now);
+  work : AtWork (with_awake l.self.cells.awake.items (crew_by l.self.cells.program l.self.cells.office l.self.cells.budget (map (λ d. stand_by (g.S.Session.service_of d.session) (g.S.Session.config_of d.session) d.events) l.self.cells.cells.items) l.self.cells.picks.now));
   between : Between (state_of (crew_by l.self.cells.program l.self.cells.office l.self.cells.budget (map (λ d. stand_by (g.S.Session.service_of d.session) (g.S.Session.config_of d.session) d.events) l.self.cells.cells.items) l.self.cells.picks.now)) (waits l.self.pendings) l.self.pendings.postings l.calm;
   goes : Goes (state_of (crew_by l.fn.self.cells.program l.fn.self.cells.office l.fn.self.cells.budget (map (λ d. stand_by (g.S.Session.service_of d.session) (g.S.Session.config_of d.session) d.events) l.fn.self.cells.cells.items) l.fn.self.cells.picks.now)) (state_of (crew_by l.self.cells.program l.self.cells.office l.self.cells.budget (map (λ d. stand_by (g.S.Session.service_of d.session) (g.S.Session.config_of d.session) d.events) l.self.cells.cells.items) l.self.cells.picks.now));
   toured : ToursBy (state_of (crew_by l.fn.self.cells.program l.fn.self.cells.office l.fn.self.cells.budget (map (λ d. stand_by (g.S.Session.service_of d.session) (g.S.Session.config_of d.session) d.events) l.fn.self.cells.cells.items) l.fn.self.cells.picks.now)).setting (state_of (crew_by l.fn.self.cells.program l.fn.self.cells.office l.fn.self.cells.budget (map (λ d. stand_by (g.S.Session.service_of d.session) (g.S.Session.config_of d.session) d.events) l.fn.self.cells.cells.items) l.fn.self.cells.picks.now)).history (state_of (crew_by l.self.cells.program l.self.cells.office l.self.cells.budget (map (λ d. stand_by (g.S.Session.service_of d.session) (g.S.Session.config_of d.session) d.events) l.self.cells.cells.items) l.self.cells.picks.now)).history (g.L.Link.trips l.fn.link) (g.L.Link.trips l.link);

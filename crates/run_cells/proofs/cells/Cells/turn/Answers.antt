@@ -1,4 +1,5 @@
 -- The turn of a cell is one of the crew.
+use Rattle.std.proofs.Common.{refl}
 use Rattle.std.proofs.lemmas.Result.{IfOk-weaker}
 use Rattle.run_cells.proofs.Offices.{cell_fits, stand_at, turn_is, works_turn_ok}
 use Rattle.run_cells.proofs.Teams.{few_stands}
@@ -18,12 +19,12 @@ returns-clause-turn g c =
     let old = c.args.self.now in
     IfOk-weaker c.turn_at.result _ _
     (λ t h. turn_is _ old.program old.office c.turn_at.new.office old.budget old.cells.items c.args.number c.index_mut.result.now
-    c.turn_at.new.cell old.picks.now c.other_picks-self.result.now c.first_pick-pick.result t
+    c.turn_at.new.cell old.picks.now c.picks_behind-self.result.now c.first_pick-pick.result t
     (stand_at _ old.cells.items c.args.number c.index_mut.result.now c.requires.there c.index_mut.ensures.value)
-    c.first_pick-pick.ensures c.other_picks-self.ensures h)
+    c.first_pick-pick.ensures c.picks_behind-self.ensures h)
     c.turn_at.ensures.turned
 
 pub returns-clause-work : goal.returns-clause-work
 returns-clause-work g c =
-    works_turn_ok _ c.args.number c.turn_at.result c.requires.work c.turn_at.ensures.ready
+    works_turn_ok _ c.args.number c.turn_at.result c.requires.work c.turn_at.ensures.ready refl
     (returns-clause-turn g c)
