@@ -1,8 +1,10 @@
 #!/bin/sh
 # Times the proved program: lines a second of `run` on a body of one statement and on bodies of 10, 100 and 1,000, with
-# those of a plain program in Rust of the same kind (bench/baseline.rs) where there is a compiler for it, and `check` on
-# a file of 2,000 types, operations and services. It has no limits; it needs a program that `rt ci` has proved, outside
-# the gate: bench/runs.sh
+# those of a plain program in Rust of the same kind (bench/baseline.rs) where there is a compiler for it, and of the
+# package json-rpc for Python (bench/baseline.py) where that is installed (Debian's python3-jsonrpc); and `check` on a
+# file of 2,000 types, operations and services. Then how the cost of a run grows, in instructions where valgrind is
+# there: with ten times the sessions, and with ten times the events of one session, each of which has to be at most 12
+# times as much. The times have no limits. It needs a program that `rt ci` has proved, outside the gate: bench/runs.sh
 # shellcheck source=bench/common.sh
 . "$(dirname "$0")/common.sh"
 find_program
@@ -37,6 +39,13 @@ if command -v rustc > /dev/null; then
     rustc --edition 2021 -O -o "$work/baseline" "$top/bench/baseline.rs"
     plain="$work/baseline"
 fi
+python=
+for words in /usr/bin/python3 python3; do
+    if "$words" -c 'import jsonrpc' 2> /dev/null; then
+        python=$words
+        break
+    fi
+done
 : > "$work/empty"
 for row in 1:4000 10:4000 100:1000 1000:4; do
     size=${row%:*}
@@ -51,9 +60,16 @@ for row in 1:4000 10:4000 100:1000 1000:4; do
         other=$(seconds "$work/lines" "$plain" "$size")
         cmp "$work/out" "$work/ours"
     fi
-    echo "$size $count $start $all $other" | awk '{
+    package=0
+    if [ -n "$python" ]; then
+        begun=$(seconds "$work/empty" "$python" "$top/bench/baseline.py" "$size")
+        package=$(seconds "$work/lines" "$python" "$top/bench/baseline.py" "$size" | awk -v begun="$begun" '{ print $1 - begun }')
+        cmp "$work/out" "$work/ours"
+    fi
+    echo "$size $count $start $all $other $package" | awk '{
         printf "%4d statements: %d lines in %.3f s beside %.3f s for the start, %.0f lines a second", $1, $2, $4 - $3, $3, $2 / ($4 - $3)
         if ($5 > 0) printf "; in plain Rust %.0f", $2 / $5
+        if ($6 > 0) printf "; in Python %.0f", $2 / $6
         print ""
     }'
 done
@@ -71,3 +87,32 @@ awk -v most=2000 'BEGIN {
 }' > "$work/large.ol"
 bytes=$(wc -c < "$work/large.ol")
 seconds "$work/empty" "$program" check "$work/large.ol" | awk -v bytes="$bytes" '{ printf "check of %d bytes: %.2f s\n", bytes, $1 }'
+
+command -v valgrind > /dev/null || exit 0
+# The instructions of a run of a file over a file of lines.
+instructions() {
+    valgrind --tool=callgrind --callgrind-out-file="$work/callgrind" "$program" run "$1" < "$2" 2>&1 > /dev/null |
+        sed -n 's/.*Collected : //p'
+}
+
+# Whether ten times as much costs at most 12 times as many instructions.
+growth() {
+    echo "$2 $3" | awk -v of="$1" '{ printf "%s: %.2f times the instructions\n", of, $2 / $1; exit $2 > 12 * $1 }'
+}
+
+failed=0
+lines 400 > "$work/few"
+lines 4000 > "$work/many"
+growth "4,000 sessions beside 400" \
+    "$(instructions "$work/1.ol" "$work/few")" "$(instructions "$work/1.ol" "$work/many")" || failed=1
+echo '{"jsonrpc":"2.0","method":"go","id":1}' > "$work/one"
+for most in 497 4997; do
+    {
+        echo 'interface GoI { RequestResponse: go(void)(int) }'
+        echo 'service S { inputPort In { location: "local://s" interfaces: GoI }'
+        echo "main { go()(y) { i = 0 ; while (i < $most) { i++ } ; y = i } } }"
+    } > "$work/events.$most.ol"
+done
+growth "10,000 events beside 1,000" \
+    "$(instructions "$work/events.497.ol" "$work/one")" "$(instructions "$work/events.4997.ol" "$work/one")" || failed=1
+exit "$failed"
