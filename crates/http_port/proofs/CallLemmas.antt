@@ -8,7 +8,7 @@ use Rattle.outside_traits.specs.declared.calls.WireCall.TheVariants.{Read, Wrote
 use Rattle.http_port.specs.Feeding.{Place}
 use Rattle.http_port.specs.Serving.{Service, Serves}
 use Rattle.http_port.specs.Prompt.{bytes_of, read_in, written_in, done_by, IsPrompt, StopsAtNothing}
-use Rattle.http_port.specs.Turns.{AllMove, AreWrites, IsWritten, Moves}
+use Rattle.http_port.specs.Writing.{AllMove, AreWrites, IsWritten, Moves}
 use Rattle.http_port.specs.declared.serve.Said.{Said}
 use Rattle.http_port.specs.declared.serving.WireEnd.TheVariants as Ends
 

@@ -15,7 +15,8 @@ use Rattle.http_port.specs.declared.fields.Framing.{Framing}
 use Rattle.http_port.specs.declared.verdict.Verdict.{Verdict}
 use Rattle.http_port.specs.declared.verdict.Verdict.TheVariants.{Refuses, Admits}
 use Rattle.http_port.specs.Framing.{is_digits, lengths_in, is_coded}
-use Rattle.http_port.specs.Walks.{stated, stated_after, framing_of, is_unclear_by, is_unclear, wishes_of}
+use Rattle.http_port.specs.Walks.{stated_after, is_unclear_by, is_unclear, wishes_of}
+use Rattle.http_port.specs.Framing.{stated, framing_of}
 use Rattle.http_port.specs.Rules.{Head, lacks_host, admission, verdict_by_length, verdict_of}
 
 -- one more value

@@ -13,7 +13,7 @@ use Rattle.http1.specs.declared.fields.KnownFields.{KnownFields}
 use Rattle.http_port.specs.declared.fields.Stated.TheVariants.{Length, Unclear}
 use Rattle.http_port.specs.declared.fields.Framing.{Framing}
 use Rattle.http_port.specs.Framing.{lengths_in, is_coded}
-use Rattle.http_port.specs.Walks.{stated, stated_by, framing_of}
+use Rattle.http_port.specs.Framing.{stated, stated_by, framing_of}
 
 -- where no field frames the body, there is no length and no coding
 none_frames : (headers : List Header) → count_by is_framing_field headers ≡ 0 → (lengths_in headers ≡ []) × (is_coded headers ≡ false)

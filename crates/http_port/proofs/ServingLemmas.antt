@@ -22,7 +22,8 @@ use Rattle.http_port.specs.Walks.{Asks, AsksWhereGiven}
 use Rattle.http_port.specs.Connections.{Reading, RequestRead, given, Run, without_waits}
 use Rattle.http_port.specs.Serving.{Service, Demand, texts, to_write, AllAtOnce, HandsOn, IsServed, IsCutOff, EndsSo, demand_of, Serves, bodies_in, IsLastGiven, IsFed}
 use Rattle.http_port.specs.Prompt.{IsPrompt, StopsAtNothing}
-use Rattle.http_port.specs.Turns.{AllMove, Reacts, IsWritten, Moves}
+use Rattle.http_port.specs.Turns.{Reacts}
+use Rattle.http_port.specs.Writing.{AllMove, IsWritten, Moves}
 use Rattle.http_port.proofs.ReadingLemmas.{still, Went, shown, asks_grow, step, run_goes, quiet}
 use Rattle.http_port.proofs.TalkLemmas.{spoken, ended, CallsFor, calls_for}
 use Rattle.http_port.proofs.TurnLemmas.{Spoke, spoke-append, waiting_turn, spoken_on, ended_on, bodies_on, bodies-append, count_said, said_at_once, Begins, starts_with, begins_behind, spoken_before, EndsWhole, EndsCut, LastTurn, last_turn, last_given, spoke_turn, spoke_waiting}

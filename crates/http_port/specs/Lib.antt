@@ -11,3 +11,4 @@ pub mod Asking
 pub mod Serving
 pub mod Prompt
 pub mod Turns
+pub mod Writing

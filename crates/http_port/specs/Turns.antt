@@ -1,13 +1,9 @@
 -- These definitions serve the proofs alone: no promise of a public call speaks of them.
 -- What serving does turn by turn.
-use Rattle.std.specs.Prelude.{◌≡◌, ◌<◌, ℕ, ◌⊎◌, Bool, true, false, if◌then◌else◌, Option, None, Some, List, [], ◌∷◌, length, take}
-use Rattle.outside_traits.specs.Calls.{Notes}
-use Rattle.outside_traits.specs.declared.calls.WireCall.{WireCall}
-use Rattle.outside_traits.specs.declared.calls.WireCall.TheVariants.{Read, Wrote}
+use Rattle.std.specs.Prelude.{◌≡◌, ℕ, ◌⊎◌, Bool, true, false, if◌then◌else◌, None, Some, List, [], ◌∷◌, take}
 use Rattle.http_port.specs.Responses.{interim, response}
 use Rattle.http_port.specs.Talk.{answer}
 use Rattle.http_port.specs.Serving.{CountsFault}
-use Rattle.http_port.specs.Prompt.{bytes_of, written_in, StopsAtNothing}
 use Rattle.http_port.specs.declared.head_reader.Fed.{Fed}
 use Rattle.http_port.specs.declared.head_reader.Fed.TheVariants.{NotYet, Interim, Request, Refused}
 use Rattle.http_port.specs.declared.serve.Said.{Said}
@@ -44,32 +40,8 @@ TurnCounts Turns.GoesOn before now = now ≡ before
 TurnCounts Turns.Waits before now = now ≡ before
 TurnCounts (Turns.Ends end) before now = CountsFault end before now
 
--- none of these calls is a read
-abbrev pub AreWrites : List WireCall → Type 0
-AreWrites [] = Unit {0}
-AreWrites (Read count ∷ more) = ⊥
-AreWrites (Wrote count ∷ more) = AreWrites more
-
--- each of these calls moved something
-abbrev pub AllMove : List WireCall → Type 0
-AllMove [] = Unit {0}
-AllMove (call ∷ more) = (0 < bytes_of call) × AllMove more
-
--- the same, or where the wire may have failed, of all but the last
-abbrev pub Moves : Bool → List WireCall → Type 0
-Moves true calls = AllMove calls
-Moves false calls = StopsAtNothing calls
-
 -- whether serving goes on behind a turn
 abbrev pub goes : Turn → Bool
 goes Turns.GoesOn = true
 goes Turns.Waits = true
 goes (Turns.Ends end) = false
-
--- a wire that tells its calls so was called to write these bytes, and for nothing else; where whole, it did not fail
-pub record IsWritten (before now : Option (List WireCall)) (went : List ℕ) (whole : Bool) : Type 0 where
-  pub calls : List WireCall
-  pub noted : Notes before now calls
-  pub writes : AreWrites calls
-  pub count : written_in calls ≡ length went
-  pub moves : Moves whole calls

@@ -1,11 +1,10 @@
 -- These definitions serve the proofs alone: no promise speaks of them.
 -- What the reader keeps of a head part and of a head, line by line and field by field.
-use Rattle.std.specs.Prelude.{◌≡◌, ℕ, ◌+◌, ◌<◌, ◌≤◌, nat_lt, min, Bool, true, false, not, ◌&&◌, ◌||◌, if◌then◌else◌}
+use Rattle.std.specs.Prelude.{◌≡◌, ℕ, ◌+◌, ◌<◌, ◌≤◌, nat_lt, Bool, true, false, not, ◌&&◌, ◌||◌, if◌then◌else◌}
 use Rattle.std.specs.Prelude.{List, [], ◌∷◌, length, drop, Option, None, Some}
-use Rattle.std.specs.Str.Parse.{digits_value}
 use Rattle.http1.specs.Fields.{Header}
 use Rattle.http_port.specs.HeadPart.{is_empty_line}
-use Rattle.http_port.specs.Framing.{is_digits, lengths_in, is_coded}
+use Rattle.http_port.specs.Framing.{stated_by}
 use Rattle.http_port.specs.Rules.{lacks_host, wants_close, wants_interim, Judges}
 use Rattle.http_port.specs.Feeding.{Place, Open, Over, Spent}
 use Rattle.http_port.specs.Connections.{Reading}
@@ -21,25 +20,11 @@ use Rattle.http_port.specs.declared.verdict.Wishes.{Wishes}
 abbrev pub begun_behind : Bool → List ℕ → Option Bool
 begun_behind begun line = if begun && is_empty_line line then None else Some (begun || not (is_empty_line line))
 
--- what one value says
-abbrev pub stated_by : List ℕ → Stated
-stated_by value = if is_digits value then Length (min (digits_value 10 value) 65537) else Unclear
-
--- what the values say
-abbrev pub stated : List (List ℕ) → Stated
-stated [] = Nothing
-stated (value ∷ []) = stated_by value
-stated (value ∷ next ∷ more) = Unclear
-
 -- what they say with one more value behind them
 abbrev pub stated_after : Stated → List ℕ → Stated
 stated_after Nothing value = stated_by value
 stated_after (Length n) value = Unclear
 stated_after Unclear value = Unclear
-
--- what a head says of the body
-abbrev pub framing_of : List Header → Framing
-framing_of headers = record { stated = stated (lengths_in headers); is_coded = is_coded headers }
 
 -- something is said of the length, and it is not clear
 abbrev pub is_unclear_by : Stated → Bool → Bool

@@ -4,18 +4,19 @@ ghost use Rattle.std.specs.Str.Parse.{digits_value};
 ghost use Rattle.httparse.specs.Spans.{IsHeaderWithin, header_bytes};
 ghost use Rattle.http1.specs.Fields.{known_fields};
 ghost use Rattle.http_port.specs.Framing.{is_digits};
-ghost use Rattle.http_port.specs.Walks.{stated_after, framing_of, is_unclear};
+ghost use Rattle.http_port.specs.Walks.{stated_after, is_unclear};
+ghost use Rattle.http_port.specs.Framing.{framing_of};
 
 use http1::fields::{ContentLength, KnownFields};
 use http1::text::eq_ignore_case;
 use httparse::spans::HeaderSpan;
 
 /// The longest body.
-pub(crate) const LONGEST_BODY: u32 = 65_536;
+pub const LONGEST_BODY: u32 = 65_536;
 
 /// What the `Content-Length` fields come to.
 #[derive(Clone, Copy)]
-pub(crate) enum Stated {
+pub enum Stated {
     Nothing,
     /// There is one, of this number; one more than the longest body stands for each larger number.
     Length(u32),
@@ -36,15 +37,15 @@ impl Stated {
 
 /// What the fields say of the body.
 #[derive(Clone, Copy)]
-pub(crate) struct Framing {
-    pub(crate) stated: Stated,
+pub struct Framing {
+    pub stated: Stated,
     /// There is a `Transfer-Encoding`.
-    pub(crate) is_coded: bool,
+    pub is_coded: bool,
 }
 
 impl Framing {
     /// What the summary of the fields says, where that is enough; else what the fields say, one after another.
-    pub(crate) fn of(known: KnownFields, head: &[u8], fields: &[HeaderSpan]) -> Framing
+    pub fn of(known: KnownFields, head: &[u8], fields: &[HeaderSpan]) -> Framing
         requires known { known ≡ known_fields (map (header_bytes head.now) fields.now) }
         requires fields { All (IsHeaderWithin (length head.now)) fields.now }
         ensures { result ≡ framing_of (map (header_bytes head.now) fields.now) }

@@ -8,20 +8,20 @@ use memchr::memchr_iter;
 
 /// How far a head part was looked through: whole lines up to `at`, of which one is not empty where it has begun.
 #[derive(Clone, Copy)]
-pub(crate) struct Scan {
-    pub(crate) at: usize,
-    pub(crate) begun: bool,
+pub struct Scan {
+    pub at: usize,
+    pub begun: bool,
 }
 
 /// Before the first line.
-pub(crate) const START: Scan = Scan {
+pub const START: Scan = Scan {
     at: 0,
     begun: false,
 };
 
 impl Scan {
     /// Goes on to the end of the head part, and gives its length; or to the last line that is whole.
-    pub(crate) fn finish(&mut self, bytes: &[u8]) -> Option<usize>
+    pub fn finish(&mut self, bytes: &[u8]) -> Option<usize>
         requires { HoldsScan bytes.now self.old }
         ensures length { result ≡ part_length false (lines bytes.now) }
         ensures scan { HoldsScan bytes.now self.new }

@@ -6,7 +6,8 @@ ghost use Rattle.http_port.specs.Asking.{Grows};
 ghost use Rattle.http_port.specs.Feeding.{Feeds};
 ghost use Rattle.http_port.specs.Responses.{interim, response};
 ghost use Rattle.http_port.specs.Serving.{bodies_in};
-ghost use Rattle.http_port.specs.Turns.{turn_behind, Writes, Answers, Reacts, TurnCounts, IsWritten, goes};
+ghost use Rattle.http_port.specs.Turns.{turn_behind, Writes, Answers, Reacts, TurnCounts, goes};
+ghost use Rattle.http_port.specs.Writing.{IsWritten};
 ghost use Rattle.http_port.specs.declared.head_reader.Fed.{Fed};
 ghost use Rattle.http_port.specs.declared.serve.Said.{Said};
 
@@ -155,7 +156,7 @@ fn write<W: Wire>(wire: &mut W, text: &[u8], next: Turn) -> Turn
 
 /// Writes all of the bytes, or a front of them where the wire fails.
 #[tactic(auto, using(crate::proofs::CallLemmas::nothing_written, crate::proofs::CallLemmas::written_still))]
-fn write_all<W: Wire>(wire: &mut W, bytes: &[u8]) -> Result<(), Failed>
+pub fn write_all<W: Wire>(wire: &mut W, bytes: &[u8]) -> Result<(), Failed>
     ensures writes { MatchResult result
         (λ _. Appends (W.taken wire.old) (W.taken wire.new) bytes.now × IsWritten (W.calls wire.old) (W.calls wire.new) bytes.now true)
         (λ _. (count : ℕ) × Appends (W.taken wire.old) (W.taken wire.new) (take count bytes.now) × IsWritten (W.calls wire.old) (W.calls wire.new) (take count bytes.now) false) }

@@ -17,10 +17,10 @@ use httparse::Status;
 use httparse::spans::{EMPTY_HEADER_SPAN, HeaderSpan, RequestSpans, parse_request};
 
 /// The most bytes of a head part.
-const LONGEST_HEAD: usize = 8192;
+pub const LONGEST_HEAD: usize = 8192;
 
 /// The most fields of a head.
-const MOST_FIELDS: usize = 64;
+pub const MOST_FIELDS: usize = 64;
 
 /// As many fields as most heads have at most. Room for these alone is made faster.
 const FEW_FIELDS: usize = 16;

@@ -2,7 +2,8 @@ use Rattle.std.proofs.Common.{ℕ, List, sym, subst}
 use Rattle.std.specs.Prelude.{IfOk}
 use Rattle.std.specs.Io.KnownBytes.{Appends}
 use Rattle.http_port.specs.Responses.{response}
-use Rattle.http_port.specs.Turns.{turn_behind, Writes, Answers, IsWritten, goes}
+use Rattle.http_port.specs.Turns.{turn_behind, Writes, Answers, goes}
+use Rattle.http_port.specs.Writing.{IsWritten}
 use Rattle.http_port.proofs.turn.reply.Goals as goal
 
 pub returns-in-Text-clause-answers : goal.returns-in-Text-clause-answers

@@ -3,7 +3,7 @@ use Rattle.std.proofs.lemmas.List.{length-drop, length-take-le, take_rest}
 use Rattle.std.proofs.Math.Seq.{take-add}
 use Rattle.std.specs.Io.KnownBytes.{Appends}
 use Rattle.std.proofs.KnownBytes.{Appends-trans}
-use Rattle.http_port.specs.Turns.{IsWritten}
+use Rattle.http_port.specs.Writing.{IsWritten}
 use Rattle.http_port.proofs.CallLemmas.{written_more}
 use Rattle.http_port.proofs.turn.write_all.Goals as goal
 

@@ -1,6 +1,6 @@
 use Rattle.std.proofs.Common.{◌≡◌, true, ◌-◌, ◌≤◌, length, take}
 use Rattle.std.specs.Io.KnownBytes.{Appends}
-use Rattle.http_port.specs.Turns.{IsWritten}
+use Rattle.http_port.specs.Writing.{IsWritten}
 use Rattle.http_port.proofs.turn.write_all.Given as goal
 
 abbrev pub invariant-loop-done : goal.invariant-loop-done

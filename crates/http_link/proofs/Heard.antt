@@ -1,0 +1,146 @@
+-- Reads in a row.
+use Rattle.std.proofs.Common.{◌≡◌, ◌<◌, ◌≤◌, ℕ, Bool, true, false, List, [], ◌∷◌, ◌++◌, length, Some, None, sym, refl, ap, ◌∙◌, subst, arith, length-append, append_assoc, append-nil}
+use Rattle.std.specs.Prelude.{Option}
+use Rattle.std.specs.Io.KnownBytes.{Appends}
+use Rattle.std.proofs.KnownBytes.{Appends-nil, Appends-trans}
+use Rattle.outside_traits.specs.Calls.{Notes}
+use Rattle.outside_traits.specs.Causes.{Rose}
+use Rattle.outside_traits.specs.declared.calls.WireCall.{WireCall}
+use Rattle.outside_traits.specs.declared.calls.WireCall.TheVariants.{Read}
+use Rattle.outside_dials.specs.Dials.{WireTraffic}
+use Rattle.http_port.proofs.CallLemmas.{Notes-nil}
+use Rattle.http_link.specs.Responses.{IsUnfinished}
+use Rattle.http_link.specs.Trips.{Reads, no_more, gives, ends, most_read}
+use Rattle.http_link.specs.Steps.{Heard, HeardInPart}
+
+-- calls behind calls
+pub Notes-trans : (a b c : Option (List WireCall)) (xs ys : List WireCall) → Notes a b xs → Notes b c ys → Notes a c (xs ++ ys)
+Notes-trans None None None xs ys p q = tt
+Notes-trans None None (Some z) xs ys p q = absurd q
+Notes-trans None (Some y) c xs ys p q = absurd p
+Notes-trans (Some x) None None xs ys p q = tt
+Notes-trans (Some x) None (Some z) xs ys p q = absurd q
+Notes-trans (Some x) (Some y) None xs ys p q = tt
+Notes-trans (Some x) (Some y) (Some z) xs ys p q = q ∙ ap (λ l. l ++ ys) p ∙ append_assoc x xs ys
+
+-- reads behind reads
+pub reads_on : (a b c : List ℕ) (xs ys : List WireCall) (ended : Bool) → Reads a xs b false → Reads b ys c ended → Reads a (xs ++ ys) c ended
+reads_on a b c xs ys ended p (no_more was) = subst (λ l. Reads a l b false) (sym (append-nil xs)) p
+reads_on a b c xs ys ended p (gives was came piece calls q open_ some) =
+    subst (λ l. Reads a l (came ++ piece) false) (append_assoc xs calls (Read (length piece) ∷ []))
+    (gives a came piece (xs ++ calls) (reads_on a b came xs calls false p q) open_ some)
+reads_on a b c xs ys ended p (ends was came calls q open_) =
+    subst (λ l. Reads a l came true) (append_assoc xs calls (Read 0 ∷ []))
+    (ends a came (xs ++ calls) (reads_on a b came xs calls false p q) open_)
+
+-- no read
+pub heard_nothing : (t : WireTraffic) (was : List ℕ) → length was ≤ most_read → Heard t t was was false
+heard_nothing t was bounded = record {
+  piece = [];
+  grown = sym (append-nil was);
+  given = Appends-nil t.given;
+  taken = refl;
+  calls = [];
+  noted = Notes-nil t.calls;
+  reads = no_more was;
+  bounded = bounded;
+  faults = refl;
+}
+
+-- what one read did to what is told of its wire
+pub record Did (before now : WireTraffic) (piece : List ℕ) (count : ℕ) : Type 0 where
+  pub given : Appends before.given now.given piece
+  pub taken : now.taken ≡ before.taken
+  pub noted : Notes before.calls now.calls (Read count ∷ [])
+  pub faults : now.faults ≡ before.faults
+
+-- one more, which gave some bytes
+pub heard_more : (first before now : WireTraffic) (was came next piece : List ℕ) (count : ℕ) → Heard first before was came false → IsUnfinished came
+    → Did before now piece count → next ≡ came ++ piece → length piece ≡ count → 0 < count → length next ≤ most_read → Heard first now was next false
+heard_more first before now was came next piece count h open_ did e long some bounded = record {
+  piece = h.piece ++ piece;
+  grown = e ∙ ap (λ l. l ++ piece) h.grown ∙ append_assoc was h.piece piece;
+  given = Appends-trans first.given before.given now.given h.piece piece h.given did.given;
+  taken = did.taken ∙ h.taken;
+  calls = h.calls ++ Read count ∷ [];
+  noted = Notes-trans first.calls before.calls now.calls h.calls (Read count ∷ []) h.noted did.noted;
+  reads = subst (λ l. Reads was (h.calls ++ Read count ∷ []) l false) (sym e)
+      (subst (λ n. Reads was (h.calls ++ Read n ∷ []) (came ++ piece) false) long
+      (gives was came piece h.calls h.reads open_ (subst (λ (n : ℕ). 0 < n) (sym long) some)));
+  bounded = bounded;
+  faults = did.faults ∙ h.faults;
+}
+
+-- one more, which found that no more come
+pub heard_end : (first before now : WireTraffic) (was came next piece : List ℕ) (count : ℕ) → Heard first before was came false → IsUnfinished came
+    → Did before now piece count → next ≡ came ++ piece → length piece ≡ count → count ≡ 0 → length next ≤ most_read → Heard first now was next true
+heard_end first before now was came next [] count h open_ did e long none bounded = record {
+  piece = h.piece;
+  grown = e ∙ append-nil came ∙ h.grown;
+  given = subst (Appends first.given now.given) (append-nil h.piece) (Appends-trans first.given before.given now.given h.piece [] h.given did.given);
+  taken = did.taken ∙ h.taken;
+  calls = h.calls ++ Read 0 ∷ [];
+  noted = subst (λ n. Notes first.calls now.calls (h.calls ++ Read n ∷ [])) none
+      (Notes-trans first.calls before.calls now.calls h.calls (Read count ∷ []) h.noted did.noted);
+  reads = subst (λ l. Reads was (h.calls ++ Read 0 ∷ []) l true) (sym (e ∙ append-nil came)) (ends was came h.calls h.reads open_);
+  bounded = bounded;
+  faults = did.faults ∙ h.faults;
+}
+heard_end first before now was came next (b ∷ piece) count h open_ did e long none bounded = absurd (omega arith)
+
+-- one more, which failed
+pub heard_cut : (first before now : WireTraffic) (was came next : List ℕ) → Heard first before was came false → next ≡ came
+    → Appends before.given now.given [] → now.taken ≡ before.taken → Notes before.calls now.calls (Read 0 ∷ [])
+    → before.faults ≤ now.faults → Rose before.faults now.faults → HeardInPart first now was next
+heard_cut first before now was came next h e given taken noted later rose = record {
+  piece = h.piece;
+  grown = e ∙ h.grown;
+  given = subst (Appends first.given now.given) (append-nil h.piece) (Appends-trans first.given before.given now.given h.piece [] h.given given);
+  taken = taken ∙ h.taken;
+  calls = h.calls;
+  noted = Notes-trans first.calls before.calls now.calls h.calls (Read 0 ∷ []) h.noted noted;
+  reads = subst (λ l. Reads was h.calls l false) (sym e) h.reads;
+  later = subst (λ n. n ≤ now.faults) h.faults later;
+  rose = subst (λ n. Rose n now.faults) h.faults rose;
+}
+
+-- reads behind reads, with what is told of their wire
+pub heard_on : (first mid now : WireTraffic) (was came next : List ℕ) (ended : Bool) → Heard first mid was came false → Heard mid now came next ended
+    → Heard first now was next ended
+heard_on first mid now was came next ended h k = record {
+  piece = h.piece ++ k.piece;
+  grown = k.grown ∙ ap (λ l. l ++ k.piece) h.grown ∙ append_assoc was h.piece k.piece;
+  given = Appends-trans first.given mid.given now.given h.piece k.piece h.given k.given;
+  taken = k.taken ∙ h.taken;
+  calls = h.calls ++ k.calls;
+  noted = Notes-trans first.calls mid.calls now.calls h.calls k.calls h.noted k.noted;
+  reads = reads_on was came next h.calls k.calls ended h.reads k.reads;
+  bounded = k.bounded;
+  faults = k.faults ∙ h.faults;
+}
+
+pub heard_on_cut : (first mid now : WireTraffic) (was came next : List ℕ) → Heard first mid was came false → HeardInPart mid now came next
+    → HeardInPart first now was next
+heard_on_cut first mid now was came next h k = record {
+  piece = h.piece ++ k.piece;
+  grown = k.grown ∙ ap (λ l. l ++ k.piece) h.grown ∙ append_assoc was h.piece k.piece;
+  given = Appends-trans first.given mid.given now.given h.piece k.piece h.given k.given;
+  taken = k.taken ∙ h.taken;
+  calls = h.calls ++ k.calls;
+  noted = subst (Notes first.calls now.calls) (sym (append_assoc h.calls k.calls (Read 0 ∷ [])))
+      (Notes-trans first.calls mid.calls now.calls h.calls (k.calls ++ Read 0 ∷ []) h.noted k.noted);
+  reads = reads_on was came next h.calls k.calls false h.reads k.reads;
+  later = subst (λ n. n ≤ now.faults) h.faults k.later;
+  rose = subst (λ n. Rose n now.faults) h.faults k.rose;
+}
+
+-- what was read stays unfinished while it is shorter than this
+pub unfinished_on : (old came piece : List ℕ) (end : ℕ) → ((more : List ℕ) → length (old ++ more) < end → IsUnfinished (old ++ more))
+    → came ≡ old ++ piece → length came < end → IsUnfinished came
+unfinished_on old came piece end all e short = subst IsUnfinished (sym e) (all piece (subst (λ l. length l < end) e short))
+
+-- a read that gave nothing leaves it so
+pub still_short : (came next piece : List ℕ) (end : ℕ) → next ≡ came ++ piece → length piece ≡ 0 → length came < end → length next < end
+still_short came next piece end e none short =
+    let long = ap length e in
+    omega (arith, length-append came piece)

@@ -1,0 +1,98 @@
+-- These definitions serve the proofs alone: no promise of a public call speaks of them.
+-- What is known while a response is read.
+use Rattle.std.specs.Prelude.{◌≡◌, ◌≤◌, ℕ, ◌⊎◌, Bool, true, false, List, ◌∷◌, [], ◌++◌, length, take, Option, None, Some}
+use Rattle.std.specs.Io.KnownBytes.{Appends}
+use Rattle.httparse.specs.Grammar.{ResponseHead, print_response}
+use Rattle.httparse.specs.Spans.{IsWithin, span_bytes}
+use Rattle.httparse.specs.declared.spans.Span.{Span}
+use Rattle.outside_traits.specs.Calls.{Notes}
+use Rattle.outside_traits.specs.Causes.{Rose}
+use Rattle.outside_traits.specs.declared.calls.WireCall.{WireCall}
+use Rattle.outside_traits.specs.declared.calls.WireCall.TheVariants.{Read}
+use Rattle.outside_dials.specs.Dials.{WireTraffic}
+use Rattle.http_port.specs.HeadPart.{head_part, longest_head}
+use Rattle.http_link.specs.Responses.{BeginsWith, extent_of, IsResponse, IsNoResponse}
+use Rattle.http_port.specs.Writing.{IsWritten}
+use Rattle.http_link.specs.Trips.{Reads, most_read}
+use Rattle.http_link.specs.declared.announced.Announced.{Announced}
+use Rattle.http_link.specs.declared.announced.Extent.TheVariants.{Sized, ToEnd, Refused}
+use Rattle.http_link.specs.declared.announced.Extent.{Extent}
+
+-- a whole head part begins with a head, of this length and this extent of its body, or with none
+abbrev pub Announces : List ℕ → Announced → Type 0
+Announces part a =
+    ((h : ResponseHead) × BeginsWith part h × (a.head ≡ length (print_response h)) × (a.extent ≡ extent_of h))
+    ⊎ (((h : ResponseHead) → ¬ (BeginsWith part h)) × (a.extent ≡ Refused))
+
+-- the head part of these bytes is whole, and begins so
+pub record HasHead (bytes : List ℕ) (a : Announced) : Type 0 where
+  pub length_of_part : ℕ
+  pub part : head_part bytes ≡ Some length_of_part
+  pub announces : Announces (take length_of_part bytes) a
+
+-- what is announced is within the limits
+abbrev pub FitsExtent : Extent → Type 0
+FitsExtent (Sized n) = n ≤ 65536
+FitsExtent ToEnd = Unit {0}
+FitsExtent Refused = Unit {0}
+
+abbrev pub Fits : Announced → Type 0
+Fits a = (a.head ≤ longest_head) × FitsExtent a.extent
+
+-- what is known of the bytes once their head was read
+abbrev pub Knows : List ℕ → Bool → Announced → Type 0
+Knows bytes ended a =
+    ((ended ≡ false) × HasHead bytes a) ⊎ ((a.extent ≡ Refused) × IsNoResponse bytes ended)
+
+-- what was found of a response: where its body is, or that there is none
+abbrev pub Finds : List ℕ → Bool → Option Span → Type 0
+Finds bytes ended None = IsNoResponse bytes ended
+Finds bytes ended (Some span) = IsWithin (length bytes) span × IsResponse bytes ended (span_bytes bytes span)
+
+-- reads of a wire took what was read from these bytes to those, and nothing else was done with it
+pub record Heard (before now : WireTraffic) (was came : List ℕ) (ended : Bool) : Type 0 where
+  pub piece : List ℕ
+  pub grown : came ≡ was ++ piece
+  pub given : Appends before.given now.given piece
+  pub taken : now.taken ≡ before.taken
+  pub calls : List WireCall
+  pub noted : Notes before.calls now.calls calls
+  pub reads : Reads was calls came ended
+  pub bounded : length came ≤ most_read
+  pub faults : now.faults ≡ before.faults
+
+-- the same, and then a read failed
+pub record HeardInPart (before now : WireTraffic) (was came : List ℕ) : Type 0 where
+  pub piece : List ℕ
+  pub grown : came ≡ was ++ piece
+  pub given : Appends before.given now.given piece
+  pub taken : now.taken ≡ before.taken
+  pub calls : List WireCall
+  pub noted : Notes before.calls now.calls (calls ++ Read 0 ∷ [])
+  pub reads : Reads was calls came false
+  pub later : before.faults ≤ now.faults
+  pub rose : Rose before.faults now.faults
+
+-- ---- on one wire
+
+-- a request was written on a wire, and then this was read
+pub record Exchanged (before now : WireTraffic) (sent came : List ℕ) (ended : Bool) : Type 0 where
+  pub taken : Appends before.taken now.taken sent
+  pub given : Appends before.given now.given came
+  pub writes : List WireCall
+  pub reads : List WireCall
+  pub noted : Notes before.calls now.calls (writes ++ reads)
+  pub written : IsWritten (Some []) (Some writes) sent true
+  pub read : Reads [] reads came ended
+  pub bounded : length came ≤ most_read
+  pub faults : now.faults ≡ before.faults
+
+-- the wire failed, behind a front of the request or behind all of it
+pub data CutOff (before now : WireTraffic) (sent : List ℕ) : Type 0 where
+  in_writing : (count : ℕ) (writes : List WireCall) → Appends before.taken now.taken (take count sent)
+      → Appends before.given now.given [] → Notes before.calls now.calls writes
+      → IsWritten (Some []) (Some writes) (take count sent) false → Rose before.faults now.faults → CutOff before now sent
+  in_reading : (came : List ℕ) (writes reads : List WireCall) → Appends before.taken now.taken sent
+      → Appends before.given now.given came → Notes before.calls now.calls (writes ++ (reads ++ Read 0 ∷ []))
+      → IsWritten (Some []) (Some writes) sent true → Reads [] reads came false → Rose before.faults now.faults
+      → CutOff before now sent

@@ -1,0 +1,53 @@
+//! What passes on a wire in a trip.
+ghost use Rattle.std.specs.Prelude.{◌≡◌, [], Bool, MatchResult};
+ghost use Rattle.outside_dials.specs.Dials.{Dials, traffic};
+ghost use Rattle.http_link.specs.Steps.{CutOff, Exchanged, Finds};
+ghost use Rattle.http_link.specs.Trips.{Exchange, Failing, telling};
+
+use crate::inbox::Inbox;
+use crate::receiving::read_response;
+use http_port::write_all;
+use httparse::spans::Span;
+use outside_dials::Dial;
+use outside_traits::{Failed, Wire};
+
+/// Dials a location, writes a request there and reads the response: it says where the body is, none where what came is no response. The wire goes back.
+pub(crate) fn visit<D: Dial>(
+    dial: &mut D,
+    location: &str,
+    request: &[u8],
+    inbox: &mut Inbox,
+) -> Result<Option<Span>, Failed>
+    requires { inbox.old ≡ [] }
+    ensures dialled { Dials (D.dialled dial.old) (D.dialled dial.new) location.now }
+    ensures visited { MatchResult result
+        (λ found. (ended : Bool) × Finds inbox.new ended found
+        × Exchange (telling D.blank (D.dialled dial.new) (D.last dial.new) (D.faults dial.new)) request.now inbox.new ended
+        × (D.faults dial.new ≡ D.faults dial.old))
+        (λ _. Failing request.now (telling D.blank (D.dialled dial.old) (D.last dial.old) (D.faults dial.old)) (telling D.blank (D.dialled dial.new) (D.last dial.new) (D.faults dial.new))) }
+{
+    let Ok(mut wire) = dial.dial(location) else {
+        return Err(Failed);
+    };
+    let found = exchange(&mut wire, request, inbox);
+    dial.back(wire);
+    found
+}
+
+/// Writes a request and reads the response to it.
+fn exchange<W: Wire>(
+    wire: &mut W,
+    request: &[u8],
+    inbox: &mut Inbox,
+) -> Result<Option<Span>, Failed>
+    requires { inbox.old ≡ [] }
+    ensures { MatchResult result
+        (λ found. (ended : Bool) × Finds inbox.new ended found
+        × Exchanged (traffic (W.given wire.old) (W.taken wire.old) (W.calls wire.old) (W.faults wire.old)) (traffic (W.given wire.new) (W.taken wire.new) (W.calls wire.new) (W.faults wire.new)) request.now inbox.new ended)
+        (λ _. CutOff (traffic (W.given wire.old) (W.taken wire.old) (W.calls wire.old) (W.faults wire.old)) (traffic (W.given wire.new) (W.taken wire.new) (W.calls wire.new) (W.faults wire.new)) request.now) }
+{
+    match write_all(wire, request) {
+        Ok(()) => read_response(wire, inbox),
+        Err(Failed) => Err(Failed),
+    }
+}

@@ -1,0 +1,103 @@
+//! The bytes that were read in a trip.
+ghost use Rattle.std.specs.Prelude.{◌≡◌, ◌<◌, ◌≤◌, ◌+◌, ◌++◌, [], ◌∷◌, ℕ, List, MatchResult, IfOk, length};
+ghost use Rattle.std.specs.Io.KnownBytes.{Appends};
+ghost use Rattle.httparse.specs.Spans.{IsWithin, span_bytes};
+ghost use Rattle.outside_traits.specs.Calls.{Notes};
+ghost use Rattle.outside_traits.specs.declared.calls.WireCall.TheVariants.{Read};
+ghost use Rattle.outside_traits.specs.Causes.{HasCause};
+ghost use Rattle.http_link.specs.Trips.{most_read};
+
+use http_port::{LONGEST_BODY, LONGEST_HEAD};
+use httparse::spans::Span;
+use outside_traits::{Failed, Wire};
+use std::alloc::{AllocError, Global};
+use std::marker::Model;
+
+/// The most bytes that are read: those of the longest head part and the longest body, and one more, which shows that a body is too long.
+pub(crate) const MOST_READ: usize = LONGEST_HEAD + LONGEST_BODY as usize + 1;
+
+/// How many bytes are read at once.
+const CHUNK: usize = 4096;
+
+/// What was read, with room for all that may be.
+#[derive(Drop)]
+pub(crate) struct Inbox {
+    bytes: Vec<u8>,
+}
+
+impl Model for Inbox {
+    ghost use Rattle.std.specs.Prelude.{◌≤◌, List, ℕ, vec_len, vec_capacity};
+    ghost use Rattle.http_link.specs.Trips.{most_read};
+
+    ghost Value = { List ℕ };
+
+    ghost view = { λ i. i.bytes.items };
+
+    ghost invariant = { λ i. (vec_len i.bytes ≤ most_read) × (most_read ≤ vec_capacity i.bytes) };
+}
+
+impl Inbox {
+    pub(crate) fn new(alloc: Global) -> Result<Inbox, AllocError>
+        ensures { IfOk result (λ inbox. inbox ≡ []) }
+    {
+        let bytes = Vec::with_capacity(alloc, MOST_READ)?;
+        Ok(Inbox { bytes })
+    }
+
+    pub(crate) fn as_slice(&self) -> &[u8]
+        ensures { result.now ≡ self.now }
+    {
+        self.bytes.as_slice()
+    }
+
+    pub(crate) fn len(&self) -> usize
+        ensures len { result ≡ length self.now }
+        ensures most { length self.now ≤ most_read }
+    {
+        self.bytes.len()
+    }
+
+    /// Reads once, and says how many bytes came.
+    pub(crate) fn fill<W: Wire>(&mut self, wire: &mut W) -> Result<usize, Failed>
+        requires { length self.old < most_read }
+        ensures read { MatchResult result
+            (λ count. (piece : List ℕ) × (length piece ≡ count) × (self.new ≡ self.old ++ piece)
+            × Appends (W.given wire.old) (W.given wire.new) piece
+            × Notes (W.calls wire.old) (W.calls wire.new) (Read count ∷ []))
+            (λ _. (self.new ≡ self.old) × Appends (W.given wire.old) (W.given wire.new) []
+            × Notes (W.calls wire.old) (W.calls wire.new) (Read 0 ∷ [])) }
+        ensures bounded { length self.new ≤ most_read }
+        ensures taken { W.taken wire.new ≡ W.taken wire.old }
+        ensures cause { HasCause (W.faults wire.old) (W.faults wire.new) result }
+    {
+        let mut chunk = [0; CHUNK];
+        let room = (MOST_READ - self.bytes.len()).min(CHUNK);
+        match wire.read(&mut chunk[..room]) {
+            Ok(count) => {
+                self.keep(&chunk[..count]);
+                Ok(count)
+            }
+            Err(Failed) => Err(Failed),
+        }
+    }
+
+    /// Takes more bytes, for which there is room.
+    fn keep(&mut self, more: &[u8])
+        requires { length self.old + length more.now ≤ most_read }
+        ensures { self.new ≡ self.old ++ more.now }
+    {
+        self.bytes.extend_from_slice(more).unwrap();
+    }
+
+    /// What was read in a place, in the memory that it was read into.
+    pub(crate) fn into_part(self, place: Span) -> Vec<u8>
+        requires { IsWithin (length self) place }
+        ensures { result.items ≡ span_bytes self place }
+    {
+        let mut bytes = self.bytes;
+        bytes.truncate(place.end);
+        bytes.rotate_left(place.start);
+        bytes.truncate(place.end - place.start);
+        bytes
+    }
+}

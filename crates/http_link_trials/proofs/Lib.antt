@@ -1,0 +1,5 @@
+mod Checked
+mod Responses
+mod NoResponses
+mod Cut
+mod Requests

@@ -1,0 +1,90 @@
+-- What is told of a dialler: the locations that it dialled, and what was done with the last wire that came back to it.
+use Rattle.std.specs.Prelude.{◌≡◌, ◌<◌, ◌≤◌, ℕ, false, List, [], ◌∷◌, ◌++◌, Option, None, Some, IfSome}
+use Rattle.outside_traits.specs.Causes.{Rose}
+use Rattle.outside_traits.specs.Wires.{CalmLine, ScriptedLine}
+use Rattle.outside_traits.specs.declared.calls.WireCall.{WireCall}
+
+-- What was done with a wire: the bytes that were read of it, those that were written on it and its calls in order, each
+-- where it is told; and its count of faults.
+pub record WireTraffic : Type 0 where
+  pub given : Option (List ℕ)
+  pub taken : Option (List ℕ)
+  pub calls : Option (List WireCall)
+  pub faults : ℕ
+
+-- what a wire tells of itself
+abbrev pub traffic : Option (List ℕ) → Option (List ℕ) → Option (List WireCall) → ℕ → WireTraffic
+traffic given taken calls faults = record { given = given; taken = taken; calls = calls; faults = faults }
+
+-- what is told of a wire with which nothing was done yet
+pub record IsNew (t : WireTraffic) : Type 0 where
+  pub given : IfSome t.given (λ bytes. bytes ≡ [])
+  pub taken : IfSome t.taken (λ bytes. bytes ≡ [])
+  pub calls : IfSome t.calls (λ calls. calls ≡ [])
+  pub faults : t.faults ≡ 0
+
+-- What is told grows by a location, as long as it is told. A dialler that tells its locations no more never begins
+-- again.
+abbrev pub Dials : Option (List (List ℕ)) → Option (List (List ℕ)) → List ℕ → Type 0
+Dials None None location = Unit {0}
+Dials None (Some now) location = ⊥
+Dials (Some before) None location = Unit {0}
+Dials (Some before) (Some now) location = now ≡ before ++ location ∷ []
+
+-- where it is told what was done with the last wire that came back, it is this
+abbrev pub Tells : Option WireTraffic → WireTraffic → Type 0
+Tells told t = IfSome told (λ last. last ≡ t)
+
+-- a dialler's count of faults rises with a wire that comes back exactly where the wire's is not 0
+pub record CountsWire (wire before now : ℕ) : Type 0 where
+  pub later : before ≤ now
+  pub calm : wire ≡ 0 → now ≡ before
+  pub failed : 0 < wire → Rose before now
+
+-- ---- in memory
+
+-- what is told of a new wire in memory
+abbrev pub blank_in_memory : WireTraffic
+blank_in_memory = traffic (Some []) (Some []) (Some []) 0
+
+-- a wire, and how often a call of it failed
+pub record Counted (W : Type 0) : Type 0 where
+  pub wire : W
+  pub faults : ℕ
+
+-- a wire in memory as it is made: nothing was done with it, and it is open
+pub record IsFreshCalm (w : CalmLine) : Type 0 where
+  pub given : w.tape.given ≡ []
+  pub taken : w.shelf.taken ≡ []
+  pub calls : w.calls ≡ Some []
+  pub closed : w.closed ≡ false
+
+-- the same of a scripted one
+pub record IsFreshScripted (w : ScriptedLine) : Type 0 where
+  pub given : w.tape.given ≡ []
+  pub taken : w.shelf.taken ≡ []
+  pub calls : w.calls ≡ Some []
+  pub closed : w.closed ≡ false
+
+-- what was done with a wire in memory
+abbrev pub calm_traffic : Counted CalmLine → WireTraffic
+calm_traffic w = traffic (Some w.wire.tape.given) (Some w.wire.shelf.taken) w.wire.calls w.faults
+
+-- the same of a scripted one
+abbrev pub scripted_traffic : Counted ScriptedLine → WireTraffic
+scripted_traffic w = traffic (Some w.wire.tape.given) (Some w.wire.shelf.taken) w.wire.calls w.faults
+
+-- a dialler in memory: the wires that it gives next, the locations that it dialled, which are told while there is
+-- memory for them, the last wire that came back, and its count of faults
+pub record CalmSwitch : Type 0 where
+  pub coming : List CalmLine
+  pub dialled : Option (List (List ℕ))
+  pub last : Option (Counted CalmLine)
+  pub faults : ℕ
+
+-- the same of scripted wires; where it has none in a place, that call fails
+pub record ScriptedSwitch : Type 0 where
+  pub coming : List (Option ScriptedLine)
+  pub dialled : Option (List (List ℕ))
+  pub last : Option (Counted ScriptedLine)
+  pub faults : ℕ

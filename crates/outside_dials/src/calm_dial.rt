@@ -1,0 +1,98 @@
+ghost use Rattle.std.specs.Prelude.{◌≡◌, [], None, Some, All, IfSome, map, option_map, string_bytes, true};
+ghost use Rattle.outside_dials.specs.Dials.{Tells, CountsWire, IsFreshCalm, blank_in_memory, calm_traffic};
+
+use crate::coming::Coming;
+use crate::counted_wire::CountedWire;
+use crate::dial::Dial;
+use crate::locations::Locations;
+use outside_traits::{CalmWire, Failed, Wire};
+use std::alloc::Global;
+use std::marker::Model;
+
+/// A dialler in memory, which gives wires in order, whatever is dialled. It fails only behind the last of them, and where a wire that had failed comes back.
+#[derive(Drop)]
+pub struct CalmDial {
+    coming: Coming<CalmWire>,
+    dialled: Locations,
+    last: Option<CountedWire<CalmWire>>,
+    faults: u64,
+}
+
+impl Model for CalmDial {
+    ghost use Rattle.std.specs.Prelude.{All};
+    ghost use Rattle.outside_dials.specs.Dials.{CalmSwitch, IsFreshCalm};
+
+    ghost Value = { CalmSwitch };
+
+    ghost view = { λ d. record { coming = d.coming; dialled = d.dialled; last = d.last; faults = d.faults } };
+
+    ghost invariant = { λ d. All IsFreshCalm d.coming };
+}
+
+impl CalmDial {
+    /// A dialler that gives these wires, which are as they were made.
+    pub fn new(alloc: Global, wires: Vec<CalmWire>) -> CalmDial
+        requires { All IsFreshCalm wires.items }
+        ensures coming { result.coming ≡ wires.items }
+        ensures dialled { result.dialled ≡ Some [] }
+        ensures last { result.last ≡ None }
+        ensures faults { result.faults ≡ 0 }
+    {
+        CalmDial {
+            coming: Coming::new(wires),
+            dialled: Locations::new(alloc),
+            last: None,
+            faults: 0,
+        }
+    }
+
+    /// The locations in order: all, where they are told.
+    pub fn dialled(&self) -> &[String]
+        ensures { IfSome self.now.dialled (λ locations. map string_bytes result.now ≡ locations) }
+    {
+        self.dialled.noted()
+    }
+
+    /// The last wire that came back, which is closed.
+    pub fn last(&self) -> Option<&CountedWire<CalmWire>>
+        ensures { option_map (λ wire. wire.now) result ≡ self.now.last }
+    {
+        self.last.as_ref()
+    }
+}
+
+impl Dial for CalmDial {
+    type W = CountedWire<CalmWire>;
+
+    ghost blank = { blank_in_memory };
+
+    ghost dialled = { λ d. d.dialled };
+
+    ghost last = { λ d. option_map calm_traffic d.last };
+
+    ghost faults = { λ d. d.faults };
+
+    fn dial(&mut self, location: &str) -> Result<CountedWire<CalmWire>, Failed> {
+        self.dialled.note(location);
+        match self.coming.next() {
+            Some(wire) => Ok(CountedWire::new(wire)),
+            None => {
+                self.faults = self.faults.saturating_add(1);
+                Err(Failed)
+            }
+        }
+    }
+
+    fn back(&mut self, mut wire: CountedWire<CalmWire>)
+        ensures closed { IfSome self.new.last (λ last. last.wire.closed ≡ true) }
+        ensures dialled { self.new.dialled ≡ self.old.dialled }
+        ensures last { Tells (option_map calm_traffic self.new.last) (calm_traffic wire) }
+        ensures counts { CountsWire wire.faults self.old.faults self.new.faults }
+    {
+        wire.close();
+        if wire.faults() > 0 {
+            self.faults = self.faults.saturating_add(1);
+        }
+        self.last = Some(wire);
+    }
+}

@@ -1,0 +1,110 @@
+ghost use Rattle.std.specs.Prelude.{◌≡◌, [], None, Some, All, IfSome, map, option_map, string_bytes, true};
+ghost use Rattle.outside_dials.specs.Dials.{Tells, CountsWire, IsFreshScripted, blank_in_memory, scripted_traffic};
+
+use crate::coming::Coming;
+use crate::counted_wire::CountedWire;
+use crate::dial::Dial;
+use crate::locations::Locations;
+use outside_traits::{Failed, ScriptedWire, Wire};
+use std::alloc::Global;
+use std::marker::Model;
+
+/// A dialler in memory, which gives wires in order or fails, as its script says of each call, whatever is dialled. It fails behind the last of the script too, and where a wire that had failed comes back.
+#[derive(Drop)]
+pub struct ScriptedDial {
+    coming: Coming<Option<ScriptedWire>>,
+    dialled: Locations,
+    last: Option<CountedWire<ScriptedWire>>,
+    faults: u64,
+}
+
+impl Model for ScriptedDial {
+    ghost use Rattle.std.specs.Prelude.{All, IfSome};
+    ghost use Rattle.outside_dials.specs.Dials.{ScriptedSwitch, IsFreshScripted};
+
+    ghost Value = { ScriptedSwitch };
+
+    ghost view = { λ d. record { coming = d.coming; dialled = d.dialled; last = d.last; faults = d.faults } };
+
+    ghost invariant = { λ d. All (λ o. IfSome o IsFreshScripted) d.coming };
+}
+
+impl ScriptedDial {
+    /// A dialler that gives these wires, which are as they were made, and fails where there is none.
+    pub fn new(alloc: Global, script: Vec<Option<ScriptedWire>>) -> ScriptedDial
+        requires { All (λ o. IfSome o IsFreshScripted) script.items }
+        ensures coming { result.coming ≡ script.items }
+        ensures dialled { result.dialled ≡ Some [] }
+        ensures last { result.last ≡ None }
+        ensures faults { result.faults ≡ 0 }
+    {
+        ScriptedDial {
+            coming: Coming::new(script),
+            dialled: Locations::new(alloc),
+            last: None,
+            faults: 0,
+        }
+    }
+
+    /// The locations in order: all, where they are told.
+    pub fn dialled(&self) -> &[String]
+        ensures { IfSome self.now.dialled (λ locations. map string_bytes result.now ≡ locations) }
+    {
+        self.dialled.noted()
+    }
+
+    /// The last wire that came back, which is closed.
+    pub fn last(&self) -> Option<&CountedWire<ScriptedWire>>
+        ensures { option_map (λ wire. wire.now) result ≡ self.now.last }
+    {
+        self.last.as_ref()
+    }
+}
+
+impl Dial for ScriptedDial {
+    type W = CountedWire<ScriptedWire>;
+
+    ghost blank = { blank_in_memory };
+
+    ghost dialled = { λ d. d.dialled };
+
+    ghost last = { λ d. option_map scripted_traffic d.last };
+
+    ghost faults = { λ d. d.faults };
+
+    fn dial(&mut self, location: &str) -> Result<CountedWire<ScriptedWire>, Failed> {
+        self.dialled.note(location);
+        match next_wire(&mut self.coming) {
+            Some(wire) => Ok(CountedWire::new(wire)),
+            None => {
+                self.faults = self.faults.saturating_add(1);
+                Err(Failed)
+            }
+        }
+    }
+
+    fn back(&mut self, mut wire: CountedWire<ScriptedWire>)
+        ensures closed { IfSome self.new.last (λ last. last.wire.closed ≡ true) }
+        ensures dialled { self.new.dialled ≡ self.old.dialled }
+        ensures last { Tells (option_map scripted_traffic self.new.last) (scripted_traffic wire) }
+        ensures counts { CountsWire wire.faults self.old.faults self.new.faults }
+    {
+        wire.close();
+        if wire.faults() > 0 {
+            self.faults = self.faults.saturating_add(1);
+        }
+        self.last = Some(wire);
+    }
+}
+
+/// The wire that comes next, none where the call is to fail.
+fn next_wire(coming: &mut Coming<Option<ScriptedWire>>) -> Option<ScriptedWire>
+    requires { All (λ o. IfSome o IsFreshScripted) coming.old }
+    ensures fresh { IfSome result IsFreshScripted }
+    ensures left { All (λ o. IfSome o IsFreshScripted) coming.new }
+{
+    match coming.next() {
+        None => None,
+        Some(wire) => wire,
+    }
+}
