@@ -1,6 +1,7 @@
 -- These definitions serve the proofs: no promise speaks of them but that of `Session::key_with`.
 -- How the sorted keys of each set mirror the sessions.
-use Rattle.std.specs.Prelude.{◌≡◌, ℕ, Bool, true, false, not, ◌&&◌, List, [], ◌∷◌, length, nat_eq, filter, if◌then◌else◌, Option, None, Some, option_and_then}
+use Rattle.std.specs.Prelude.{◌≡◌, ℕ, Bool, true, false, not, ◌&&◌, List, [], ◌∷◌, length, nat_eq, filter}
+use Rattle.std.specs.Prelude.{if◌then◌else◌, Option, None, Some, option_and_then}
 use Rattle.std.specs.Option.{is_none}
 use Rattle.jolie_trees.specs.declared.root.Root.{Root}
 use Rattle.correlation.specs.Rows.{session_with}

@@ -1,5 +1,6 @@
 -- What sessions are of, what their variables have, and which live session has the key that values name.
-use Rattle.std.specs.Prelude.{ℕ, Bool, List, [], ◌∷◌, map, nat_eq, ◌++◌, true, false, not, is_some, ◌&&◌, if◌then◌else◌, Option, None, Some, option_map, option_and_then}
+use Rattle.std.specs.Prelude.{ℕ, Bool, List, [], ◌∷◌, map, nat_eq, ◌++◌, true, false, not, is_some, ◌&&◌}
+use Rattle.std.specs.Prelude.{if◌then◌else◌, Option, None, Some, option_map, option_and_then}
 use Rattle.std.specs.List.{filter_map, list_all, list_any}
 use Rattle.jolie_trees.specs.declared.root.Root.{Root}
 use Rattle.correlation.specs.Rows.{session_with}

@@ -1,6 +1,7 @@
 -- These definitions serve the proofs alone: no promise of a public call speaks of them.
 -- What is known while a response is read.
-use Rattle.std.specs.Prelude.{◌≡◌, ◌≤◌, ℕ, ◌⊎◌, Bool, true, false, List, ◌∷◌, [], ◌++◌, length, take, Option, None, Some}
+use Rattle.std.specs.Prelude.{◌≡◌, ◌≤◌, ℕ, ◌⊎◌, Bool, true, false, List, ◌∷◌, [], ◌++◌, length, take, Option, None}
+use Rattle.std.specs.Prelude.{Some}
 use Rattle.std.specs.Io.KnownBytes.{Appends}
 use Rattle.httparse.specs.Grammar.{ResponseHead, print_response}
 use Rattle.httparse.specs.Spans.{IsWithin, span_bytes}
@@ -91,7 +92,8 @@ pub record Exchanged (before now : WireTraffic) (sent came : List ℕ) (ended : 
 pub data CutOff (before now : WireTraffic) (sent : List ℕ) : Type 0 where
   in_writing : (count : ℕ) (writes : List WireCall) → Appends before.taken now.taken (take count sent)
       → Appends before.given now.given [] → Notes before.calls now.calls writes
-      → IsWritten (Some []) (Some writes) (take count sent) false → Rose before.faults now.faults → CutOff before now sent
+      → IsWritten (Some []) (Some writes) (take count sent) false → Rose before.faults now.faults
+      → CutOff before now sent
   in_reading : (came : List ℕ) (writes reads : List WireCall) → Appends before.taken now.taken sent
       → Appends before.given now.given came → Notes before.calls now.calls (writes ++ (reads ++ Read 0 ∷ []))
       → IsWritten (Some []) (Some writes) sent true → Reads [] reads came false → Rose before.faults now.faults

@@ -86,8 +86,8 @@ pub data Failing (sent : List ℕ) (before now : Telling) : Type 0 where
   unanswered : (came : List ℕ) (ended : Bool) → Exchange now sent came ended → IsNoResponse came ended
       → now.faults ≡ before.faults → Failing sent before now
 
--- A trip that brings nothing back: the location was dialled, and the trip failed for one of these reasons; or memory was
--- wanting before anything was done.
+-- A trip that brings nothing back: the location was dialled, and the trip failed for one of these reasons; or memory
+-- was wanting before anything was done.
 abbrev pub BringsNothing : List ℕ → List ℕ → Telling → Telling → CallError → Type 0
 BringsNothing location text before now Failed =
     Dials before.dialled now.dialled location × Failing (request location text) before now

@@ -5,7 +5,8 @@ use Rattle.std.specs.List.{concat}
 use Rattle.std.specs.Io.{StartsWith}
 use Rattle.outside_traits.specs.Causes.{Rose}
 use Rattle.http_port.specs.Feeding.{Place, Open, Over, Spent}
-use Rattle.http_port.specs.Connections.{Reading, RequestRead, End, Unfinished, WithInterim, Closed, RefusedBy, requests, end_of, Run}
+use Rattle.http_port.specs.Connections.{Reading, RequestRead, End, Unfinished, WithInterim, Closed, RefusedBy}
+use Rattle.http_port.specs.Connections.{requests, end_of, Run}
 use Rattle.http_port.specs.Responses.{interim}
 use Rattle.http_port.specs.Talk.{talk}
 use Rattle.http_port.specs.declared.head_reader.Fed.{Fed}
@@ -106,7 +107,8 @@ demand_of bytes reading asked = record { queue = requests bytes reading; end = e
 abbrev pub Serves : Place → Service → WireEnd → Type 0
 Serves (Open left asked) did end =
     (reading : Reading (left ++ did.came)) → ∥ EndsSo (demand_of (left ++ did.came) reading asked) did end ∥₁
-Serves Over did end = (did.bodies ≡ []) × (did.said ≡ []) × (did.went ≡ []) × ((end ≡ Ends.Ended) ⊎ (end ≡ Ends.Faulted))
+Serves Over did end =
+    (did.bodies ≡ []) × (did.said ≡ []) × (did.went ≡ []) × ((end ≡ Ends.Ended) ⊎ (end ≡ Ends.Faulted))
 Serves Spent did end = ⊥
 
 -- the bodies of what a reader gave
@@ -125,7 +127,8 @@ IsLastGiven Ends.Closed fed = ((body : List ℕ) × (fed ≡ Request body true))
 IsLastGiven Ends.Faulted fed = Unit {0}
 IsLastGiven (Ends.Later close) fed = (body : List ℕ) × (fed ≡ Request body close)
 
--- The reader was fed the bytes that came, which brought the bodies that were handed on, and nothing else was done to it.
+-- The reader was fed the bytes that came, which brought the bodies that were handed on, and nothing else was done to
+-- it.
 pub record IsFed (was : Place) (did : Service) (end : WireEnd) (now : Place) : Type 0 where
   pub pieces : List (List ℕ)
   pub before : List Fed

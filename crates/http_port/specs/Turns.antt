@@ -32,7 +32,8 @@ abbrev pub Reacts : Fed → List Said → List ℕ → Turn → Type 0
 Reacts NotYet said went turn = (said ≡ []) × (went ≡ []) × (turn ≡ Turns.Waits)
 Reacts Interim said went turn = (said ≡ []) × Writes interim Turns.GoesOn went turn
 Reacts (Request body close) said went turn = (first : Said) × (said ≡ first ∷ []) × Answers first close went turn
-Reacts (Refused status) said went turn = (said ≡ []) × Writes (response status [] true) (Turns.Ends Ends.Closed) went turn
+Reacts (Refused status) said went turn =
+    (said ≡ []) × Writes (response status [] true) (Turns.Ends Ends.Closed) went turn
 
 -- the count of a wire's faults rises exactly where the turn ends with one
 abbrev pub TurnCounts : Turn → ℕ → ℕ → Type 0

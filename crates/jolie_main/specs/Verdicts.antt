@@ -18,7 +18,8 @@ use Rattle.check_base.specs.declared.refusal.CheckName.TheVariants as check
 
 -- its stage, its name and its place
 abbrev pub refusal : List ℕ → List ℕ → ℕ → List ℕ
-refusal stage name place = codes "refused " ++ (stage ++ (codes " " ++ (name ++ (codes " " ++ (decimal place ++ codes "\n")))))
+refusal stage name place =
+    codes "refused " ++ (stage ++ (codes " " ++ (name ++ (codes " " ++ (decimal place ++ codes "\n")))))
 
 -- of a text that has no tokens
 abbrev pub lex_line : LexError → List ℕ

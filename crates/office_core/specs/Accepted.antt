@@ -1,5 +1,6 @@
 -- The messages that a history accepted, each with the session that its way gives on the entries before it.
-use Rattle.std.specs.Prelude.{ℕ, ◌++◌, Bool, true, false, List, [], ◌∷◌, length, bytes_eq, if◌then◌else◌, Option, None, Some, option_map, option_and_then, slice_get}
+use Rattle.std.specs.Prelude.{ℕ, ◌++◌, Bool, true, false, List, [], ◌∷◌, length, bytes_eq, if◌then◌else◌, Option}
+use Rattle.std.specs.Prelude.{None, Some, option_map, option_and_then, slice_get}
 use Rattle.std.specs.List.{list_any, position_from}
 use Rattle.jolie_trees.specs.Data.{Tree}
 use Rattle.behaviour_tree.specs.Data.{OperationPart, PortPart, ServicePart, ProgramParts}

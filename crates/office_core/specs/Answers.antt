@@ -1,5 +1,6 @@
 -- The answers that a history gives a message: at once, by its session, by the end of that, or by the stop of the run.
-use Rattle.std.specs.Prelude.{ℕ, Bool, false, not, ◌&&◌, List, [], ◌∷◌, ◌++◌, nat_eq, if◌then◌else◌, Option, None, Some, is_some, slice_get}
+use Rattle.std.specs.Prelude.{ℕ, Bool, false, not, ◌&&◌, List, [], ◌∷◌, ◌++◌, nat_eq, if◌then◌else◌, Option, None}
+use Rattle.std.specs.Prelude.{Some, is_some, slice_get}
 use Rattle.std.specs.List.{filter_map}
 use Rattle.jolie_trees.specs.Trees.{void_tree}
 use Rattle.behaviour_tree.specs.declared.words.Outcome.{Outcome}

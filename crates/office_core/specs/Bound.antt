@@ -1,5 +1,6 @@
 -- What the office answers where a session binds a correlation variable.
-use Rattle.std.specs.Prelude.{ℕ, Bool, true, false, List, [], map, nat_eq, if◌then◌else◌, Option, None, Some, is_some, option_and_then, slice_get}
+use Rattle.std.specs.Prelude.{ℕ, Bool, true, false, List, [], map, nat_eq, if◌then◌else◌, Option, None, Some, is_some}
+use Rattle.std.specs.Prelude.{option_and_then, slice_get}
 use Rattle.std.specs.List.{list_any, filter, filter_map}
 use Rattle.jolie_trees.specs.declared.root.Root.{Root}
 use Rattle.correlation.specs.declared.bind_reply.BindReply.{BindReply}

@@ -1,5 +1,6 @@
 -- The boxes of the sessions: the messages that wait there, the oldest first.
-use Rattle.std.specs.Prelude.{ℕ, suc, ◌++◌, Bool, false, not, ◌&&◌, List, [], ◌∷◌, nat_eq, if◌then◌else◌, Option, None, Some}
+use Rattle.std.specs.Prelude.{ℕ, suc, ◌++◌, Bool, false, not, ◌&&◌, List, [], ◌∷◌, nat_eq, if◌then◌else◌, Option}
+use Rattle.std.specs.Prelude.{None, Some}
 use Rattle.std.specs.List.{list_any, filter_map}
 use Rattle.office_core.specs.declared.history.Entry.{Entry}
 use Rattle.office_core.specs.declared.history.Act.TheVariants as act

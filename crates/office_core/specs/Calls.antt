@@ -1,5 +1,6 @@
 -- The calls that sessions sent: their outcomes, and what of them goes out.
-use Rattle.std.specs.Prelude.{ℕ, Bool, true, false, not, ◌&&◌, List, length, nat_eq, if◌then◌else◌, Option, None, Some, is_some, option_and_then}
+use Rattle.std.specs.Prelude.{ℕ, Bool, true, false, not, ◌&&◌, List, length, nat_eq, if◌then◌else◌, Option, None}
+use Rattle.std.specs.Prelude.{Some, is_some, option_and_then}
 use Rattle.std.specs.List.{filter, filter_map}
 use Rattle.jolie_trees.specs.Data.{Tree}
 use Rattle.behaviour_tree.specs.declared.words.Outcome.{Outcome}

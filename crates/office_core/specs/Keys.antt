@@ -1,11 +1,13 @@
 -- Correlation: what the variables of sessions have, and which session has the key that values name.
-use Rattle.std.specs.Prelude.{ℕ, suc, ◌+◌, ◌++◌, Bool, true, false, not, ◌&&◌, List, [], ◌∷◌, length, map, nat_eq, if◌then◌else◌, Option, None, Some, is_some, option_map, option_and_then}
+use Rattle.std.specs.Prelude.{ℕ, suc, ◌+◌, ◌++◌, Bool, true, false, not, ◌&&◌, List, [], ◌∷◌, length, map, nat_eq}
+use Rattle.std.specs.Prelude.{if◌then◌else◌, Option, None, Some, is_some, option_map, option_and_then}
 use Rattle.std.specs.List.{list_any, filter_map}
 use Rattle.jolie_trees.specs.declared.root.Root.{Root}
 use Rattle.jolie_trees.specs.declared.path.Step.{Step}
 use Rattle.jolie_trees.specs.Data.{Tree}
 use Rattle.jolie_trees.specs.Trees.{get, root_of}
-use Rattle.behaviour_tree.specs.Data.{TypeTree, plain, named, undefined, AliasPart, VariablePart, SetPart, ServicePart, OperationPart}
+use Rattle.behaviour_tree.specs.Data.{TypeTree, plain, named, undefined, AliasPart, VariablePart, SetPart}
+use Rattle.behaviour_tree.specs.Data.{ServicePart, OperationPart}
 use Rattle.behaviour_tree.specs.Comparisons.{same}
 use Rattle.behaviour_tree.specs.Operations.{operation_at}
 use Rattle.correlation.specs.declared.bind_reply.BindReply.TheVariants as reply

@@ -1,5 +1,6 @@
 -- A legal history: each entry meets the condition of its call and has the reply that the entries before it give.
-use Rattle.std.specs.Prelude.{◌≡◌, ℕ, Bool, true, false, not, ◌&&◌, ◌||◌, List, [], ◌∷◌, nat_eq, nat_le, Option, None, Some, is_some, option_map, option_and_then, slice_get}
+use Rattle.std.specs.Prelude.{◌≡◌, ℕ, Bool, true, false, not, ◌&&◌, ◌||◌, List, [], ◌∷◌, nat_eq, nat_le, Option, None}
+use Rattle.std.specs.Prelude.{Some, is_some, option_map, option_and_then, slice_get}
 use Rattle.jolie_trees.specs.declared.root.Root.{Root}
 use Rattle.correlation.specs.declared.bind_reply.BindReply.{BindReply}
 use Rattle.reqresp_book.specs.declared.origin.Origin.TheVariants as origin

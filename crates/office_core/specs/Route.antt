@@ -1,5 +1,6 @@
 -- Where a message goes: the first of the seven cases that holds.
-use Rattle.std.specs.Prelude.{ℕ, ◌+◌, Bool, true, false, ◌||◌, List, [], length, nat_le, nat_lt, if◌then◌else◌, Option, None, Some, option_map, option_and_then, slice_get, unwrap_or}
+use Rattle.std.specs.Prelude.{ℕ, ◌+◌, Bool, true, false, ◌||◌, List, [], length, nat_le, nat_lt, if◌then◌else◌}
+use Rattle.std.specs.Prelude.{Option, None, Some, option_map, option_and_then, slice_get, unwrap_or}
 use Rattle.std.specs.List.{filter_map}
 use Rattle.jolie_trees.specs.Data.{Tree}
 use Rattle.behaviour_tree.specs.declared.words.Reason.{Reason}

@@ -1,5 +1,6 @@
 -- Which sessions were born, of which service each is, and which of them live.
-use Rattle.std.specs.Prelude.{ℕ, suc, ◌++◌, Bool, false, not, ◌&&◌, List, [], ◌∷◌, take, nat_eq, if◌then◌else◌, Option, None, Some, is_some, slice_get}
+use Rattle.std.specs.Prelude.{ℕ, suc, ◌++◌, Bool, false, not, ◌&&◌, List, [], ◌∷◌, take, nat_eq, if◌then◌else◌}
+use Rattle.std.specs.Prelude.{Option, None, Some, is_some, slice_get}
 use Rattle.std.specs.List.{filter_map}
 use Rattle.behaviour_tree.specs.Data.{ServicePart}
 use Rattle.behaviour_tree.specs.FormedSets.{is_concurrent}

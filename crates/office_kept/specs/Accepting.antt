@@ -1,5 +1,6 @@
 -- What an accepted message makes of what happened, before the entry of its call is added, and of what is kept.
-use Rattle.std.specs.Prelude.{◌≡◌, ℕ, suc, ◌+◌, ◌++◌, ◌&&◌, Bool, false, not, nat_lt, List, [], ◌∷◌, length, map, is_some, if◌then◌else◌, Option, None, Some, option_map, Result, Ok, Err}
+use Rattle.std.specs.Prelude.{◌≡◌, ℕ, suc, ◌+◌, ◌++◌, ◌&&◌, Bool, false, not, nat_lt, List, [], ◌∷◌, length, map}
+use Rattle.std.specs.Prelude.{is_some, if◌then◌else◌, Option, None, Some, option_map, Result, Ok, Err}
 use Rattle.std.specs.List.{filter_map}
 use Rattle.jolie_trees.specs.Limits.{in_u64}
 use Rattle.jolie_trees.specs.Trees.{void_tree}

@@ -1,5 +1,6 @@
 -- What the end of a session makes of its row and of what waited for it, and the stop of what is open.
-use Rattle.std.specs.Prelude.{ℕ, Bool, true, List, nat_eq, nat_lt, if◌then◌else◌, Option, None, Some, option_map, slice_get, slice_set}
+use Rattle.std.specs.Prelude.{ℕ, Bool, true, List, nat_eq, nat_lt, if◌then◌else◌, Option, None, Some, option_map}
+use Rattle.std.specs.Prelude.{slice_get, slice_set}
 use Rattle.std.specs.List.{list_any}
 use Rattle.behaviour_tree.specs.declared.words.Outcome.{Outcome}
 use Rattle.behaviour_tree.specs.declared.words.Outcome.TheVariants as outcome

@@ -1,5 +1,6 @@
 -- What the office keeps of sessions and calls, as the history has it.
-use Rattle.std.specs.Prelude.{ℕ, suc, ◌++◌, Bool, ◌&&◌, List, [], ◌∷◌, flat_map, nat_eq, if◌then◌else◌, Option, None, Some, option_map, slice_get, unwrap_or}
+use Rattle.std.specs.Prelude.{ℕ, suc, ◌++◌, Bool, ◌&&◌, List, [], ◌∷◌, flat_map, nat_eq, if◌then◌else◌, Option, None}
+use Rattle.std.specs.Prelude.{Some, option_map, slice_get, unwrap_or}
 use Rattle.std.specs.List.{filter_map}
 use Rattle.behaviour_tree.specs.Data.{ServicePart, ProgramParts}
 use Rattle.behaviour_tree.specs.declared.words.Outcome.{Outcome}

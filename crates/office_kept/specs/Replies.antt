@@ -1,5 +1,6 @@
 -- What the calls of the office answer on what happened so far.
-use Rattle.std.specs.Prelude.{ℕ, Bool, true, false, if◌then◌else◌, List, Option, None, option_map, option_and_then, slice_get}
+use Rattle.std.specs.Prelude.{ℕ, Bool, true, false, if◌then◌else◌, List, Option, None, option_map, option_and_then}
+use Rattle.std.specs.Prelude.{slice_get}
 use Rattle.reqresp_book.specs.declared.origin.Origin.{Origin}
 use Rattle.reqresp_book.specs.declared.origin.Origin.TheVariants as origin
 use Rattle.office_core.specs.declared.outgoing.Outgoing.{Outgoing}

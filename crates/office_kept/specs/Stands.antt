@@ -13,7 +13,8 @@ use Rattle.office_core.specs.Past.{Past, some_entry}
 use Rattle.office_core.specs.Answers.{answers_of}
 use Rattle.office_core.specs.Legal.{collects, takes_answer}
 
--- the answer of message n was handed out, by where it came from: it was collected, or taken by the session whose call it is
+-- the answer of message n was handed out, by where it came from: it was collected, or taken by the session whose call
+-- it is
 abbrev pub was_handed_out : Past → ℕ → Origin → Bool
 was_handed_out past n (origin.Port posting index) = some_entry past (collects n)
 was_handed_out past n (origin.Session s k) = some_entry past (takes_answer s k)

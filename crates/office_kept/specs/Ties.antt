@@ -45,7 +45,8 @@ pub record Ties (w : Setting) (past : Past) (k : Kept) : Type 0 where
   pub remote : k.remote ≡ unfetched w past kind.Remote
 
 -- what is kept is tied to the history in one way at most: so an office can keep that it is
-pub Ties-prop : (w : Setting) (h : List Entry) (k : Kept) (spent : Bool) → IsProp (spent ≡ false → Ties w (past_of w h) k)
+pub Ties-prop :
+    (w : Setting) (h : List Entry) (k : Kept) (spent : Bool) → IsProp (spent ≡ false → Ties w (past_of w h) k)
 Ties-prop w h k spent =
     →_prop
     (Prim.hlevel (

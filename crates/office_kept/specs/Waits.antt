@@ -11,7 +11,8 @@ use Rattle.office_core.specs.Boxes.{taken}
 abbrev pub waiting_from : List ℕ → ℕ → ℕ → List Message → List Waiting
 waiting_from gone s n [] = []
 waiting_from gone s n (m ∷ ms) =
-    (if nat_eq s m.session && not (list_any (nat_eq n) gone) then waiting m.op n ∷ [] else []) ++ waiting_from gone s (suc n) ms
+    (if nat_eq s m.session && not (list_any (nat_eq n) gone) then waiting m.op n ∷ [] else [])
+    ++ waiting_from gone s (suc n) ms
 
 -- the messages that wait for a session, in order
 abbrev pub waiting_for : Past → ℕ → List Waiting

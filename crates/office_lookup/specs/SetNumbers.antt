@@ -1,5 +1,6 @@
 -- Correlation sets with their numbers over the whole program.
-use Rattle.std.specs.Prelude.{ℕ, suc, ◌-◌, List, [], ◌∷◌, take, length, map, nat_lt, sum_by, if◌then◌else◌, option_map, slice_get, unwrap_or}
+use Rattle.std.specs.Prelude.{ℕ, suc, ◌-◌, List, [], ◌∷◌, take, length, map, nat_lt, sum_by, if◌then◌else◌}
+use Rattle.std.specs.Prelude.{option_map, slice_get, unwrap_or}
 use Rattle.std.specs.List.{range_with_len}
 use Rattle.behaviour_tree.specs.Data.{ServicePart, ProgramParts}
 use Rattle.correlation.specs.declared.session.SetOf.{SetOf}

@@ -5,7 +5,8 @@ use Rattle.behaviour_tree.specs.declared.words.Need.{Need}
 use Rattle.behaviour_tree.specs.declared.words.Need.TheVariants as need
 use Rattle.behaviour_tree.specs.declared.words.Given.TheVariants as given
 use Rattle.behaviour_tree.specs.Data.{ProgramParts}
-use Rattle.calculus.specs.Terms.{Fault, Term, Strands, done, place, seq, par, in_scope, exec, fail, wait, dead_wait, prot, no_strands, strand, State, live, caught, term, stands_in}
+use Rattle.calculus.specs.Terms.{Fault, Term, Strands, done, place, seq, par, in_scope, exec, fail, wait, dead_wait}
+use Rattle.calculus.specs.Terms.{prot, no_strands, strand, State, live, caught, term, stands_in}
 use Rattle.calculus.specs.Throw.{Carried, up, caught_at, ended_at, throw}
 use Rattle.calculus.specs.Moves.{Seen, inside}
 use Rattle.calculus.specs.Faults.{fault_in}

@@ -4,7 +4,8 @@ use Rattle.std.specs.Prelude.{ℕ, Option, None, Some, if◌then◌else◌, nat_
 use Rattle.behaviour_tree.specs.declared.words.Need.{Need}
 use Rattle.behaviour_tree.specs.declared.words.Need.TheVariants as need
 use Rattle.calculus.specs.Tables.{Table}
-use Rattle.calculus.specs.Terms.{Fault, Term, Strands, State, done, place, thrown, in_scope, exec, fail, wait, dead_wait}
+use Rattle.calculus.specs.Terms.{Fault, Term, Strands, State, done, place, thrown, in_scope, exec, fail, wait}
+use Rattle.calculus.specs.Terms.{dead_wait}
 use Rattle.calculus.specs.Moves.{Seen, Move, within, ungiven, inside, in_its_scope}
 use Rattle.calculus.specs.Faults.{fault_of, fault_in, fault_among}
 use Rattle.calculus.specs.Replies.{outcome_of_fault, reply_of, replies}
