@@ -1,5 +1,5 @@
 -- What passed between a front over lines and its run, as it goes on.
-use Rattle.std.proofs.Common.{◌≡◌, refl, sym, ap, ap₂, subst, ◌∙◌, ℕ, zero, suc, ◌+◌, ◌<◌, ◌≤◌, nat_lt, Bool, true, false, ◌&&◌, arith, List, [], ◌∷◌, ◌++◌, length, map, take}
+use Rattle.std.proofs.Common.{◌≡◌, refl, sym, ap, ap₂, subst, ◌∙◌, ℕ, zero, suc, ◌+◌, ◌<◌, ◌≤◌, nat_lt, Bool, true, false, ◌&&◌, arith, List, [], ◌∷◌, ◌++◌, length, map}
 use Rattle.std.proofs.Common.{length-append, Option, None, Some, slice_get, Result, Ok, Err, MatchResult}
 use Rattle.std.specs.List.{list_all}
 use Rattle.std.specs.declared.alloc.AllocError.{AllocError}
@@ -14,7 +14,8 @@ use Rattle.jsonrpc_text.specs.declared.message.Read.{Read}
 use Rattle.office_core.specs.declared.front.Posting.{Posting}
 use Rattle.office_front.specs.declared.front.Next.{Next}
 use Rattle.office_front.specs.Dealings.{Told, Brought, Said, Dealings, IsNew}
-use Rattle.office_front.specs.Calls.{After, Came, Asks, Halts, IsDue, Notes, Tells}
+use Rattle.office_front.specs.declared.front.Next.TheVariants as nexts
+use Rattle.office_front.specs.Calls.{After, Leaves, GivesNone, IsOver, none_left, failed, most, Came, Asks, Halts, IsDue, Notes, Tells}
 use Rattle.branch_workers.specs.Split.{split, whole_lines, said_lines}
 use Rattle.branch_workers.specs.Lines.{come_in}
 use Rattle.branch_workers.specs.Texts.{Came as Incoming, posting_of}
@@ -23,8 +24,6 @@ use Rattle.line_front.specs.Reading.{Input, input_of, came_by, came_in, some, Ha
 use Rattle.line_front.specs.Writing.{Taking, Output, output_of, faults_of, HasWritten, entire, HasSaid}
 use Rattle.line_front.specs.Told.{line_to, line_told, lines_told}
 use Rattle.line_front.specs.Dealt.{Sides, sides_of, HasDealt}
-use Rattle.line_front.specs.Steps.{Takes}
-use Rattle.line_front.proofs.Saying.{told-halted, told-written, noted-halted, noted-written}
 
 -- ---- before the first call
 
@@ -42,10 +41,10 @@ pub nothing_dealt : (parts : ProgramParts) (left : Option (List ℕ)) (faults : 
     → (d : Dealings) × IsNew d × HasDealt parts (just_made left faults to_lines to_notes) (just_made left faults to_lines to_notes) d
 nothing_dealt parts left faults to_lines to_notes = (
   record {
-    brought = record { given = []; asked = []; left = None; waits = 0; ended = false; faults = faults };
+    brought = record { given = []; asked = []; left = None; waits = 0; ended = false; faults = faults; seen = 0 };
     said = record { told = []; noted = []; halted = false; faults = faults_of (output_of to_lines to_notes [] false) };
   },
-  record { given = refl; asked = refl; waits = refl; open_yet = refl; told = refl; noted = refl; writes = refl },
+  record { given = refl; asked = refl; waits = refl; open_yet = refl; unseen = refl; told = refl; noted = refl; writes = refl },
   record {
     brought = record {
       read = Consumes-nil left;
@@ -116,6 +115,61 @@ said_longer parts came later first now s same h = record {
   faults = h.faults;
 }
 
+-- ---- how many it had been told of
+
+-- the same, with how many it had been told of when it was asked
+abbrev with_seen : ℕ → Brought → Brought
+with_seen count b = record b { seen = count }
+
+-- what was brought does not speak of that
+brought_seen : (first now : Input) (count : ℕ) (b : Brought) → HasBrought first now b → HasBrought first now (with_seen count b)
+brought_seen first now count b h = record {
+  read = h.read;
+  passed = h.passed;
+  given = h.given;
+  asked = h.asked;
+  left = h.left;
+  waits = h.waits;
+  faults = h.faults;
+}
+
+-- nor does what came
+leaves_seen : (p : Posting) (left : Option (List Posting)) (before now : Brought) (count : ℕ) → Leaves p left before now
+    → Leaves p left before (with_seen count now)
+leaves_seen p None before now count h = h
+leaves_seen p (Some ps) before now count h = h
+
+none_seen : (before now : Brought) (count : ℕ) → GivesNone before now → GivesNone before (with_seen count now)
+none_seen before now count g = record { given = g.given; asked = g.asked; left = g.left; faults = g.faults }
+
+over_seen : (before now : Brought) (count : ℕ) → IsOver before now → IsOver before (with_seen count now)
+over_seen before now count (none_left h) = none_left h
+over_seen before now count (failed h) = failed h
+over_seen before now count (most h) = most h
+
+came_seen : (parts : ProgramParts) (which : Next) (before now : Brought) (count : ℕ) → Came parts which before now
+    → Came parts which before (with_seen count now)
+came_seen parts (nexts.Posting p) before now count g = record {
+  given = g.given;
+  within = g.within;
+  whose = g.whose;
+  asked = g.asked;
+  request = g.request;
+  services = g.services;
+  left = leaves_seen p before.left before now count g.left;
+  waits = g.waits;
+  ended = g.ended;
+  faults = g.faults;
+}
+came_seen parts nexts.NotYet before now count g =
+    record { none = none_seen before now count g.none; waits = g.waits; ended = g.ended }
+came_seen parts nexts.End before now count g = record {
+  none = none_seen before now count g.none;
+  over = over_seen before now count g.over;
+  waits = g.waits;
+  ended = g.ended;
+}
+
 -- ---- calls
 
 module _ (parts : ProgramParts) (A B C E F : Type 0) (a : A) (b : B) (c : C) (e : E) (f : F) (first before : Sides) (d : Dealings) (h : HasDealt parts first before d) where
@@ -149,8 +203,13 @@ module _ (parts : ProgramParts) (A B C E F : Type 0) (a : A) (b : B) (c : C) (e 
     pub asked-so : (result : Result Next AllocError)
         → MatchResult result (λ next. (x : Brought) × HasBrought first.input now.input x × Came parts next d.brought x) (λ _. HasBrought first.input now.input d.brought)
         → MatchResult result (λ next. After (Same now) (Asks parts next d)) (λ _. Same now d)
-    asked-so (Ok next) came =
-        (record { brought = came.0; said = d.said }, (a, b, c, e, f, with_brought came.0 came.1), record { came = came.2; silent = refl })
+    asked-so (Ok which) came =
+        let count = length d.said.told in
+        let x : Brought = with_seen count came.0 in (
+          record { brought = x; said = d.said },
+          (a, b, c, e, f, with_brought x (brought_seen first.input now.input count came.0 came.1)),
+          record { came = came_seen parts which d.brought came.0 count came.2; silent = refl; seen = refl },
+        )
     asked-so (Err error) kept = (a, b, c, e, f, with_brought d.brought kept)
 
   -- something is said

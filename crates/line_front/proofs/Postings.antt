@@ -114,7 +114,8 @@ module _ (parts : ProgramParts) (has_one : 0 < length parts.services) where
 
 -- what a front brought once it ended
 abbrev pub ended_by : Brought → ℕ → Brought
-ended_by b faults = record { given = b.given; asked = b.asked; left = b.left; waits = 0; ended = true; faults = faults }
+ended_by b faults =
+    record { given = b.given; asked = b.asked; left = b.left; waits = 0; ended = true; faults = faults; seen = b.seen }
 
 -- it ends where nothing is told to be left
 ends_so : (first now : Input) (b : Brought) (faults : ℕ) → b.left ≡ None → b.faults ≤ faults → Ends b (ended_by b faults)
@@ -162,6 +163,7 @@ brought_by later = record {
   waits = 0;
   ended = false;
   faults = later.faults;
+  seen = 0;
 }
 
 -- ---- lines are looked for

@@ -1,5 +1,5 @@
 -- What passes in each call of a front.
-use Rattle.std.specs.Prelude.{◌≡◌, ◌⊎◌, ℕ, suc, ◌≤◌, Bool, true, false, List, [], ◌∷◌, ◌++◌, length, count_by}
+use Rattle.std.specs.Prelude.{◌≡◌, ◌⊎◌, ℕ, suc, ◌<◌, ◌≤◌, Bool, true, false, List, [], ◌∷◌, ◌++◌, length, count_by}
 use Rattle.std.specs.Prelude.{nat_eq, nat_lt, Option, None, Some, slice_get}
 use Rattle.std.specs.List.{list_all, list_any}
 use Rattle.outside_traits.specs.Causes.{Rose}
@@ -86,10 +86,15 @@ Came parts (next.Posting p) before now = Gives parts p before now
 Came parts next.NotYet before now = Waits before now
 Came parts next.End before now = Ends before now
 
+-- Where it had none yet, nothing was told since.
+abbrev pub IsQuiet : Dealings → Type 0
+IsQuiet d = 0 < d.brought.waits → d.brought.seen ≡ length d.said.told
+
 -- A posting is asked for, and nothing is said.
 pub record Asks (parts : ProgramParts) (which : Next) (before now : Dealings) : Type 0 where
   pub came : Came parts which before.brought now.brought
   pub silent : now.said ≡ before.said
+  pub seen : now.brought.seen ≡ length before.said.told
 
 -- ---- something is said
 

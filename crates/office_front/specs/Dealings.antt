@@ -10,7 +10,8 @@ pub record Asked : Type 0 where
   pub request : ℕ
 
 -- The postings that a front gave, each with whose request it is, and those that are left, where they are told; how
--- often in a row it had none yet; whether it ended; and how often what it reads failed.
+-- often in a row it had none yet; whether it ended; how often what it reads failed; and how many postings it had been
+-- told of when it was asked last.
 pub record Brought : Type 0 where
   pub given : List Posting
   pub asked : List Asked
@@ -18,6 +19,7 @@ pub record Brought : Type 0 where
   pub waits : ℕ
   pub ended : Bool
   pub faults : ℕ
+  pub seen : ℕ
 
 -- what the calls of the posting of a place came to, in order; places are counted from 0
 pub record Told : Type 0 where
@@ -43,6 +45,7 @@ pub record IsNew (d : Dealings) : Type 0 where
   pub asked : d.brought.asked ≡ []
   pub waits : d.brought.waits ≡ 0
   pub open_yet : d.brought.ended ≡ false
+  pub unseen : d.brought.seen ≡ 0
   pub told : d.said.told ≡ []
   pub noted : d.said.noted ≡ []
   pub writes : d.said.halted ≡ false

@@ -311,6 +311,24 @@ in_order_next f g count told pending same o = record {
         ∙ ap (λ l. flat_map (there_by g (suc count)) (numbers_from 0 count)
         ++ l) (append_nil (there_by g (suc count) count))
 
+-- at the end those that were told are those that are finished before it
+pub in_order_early : (f g : ℕ → ℕ → Bool) (count : ℕ) (told pending : List ℕ) → AreAlike count f g
+    → InOrderBy f count told pending → told ≡ flat_map (there_by g count) (numbers_from 0 count)
+in_order_early f g count told pending same o =
+    o.told ∙ flat_map_alike (there_by f count) (there_by g count) 0 count (λ i less. alike i)
+  where
+    whole : (j : ℕ) → j < count → j + (count - j) ≡ count
+    whole j below = omega (arith, below)
+
+    at_same : (j : ℕ) → j < count → at_by f count j ≡ at_by g count j
+    at_same j below =
+        least_alike (f j) (g j) j (count - j) (λ i less. same j i below (subst (λ n. i < n) (whole j below) less))
+
+    alike : (i : ℕ) → there_by f count i ≡ there_by g count i
+    alike i =
+        filter_alike (λ j. nat_eq i (at_by f count j)) (λ j. nat_eq i (at_by g count j)) 0 count
+        (λ j less. ap (nat_eq i) (at_same j (below_zero count j less)))
+
 -- at the end the others are told behind them
 pub in_order_ends : (f g : ℕ → ℕ → Bool) (count : ℕ) (told pending : List ℕ) → AreAlike count f g
     → InOrderBy f count told pending

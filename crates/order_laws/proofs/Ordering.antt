@@ -3,7 +3,7 @@
 use Rattle.std.proofs.Common.{◌≡◌, ◌<◌, ◌≤◌, ℕ, suc, Bool, true, false, not, ◌&&◌, ◌||◌, List, [], ◌∷◌}
 use Rattle.std.proofs.Common.{◌++◌, refl, sym, ap, ◌∙◌, None, Some, true≢false, cond, leb-true}
 use Rattle.std.proofs.Common.{arith}
-use Rattle.std.specs.Prelude.{nat_eq, nat_lt, nat_le, slice_get, if◌then◌else◌, is_some}
+use Rattle.std.specs.Prelude.{nat_eq, nat_lt, nat_le, slice_get, if◌then◌else◌, is_some, flat_map}
 use Rattle.std.specs.List.{list_all, list_any, filter, filter_map}
 use Rattle.office_core.specs.declared.history.Act.{Act}
 use Rattle.office_core.specs.declared.history.Act.TheVariants as act
@@ -15,7 +15,7 @@ use Rattle.office_core.specs.Keys.{first}
 use Rattle.office_core.specs.Accepted.{past_of}
 use Rattle.office_core.specs.Answers.{answers_of, answers}
 use Rattle.run_record.specs.Order.{accepted_as, message_in, messages_for, before_first, posts_above}
-use Rattle.run_record.specs.Order.{until_posting, is_finished, order_alone}
+use Rattle.run_record.specs.Order.{until_posting, is_finished, finished_there, numbers_from, order_alone}
 pub use Rattle.order_laws.specs.Entries.{posts_over, posts_on, cuts}
 pub use Rattle.order_laws.specs.Ordering.{Grows, InOrder, is_answered}
 use Rattle.order_laws.proofs.Lists.{left_true, right_true, both_true, true_left, false_left, false_right}
@@ -25,7 +25,7 @@ use Rattle.order_laws.proofs.Growing.{past_then, entries_past, message_then, leg
 use Rattle.order_laws.proofs.Staying.{adds_none, answers_same_all, messages_same_all}
 use Rattle.order_laws.proofs.Posting.{posts_under, lt_is, lt_true}
 use Rattle.order_laws.proofs.Accepting.{posted_there}
-use Rattle.order_laws.proofs.Least.{AreAlike, InOrderBy, in_order_next, in_order_ends}
+use Rattle.order_laws.proofs.Least.{AreAlike, InOrderBy, in_order_next, in_order_early, in_order_ends}
 
 -- ---- the entries before the first of a kind
 
@@ -309,6 +309,14 @@ pub order_ends : (w : Setting) (h more : List Entry) (count : ℕ) (said open_ye
     → InOrder w h count said open_yet → said ++ open_yet ≡ order_alone w (h ++ more) first_worker count
 order_ends w h more count said open_yet g o =
     in_order_ends (is_finished w (past_of w h) first_worker) (is_finished w (past_of w (h ++ more)) first_worker)
+    count said open_yet (finished_stays w h more count g) (record { told = o.told; pending = o.pending })
+
+-- Those that were told are those that are finished before the end.
+pub order_early : (w : Setting) (h more : List Entry) (count : ℕ) (said open_yet : List ℕ) → Grows w h more count
+    → InOrder w h count said open_yet
+    → said ≡ flat_map (finished_there w (past_of w (h ++ more)) first_worker count) (numbers_from 0 count)
+order_early w h more count said open_yet g o =
+    in_order_early (is_finished w (past_of w h) first_worker) (is_finished w (past_of w (h ++ more)) first_worker)
     count said open_yet (finished_stays w h more count g) (record { told = o.told; pending = o.pending })
 
 -- ---- what comes with a posting

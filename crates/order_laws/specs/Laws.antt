@@ -1,5 +1,5 @@
 -- What holds of every legal history as it grows: of answers, of what was told, and of the order of telling.
-use Rattle.std.specs.Prelude.{◌≡◌, ℕ, suc, false, true, not, List, [], ◌∷◌, ◌++◌, Some}
+use Rattle.std.specs.Prelude.{◌≡◌, ℕ, suc, false, true, not, List, [], ◌∷◌, ◌++◌, Some, flat_map}
 use Rattle.std.specs.List.{filter, list_all}
 use Rattle.behaviour_tree.specs.declared.words.Outcome.{Outcome}
 use Rattle.office_core.specs.declared.front.Posting.{Posting}
@@ -10,7 +10,7 @@ use Rattle.office_core.specs.Keys.{first}
 use Rattle.office_core.specs.Accepted.{past_of}
 use Rattle.office_core.specs.Answers.{answers}
 use Rattle.office_core.specs.Legal.{IsLegal}
-use Rattle.run_record.specs.Order.{order_alone}
+use Rattle.run_record.specs.Order.{finished_there, numbers_from, order_alone}
 use Rattle.run_record.specs.Postings.{told}
 use Rattle.order_laws.specs.Entries.{is_other, posts_under}
 use Rattle.order_laws.specs.Posting.{ArePosted}
@@ -52,3 +52,10 @@ OrderEnds =
     (w : Setting) (h more : List Entry) (count : ℕ) (said open_yet : List ℕ)
     → Grows w h more count → InOrder w h count said open_yet
     → said ++ open_yet ≡ order_alone w (h ++ more) first_worker count
+
+-- Those that were told before the end are those that are finished before it.
+abbrev pub OrderSoFar : Type 0
+OrderSoFar =
+    (w : Setting) (h more : List Entry) (count : ℕ) (said open_yet : List ℕ)
+    → Grows w h more count → InOrder w h count said open_yet
+    → said ≡ flat_map (finished_there w (past_of w (h ++ more)) first_worker count) (numbers_from 0 count)

@@ -1,4 +1,4 @@
-ghost use Rattle.order_laws.specs.Laws.{AnswersStay, OrderEnds, OrderGoesOn, PostedStays, ToldStays};
+ghost use Rattle.order_laws.specs.Laws.{AnswersStay, OrderEnds, OrderGoesOn, OrderSoFar, PostedStays, ToldStays};
 
 /// Does nothing: its clauses say what stays in every longer legal history.
 pub fn answers_stay()
@@ -15,6 +15,7 @@ pub fn postings_stay()
 pub fn postings_are_told_in_order()
     ensures goes_on { OrderGoesOn }
     ensures ends { OrderEnds }
+    ensures early { OrderSoFar }
 {}
 
 /// Does nothing: a message that was just posted can be collected.

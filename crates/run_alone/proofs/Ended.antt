@@ -1,7 +1,8 @@
 -- What one worker has once it did what was left to do, stopped the run and told what was open.
-use Rattle.std.proofs.Common.{◌≡◌, ◌↔◌, ◌<◌, ◌≤◌, ℕ, Bool, true, false, List, [], ◌∷◌, ◌++◌, map, length, inl, inr, refl, sym, ap, subst, ◌∙◌, append_assoc, le_refl}
+use Rattle.std.proofs.Common.{◌≡◌, ◌↔◌, ◌<◌, ◌≤◌, ℕ, Bool, true, false, List, [], ◌∷◌, ◌++◌, map, length, take, flat_map, inl, inr, refl, sym, ap, subst, ◌∙◌, append_assoc, le_refl}
 use Rattle.std.specs.List.{filter, list_all}
 use Rattle.std.proofs.lemmas.Bool.{false≢true}
+use Rattle.std.proofs.lemmas.List.{take_at}
 use Rattle.behaviour_tree.specs.declared.words.Event.{Event}
 use Rattle.office_core.specs.declared.front.Posting.{Posting}
 use Rattle.office_core.specs.declared.history.Act.{Act}
@@ -15,7 +16,7 @@ use Rattle.office_front.specs.Dealings.{Brought, Dealings, Told}
 use Rattle.office_front.specs.Calls.{most_postings}
 use Rattle.quiet_laws.specs.Ends.{CameThrough, Ended, is_adoption, is_collect, stop_entry}
 use Rattle.quiet_laws.proofs.Ending.{Looked}
-use Rattle.run_record.specs.Order.{order_alone}
+use Rattle.run_record.specs.Order.{finished_there, numbers_from, order_alone}
 use Rattle.run_cells.specs.Crews.{State, Stays, Team, closing, events_of, past_in}
 use Rattle.run_cells.specs.Rounds.{Adopted, HasSpent, IsQuietAt, IsStillAt}
 use Rattle.run_cells.proofs.Ends.{came_through, looked_by}
@@ -27,10 +28,10 @@ use Rattle.trip_laws.specs.Going.{AreSettled, NotedSoFar, is_inward}
 use Rattle.trip_laws.proofs.Settling.{noted_on, over_all, settled_on}
 use Rattle.session_turn.proofs.Histories.{some_of}
 use Rattle.run_alone.specs.Between.{Passed}
-use Rattle.run_alone.specs.Overs.{IsOver, most_waits}
+use Rattle.run_alone.specs.Overs.{IsOver, GaveNone}
 use Rattle.run_alone.specs.declared.worker.Finished.{Finished}
 use Rattle.run_alone.proofs.Assembling.{HasEnded}
-use Rattle.run_alone.proofs.Finishing.{CanEnd, adoptions_add, adoptions_between, at_end, closed_by, closing_adds, closing_between, closing_by, closing_closes, open_end, open_gathered, order_end, settled_waits, stop_gathers}
+use Rattle.run_alone.proofs.Finishing.{CanEnd, adoptions_add, adoptions_between, at_end, closed_by, closing_adds, closing_between, closing_by, closing_closes, early_end, open_end, open_gathered, order_end, settled_waits, stop_gathers}
 use Rattle.run_alone.proofs.Stepping.{all_weaker}
 use Rattle.run_alone.proofs.Taking.{collected_all, runs, still_halted}
 
@@ -129,6 +130,14 @@ module _ {s0 s1 s2 s3 s4 : State} {xs0 xs1 : List Wait} (f : Finishes s0 s1 s2 s
           (i. map (λ (t : Told). t.place) (ts ++ map told_of (filter is_finished (waits_1 i))) ≡ order_alone (setting_4 i) (history_4 i) first_worker (length all))
           (order_end w s0.history all xs0 f.swept adoptions (closing_by was_closed) ts can)
 
+      -- those that were told before are those that are finished before the end
+      pub early_at_end : map (λ (t : Told). t.place) ts
+          ≡ flat_map (finished_there s4.setting (past_of s4.setting s4.history) first_worker (length all)) (numbers_from 0 (length all))
+      early_at_end =
+          coe 1 0
+          (i. map (λ (t : Told). t.place) ts ≡ flat_map (finished_there (setting_4 i) (past_of (setting_4 i) (history_4 i)) first_worker (length all)) (numbers_from 0 (length all)))
+          (early_end w s0.history all xs0 f.swept adoptions (closing_by was_closed) ts can)
+
       -- the front expects to be told of what is open
       pub expected_end : (d : Dealings) → d.brought.given ≡ all → d.said.told ≡ ts → AreExpected xs1 d
       expected_end d given said =
@@ -190,6 +199,11 @@ over_then before now same calm (inr (inr (inl e))) =
 over_then before now same calm (inr (inr (inr e))) =
     inr (inr (inr (subst (λ (b : Brought). most_postings ≤ length b.given) (sym same) e)))
 
+-- it gave none when it was asked last
+gave_none : (before now : Dealings) → now.brought ≡ before.brought → GaveNone now → GaveNone before
+gave_none before now same (inl e) = inl (ap (λ (b : Brought). b.ended) (sym same) ∙ e)
+gave_none before now same (inr some) = inr (subst (λ (b : Brought). 0 < b.waits) same some)
+
 -- What passed with the front to the end: the last sweep noted to it, and then it was told of all that was open.
 pub record SaidAll (s1 : State) (xs1 : List Wait) (before mid now : Dealings) : Type 0 where
   pub told_mid : mid.said.told ≡ before.said.told
@@ -209,10 +223,11 @@ module _ {s0 s1 s2 s3 s4 : State} {xs0 xs1 : List Wait} {n : ℕ} (f : Finishes 
     (team2 : Team s2) (legal : IsLegal s4.setting s4.history) where
   -- so it has ended
   pub has_ended : (before mid now : Dealings) (finished : Finished) → Passed s0 xs0 n before → IsOver before
+      → (GaveNone before → before.brought.seen ≡ length before.said.told)
       → SaidAll s1 xs1 before mid now → Leaves s2 s4 finished → (0 < n → f.swept ≡ [])
       → (mid.said.halted ≡ false → IsQuietAt s2) → IsStillAt s2
       → HasEnded (record { setting = s2.setting; budget = s2.budget }) s2.history (filter is_open xs1) now finished
-  has_ended before mid now finished passed over said left calm quiet still =
+  has_ended before mid now finished passed over saw said left calm quiet still =
       let brought : now.brought ≡ before.brought = said.tells.brought ∙ said.brought_mid in
       let told : now.said.told ≡ before.said.told ++ map told_of (filter is_finished xs1)
       = said.tells.told ∙ ap (λ (ts : List Told). ts ++ map told_of (filter is_finished xs1)) said.told_mid in
@@ -240,6 +255,13 @@ module _ {s0 s1 s2 s3 s4 : State} {xs0 xs1 : List Wait} {n : ℕ} (f : Finishes 
             subst (λ (t : List ℕ). NotedSoFar s2.setting s2.history t) (sym said.tells.noted)
             (noted_2 f team0 team2 legal mid.said.noted said.noted);
         over = over_then before now brought (λ e. said.halted_mid (said.tells.calm e)) over;
+        seen = λ none.
+            coe 1 0
+            (i. map (λ (t : Told). t.place) (take (brought i).seen (told i))
+            ≡ flat_map (finished_there (sym setting i) (past_of (sym setting i) (left.history i)) first_worker (length (brought i).given)) (numbers_from 0 (length (brought i).given)))
+            (ap (λ (k : ℕ). map (λ (t : Told). t.place) (take k (before.said.told ++ map told_of (filter is_finished xs1)))) (saw (gave_none before now brought none))
+            ∙ ap (map (λ (t : Told). t.place)) (take_at before.said.told (map told_of (filter is_finished xs1)) (length before.said.told) refl)
+            ∙ early_at_end f team0 team2 legal before.brought.given before.said.told idle passed.opens order);
         looked =
             subst (λ (ss : List (List Event)). Looked s2.setting s2.budget s2.history ss finished.spent) (sym left.sessions)
             (looked_by s2 finished.spent left.spent);

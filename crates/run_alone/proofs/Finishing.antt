@@ -1,5 +1,5 @@
 -- The end of a run: what is open is stopped, collected and told, and that is the order of the record.
-use Rattle.std.proofs.Common.{◌≡◌, ◌<◌, ◌≤◌, ℕ, Bool, true, false, List, [], ◌∷◌, ◌++◌, map, length, Option, None, Some, nat_lt, refl, sym, ap, subst, ◌∙◌, append_assoc, append-nil, lt_of_lt_of_le, le_trans}
+use Rattle.std.proofs.Common.{◌≡◌, ◌<◌, ◌≤◌, ℕ, Bool, true, false, List, [], ◌∷◌, ◌++◌, map, length, Option, None, Some, nat_lt, refl, sym, ap, subst, ◌∙◌, append_assoc, append-nil, lt_of_lt_of_le, le_trans, flat_map}
 use Rattle.std.specs.Prelude.{if◌then◌else◌, option_map}
 use Rattle.std.specs.List.{filter, list_all, list_any}
 use Rattle.std.proofs.lemmas.Bool.{and_from, and_parts, false≢true, lt-ltb, or_left, or_right}
@@ -21,11 +21,11 @@ use Rattle.order_laws.proofs.Growing.{legal_front, legal_rest}
 use Rattle.order_laws.proofs.Ordering.{calm_at_stop, calm_behind}
 use Rattle.quiet_laws.specs.Ends.{is_adoption, is_close, stop_entry}
 use Rattle.quiet_laws.proofs.Within.{births_within}
-use Rattle.run_record.specs.Order.{before_first, order_alone}
+use Rattle.run_record.specs.Order.{before_first, finished_there, numbers_from, order_alone}
 use Rattle.run_record.specs.Run.{alone, is_hand, is_of_hand}
 use Rattle.session_turn.proofs.Histories.{some_of}
 use Rattle.run_posts.specs.Fates.{Wait, all_collected, is_finished, is_open, settled_in, told_of}
-use Rattle.run_posts.proofs.Ending.{StandsInOrder, all_finished, open_collected, open_told, other_all, settled_collected, stands_ended}
+use Rattle.run_posts.proofs.Ending.{StandsInOrder, all_finished, open_collected, open_told, other_all, settled_collected, stands_early, stands_ended}
 use Rattle.run_posts.proofs.Opening.{IsOpen, is_between, open_between, told_places}
 use Rattle.run_alone.proofs.Stepping.{all_append, all_weaker, between_other, other_over, places_settled}
 
@@ -212,6 +212,12 @@ module _ (w : Setting) (h : List Entry) (all : List Posting) (xs : List Wait) (s
           (λ (l : List Entry). list_all adds_none (before_first (cuts (length all)) (l ++ ((adoptions ++ closing) ++ stop_entry ∷ gathered))) ≡ true)
           (sym (can.calm some)) calm_end;
     }
+
+    -- those that were told before are those that are finished before the end
+    pub early_end : told_places ts ≡ flat_map (finished_there w (past_of w at_end) first_worker (length all)) (numbers_from 0 (length all))
+    early_end =
+        stands_early w h more (length all) ts xs grows can.order
+        ∙ ap (λ (l : List Entry). flat_map (finished_there w (past_of w l) first_worker (length all)) (numbers_from 0 (length all))) more_is
 
     -- and those that were told are in the order of the record
     pub order_end : told_places said_all ≡ order_alone w at_end first_worker (length all)

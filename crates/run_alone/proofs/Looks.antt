@@ -1,18 +1,18 @@
 -- Look by look at the front: how it stands, and when no posting is asked for any more.
 use Rattle.std.specs.Prelude.{not, ◌&&◌, nat_lt}
-use Rattle.std.proofs.Common.{◌≡◌, ◌≤◌, ◌<◌, ◌+◌, ◌-◌, ◌*◌, ◌⊎◌, ℕ, suc, Bool, true, false, List, inl, inr, refl, sym, ap, subst, ◌∙◌, arith, ltb-true, ltb-false}
+use Rattle.std.proofs.Common.{◌≡◌, ◌≤◌, ◌<◌, ◌+◌, ◌-◌, ◌*◌, ◌⊎◌, ℕ, suc, Bool, true, false, List, length, inl, inr, refl, sym, ap, subst, ◌∙◌, arith, ltb-true, ltb-false}
 use Rattle.std.proofs.lemmas.Bool.{and_parts, false≢true}
 use Rattle.behaviour_tree.specs.Data.{ProgramParts}
 use Rattle.office_core.specs.declared.front.Posting.{Posting}
 use Rattle.office_front.specs.declared.front.Next.{Next}
 use Rattle.office_front.specs.declared.front.Next.TheVariants as next
-use Rattle.office_front.specs.Calls.{After, Asks, most_postings}
+use Rattle.office_front.specs.Calls.{After, Asks, IsQuiet, most_postings}
 use Rattle.office_front.specs.Dealings.{Dealings, IsNew, Said}
 use Rattle.run_cells.specs.Crews.{State}
 use Rattle.run_posts.specs.Fates.{Wait}
 use Rattle.run_posts.specs.Telling.{TellsOn}
 use Rattle.run_alone.specs.Between.{Answered, Between, Brings, Closed, Passed}
-use Rattle.run_alone.specs.Overs.{IsOver, asks, most_waits}
+use Rattle.run_alone.specs.Overs.{IsOver, GaveNone, asks, most_waits}
 use Rattle.run_alone.proofs.Asking.{brings_next, ends_next, taken_looks, waits_next}
 
 -- What passed with a front until a look at it, before which so many in a row found no posting.
@@ -22,11 +22,12 @@ pub record IsAt (s : State) (xs : List Wait) (n : ℕ) (calm : Bool) (looks : �
   pub few : looks ≤ most_waits
   pub going : d.brought.ended ≡ false
   pub halted : calm ≡ false → d.said.halted ≡ true
+  pub seen : 0 < looks → d.brought.seen ≡ length d.said.told
 
 -- what a front has when it is asked for a posting
 abbrev pub Came : {F : Type 0} → (ProgramParts → F → F → Dealings → Type 0) → ProgramParts → F → F → Next → Type 0
 Came {F} dealt parts old now which =
-    (first : F) (before : Dealings) → dealt parts first old before → before.brought.ended ≡ false
+    (first : F) (before : Dealings) → dealt parts first old before → before.brought.ended ≡ false → IsQuiet before
     → After (dealt parts first now) (Asks parts which before)
 
 -- the same of what is told
@@ -49,7 +50,12 @@ at_first d passed new = record {
   few = omega arith;
   going = new.open_yet;
   halted = λ e. absurd (false≢true (sym e));
+  seen = λ some. absurd (omega (arith, some));
 }
+
+-- a look after which nothing was told
+pub quiet_at : {s : State} {xs : List Wait} {n : ℕ} {calm : Bool} {looks : ℕ} {d : Dealings} → IsAt s xs n calm looks d → IsQuiet d
+quiet_at x some = x.seen (subst (λ m. 0 < m) x.waits some)
 
 module _ {s : State} {xs : List Wait} {n : ℕ} {calm : Bool} {looks : ℕ} {before : Dealings}
     (x : IsAt s xs n calm looks before) {parts : ProgramParts} (dealt : Dealings → Type 0) where
@@ -63,7 +69,14 @@ module _ {s : State} {xs : List Wait} {n : ℕ} {calm : Bool} {looks : ℕ} {bef
       let looked = taken_looks (taken.2).said (asked.2).came.waits (asked.2).came.ended in (
         taken.0,
         taken.1,
-        record { passed = (taken.2).passed; waits = looked.0; few = omega arith; going = looked.1; halted = (taken.2).halted },
+        record {
+          passed = (taken.2).passed;
+          waits = looked.0;
+          few = omega arith;
+          going = looked.1;
+          halted = (taken.2).halted;
+          seen = λ some. absurd (omega (arith, some));
+        },
       )
 
   -- none yet
@@ -79,6 +92,7 @@ module _ {s : State} {xs : List Wait} {n : ℕ} {calm : Bool} {looks : ℕ} {bef
           few = omega (arith, few);
           going = w.2;
           halted = λ e. ap (λ (d : Said). d.halted) (asked.2).silent ∙ x.halted e;
+          seen = λ some. (asked.2).seen ∙ ap (λ (d : Said). length d.told) (sym (asked.2).silent);
         },
       )
 
@@ -92,6 +106,7 @@ module _ {s : State} {xs : List Wait} {n : ℕ} {calm : Bool} {looks : ℕ} {bef
           passed = w.0;
           over = w.1;
           halted = λ e. ap (λ (d : Said). d.halted) (asked.2).silent ∙ x.halted e;
+          seen = λ none. (asked.2).seen ∙ ap (λ (d : Said). length d.told) (sym (asked.2).silent);
         },
       )
 
@@ -110,8 +125,13 @@ at_stop {n = n} {calm = calm} {looks = looks} d x stops = record {
   passed = x.passed;
   over = over stops;
   halted = x.halted;
+  seen = seen;
 }
   where
+    seen : GaveNone d → d.brought.seen ≡ length d.said.told
+    seen (inl e) = absurd (false≢true (sym x.going ∙ e))
+    seen (inr some) = quiet_at x some
+
     over : Stops n calm looks d → IsOver d
     over (inl e) = inr (inl (x.halted e))
     over (inr (inl e)) = inr (inl e)

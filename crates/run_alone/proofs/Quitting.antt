@@ -106,7 +106,7 @@ module _ {calm : Bool} {s0 s1 s2 s3 s4 : State} {xs0 xs1 : List Wait} {n : ℕ} 
         told.0,
         told.1,
         ran (record { setting = s2.setting; budget = s2.budget }) text s2.history (filter is_open xs1) told.0 finished program
-            (has_ended finishes q.team0 q.team2 q.legal before mid told.0 finished closed.passed closed.over
+            (has_ended finishes q.team0 q.team2 q.legal before mid told.0 finished closed.passed closed.over closed.seen
             (record {
               told_mid = left.noted.told;
               brought_mid = left.noted.said.brought;

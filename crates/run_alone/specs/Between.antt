@@ -12,7 +12,7 @@ use Rattle.run_posts.specs.Fates.{Wait}
 use Rattle.run_posts.specs.Open.{IsOpen, StandsInOrder}
 use Rattle.run_sweep.specs.Swept.{StaysQuiet, is_swept}
 use Rattle.trip_laws.specs.Going.{AreSettled, NotedSoFar}
-use Rattle.run_alone.specs.Overs.{IsOver}
+use Rattle.run_alone.specs.Overs.{IsOver, GaveNone}
 
 -- nothing is left to do; before the first posting nothing happened
 abbrev pub IsCalm : ℕ → State → Type 0
@@ -83,6 +83,7 @@ pub record Closed (s : State) (xs : List Wait) (n : ℕ) (calm : Bool) (now : De
   pub passed : Passed s xs n now
   pub over : IsOver now
   pub halted : calm ≡ false → now.said.halted ≡ true
+  pub seen : GaveNone now → now.brought.seen ≡ length now.said.told
 
 -- What passed with a front when what was left to do was done: unless it halted nothing is left.
 pub record LeftQuiet (old new : State) (before now : Dealings) : Type 0 where

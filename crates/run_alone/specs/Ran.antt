@@ -1,5 +1,5 @@
 -- What one worker that runs a program alone leaves: the record, and what its front was told.
-use Rattle.std.specs.Prelude.{◌≡◌, ◌↔◌, ℕ, Bool, true, false, List, [], length, map}
+use Rattle.std.specs.Prelude.{◌≡◌, ◌↔◌, ℕ, Bool, true, false, List, [], length, map, take, flat_map}
 use Rattle.std.specs.Prelude.{Some, Contains, slice_get}
 use Rattle.std.specs.List.{list_all}
 use Rattle.office_core.specs.declared.front.Posting.{Posting}
@@ -8,13 +8,13 @@ use Rattle.office_core.specs.Limits.{Setting, first_worker}
 use Rattle.office_core.specs.Past.{Past}
 use Rattle.office_core.specs.Accepted.{past_of}
 use Rattle.run_record.specs.Postings.{posts_by, posts_of, told}
-use Rattle.run_record.specs.Order.{order_alone}
+use Rattle.run_record.specs.Order.{finished_there, numbers_from, order_alone}
 use Rattle.run_record.specs.Outside.{notes}
 use Rattle.run_record.specs.Run.{alone, IsRun, IsSpent}
 use Rattle.branch_workers.specs.Lines.{is_by_first, IsFront}
 use Rattle.office_front.specs.Dealings.{Told, Dealings}
 pub use Rattle.trip_laws.specs.Trips.{AreVoid, Travelled}
-pub use Rattle.run_alone.specs.Overs.{IsOver, most_waits}
+pub use Rattle.run_alone.specs.Overs.{IsOver, GaveNone, most_waits}
 use Rattle.run_alone.specs.declared.worker.Finished.{Finished}
 
 -- what a run is under: what it works by, and how many events a session may have
@@ -33,8 +33,18 @@ IsTold w past given t =
 abbrev pub AreNotes : Bool → List ℕ → List ℕ → Type 0
 AreNotes halted noted all = IsFront noted all × (halted ≡ false → noted ≡ all)
 
+-- the places of the postings, among so many, that are finished before the end, in the order in which they are answered
+abbrev pub finished_early : Setting → List Entry → ℕ → List ℕ
+finished_early w h count = flat_map (finished_there w (past_of w h) first_worker count) (numbers_from 0 count)
+
+-- When the front was asked last it had been told of the postings that are finished before the end, and of no other.
+abbrev pub SawFinished : Setting → List Entry → Dealings → Type 0
+SawFinished w h d =
+    map (λ (t : Told). t.place) (take d.brought.seen d.said.told) ≡ finished_early w h (length d.brought.given)
+
 -- What passed between a run of this history and its front: each posting that was given was posted, in order, and was
--- answered once, in order, with what its calls came to; and what the history notes was noted.
+-- answered once, in order, with what its calls came to; and what the history notes was noted. Where the front gave none
+-- when it was asked last, it had been told by then of what is finished before the end.
 pub record Dealt (w : Setting) (h : List Entry) (d : Dealings) : Type 0 where
   pub posted : posts_by first_worker h ≡ posts_of 0 d.brought.given
   pub posters : list_all is_by_first h ≡ true
@@ -42,6 +52,7 @@ pub record Dealt (w : Setting) (h : List Entry) (d : Dealings) : Type 0 where
   pub told : (t : Told) → Contains d.said.told t → IsTold w (past_of w h) d.brought.given t
   pub noted : AreNotes d.said.halted d.said.noted (notes w h)
   pub over : IsOver d
+  pub seen : GaveNone d → SawFinished w h d
 
 -- ---- the run
 

@@ -2,6 +2,7 @@
 use Rattle.std.proofs.Common.{◌≡◌, ◌<◌, ℕ, zero, suc, Bool, true, false, not, ◌&&◌, ◌||◌, List, [], ◌∷◌}
 use Rattle.std.proofs.Common.{◌++◌, map, length, cond, refl, sym, ap, subst, ◌∙◌, Option, None, Some}
 use Rattle.std.proofs.Common.{arith}
+use Rattle.std.specs.Prelude.{flat_map}
 use Rattle.std.specs.Prelude.{nat_eq, nat_lt, is_some, slice_get, get_or, Contains}
 use Rattle.std.specs.List.{list_all, list_any, filter}
 use Rattle.behaviour_tree.specs.declared.words.Outcome.{Outcome}
@@ -16,7 +17,7 @@ use Rattle.office_core.specs.Answers.{answers}
 use Rattle.office_core.specs.Legal.{AreLegal, IsLegal}
 use Rattle.office_front.specs.Dealings.{Told, Dealings}
 use Rattle.office_front.specs.Calls.{Fit}
-use Rattle.run_record.specs.Order.{messages_for, order_alone}
+use Rattle.run_record.specs.Order.{messages_for, finished_there, numbers_from, order_alone}
 use Rattle.run_record.specs.Postings.{outcomes_from}
 use Rattle.office_core.specs.Keys.{all_there}
 use Rattle.office_core.proofs.OneAnswer.{answers_once}
@@ -27,7 +28,7 @@ use Rattle.order_laws.proofs.Growing.{past_then, legal_rest}
 use Rattle.order_laws.proofs.Staying.{answers_same_all}
 use Rattle.order_laws.proofs.Posting.{is_other, posts_under, posted_others}
 use Rattle.order_laws.proofs.Accepting.{posted_there}
-use Rattle.order_laws.proofs.Ordering.{Grows, InOrder, is_answered, order_goes_on, order_ends}
+use Rattle.order_laws.proofs.Ordering.{Grows, InOrder, is_answered, order_goes_on, order_early, order_ends}
 use Rattle.run_posts.specs.declared.pending.Fate.{Fate}
 pub use Rattle.run_posts.specs.Open.{StandsInOrder}
 use Rattle.run_posts.specs.Fates.{Wait, messages_in, messages_of, collection, collected, collected_in, all_collected}
@@ -453,6 +454,12 @@ stands_ended w h more count ts xs ys g are finished o =
         ap (λ b. cond b (z ∷ filter is_finished zs) (filter is_finished zs))
         (left_true (is_finished z) (list_all is_finished zs) h)
         ∙ ap (λ l. z ∷ l) (all_kept zs (right_true (is_finished z) (list_all is_finished zs) h))
+
+-- at the end those that were told of postings so far are those that are finished before it
+pub stands_early : (w : Setting) (h more : List Entry) (count : ℕ) (ts : List Told) (xs : List Wait) → Grows w h more count
+    → StandsInOrder w h count ts xs
+    → told_places ts ≡ flat_map (finished_there w (past_of w (h ++ more)) first_worker count) (numbers_from 0 count)
+stands_early w h more count ts xs g o = order_early w h more count (told_places ts) (places xs) g o
 
 -- ---- the end
 

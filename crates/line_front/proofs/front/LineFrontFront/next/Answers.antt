@@ -9,7 +9,7 @@ use Rattle.line_front.proofs.front.LineFrontFront.next.Goals as goal
 
 pub returns : goal.returns
 returns g c = record {
-  came = λ first before h yet.
+  came = λ first before h yet quiet.
       let failed : first.kept.now.reader.failed ≡ false → Fails c.next.new.self.failed (g.S.Source.faults first.source.now) (g.S.Source.faults c.next.new.source) =
       λ is. c.next.ensures.failed (g.S.Source.faults first.source.now) (h.4 is) in
       asked-so (parts_of c.args._program.now) _ _ _ _ _ h.0 h.1 h.2 h.3 failed _ _ before h.5
