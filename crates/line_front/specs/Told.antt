@@ -1,22 +1,15 @@
 -- The lines that answer postings, by what their calls came to.
-use Rattle.std.specs.Prelude.{ℕ, List, [], ◌∷◌, ◌++◌, flat_map, None, Some, slice_get}
+use Rattle.std.specs.Prelude.{ℕ, List, [], flat_map, None, Some, slice_get}
 use Rattle.behaviour_tree.specs.Data.{ProgramParts}
 use Rattle.behaviour_tree.specs.declared.words.Outcome.{Outcome}
-use Rattle.jsonrpc_text.specs.declared.message.ReadCall.{ReadCall}
 use Rattle.office_front.specs.Dealings.{Told}
-use Rattle.branch_workers.specs.Texts.{Came, said_to, response_of}
+use Rattle.branch_workers.specs.Texts.{Came}
 use Rattle.branch_workers.specs.Lines.{line_if}
-
--- the texts of calls of a service that ask for one, by their outcomes in order
-abbrev pub texts_told : ProgramParts → ℕ → List ReadCall → List Outcome → List (List ℕ)
-texts_told parts service [] outcomes = []
-texts_told parts service (c ∷ cs) [] = []
-texts_told parts service (c ∷ cs) (o ∷ os) = said_to parts service c (Some o) ++ texts_told parts service cs os
+use Rattle.posting_texts.specs.Told.{response_told}
 
 -- the line that answers what came in, none where nothing is said
 abbrev pub line_to : ProgramParts → Came → List Outcome → List ℕ
-line_to parts came outcomes =
-    line_if (response_of came.read.batch (texts_told parts came.service came.read.calls outcomes))
+line_to parts came outcomes = line_if (response_told parts came outcomes)
 
 -- the line of what was told of a place, none where nothing came in there
 abbrev pub line_told : ProgramParts → List Came → Told → List ℕ

@@ -7,7 +7,6 @@ mod kept;
 mod lines;
 mod next_line;
 mod piece;
-mod posting;
 mod reader;
 mod response;
 mod writing;

@@ -11,10 +11,10 @@ ghost use Rattle.line_front.specs.Steps.{GivesLine};
 
 use crate::lines::Lines;
 use crate::next_line::{Step, next_line};
-use crate::posting::posting_of;
 use jsonrpc_text::{Read, read_message};
 use office_front::Next;
 use outside_traits::Source;
+use posting_texts::posting_of;
 use sqlite_items::Items;
 use std::alloc::{AllocError, Global};
 
@@ -143,7 +143,7 @@ fn keep(alloc: Global, line: &[u8], reads: &mut Items<Read>) -> Result<Next, All
     ensures err { OnErr result (reads.new ≡ reads.old) }
 {
     let read = read_message(alloc, line)?;
-    let posting = posting_of(alloc, &read)?;
+    let posting = posting_of(alloc, 0, &read)?;
     reads.push(read)?;
     Ok(Next::Posting(posting))
 }
