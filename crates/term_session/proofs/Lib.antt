@@ -1,7 +1,9 @@
 pub mod Acting
 pub mod Asked
+pub mod Beginning
 pub mod Between
 pub mod Filtering
+pub mod Foretelling
 pub mod Gifts
 pub mod Going
 pub mod HasEvents

@@ -107,7 +107,7 @@ comes_to_rest c n f x d b t e same some left =
 -- ---- looking
 
 -- what a fault that was carried asks is told by the decision
-asked-decided : (x : Carried Term) → asked_by_throw (decided x) ≡ asked_by_throw x
+pub asked-decided : (x : Carried Term) → asked_by_throw (decided x) ≡ asked_by_throw x
 asked-decided (up t) = refl
 asked-decided (caught_at t q) = refl
 asked-decided (ended_at t q) = refl

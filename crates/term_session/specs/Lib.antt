@@ -1,5 +1,6 @@
 pub mod Asks
 pub mod Configs
+pub mod Foretold
 pub mod Looks
 pub mod Needs
 pub mod Raised

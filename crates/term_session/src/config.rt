@@ -3,16 +3,18 @@ ghost use Rattle.behaviour_tree.specs.Data.{behaviour_of};
 ghost use Rattle.behaviour_tree.specs.PartsView.{service_view};
 ghost use Rattle.calculus.specs.After as spec;
 ghost use Rattle.calculus.specs.Names.{main};
+ghost use Rattle.calculus.specs.Start as starts;
 ghost use Rattle.calculus.specs.Tables.{empty};
 ghost use Rattle.handler_table.specs.View.{table_view};
+ghost use Rattle.running_terms.specs.Begins.{begun_view};
 ghost use Rattle.running_terms.specs.View.{term_view};
 ghost use Rattle.term_session.specs.Configs.{config_view};
 
-use behaviour_tree::{Service, standard};
+use behaviour_tree::{Behaviour, Service, standard};
 use handler_table::Table;
 use jolie_trees::Tree;
 use place_values::Memory;
-use running_terms::{Begun, Installed, ScopeState, Term, begin_both, boxed, normalize};
+use running_terms::{Begun, Installed, ScopeState, Term, begin, begin_both, boxed, normalize};
 use std::alloc::{AllocError, Global};
 
 /// What a session is at a moment.
@@ -38,7 +40,7 @@ pub fn outermost(alloc: Global) -> Installed
 pub fn first_config(alloc: Global, service: &Service) -> Result<Config, AllocError>
     ensures { IfOk result (λ c. config_view c ≡ spec.first_config (behaviour_of (service_view service.now))) }
 {
-    let Begun { form: body, next } = begin_both(alloc, &service.init, &service.main, 1)?;
+    let Begun { form: body, next } = begun(alloc, service)?;
     let installed = Box::new(alloc, outermost(alloc))?;
     let state = ScopeState::Live;
     let form = boxed(
@@ -59,6 +61,22 @@ pub fn first_config(alloc: Global, service: &Service) -> Result<Config, AllocErr
         },
         ended: false,
     })
+}
+
+/// How a service begins: its init, followed by its main. Where nothing is to be done first, its main begins at once.
+fn begun(alloc: Global, service: &Service) -> Result<Begun, AllocError>
+    ensures { IfOk result (λ b. begun_view b ≡ starts.begin (behaviour_of (service_view service.now)) 1) }
+{
+    match &service.init {
+        Behaviour::Nothing => {
+            let begun = begin(alloc, &service.main, 1)?;
+            Ok(begun)
+        }
+        _ => {
+            let begun = begin_both(alloc, &service.init, &service.main, 1)?;
+            Ok(begun)
+        }
+    }
 }
 
 impl Config {

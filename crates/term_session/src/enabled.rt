@@ -9,6 +9,7 @@ ghost use Rattle.term_session.specs.Asks as spec;
 ghost use Rattle.term_session.specs.Configs.{config_view};
 
 use crate::config::Config;
+use crate::glance::{Glance, foretold};
 use crate::needed::needed;
 use behaviour_tree::{Program, Strands};
 use place_values::Actor;
@@ -64,6 +65,7 @@ fn needing(
 }
 
 /// Whether a strand needs something.
+#[tactic(auto, using(crate::proofs::Foretelling::asks_some))]
 fn needs(
     alloc: Global,
     strand: u64,
@@ -73,10 +75,16 @@ fn needs(
 ) -> Result<bool, AllocError>
     ensures { IfOk result (λ b. b ≡ is_some (spec.needed (parts_of program.now) service (config_view config.now) strand)) }
 {
-    let actor = Actor {
-        program,
-        service,
-        strand,
-    };
-    Ok(needed(alloc, config, actor)?.is_some())
+    match foretold(config, strand) {
+        Glance::Asks => Ok(true),
+        Glance::Stores => Ok(true),
+        Glance::Unknown => {
+            let actor = Actor {
+                program,
+                service,
+                strand,
+            };
+            Ok(needed(alloc, config, actor)?.is_some())
+        }
+    }
 }

@@ -5,6 +5,7 @@ mod act;
 mod act_here;
 mod config;
 mod enabled;
+mod glance;
 mod look;
 mod needed;
 mod session;

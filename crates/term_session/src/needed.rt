@@ -7,6 +7,7 @@ ghost use Rattle.term_session.specs.Asks as spec;
 ghost use Rattle.term_session.specs.Configs.{config_view};
 
 use crate::config::{Config, outermost};
+use crate::glance::{Glance, foretold};
 use crate::look::{Looked, look};
 use behaviour_tree::Need;
 use place_events::Scene;
@@ -48,6 +49,21 @@ pub fn needed(
 
 /// What the event of a strand asks of the office, whatever that gives, or none where the strand has no event.
 pub fn need_of(alloc: Global, config: &Config, actor: Actor<'_>) -> Result<Option<Need>, AllocError>
+    ensures { IfOk result (λ o. MatchOption o (¬ HasEvent (parts_of actor.entry.program.now) actor.entry.service (config_view config.now) actor.entry.strand)
+        (λ need. HasEvent (parts_of actor.entry.program.now) actor.entry.service (config_view config.now) actor.entry.strand × ((g : Given) (d : DoneEvent) → after (parts_of actor.entry.program.now) actor.entry.service (config_view config.now) actor.entry.strand g ≡ Some d → d.need ≡ need))) }
+{
+    match foretold(config, actor.strand) {
+        Glance::Stores => Ok(Some(Need::Nothing)),
+        Glance::Asks | Glance::Unknown => evaluated_need(alloc, config, actor),
+    }
+}
+
+/// The same, for which values are evaluated.
+fn evaluated_need(
+    alloc: Global,
+    config: &Config,
+    actor: Actor<'_>,
+) -> Result<Option<Need>, AllocError>
     ensures { IfOk result (λ o. MatchOption o (¬ HasEvent (parts_of actor.entry.program.now) actor.entry.service (config_view config.now) actor.entry.strand)
         (λ need. HasEvent (parts_of actor.entry.program.now) actor.entry.service (config_view config.now) actor.entry.strand × ((g : Given) (d : DoneEvent) → after (parts_of actor.entry.program.now) actor.entry.service (config_view config.now) actor.entry.strand g ≡ Some d → d.need ≡ need))) }
 {
