@@ -1,0 +1,7 @@
+-- What a contract sees of sockets, which tell no bytes.
+use Rattle.std.specs.Prelude.{ℕ, Bool}
+
+-- a connection over a socket: how often a call of it has failed, and whether it is closed
+pub record SocketTold : Type 0 where
+  pub faults : ℕ
+  pub closed : Bool

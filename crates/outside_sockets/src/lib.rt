@@ -1,0 +1,11 @@
+//! A dialler and connections over the TCP sockets of the system. They count what fails, and tell no bytes.
+#![tactic(auto)]
+
+mod allowance;
+mod socket_dial;
+mod socket_wire;
+mod timed_stream;
+
+pub use socket_dial::SocketDial;
+pub use socket_wire::SocketWire;
+pub use timed_stream::TimedStream;

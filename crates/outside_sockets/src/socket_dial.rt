@@ -1,0 +1,103 @@
+ghost use Rattle.std.specs.Prelude.{◌≡◌, None};
+ghost use Rattle.outside_dials.specs.Dials.{traffic};
+
+use crate::allowance::Allowance;
+use crate::socket_wire::SocketWire;
+use crate::timed_stream::TimedStream;
+use outside_dials::Dial;
+use outside_traits::{Failed, Wire};
+use std::marker::Model;
+use std::net::{Net, TcpStream, ToSocketAddrs};
+use std::rt::Clock;
+use std::time::Duration;
+
+/// What the location of a socket begins with.
+const SCHEME: &str = "socket://";
+
+/// A dialler over the TCP sockets of the system, which tells its count of faults and nothing else.
+///
+/// A wire has so much time, from the moment at which it is dialled on: connecting, each read and each write fail where
+/// it is over, also where a peer sends its bytes one by one. What the system needs to look up the name of a host counts
+/// into it, but is not cut short.
+#[derive(Drop)]
+pub struct SocketDial<H: Net + Clock + Copy + Drop> {
+    host: H,
+    most: Duration,
+    faults: u64,
+}
+
+impl<H: Net + Clock + Copy + Drop> Model for SocketDial<H> {
+    ghost use Rattle.std.specs.Prelude.{ℕ};
+
+    ghost Value = { ℕ };
+
+    ghost view = { λ d. d.faults };
+}
+
+impl<H: Net + Clock + Copy + Drop> SocketDial<H> {
+    /// A dialler whose wires have so much time each.
+    pub fn new(host: H, most: Duration) -> SocketDial<H>
+        ensures { result ≡ 0 }
+    {
+        SocketDial {
+            host,
+            most,
+            faults: 0,
+        }
+    }
+}
+
+impl<H: Net + Clock + Copy + Drop> Dial for SocketDial<H> {
+    type W = SocketWire<TimedStream<H::Stream, H>>;
+
+    ghost blank = { traffic None None None 0 };
+
+    ghost dialled = { λ _. None };
+
+    ghost last = { λ _. None };
+
+    ghost faults = { λ faults. faults };
+
+    fn dial(&mut self, location: &str) -> Result<SocketWire<TimedStream<H::Stream, H>>, Failed> {
+        match connected(self.host, location, self.most) {
+            Some(stream) => Ok(SocketWire::new(stream)),
+            None => {
+                self.faults = self.faults.saturating_add(1);
+                Err(Failed)
+            }
+        }
+    }
+
+    fn back(&mut self, mut wire: SocketWire<TimedStream<H::Stream, H>>) {
+        wire.close();
+        if wire.faults() > 0 {
+            self.faults = self.faults.saturating_add(1);
+        }
+    }
+}
+
+/// A connection to the host and the port of a location, none where it is of another form or nobody answers there in time.
+fn connected<H: Net + Clock + Copy + Drop>(
+    host: H,
+    location: &str,
+    most: Duration,
+) -> Option<TimedStream<H::Stream, H>> {
+    let allowance = Allowance::new(host, most).ok()?;
+    let address = address_of(location)?;
+    for address in address.to_socket_addrs(&host).ok()? {
+        let left = allowance.left().ok()?;
+        if let Ok(stream) = TcpStream::connect_timeout(&host, &address, left) {
+            return Some(TimedStream::new(stream, allowance));
+        }
+    }
+    None
+}
+
+/// The host and the port of a location.
+fn address_of(location: &str) -> Option<&str> {
+    let rest = location.strip_prefix(SCHEME)?;
+    match rest.split_once('/') {
+        Some((address, _)) => Some(address),
+        None => Some(rest),
+    }
+}

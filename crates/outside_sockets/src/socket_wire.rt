@@ -1,0 +1,126 @@
+ghost use Rattle.std.specs.Prelude.{◌≡◌, ◌<◌, false, None, IfOk, length};
+ghost use Rattle.std.specs.Io.{ReadsAtMost, WritesAtMost};
+
+use outside_traits::{Failed, Wire};
+use std::io::{ErrorKind, Read, Write};
+use std::marker::Model;
+use std::net::{OpenStream, Shutdown};
+
+/// A connection over a socket, whose reads and writes wait for the peer.
+#[derive(Drop)]
+pub struct SocketWire<S: Read + Write + OpenStream + Drop> {
+    stream: Option<S>,
+    faults: u64,
+}
+
+impl<S: Read + Write + OpenStream + Drop> Model for SocketWire<S> {
+    ghost use Rattle.std.specs.Prelude.{is_none};
+    ghost use Rattle.outside_sockets.specs.Sockets.{SocketTold};
+
+    ghost Value = { SocketTold };
+
+    ghost view = { λ w. record { faults = w.faults; closed = is_none w.stream } };
+}
+
+impl<S: Read + Write + OpenStream + Drop> SocketWire<S> {
+    /// A connection over a stream, of which no call has failed.
+    pub fn new(stream: S) -> SocketWire<S>
+        ensures faults { result.faults ≡ 0 }
+        ensures closed { result.closed ≡ false }
+    {
+        SocketWire {
+            stream: Some(stream),
+            faults: 0,
+        }
+    }
+
+    /// How often a call has failed.
+    pub fn faults(&self) -> u64
+        ensures { result ≡ self.now.faults }
+    {
+        self.faults
+    }
+}
+
+impl<S: Read + Write + OpenStream + Drop> Wire for SocketWire<S> {
+    ghost given = { λ _. None };
+
+    ghost left = { λ _. None };
+
+    ghost taken = { λ _. None };
+
+    ghost calls = { λ _. None };
+
+    ghost faults = { λ w. w.faults };
+
+    ghost closed = { λ w. w.closed };
+
+    fn read(&mut self, into: &mut [u8]) -> Result<usize, Failed> {
+        let Some(stream) = &mut self.stream else {
+            return Ok(0);
+        };
+        let answer = read_uninterrupted(stream, into);
+        if answer.is_err() {
+            self.faults = self.faults.saturating_add(1);
+        }
+        answer
+    }
+
+    fn write(&mut self, from: &[u8]) -> Result<usize, Failed> {
+        let answer = match &mut self.stream {
+            Some(stream) => write_uninterrupted(stream, from),
+            None => Err(Failed),
+        };
+        if answer.is_err() {
+            self.faults = self.faults.saturating_add(1);
+        }
+        answer
+    }
+
+    fn close(&mut self) {
+        if let Some(stream) = &self.stream {
+            // A peer that has gone already makes it fail, which changes nothing.
+            let _ = stream.shutdown(Shutdown::Both);
+        }
+        self.stream = None;
+    }
+}
+
+/// One read, tried again where a signal interrupts it.
+fn read_uninterrupted<S: Read>(stream: &mut S, into: &mut [u8]) -> Result<usize, Failed>
+    ensures bound { ReadsAtMost result into.new }
+{
+    for _ in 0..u64::MAX {
+        match stream.read(into) {
+            Ok(count) => return Ok(count),
+            Err(error) => {
+                if error.kind() != ErrorKind::Interrupted {
+                    return Err(Failed);
+                }
+            }
+        }
+    }
+    Err(Failed)
+}
+
+/// One write, tried again where a signal interrupts it. A write that takes nothing of a piece has failed.
+fn write_uninterrupted<S: Write>(stream: &mut S, from: &[u8]) -> Result<usize, Failed>
+    ensures bound { WritesAtMost result from.now }
+    ensures some { IfOk result (λ count. 0 < length from.now → 0 < count) }
+{
+    if from.is_empty() {
+        return Ok(0);
+    }
+    for _ in 0..u64::MAX {
+        match stream.write(from) {
+            Ok(0) => return Err(Failed),
+            Ok(count) => return Ok(count),
+            Err(error) => {
+                if error.kind() != ErrorKind::Interrupted {
+                    return Err(Failed);
+                }
+            }
+        }
+    }
+    Err(Failed)
+}
