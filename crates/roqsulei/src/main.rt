@@ -4,17 +4,24 @@
 ghost use Rattle.std.specs.Prelude.{◌<◌, IfOk, length};
 
 use command_words::status::{OUT_OF_MEMORY, USAGE_ERROR};
+use http_link::HttpLink;
 use jolie_main::run;
-use outside_links::NoLink;
+use outside_sockets::SocketDial;
 use outside_traits::{Inputs, Outputs, Storage};
 use std::alloc::{AllocError, Global};
+use std::net::Net;
 use std::process::ExitCode;
+use std::rt::Clock;
+use std::time::Duration;
 use std::{env, io};
 
 /// What is wrong with words of which one is no UTF-8.
 const NOT_UTF8: &str = "error: invalid UTF-8 was detected in one or more arguments\n\n\
     Usage: roqsulei <COMMAND>\n\n\
     For more information, try '--help'.";
+
+/// How many seconds a call to a service elsewhere may take.
+const LONGEST_TRIP: u64 = 30;
 
 fn main(rt: HostRuntime) -> ExitCode {
     let alloc = rt.alloc();
@@ -26,7 +33,7 @@ fn main(rt: HostRuntime) -> ExitCode {
     let mut input = Inputs::new(rt.stdin());
     let mut output = Outputs::new(rt.stdout());
     let mut notes = Outputs::new(rt.stderr());
-    let mut links = match no_links(alloc) {
+    let mut links = match links(alloc, &rt) {
         Ok(links) => links,
         Err(_) => return ExitCode::from(OUT_OF_MEMORY),
     };
@@ -44,12 +51,16 @@ fn main(rt: HostRuntime) -> ExitCode {
     }
 }
 
-/// The links: one whose trips fail, until there is one over HTTP.
-fn no_links(alloc: Global) -> Result<Vec<NoLink>, AllocError>
+/// The links: one, over HTTP and the sockets of the system.
+fn links<H: Net + Clock + Copy + Drop>(
+    alloc: Global,
+    host: H,
+) -> Result<Vec<HttpLink<SocketDial<H>>>, AllocError>
     ensures { IfOk result (λ links. 0 < length links.items) }
 {
+    let dial = SocketDial::new(host, Duration::from_secs(LONGEST_TRIP));
     let mut links = Vec::new(alloc);
-    links.push(NoLink::new())?;
+    links.push(HttpLink::new(alloc, dial))?;
     Ok(links)
 }
 
