@@ -2,13 +2,11 @@
 #![tactic(auto)]
 
 use behaviour_tree::{Program, TypeDef};
-use jolie_parse::parse;
-use jolie_tokens::lex;
 use jolie_trees::{Path, Root, Text, Tree};
 use message_types::{conforms, first_breach, widen};
-use service_check::check;
 use std::alloc::{AllocError, Global};
 use std::io;
+use test_programs::with_program;
 use test_rows::{Report, Row, rows, tables};
 use test_values::{read_tree, read_type};
 
@@ -18,21 +16,23 @@ const TYPES: &[u8] =
 
 fn main(rt: HostRuntime) -> anyhow::Result<()> {
     let text = tables(&rt)?;
-    let program = program(rt.alloc())?;
-    let mut report = Report::new(io::writer(&rt));
-    for row in &rows(rt.alloc(), text.as_str())? {
-        let have = judged(rt.alloc(), row, &program)?;
+    with_program(
+        rt.alloc(),
+        TYPES,
+        |program| tried(&rt, text.as_str(), program),
+    )
+}
+
+/// Says of each row whether it is as expected.
+fn tried(rt: &HostRuntime, text: &str, program: &Program) -> anyhow::Result<()> {
+    let mut report = Report::new(io::writer(rt));
+    for row in &rows(rt.alloc(), text)? {
+        let have = judged(rt.alloc(), row, program)?;
         let want = wanted(rt.alloc(), row)?;
         report.row(row, have.as_str(), want.as_str())?;
     }
     report.end()?;
     Ok(())
-}
-
-fn program(alloc: Global) -> anyhow::Result<Program> {
-    let tokens = lex(alloc, TYPES)?;
-    let file = parse(alloc, TYPES, &tokens)?;
-    Ok(check(alloc, &file)?)
 }
 
 /// What is found of the tree of a row.
