@@ -7,11 +7,9 @@ mod posts;
 use crate::answers::{answer, batch, early_answer};
 use crate::posts::{long_text, posted, shown_tree, tree_of_params};
 use behaviour_tree::Program;
-use jolie_parse::parse;
-use jolie_tokens::lex;
-use service_check::check;
 use std::alloc::Global;
 use std::io;
+use test_programs::with_program;
 use test_rows::{Report, Row, rows, tables};
 
 /// The types of the program: one with a vector, and the one before it.
@@ -19,21 +17,23 @@ const TYPES: &[u8] = b"type Many: void { a*: int } type Same: Many service S { m
 
 fn main(rt: HostRuntime) -> anyhow::Result<()> {
     let text = tables(&rt)?;
-    let program = program(rt.alloc())?;
-    let mut report = Report::new(io::writer(&rt));
-    for row in &rows(rt.alloc(), text.as_str())? {
-        let have = told(rt.alloc(), row, &program)?;
+    with_program(
+        rt.alloc(),
+        TYPES,
+        |program| tried(&rt, text.as_str(), program),
+    )
+}
+
+/// Says of each row whether it is as expected.
+fn tried(rt: &HostRuntime, text: &str, program: &Program) -> anyhow::Result<()> {
+    let mut report = Report::new(io::writer(rt));
+    for row in &rows(rt.alloc(), text)? {
+        let have = told(rt.alloc(), row, program)?;
         let want = wanted(rt.alloc(), row)?;
         report.row(row, have.as_str(), want.as_str())?;
     }
     report.end()?;
     Ok(())
-}
-
-fn program(alloc: Global) -> anyhow::Result<Program> {
-    let tokens = lex(alloc, TYPES)?;
-    let file = parse(alloc, TYPES, &tokens)?;
-    Ok(check(alloc, &file)?)
 }
 
 /// What the call of a row gives.
