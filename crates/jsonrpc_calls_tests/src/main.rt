@@ -7,11 +7,9 @@ mod sent;
 use crate::outcomes::{heard_of_trip, outcome_wanted, said};
 use crate::sent::{line_of, location_of, text_sent};
 use behaviour_tree::Program;
-use jolie_parse::parse;
-use jolie_tokens::lex;
-use service_check::check;
 use std::alloc::Global;
 use std::io;
+use test_programs::with_program;
 use test_rows::{Report, Row, rows, tables};
 
 /// A service with a port to call in, number 0, and one to call out, number 1. The latter's operations are `add`,
@@ -28,22 +26,21 @@ const PROGRAM: &str = "\
 
 fn main(rt: HostRuntime) -> anyhow::Result<()> {
     let text = tables(&rt)?;
-    let program = program(rt.alloc())?;
-    let mut report = Report::new(io::writer(&rt));
-    for row in &rows(rt.alloc(), text.as_str())? {
-        let have = told(rt.alloc(), row, &program)?;
+    with_program(rt.alloc(), PROGRAM.as_bytes(), |program| {
+        tried(&rt, text.as_str(), program)
+    })
+}
+
+/// Says of each row whether it is as expected.
+fn tried(rt: &HostRuntime, text: &str, program: &Program) -> anyhow::Result<()> {
+    let mut report = Report::new(io::writer(rt));
+    for row in &rows(rt.alloc(), text)? {
+        let have = told(rt.alloc(), row, program)?;
         let want = wanted(rt.alloc(), row)?;
         report.row(row, have.as_str(), want.as_str())?;
     }
     report.end()?;
     Ok(())
-}
-
-fn program(alloc: Global) -> anyhow::Result<Program> {
-    let text = PROGRAM.as_bytes();
-    let tokens = lex(alloc, text)?;
-    let file = parse(alloc, text, &tokens)?;
-    Ok(check(alloc, &file)?)
 }
 
 /// What the call of a row gives.
