@@ -6,12 +6,13 @@
 //! of its program `means`.
 #![tactic(auto)]
 
-mod answer;
 mod outline;
 
-use crate::answer::{outlined, verdict};
+use crate::outline::Outline;
+use behaviour_tree::Program;
 use std::alloc::{AllocError, Global};
 use std::io;
+use test_programs::with_program;
 use test_rows::{Report, Row, TableError, rows, tables};
 
 fn main(rt: HostRuntime) -> anyhow::Result<()> {
@@ -46,20 +47,41 @@ fn refusal(alloc: Global, row: &Row<'_>) -> Result<String, TableError> {
     Ok(format!(in alloc; "{name} {at}")?)
 }
 
-/// What comes of the row's text.
-fn given(alloc: Global, row: &Row<'_>) -> Result<String, TableError> {
+/// What comes of the row's text: its refusal, or what is told of its program.
+fn given(alloc: Global, row: &Row<'_>) -> anyhow::Result<String> {
     let marked = framed(alloc, row)?;
     let text = unmarked(alloc, marked.as_str())?;
-    if row.has("part") {
-        return part_of(alloc, row, text.as_str());
+    let answer = with_program(
+        alloc,
+        text.as_str().as_bytes(),
+        |program| told(alloc, row, program),
+    );
+    match answer {
+        Ok(words) => Ok(words),
+        Err(refusal) => Ok(format!(in alloc; "{refusal}")?),
     }
-    Ok(verdict(alloc, text.as_str().as_bytes())?)
 }
 
-fn part_of(alloc: Global, row: &Row<'_>, text: &str) -> Result<String, TableError> {
+/// That the row's text is accepted, or the part of its program that the row asks for.
+fn told(alloc: Global, row: &Row<'_>, program: &Program) -> anyhow::Result<String> {
+    if !row.has("part") {
+        return Ok(String::from_str(alloc, "accepted")?);
+    }
     let part = row.text(alloc, "part")?;
     let number = row.number(alloc, "service")?;
-    Ok(outlined(alloc, text.as_bytes(), part.as_str(), number)?)
+    Ok(outlined(alloc, program, part.as_str(), number)?)
+}
+
+/// A part of a program as words.
+fn outlined(
+    alloc: Global,
+    program: &Program,
+    part: &str,
+    number: u32,
+) -> Result<String, AllocError> {
+    let mut outline = Outline::new(alloc);
+    outline.part(program.parts(), part, number as usize);
+    outline.finished()
 }
 
 /// The row's text in its frame.

@@ -9,11 +9,12 @@ use behaviour_tree::{Parts, Service};
 use jolie_trees::Text;
 use std::alloc::{AllocError, Global};
 
-/// The words so far.
+/// The words so far, and whether memory sufficed for all of them.
 #[derive(Drop)]
 pub struct Outline {
     alloc: Global,
     text: String,
+    ended: Result<(), AllocError>,
 }
 
 impl Outline {
@@ -21,16 +22,25 @@ impl Outline {
         Outline {
             alloc,
             text: String::new(alloc),
+            ended: Ok(()),
         }
     }
 
-    pub fn finished(self) -> String {
-        let Outline { alloc: _, text } = self;
-        text
+    /// The words, where memory sufficed.
+    pub fn finished(self) -> Result<String, AllocError> {
+        let Outline {
+            alloc: _,
+            text,
+            ended,
+        } = self;
+        match ended {
+            Ok(()) => Ok(text),
+            Err(error) => Err(error),
+        }
     }
 
     /// The part of this name, which may be one of the service of this number.
-    pub fn part(&mut self, parts: &Parts, name: &str, number: usize) -> Result<(), AllocError> {
+    pub fn part(&mut self, parts: &Parts, name: &str, number: usize) {
         match name {
             "types" => self.types(&parts.types),
             "interfaces" => self.interfaces(&parts.interfaces),
@@ -42,7 +52,7 @@ impl Outline {
         }
     }
 
-    fn clause(&mut self, service: &Service, name: &str) -> Result<(), AllocError> {
+    fn clause(&mut self, service: &Service, name: &str) {
         match name {
             "execution" => self.execution(service.execution),
             "ports" => self.ports(&service.ports),
@@ -53,34 +63,47 @@ impl Outline {
         }
     }
 
-    fn word(&mut self, word: &str) -> Result<(), AllocError> {
-        if !self.text.as_str().is_empty() {
-            self.text.push_str(" ")?;
+    fn word(&mut self, word: &str) {
+        if let Err(error) = added(&mut self.text, word) {
+            self.ended = Err(error);
         }
-        self.text.push_str(word)
     }
 
-    fn number(&mut self, number: u32) -> Result<(), AllocError> {
-        let digits = number.to_string(self.alloc)?;
-        self.word(digits.as_str())
+    /// A word that is made first.
+    fn made(&mut self, word: Result<String, AllocError>) {
+        match word {
+            Ok(word) => self.word(word.as_str()),
+            Err(error) => self.ended = Err(error),
+        }
     }
 
-    fn numbers(&mut self, numbers: &Vec<u32>) -> Result<(), AllocError> {
+    fn number(&mut self, number: u32) {
+        let digits = number.to_string(self.alloc);
+        self.made(digits);
+    }
+
+    fn numbers(&mut self, numbers: &Vec<u32>) {
         for number in numbers {
-            self.number(*number)?;
+            self.number(*number);
         }
-        Ok(())
     }
 
-    fn texts(&mut self, texts: &Vec<Text>) -> Result<(), AllocError> {
+    fn texts(&mut self, texts: &Vec<Text>) {
         for text in texts {
-            self.word(text.as_str())?;
+            self.word(text.as_str());
         }
-        Ok(())
     }
 
-    fn dotted(&mut self, name: &Text) -> Result<(), AllocError> {
-        let dotted = format!(in self.alloc; ".{}", name.as_str())?;
-        self.word(dotted.as_str())
+    fn dotted(&mut self, name: &Text) {
+        let dotted = format!(in self.alloc; ".{}", name.as_str());
+        self.made(dotted);
     }
+}
+
+/// Adds a word, with a blank before it where there are others.
+fn added(text: &mut String, word: &str) -> Result<(), AllocError> {
+    if !text.as_str().is_empty() {
+        text.push_str(" ")?;
+    }
+    text.push_str(word)
 }

@@ -5,10 +5,9 @@ use behaviour_tree::{
     CastKind, CompareOp, Expr, Member, MulOp, MulPart, PathExpr, PathStep, SumOp, SumPart,
 };
 use jolie_trees::{Root, Text};
-use std::alloc::AllocError;
 
 impl Outline {
-    fn root(&mut self, root: &Root) -> Result<(), AllocError> {
+    fn root(&mut self, root: &Root) {
         match root {
             Root::Void => self.word("void"),
             Root::Bool(true) => self.word("true"),
@@ -19,167 +18,162 @@ impl Outline {
         }
     }
 
-    fn int(&mut self, n: i32) -> Result<(), AllocError> {
-        let digits = n.to_string(self.alloc)?;
-        self.word(digits.as_str())
+    fn int(&mut self, n: i32) {
+        let digits = n.to_string(self.alloc);
+        self.made(digits);
     }
 
-    fn long(&mut self, n: i64) -> Result<(), AllocError> {
-        let digits = format!(in self.alloc; "{n}L")?;
-        self.word(digits.as_str())
+    fn long(&mut self, n: i64) {
+        let digits = format!(in self.alloc; "{n}L");
+        self.made(digits);
     }
 
-    fn quoted(&mut self, text: &Text) -> Result<(), AllocError> {
-        let quoted = format!(in self.alloc; "'{}'", text.as_str())?;
-        self.word(quoted.as_str())
+    fn quoted(&mut self, text: &Text) {
+        let quoted = format!(in self.alloc; "'{}'", text.as_str());
+        self.made(quoted);
     }
 
     #[cycle(expression)]
-    pub(super) fn path(&mut self, path: &PathExpr) -> Result<(), AllocError> {
+    pub(super) fn path(&mut self, path: &PathExpr) {
         for step in &path.steps {
-            self.step(step)?;
+            self.step(step);
         }
-        Ok(())
     }
 
     #[cycle(expression)]
-    fn step(&mut self, step: &PathStep) -> Result<(), AllocError> {
-        self.dotted(&step.name)?;
+    fn step(&mut self, step: &PathStep) {
+        self.dotted(&step.name);
         match &step.index {
             Some(index) => {
-                self.word("[")?;
-                self.expr(index)?;
-                self.word("]")
+                self.word("[");
+                self.expr(index);
+                self.word("]");
             }
-            None => Ok(()),
+            None => {}
         }
     }
 
     #[cycle(expression)]
-    pub(super) fn expr(&mut self, expr: &Expr) -> Result<(), AllocError> {
+    pub(super) fn expr(&mut self, expr: &Expr) {
         match expr {
             Expr::Value(root) => self.root(root),
             Expr::Path(path) => self.path(path),
             Expr::Count(path) => {
-                self.word("#")?;
-                self.path(path)
+                self.word("#");
+                self.path(path);
             }
             Expr::IsDefined(path) => {
-                self.word("is_defined")?;
-                self.path(path)
+                self.word("is_defined");
+                self.path(path);
             }
             Expr::Literal(members) => {
-                self.word("( literal")?;
-                self.members(members)?;
-                self.word(")")
+                self.word("( literal");
+                self.members(members);
+                self.word(")");
             }
             Expr::Or(operands) => {
-                self.word("( or")?;
-                self.operands(operands)?;
-                self.word(")")
+                self.word("( or");
+                self.operands(operands);
+                self.word(")");
             }
             Expr::And(operands) => {
-                self.word("( and")?;
-                self.operands(operands)?;
-                self.word(")")
+                self.word("( and");
+                self.operands(operands);
+                self.word(")");
             }
             Expr::Compare { left, op, right } => {
-                self.word("(")?;
-                self.comparison(*op)?;
-                self.expr(left)?;
-                self.expr(right)?;
-                self.word(")")
+                self.word("(");
+                self.comparison(*op);
+                self.expr(left);
+                self.expr(right);
+                self.word(")");
             }
             Expr::Sum { first, rest } => {
-                self.word("( sum")?;
-                self.expr(first)?;
-                self.sum_parts(rest)?;
-                self.word(")")
+                self.word("( sum");
+                self.expr(first);
+                self.sum_parts(rest);
+                self.word(")");
             }
             Expr::Product { first, rest } => {
-                self.word("( product")?;
-                self.expr(first)?;
-                self.mul_parts(rest)?;
-                self.word(")")
+                self.word("( product");
+                self.expr(first);
+                self.mul_parts(rest);
+                self.word(")");
             }
             Expr::Minus(operand) => {
-                self.word("( minus")?;
-                self.expr(operand)?;
-                self.word(")")
+                self.word("( minus");
+                self.expr(operand);
+                self.word(")");
             }
             Expr::Not(operand) => {
-                self.word("( not")?;
-                self.expr(operand)?;
-                self.word(")")
+                self.word("( not");
+                self.expr(operand);
+                self.word(")");
             }
             Expr::Cast { to, value } => {
-                self.word("(")?;
-                self.cast(*to)?;
-                self.expr(value)?;
-                self.word(")")
+                self.word("(");
+                self.cast(*to);
+                self.expr(value);
+                self.word(")");
             }
         }
     }
 
     #[cycle(expression)]
-    fn operands(&mut self, operands: &Vec<Expr>) -> Result<(), AllocError> {
+    fn operands(&mut self, operands: &Vec<Expr>) {
         for operand in operands {
-            self.expr(operand)?;
+            self.expr(operand);
         }
-        Ok(())
     }
 
     #[cycle(expression)]
-    fn members(&mut self, members: &Vec<Member>) -> Result<(), AllocError> {
+    fn members(&mut self, members: &Vec<Member>) {
         for member in members {
-            self.member(member)?;
+            self.member(member);
         }
-        Ok(())
     }
 
     #[cycle(expression)]
-    fn member(&mut self, member: &Member) -> Result<(), AllocError> {
-        self.word(member.name.as_str())?;
-        self.word("=")?;
-        self.expr(&member.value)
+    fn member(&mut self, member: &Member) {
+        self.word(member.name.as_str());
+        self.word("=");
+        self.expr(&member.value);
     }
 
     #[cycle(expression)]
-    fn sum_parts(&mut self, parts: &Vec<SumPart>) -> Result<(), AllocError> {
+    fn sum_parts(&mut self, parts: &Vec<SumPart>) {
         for part in parts {
-            self.sum_part(part)?;
+            self.sum_part(part);
         }
-        Ok(())
     }
 
     #[cycle(expression)]
-    fn sum_part(&mut self, part: &SumPart) -> Result<(), AllocError> {
+    fn sum_part(&mut self, part: &SumPart) {
         self.word(match part.op {
             SumOp::Plus => "+",
             SumOp::Minus => "-",
-        })?;
-        self.expr(&part.value)
+        });
+        self.expr(&part.value);
     }
 
     #[cycle(expression)]
-    fn mul_parts(&mut self, parts: &Vec<MulPart>) -> Result<(), AllocError> {
+    fn mul_parts(&mut self, parts: &Vec<MulPart>) {
         for part in parts {
-            self.mul_part(part)?;
+            self.mul_part(part);
         }
-        Ok(())
     }
 
     #[cycle(expression)]
-    fn mul_part(&mut self, part: &MulPart) -> Result<(), AllocError> {
+    fn mul_part(&mut self, part: &MulPart) {
         self.word(match part.op {
             MulOp::Times => "*",
             MulOp::Over => "/",
             MulOp::Rest => "%",
-        })?;
-        self.expr(&part.value)
+        });
+        self.expr(&part.value);
     }
 
-    fn comparison(&mut self, op: CompareOp) -> Result<(), AllocError> {
+    fn comparison(&mut self, op: CompareOp) {
         self.word(match op {
             CompareOp::Equal => "==",
             CompareOp::Unequal => "!=",
@@ -190,7 +184,7 @@ impl Outline {
         })
     }
 
-    fn cast(&mut self, to: CastKind) -> Result<(), AllocError> {
+    fn cast(&mut self, to: CastKind) {
         self.word(match to {
             CastKind::Int => "int",
             CastKind::Long => "long",

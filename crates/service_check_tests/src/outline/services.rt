@@ -2,61 +2,57 @@
 
 use crate::outline::Outline;
 use behaviour_tree::{Alias, CorrelationSet, Execution, Port, SetVariable};
-use std::alloc::AllocError;
 
 impl Outline {
-    pub(super) fn execution(&mut self, execution: Execution) -> Result<(), AllocError> {
+    pub(super) fn execution(&mut self, execution: Execution) {
         self.word(match execution {
             Execution::Concurrent => "concurrent",
             Execution::Single => "single",
         })
     }
 
-    pub(super) fn ports(&mut self, ports: &Vec<Port>) -> Result<(), AllocError> {
+    pub(super) fn ports(&mut self, ports: &Vec<Port>) {
         for port in ports {
-            self.port(port)?;
+            self.port(port);
         }
-        Ok(())
     }
 
-    fn port(&mut self, port: &Port) -> Result<(), AllocError> {
-        self.word("(")?;
-        self.word(if port.input { "in" } else { "out" })?;
-        self.word(port.name.as_str())?;
-        self.word(port.location.as_str())?;
-        self.numbers(&port.interfaces)?;
-        self.word(")")
+    fn port(&mut self, port: &Port) {
+        self.word("(");
+        self.word(if port.input { "in" } else { "out" });
+        self.word(port.name.as_str());
+        self.word(port.location.as_str());
+        self.numbers(&port.interfaces);
+        self.word(")");
     }
 
-    pub(super) fn sets(&mut self, sets: &Vec<CorrelationSet>) -> Result<(), AllocError> {
+    pub(super) fn sets(&mut self, sets: &Vec<CorrelationSet>) {
         for set in sets {
-            self.set(set)?;
+            self.set(set);
         }
-        Ok(())
     }
 
-    fn set(&mut self, set: &CorrelationSet) -> Result<(), AllocError> {
-        self.word("(")?;
+    fn set(&mut self, set: &CorrelationSet) {
+        self.word("(");
         for variable in &set.variables {
-            self.variable(variable)?;
+            self.variable(variable);
         }
-        self.word(")")
+        self.word(")");
     }
 
-    fn variable(&mut self, variable: &SetVariable) -> Result<(), AllocError> {
-        self.word("(")?;
-        self.word(variable.name.as_str())?;
+    fn variable(&mut self, variable: &SetVariable) {
+        self.word("(");
+        self.word(variable.name.as_str());
         for alias in &variable.aliases {
-            self.alias(alias)?;
+            self.alias(alias);
         }
-        self.word(")")
+        self.word(")");
     }
 
-    fn alias(&mut self, alias: &Alias) -> Result<(), AllocError> {
-        self.number(alias.ty)?;
+    fn alias(&mut self, alias: &Alias) {
+        self.number(alias.ty);
         for name in &alias.path {
-            self.dotted(name)?;
+            self.dotted(name);
         }
-        Ok(())
     }
 }
