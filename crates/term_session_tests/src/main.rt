@@ -17,12 +17,10 @@ mod values;
 
 use crate::play::played;
 use behaviour_tree::Program;
-use jolie_parse::parse;
-use jolie_tokens::lex;
-use service_check::check;
 use std::alloc::Global;
 use std::io;
 use term_session::TermSession;
+use test_programs::with_program;
 use test_rows::{Report, Row, rows, tables};
 
 fn main(rt: HostRuntime) -> anyhow::Result<()> {
@@ -40,16 +38,10 @@ fn main(rt: HostRuntime) -> anyhow::Result<()> {
 /// What the session of a row answers to the lines.
 fn told(alloc: Global, row: &Row<'_>, lines: &str) -> anyhow::Result<String> {
     let text = row.bytes(alloc, "program")?;
-    let program = program(alloc, text.as_slice())?;
     let service = row.number(alloc, "service")?;
-    told_of_service(alloc, &program, service, lines)
-}
-
-/// The program of a text.
-fn program(alloc: Global, text: &[u8]) -> anyhow::Result<Program> {
-    let tokens = lex(alloc, text)?;
-    let file = parse(alloc, text, &tokens)?;
-    Ok(check(alloc, &file)?)
+    with_program(alloc, text.as_slice(), |program| {
+        told_of_service(alloc, program, service, lines)
+    })
 }
 
 /// What a session of a service answers to the lines.
