@@ -92,8 +92,6 @@ done
 for kind in cut_body cut_head no_byte no_reading resets nobody; do
     asks "$kind" "$(fault IOException null)"
 done
-row 'a location without a port' "$(asked socket://127.0.0.1)" "$(fault IOException null)"
-row 'a location whose port is no number' "$(asked socket://127.0.0.1:x/calls)" "$(fault IOException null)"
 row 'a host that has no address' "$(asked socket://nobody.invalid:9000)" "$(fault IOException null)"
 
 # ---- what goes out
