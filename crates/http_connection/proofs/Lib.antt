@@ -1,0 +1,4 @@
+pub mod Histories
+pub mod Passing
+pub mod Words
+pub mod Calls

@@ -1,0 +1,650 @@
+-- What each step of a connection passes on.
+use Rattle.std.proofs.Common.{◌≡◌, ◌≤◌, inl, inr, ℕ, Bool, true, false, ltb, List, [], ◌∷◌, ◌++◌, length, take, Some, None, Result, Ok, Err, IsErr, OnErr, MatchResult, sym, refl, ap, ◌∙◌, subst, arith, append-nil}
+use Rattle.std.specs.Prelude.{Option, IfSome}
+use Rattle.std.proofs.lemmas.Bool.{lt-ltb, le-ltb, cases_lt}
+use Rattle.std.proofs.lemmas.List.{take_all}
+use Rattle.std.specs.Io.{StartsWith}
+use Rattle.std.specs.Io.KnownBytes.{Appends, Consumes, Keeps, IsAtEnd}
+use Rattle.std.proofs.KnownBytes.{Appends-nil, Appends-trans, Appends-kept, Consumes-nil, Consumes-trans, Consumes-kept}
+use Rattle.std.proofs.Math.Seq.{take-append_seam}
+use Rattle.outside_traits.specs.Causes.{Rose}
+use Rattle.http_port.specs.Feeding.{Open, Feeds}
+use Rattle.http_port.specs.Serving.{bodies_in}
+use Rattle.http_port.specs.Talk.{answer}
+use Rattle.http_port.specs.declared.head_reader.Fed.{Fed}
+use Rattle.http_port.specs.declared.head_reader.Fed.TheVariants.{NotYet, Interim, Request, Refused}
+use Rattle.http_connection.specs.declared.stage.Stage.TheVariants as Stages
+use Rattle.http_connection.specs.declared.stage.Ending.{Ending}
+use Rattle.http_connection.specs.declared.stage.Ending.TheVariants as Ends
+use Rattle.http_connection.specs.declared.stage.Standing.{Standing}
+use Rattle.http_connection.specs.declared.stage.Standing.TheVariants as Stands
+use Rattle.http_connection.specs.Stages.{stage_behind, stage_of, is_waiting, MayBeTold, IsOver, IsBehindAsking}
+use Rattle.http_connection.specs.Seen.{Line, Seen}
+use Rattle.http_connection.specs.Talking.{log, log_of, IsAnswered, HasGiven, due, told_to, Closes, HasWritten, HasAsked, Passed, IsOpen, IsShut, WireTells, IsTalking, handed}
+use Rattle.http_connection.specs.Steps.{HandsOut, owed_in, is_interim, Takes, Sends, Finishes, IsCarried, IsGoing, IsFed}
+use Rattle.http_connection.proofs.Histories.{LetsGo, answered_all}
+
+-- ---- what stays as it was
+
+-- a connection is as it was, but for what it does next and for its reader
+pub record Stays (was now : Seen) : Type 0 where
+  pub line : now.line ≡ was.line
+  pub read : now.kept.read.items ≡ was.kept.read.items
+  pub written : now.kept.written.items ≡ was.kept.written.items
+
+pub carried_on : (first : Line) (was now : Seen) → IsCarried first was → Stays was now → IsCarried first now
+carried_on first was now c s = record {
+  given = subst (λ (l : Line). Appends first.given l.given now.kept.read.items) (sym s.line)
+      (subst (Appends first.given was.line.given) (sym s.read) c.given);
+  taken = subst (λ (l : Line). Appends first.taken l.taken now.kept.written.items) (sym s.line)
+      (subst (Appends first.taken was.line.taken) (sym s.written) c.taken);
+  wire = subst (IsOpen first now.kept.read.items) (sym s.line) (subst (λ l. IsOpen first l was.line) (sym s.read) c.wire);
+}
+
+same_log : (was now : Seen) → Stays was now → (bodies : List (List ℕ)) (texts : List (Option (List ℕ))) → log_of was bodies texts ≡ log_of now bodies texts
+same_log was now s bodies texts =
+    ap (λ r. log r was.kept.written.items bodies texts) (sym s.read) ∙ ap (λ w. log now.kept.read.items w bodies texts) (sym s.written)
+
+pub fed_on : (first : Line) (was now : Seen) (last : Fed) (bodies : List (List ℕ)) (texts : List (Option (List ℕ)))
+    → IsFed first was last bodies texts → Stays was now → now.kept.reader ≡ was.kept.reader → IsFed first now last bodies texts
+fed_on first was now last bodies texts f s same = record {
+  carried = carried_on first was now f.carried s;
+  given = subst (λ p. HasGiven last p (log_of now bodies texts)) (sym same)
+      (subst (HasGiven last was.kept.reader) (same_log was now s bodies texts) f.given);
+}
+
+-- the reader was fed the piece that was read
+pub fed_now : (first : Line) (was now : Seen) (piece : List ℕ) (last : Fed) (bodies : List (List ℕ)) (texts : List (Option (List ℕ)))
+    → IsGoing first was piece bodies texts → Stays was now → Feeds was.kept.reader piece last now.kept.reader → IsFed first now last bodies texts
+fed_now first was now piece last bodies texts g s feeds = record {
+  carried = carried_on first was now g.carried s;
+  given = record {
+    early = g.early;
+    piece = piece;
+    before = was.kept.reader;
+    whole = s.read ∙ g.whole;
+    answered = subst (λ w. IsAnswered was.kept.reader (log g.early w bodies texts)) (sym s.written) g.answered;
+    feeds = feeds;
+  };
+}
+
+-- ---- how it stands then
+
+-- what the wire tells where it is open
+pub talks_so : (first : Line) (now : Seen) (bodies : List (List ℕ)) (texts : List (Option (List ℕ))) (next : Standing) → now.kept.next ≡ next
+    → IsCarried first now → WireTells (stage_of next) first now.kept.read.items now.line → Passed next now.kept.reader (log_of now bodies texts)
+    → IsTalking first now bodies texts
+talks_so first now bodies texts next e c wire passed = record {
+  given = c.given;
+  taken = c.taken;
+  wire = subst (λ n. WireTells (stage_of n) first now.kept.read.items now.line) (sym e) wire;
+  passed = subst (λ n. Passed n now.kept.reader (log_of now bodies texts)) (sym e) passed;
+}
+
+pub spent_talks : (first : Line) (now : Seen) (bodies : List (List ℕ)) (texts : List (Option (List ℕ))) → IsCarried first now → now.kept.next ≡ Stands.Spent
+    → IsTalking first now bodies texts
+spent_talks first now bodies texts c e = talks_so first now bodies texts Stands.Spent e c c.wire tt
+
+-- where memory ran out nothing is said of what passed
+pub spent_any : (first : Line) (now : Seen) (bodies late : List (List ℕ)) (texts later : List (Option (List ℕ))) → IsTalking first now bodies texts
+    → now.kept.next ≡ Stands.Spent → IsTalking first now late later
+spent_any first now bodies late texts later t e = record {
+  given = t.given;
+  taken = t.taken;
+  wire = t.wire;
+  passed = subst (λ n. Passed n now.kept.reader (log_of now late later)) (sym e) tt;
+}
+
+pub waiting_talks : (first : Line) (now : Seen) (bodies : List (List ℕ)) (texts : List (Option (List ℕ))) → IsFed first now NotYet bodies texts
+    → now.kept.next ≡ Stands.Waits → IsTalking first now bodies texts
+waiting_talks first now bodies texts f e = talks_so first now bodies texts Stands.Waits e f.carried f.carried.wire f.given
+
+pub holding_talks : (first : Line) (now : Seen) (body : List ℕ) (close : Bool) (bodies : List (List ℕ)) (texts : List (Option (List ℕ)))
+    → IsFed first now (Request body close) bodies texts → now.kept.next ≡ Stands.Holds body close → IsTalking first now bodies texts
+holding_talks first now body close bodies texts f e = talks_so first now bodies texts (Stands.Holds body close) e f.carried f.carried.wire f.given
+
+-- a request that is held is handed out
+pub asked_talks : (first : Line) (now : Seen) (body : List ℕ) (close : Bool) (bodies : List (List ℕ)) (texts : List (Option (List ℕ)))
+    → IsFed first now (Request body close) bodies texts → now.kept.next ≡ Stands.Owes close → IsTalking first now (bodies ++ body ∷ []) texts
+asked_talks first now body close bodies texts f e =
+    talks_so first now (bodies ++ body ∷ []) texts (Stands.Owes close) e f.carried f.carried.wire
+    (record { body = body; early = bodies; bodies = refl; given = f.given })
+
+-- ---- what a wire that is open tells
+
+-- what is carried where the wire is open
+pub carried_of : (first : Line) (now : Seen) (bodies : List (List ℕ)) (texts : List (Option (List ℕ))) → IsTalking first now bodies texts
+    → IsOpen first now.kept.read.items now.line → IsCarried first now
+carried_of first now bodies texts t wire = record { given = t.given; taken = t.taken; wire = wire }
+
+-- a connection that stands so was fed this last
+pub waiting_fed : (first : Line) (now : Seen) (bodies : List (List ℕ)) (texts : List (Option (List ℕ))) → IsTalking first now bodies texts
+    → now.kept.next ≡ Stands.Waits → IsFed first now NotYet bodies texts
+waiting_fed first now bodies texts t e = record {
+  carried = carried_of first now bodies texts t (subst (λ n. WireTells (stage_of n) first now.kept.read.items now.line) e t.wire);
+  given = subst (λ n. Passed n now.kept.reader (log_of now bodies texts)) e t.passed;
+}
+
+pub holding_fed : (first : Line) (now : Seen) (body : List ℕ) (close : Bool) (bodies : List (List ℕ)) (texts : List (Option (List ℕ)))
+    → IsTalking first now bodies texts → now.kept.next ≡ Stands.Holds body close → IsFed first now (Request body close) bodies texts
+holding_fed first now body close bodies texts t e = record {
+  carried = carried_of first now bodies texts t (subst (λ n. WireTells (stage_of n) first now.kept.read.items now.line) e t.wire);
+  given = subst (λ n. Passed n now.kept.reader (log_of now bodies texts)) e t.passed;
+}
+
+-- the request whose answer is owed, and the bodies before it
+abbrev pub Owed : Line → Seen → Bool → List (List ℕ) → List (Option (List ℕ)) → Type 0
+Owed first now close bodies texts = (body : List ℕ) × (early : List (List ℕ)) × (bodies ≡ early ++ body ∷ []) × IsFed first now (Request body close) early texts
+
+pub owed : (first : Line) (now : Seen) (close : Bool) (bodies : List (List ℕ)) (texts : List (Option (List ℕ))) → IsTalking first now bodies texts
+    → now.kept.next ≡ Stands.Owes close → Owed first now close bodies texts
+owed first now close bodies texts t e =
+    let a : HasAsked close now.kept.reader (log_of now bodies texts) = subst (λ n. Passed n now.kept.reader (log_of now bodies texts)) e t.passed in (
+      a.body,
+      a.early,
+      a.bodies,
+      record {
+        carried = carried_of first now bodies texts t (subst (λ n. WireTells (stage_of n) first now.kept.read.items now.line) e t.wire);
+        given = a.given;
+      },
+    )
+
+-- ---- what is written
+
+starts_so : (known : Option (List ℕ)) (left : Option (List ℕ)) (read : List ℕ) → Consumes known left read → IfSome known (λ all. StartsWith all read)
+starts_so None left read c = tt
+starts_so (Some all) None read c = absurd c
+starts_so (Some all) (Some rest) read c = ap (take (length read)) c ∙ take-append_seam read rest
+
+-- what was sent is carried, where the wire is open
+sent_given : (first : Line) (was now : Seen) (text : List ℕ) (cut : Bool) → IsCarried first was → Sends text cut was now → Appends first.given now.line.given now.kept.read.items
+sent_given first was now text cut c s =
+    subst (λ g. Appends first.given g now.kept.read.items) (sym s.given) (subst (λ v. Appends first.given was.line.given v) (sym s.read) c.given)
+
+sent_taken : (first : Line) (was now : Seen) (text : List ℕ) (cut : Bool) → IsCarried first was → (s : Sends text cut was now) → Appends first.taken now.line.taken now.kept.written.items
+sent_taken first was now text cut c s =
+    subst (Appends first.taken now.line.taken) (sym s.written) (Appends-trans first.taken was.line.taken now.line.taken was.kept.written.items s.went c.taken s.taken)
+
+sent_left : (first : Line) (was now : Seen) (text : List ℕ) (cut : Bool) → IsCarried first was → Sends text cut was now → Consumes first.left now.line.left now.kept.read.items
+sent_left first was now text cut c s =
+    subst (λ g. Consumes first.left g now.kept.read.items) (sym s.left) (subst (λ v. Consumes first.left was.line.left v) (sym s.read) c.wire.left)
+
+pub sent_carried : (first : Line) (was now : Seen) (text : List ℕ) → IsCarried first was → Sends text false was now → IsCarried first now
+sent_carried first was now text c s = record {
+  given = sent_given first was now text false c s;
+  taken = sent_taken first was now text false c s;
+  wire = record { left = sent_left first was now text false c s; faults = s.counts ∙ c.wire.faults; closed = s.closed ∙ c.wire.closed };
+}
+
+-- what the reader gave last was answered, and the connection goes on
+pub sent_on : (first : Line) (was now : Seen) (last : Fed) (text : Option (List ℕ)) (bodies : List (List ℕ)) (texts : List (Option (List ℕ)))
+    → IsFed first was last bodies texts → LetsGo last → Sends (due last text) false was now
+    → IsGoing first now [] (bodies ++ bodies_in (last ∷ [])) (texts ++ told_to last text)
+sent_on first was now last text bodies texts f go s = record {
+  carried = sent_carried first was now (due last text) f.carried s;
+  early = was.kept.read.items;
+  whole = s.read ∙ sym (append-nil was.kept.read.items);
+  answered = subst (λ p. IsAnswered p (log was.kept.read.items now.kept.written.items (bodies ++ bodies_in (last ∷ [])) (texts ++ told_to last text))) (sym s.reader)
+      (subst (λ w. IsAnswered was.kept.reader (log was.kept.read.items w (bodies ++ bodies_in (last ∷ [])) (texts ++ told_to last text)))
+      (sym (s.written ∙ ap (λ w. was.kept.written.items ++ w) s.front))
+      (answered_all last text was.kept.reader (log_of was bodies texts) go f.given));
+}
+
+-- the same where nothing is told
+pub invited_on : (first : Line) (was now : Seen) (bodies : List (List ℕ)) (texts : List (Option (List ℕ))) → IsFed first was Interim bodies texts
+    → Sends (due Interim None) false was now → IsGoing first now [] bodies texts
+invited_on first was now bodies texts f s =
+    subst (λ b. IsGoing first now [] b texts) (append-nil bodies)
+    (subst (IsGoing first now [] (bodies ++ [])) (append-nil texts) (sent_on first was now Interim None bodies texts f tt s))
+
+-- ---- how it ends
+
+-- the wire is closed behind what was sent
+finished_given : (first : Line) (was mid now : Seen) (text : List ℕ) (cut : Bool) (ending : Ending) → IsCarried first was → Sends text cut was mid → Finishes ending mid now
+    → Appends first.given now.line.given now.kept.read.items
+finished_given first was mid now text cut ending c s f =
+    subst (λ g. Appends first.given g now.kept.read.items) (sym f.given)
+    (subst (λ v. Appends first.given mid.line.given v) (sym f.read) (sent_given first was mid text cut c s))
+
+finished_taken : (first : Line) (was mid now : Seen) (text : List ℕ) (cut : Bool) (ending : Ending) → IsCarried first was → Sends text cut was mid → Finishes ending mid now
+    → Appends first.taken now.line.taken now.kept.written.items
+finished_taken first was mid now text cut ending c s f =
+    subst (λ g. Appends first.taken g now.kept.written.items) (sym f.taken)
+    (subst (λ v. Appends first.taken mid.line.taken v) (sym f.written) (sent_taken first was mid text cut c s))
+
+finished_shut : (first : Line) (was mid now : Seen) (text : List ℕ) (cut : Bool) (ending : Ending) → IsCarried first was → Sends text cut was mid → Finishes ending mid now
+    → IsShut first now.kept.read.items now.line
+finished_shut first was mid now text cut ending c s f = record {
+  front = subst (λ v. IfSome first.left (λ all. StartsWith all v)) (sym f.read)
+      (starts_so first.left mid.line.left mid.kept.read.items (sent_left first was mid text cut c s));
+  closed = f.closed;
+}
+
+finished_written : (first : Line) (was mid now : Seen) (last : Fed) (text : Option (List ℕ)) (bodies : List (List ℕ)) (texts : List (Option (List ℕ))) (cut : Bool) (ending : Ending)
+    → IsFed first was last bodies texts → (s : Sends (due last text) cut was mid) → Finishes ending mid now
+    → HasWritten last text s.went now.kept.reader (log_of now (bodies ++ bodies_in (last ∷ [])) (texts ++ told_to last text))
+finished_written first was mid now last text bodies texts cut ending g s f = record {
+  early = log_of was bodies texts;
+  given = subst (λ p. HasGiven last p (log_of was bodies texts)) (sym (f.reader ∙ s.reader)) g.given;
+  read = (f.read ∙ s.read);
+  bodies = refl;
+  texts = refl;
+  written = f.written ∙ s.written;
+}
+
+-- what was sent closes the connection
+pub sent_closing : (first : Line) (was mid now : Seen) (last : Fed) (text : Option (List ℕ)) (bodies : List (List ℕ)) (texts : List (Option (List ℕ)))
+    → IsFed first was last bodies texts → Closes last → Sends (due last text) false was mid → Finishes Ends.Closed mid now
+    → IsTalking first now (bodies ++ bodies_in (last ∷ [])) (texts ++ told_to last text)
+sent_closing first was mid now last text bodies texts g c s f =
+    let bodies_now = bodies ++ bodies_in (last ∷ []) in
+    let texts_now = texts ++ told_to last text in
+    record {
+      given = finished_given first was mid now (due last text) false Ends.Closed g.carried s f;
+      taken = finished_taken first was mid now (due last text) false Ends.Closed g.carried s f;
+      wire = subst (λ n. WireTells (stage_of n) first now.kept.read.items now.line) (sym f.next)
+          (finished_shut first was mid now (due last text) false Ends.Closed g.carried s f, f.faults ∙ s.counts ∙ g.carried.wire.faults);
+      passed = subst (λ n. Passed n now.kept.reader (log_of now bodies_now texts_now)) (sym f.next) (
+        last,
+        text,
+        c,
+        subst (λ w. HasWritten last text w now.kept.reader (log_of now bodies_now texts_now)) s.front
+            (finished_written first was mid now last text bodies texts false Ends.Closed g s f),
+      );
+    }
+
+-- the wire failed
+pub sent_failing : (first : Line) (was mid now : Seen) (last : Fed) (text : Option (List ℕ)) (bodies : List (List ℕ)) (texts : List (Option (List ℕ)))
+    → IsFed first was last bodies texts → Sends (due last text) true was mid → Finishes Ends.WriteFailed mid now
+    → IsTalking first now (bodies ++ bodies_in (last ∷ [])) (texts ++ told_to last text)
+sent_failing first was mid now last text bodies texts g s f =
+    let bodies_now = bodies ++ bodies_in (last ∷ []) in
+    let texts_now = texts ++ told_to last text in
+    record {
+      given = finished_given first was mid now (due last text) true Ends.WriteFailed g.carried s f;
+      taken = finished_taken first was mid now (due last text) true Ends.WriteFailed g.carried s f;
+      wire = subst (λ n. WireTells (stage_of n) first now.kept.read.items now.line) (sym f.next) (
+        finished_shut first was mid now (due last text) true Ends.WriteFailed g.carried s f,
+        subst (λ n. first.faults ≤ n) (sym f.faults) (subst (λ n. n ≤ mid.line.faults) g.carried.wire.faults s.counts.0),
+        subst (Rose first.faults) (sym f.faults) (subst (λ n. Rose n mid.line.faults) g.carried.wire.faults s.counts.1),
+      );
+      passed = subst (λ n. Passed n now.kept.reader (log_of now bodies_now texts_now)) (sym f.next) (
+        last,
+        text,
+        s.front.0,
+        subst (λ w. HasWritten last text w now.kept.reader (log_of now bodies_now texts_now)) s.front.1
+            (finished_written first was mid now last text bodies texts true Ends.WriteFailed g s f),
+      );
+    }
+
+-- ---- where nothing is told to what the reader gave
+
+pub untold : (first : Line) (now : Seen) (bodies : List (List ℕ)) (texts : List (Option (List ℕ))) → IsTalking first now (bodies ++ []) (texts ++ [])
+    → IsTalking first now bodies texts
+untold first now bodies texts t =
+    subst (λ b. IsTalking first now b texts) (append-nil bodies) (subst (IsTalking first now (bodies ++ [])) (append-nil texts) t)
+
+-- ---- what is read
+
+-- what a read that gave nothing did to a connection
+pub record Reads (was now : Seen) (piece : List ℕ) : Type 0 where
+  pub given : Appends was.line.given now.line.given piece
+  pub left : Consumes was.line.left now.line.left piece
+  pub taken : now.line.taken ≡ was.line.taken
+  pub faults : now.line.faults ≡ was.line.faults
+  pub closed : now.line.closed ≡ was.line.closed
+  pub read : now.kept.read.items ≡ was.kept.read.items ++ piece
+  pub written : now.kept.written.items ≡ was.kept.written.items
+  pub reader : now.kept.reader ≡ was.kept.reader
+
+read_carried : (first : Line) (was now : Seen) (piece : List ℕ) → IsCarried first was → Reads was now piece → IsCarried first now
+read_carried first was now piece c r = record {
+  given = subst (Appends first.given now.line.given) (sym r.read)
+      (Appends-trans first.given was.line.given now.line.given was.kept.read.items piece c.given r.given);
+  taken = subst (λ t. Appends first.taken t now.kept.written.items) (sym r.taken) (subst (Appends first.taken was.line.taken) (sym r.written) c.taken);
+  wire = record {
+    left = subst (Consumes first.left now.line.left) (sym r.read)
+        (Consumes-trans first.left was.line.left now.line.left was.kept.read.items piece c.wire.left r.left);
+    faults = r.faults ∙ c.wire.faults;
+    closed = r.closed ∙ c.wire.closed;
+  };
+}
+
+-- a piece was read, where the reader waited for more
+pub read_going : (first : Line) (was now : Seen) (piece : List ℕ) (bodies : List (List ℕ)) (texts : List (Option (List ℕ))) → IsFed first was NotYet bodies texts
+    → Reads was now piece → IsGoing first now piece bodies texts
+read_going first was now piece bodies texts f r =
+    let l = log_of was bodies texts in
+    let a : IsAnswered was.kept.reader (log l.read (l.written ++ []) (bodies ++ []) (texts ++ [])) = answered_all NotYet None was.kept.reader l tt f.given in
+    record {
+      carried = read_carried first was now piece f.carried r;
+      early = was.kept.read.items;
+      whole = r.read;
+      answered = subst (λ p. IsAnswered p (log l.read now.kept.written.items bodies texts)) (sym r.reader)
+          (subst (λ w. IsAnswered was.kept.reader (log l.read w bodies texts)) (append-nil l.written ∙ sym r.written)
+          (subst (λ b. IsAnswered was.kept.reader (log l.read (l.written ++ []) b texts)) (append-nil bodies)
+          (subst (λ t. IsAnswered was.kept.reader (log l.read (l.written ++ []) (bodies ++ []) t)) (append-nil texts) a)));
+    }
+
+-- what a finish does to what a connection keeps
+stays_finished : (mid now : Seen) (ending : Ending) → Finishes ending mid now → (bodies : List (List ℕ)) (texts : List (Option (List ℕ)))
+    → log_of mid bodies texts ≡ log_of now bodies texts
+stays_finished mid now ending f bodies texts =
+    ap (λ r. log r mid.kept.written.items bodies texts) (sym f.read) ∙ ap (λ w. log now.kept.read.items w bodies texts) (sym f.written)
+
+-- the reader waits for more, and the connection is over
+ended_given : (first : Line) (mid now : Seen) (ending : Ending) → IsCarried first mid → Finishes ending mid now → Appends first.given now.line.given now.kept.read.items
+ended_given first mid now ending c f =
+    subst (λ g. Appends first.given g now.kept.read.items) (sym f.given) (subst (λ v. Appends first.given mid.line.given v) (sym f.read) c.given)
+
+ended_taken : (first : Line) (mid now : Seen) (ending : Ending) → Appends first.taken mid.line.taken mid.kept.written.items → Finishes ending mid now → Appends first.taken now.line.taken now.kept.written.items
+ended_taken first mid now ending c f =
+    subst (λ g. Appends first.taken g now.kept.written.items) (sym f.taken) (subst (λ v. Appends first.taken mid.line.taken v) (sym f.written) c)
+
+ended_passed : (mid now : Seen) (ending : Ending) (bodies : List (List ℕ)) (texts : List (Option (List ℕ))) → HasGiven NotYet mid.kept.reader (log_of mid bodies texts)
+    → Finishes ending mid now → HasGiven NotYet now.kept.reader (log_of now bodies texts)
+ended_passed mid now ending bodies texts g f =
+    subst (λ p. HasGiven NotYet p (log_of now bodies texts)) (sym f.reader)
+    (subst (HasGiven NotYet mid.kept.reader) (stays_finished mid now ending f bodies texts) g)
+
+-- a wire that is at its end gave all that it had
+at_end : (known : Option (List ℕ)) (left : Option (List ℕ)) (read : List ℕ) → Consumes known left read → IsAtEnd left → IfSome known (λ all. all ≡ read)
+at_end None left read c e = tt
+at_end (Some all) None read c e = absurd c
+at_end (Some all) (Some rest) read c e = c ∙ ap (λ l. read ++ l) e ∙ append-nil read
+
+-- no more comes
+pub read_ended : (first : Line) (was mid now : Seen) (bodies : List (List ℕ)) (texts : List (Option (List ℕ))) → IsFed first was NotYet bodies texts
+    → Reads was mid [] → IsAtEnd mid.line.left → Finishes Ends.Ended mid now → IsTalking first now bodies texts
+read_ended first was mid now bodies texts f r end fin =
+    let c = read_carried first was mid [] f.carried r in
+    record {
+      given = ended_given first mid now Ends.Ended c fin;
+      taken = ended_taken first mid now Ends.Ended c.taken fin;
+      wire = subst (λ n. WireTells (stage_of n) first now.kept.read.items now.line) (sym fin.next) (
+        record {
+          front = subst (λ v. IfSome first.left (λ all. StartsWith all v)) (sym fin.read)
+              (starts_so first.left mid.line.left mid.kept.read.items c.wire.left);
+          closed = fin.closed;
+        },
+        fin.faults ∙ c.wire.faults,
+        subst (λ v. IfSome first.left (λ all. all ≡ v)) (sym fin.read) (at_end first.left mid.line.left mid.kept.read.items c.wire.left end),
+      );
+      passed = subst (λ n. Passed n now.kept.reader (log_of now bodies texts)) (sym fin.next)
+          (ended_passed mid now Ends.Ended bodies texts (read_given was mid bodies texts f.given r) fin);
+    }
+  where
+    read_given : (was mid : Seen) (bodies : List (List ℕ)) (texts : List (Option (List ℕ))) → HasGiven NotYet was.kept.reader (log_of was bodies texts) → Reads was mid []
+        → HasGiven NotYet mid.kept.reader (log_of mid bodies texts)
+    read_given was mid bodies texts g r =
+        subst (λ p. HasGiven NotYet p (log_of mid bodies texts)) (sym r.reader)
+        (subst (HasGiven NotYet was.kept.reader)
+        (ap (λ x. log x was.kept.written.items bodies texts) (sym (r.read ∙ append-nil was.kept.read.items)) ∙ ap (λ w. log mid.kept.read.items w bodies texts) (sym r.written)) g)
+
+-- a read that failed
+pub record FailsRead (was now : Seen) : Type 0 where
+  pub given : Keeps was.line.given now.line.given
+  pub left : Keeps was.line.left now.line.left
+  pub taken : now.line.taken ≡ was.line.taken
+  pub later : was.line.faults ≤ now.line.faults
+  pub rose : Rose was.line.faults now.line.faults
+  pub read : now.kept.read.items ≡ was.kept.read.items
+  pub written : now.kept.written.items ≡ was.kept.written.items
+  pub reader : now.kept.reader ≡ was.kept.reader
+
+pub read_failed : (first : Line) (was mid now : Seen) (bodies : List (List ℕ)) (texts : List (Option (List ℕ))) → IsFed first was NotYet bodies texts
+    → FailsRead was mid → Finishes Ends.ReadFailed mid now → IsTalking first now bodies texts
+read_failed first was mid now bodies texts f r fin =
+    let c = f.carried in
+    let given : Appends first.given mid.line.given mid.kept.read.items =
+    subst (Appends first.given mid.line.given) (sym r.read) (Appends-kept first.given was.line.given mid.line.given was.kept.read.items c.given r.given) in
+    let left : Consumes first.left mid.line.left mid.kept.read.items =
+    subst (Consumes first.left mid.line.left) (sym r.read) (Consumes-kept first.left was.line.left mid.line.left was.kept.read.items c.wire.left r.left) in
+    let taken : Appends first.taken mid.line.taken mid.kept.written.items =
+    subst (λ t. Appends first.taken t mid.kept.written.items) (sym r.taken) (subst (Appends first.taken was.line.taken) (sym r.written) c.taken) in
+    let same : log_of was bodies texts ≡ log_of mid bodies texts =
+    ap (λ x. log x was.kept.written.items bodies texts) (sym r.read) ∙ ap (λ w. log mid.kept.read.items w bodies texts) (sym r.written) in
+    let passed : HasGiven NotYet mid.kept.reader (log_of mid bodies texts) =
+    subst (λ p. HasGiven NotYet p (log_of mid bodies texts)) (sym r.reader) (subst (HasGiven NotYet was.kept.reader) same f.given) in
+    record {
+      given = subst (λ g. Appends first.given g now.kept.read.items) (sym fin.given) (subst (λ v. Appends first.given mid.line.given v) (sym fin.read) given);
+      taken = ended_taken first mid now Ends.ReadFailed taken fin;
+      wire = subst (λ n. WireTells (stage_of n) first now.kept.read.items now.line) (sym fin.next) (
+        record {
+          front = subst (λ v. IfSome first.left (λ all. StartsWith all v)) (sym fin.read) (starts_so first.left mid.line.left mid.kept.read.items left);
+          closed = fin.closed;
+        },
+        subst (λ n. first.faults ≤ n) (sym fin.faults) (subst (λ n. n ≤ mid.line.faults) c.wire.faults r.later),
+        subst (Rose first.faults) (sym fin.faults) (subst (λ n. Rose n mid.line.faults) c.wire.faults r.rose),
+      );
+      passed = subst (λ n. Passed n now.kept.reader (log_of now bodies texts)) (sym fin.next) (ended_passed mid now Ends.ReadFailed bodies texts passed fin);
+    }
+
+-- ---- at first
+
+pub talks_first : (first : Line) (now : Seen) → now.line ≡ first → now.kept.read.items ≡ [] → now.kept.written.items ≡ [] → now.kept.reader ≡ Open [] false
+    → now.kept.next ≡ Stands.Waits → IsTalking first now [] []
+talks_first first now line read written reader next = record {
+  given = subst (λ (l : Line). Appends first.given l.given now.kept.read.items) (sym line) (subst (Appends first.given first.given) (sym read) (Appends-nil first.given));
+  taken = subst (λ (l : Line). Appends first.taken l.taken now.kept.written.items) (sym line) (subst (Appends first.taken first.taken) (sym written) (Appends-nil first.taken));
+  wire = subst (λ n. WireTells (stage_of n) first now.kept.read.items now.line) (sym next)
+      (subst (IsOpen first now.kept.read.items) (sym line) (subst (λ l. IsOpen first l first) (sym read) (record { left = Consumes-nil first.left; faults = refl; closed = refl })));
+  passed = subst (λ n. Passed n now.kept.reader (log_of now [] [])) (sym next)
+      (subst (λ p. HasGiven NotYet p (log_of now [] [])) (sym reader)
+      (subst (λ r. HasGiven NotYet (Open [] false) (log r now.kept.written.items [] [])) (sym read)
+      (subst (λ w. HasGiven NotYet (Open [] false) (log [] w [] [])) (sym written) given_first)));
+}
+  where
+    given_first : HasGiven NotYet (Open [] false) (log [] [] [] [])
+    given_first = record {
+      early = [];
+      piece = [];
+      before = Open [] false;
+      whole = refl;
+      answered = record { pieces = []; feds = []; whole = refl; run = refl; answered = (refl, refl); bodies = refl };
+      feeds = ∣ (_, refl, refl) ∣₁;
+    }
+
+-- ---- what goes out
+
+-- what a wire took is kept
+pub sends : (text : List ℕ) (count : ℕ) (was now : Seen) → Takes text count was.line now.line → now.kept.written.items ≡ was.kept.written.items ++ take count text
+    → now.kept.read.items ≡ was.kept.read.items → now.kept.reader ≡ was.kept.reader → now.kept.next ≡ was.kept.next → Sends text (ltb count (length text)) was now
+sends text count was now t written read reader next = elim (cases_lt count (length text)) [
+  | inl short ↦ subst (λ cut. Sends text cut was now) (sym (lt-ltb count (length text) short)) (record {
+    went = take count text;
+    front = (count, refl);
+    written = written;
+    taken = t.taken;
+    counts = (t.later, t.cause short);
+    given = t.given;
+    left = t.left;
+    closed = t.closed;
+    read = read;
+    reader = reader;
+    next = next;
+  })
+  | inr full ↦ subst (λ cut. Sends text cut was now) (sym (le-ltb count (length text) full)) (record {
+    went = take count text;
+    front = take_all count text full;
+    written = written;
+    taken = t.taken;
+    counts = let within = t.within in t.calm (omega arith);
+    given = t.given;
+    left = t.left;
+    closed = t.closed;
+    read = read;
+    reader = reader;
+    next = next;
+  })
+]
+
+-- ---- what is handed out
+
+-- what comes of an error
+pub at_error : {T E : Type 0} (r : Result T E) (P : T → Type 0) (Q : E → Type 0) (e : E) → r ≡ Err e → Q e → MatchResult r P Q
+at_error r P Q e is q = subst (λ v. MatchResult v P Q) (sym is) q
+
+-- the same where the error is not named
+pub if_error : {T E : Type 0} (r : Result T E) (P : T → Type 0) (Q : Type 0) → IsErr r → Q → MatchResult r P (λ _. Q)
+if_error (Ok x) P Q is q = absurd (cc)
+if_error (Err e) P Q is q = q
+
+moved : (first : Line) (was now : Seen) (bodies : List (List ℕ)) (texts : List (Option (List ℕ))) → IsTalking first was bodies texts
+    → Stays was now → now.kept.reader ≡ was.kept.reader → now.kept.next ≡ was.kept.next → IsTalking first now bodies texts
+moved first was now bodies texts t s reader next = record {
+  given = subst (λ (l : Line). Appends first.given l.given now.kept.read.items) (sym s.line)
+      (subst (Appends first.given was.line.given) (sym s.read) t.given);
+  taken = subst (λ (l : Line). Appends first.taken l.taken now.kept.written.items) (sym s.line)
+      (subst (Appends first.taken was.line.taken) (sym s.written) t.taken);
+  wire = subst (λ n. WireTells (stage_of n) first now.kept.read.items now.line) (sym next)
+      (subst (WireTells (stage_of was.kept.next) first now.kept.read.items) (sym s.line)
+      (subst (λ l. WireTells (stage_of was.kept.next) first l was.line) (sym s.read) t.wire));
+  passed = subst (λ n. Passed n now.kept.reader (log_of now bodies texts)) (sym next)
+      (subst (λ p. Passed was.kept.next p (log_of now bodies texts)) (sym reader)
+      (subst (Passed was.kept.next was.kept.reader) (same_log was now s bodies texts) t.passed));
+}
+
+-- where a connection that is not over gives up
+gives_up : (first : Line) (was now : Seen) (bodies : List (List ℕ)) (texts : List (Option (List ℕ))) → IsTalking first was bodies texts
+    → IsOpen first was.kept.read.items was.line → Stays was now → now.kept.next ≡ Stands.Spent → IsTalking first now bodies texts
+gives_up first was now bodies texts t w s next =
+    spent_talks first now bodies texts (carried_on first was now (carried_of first was bodies texts t w) s) next
+
+-- a connection that waits gives up
+pub waiting_spent : (first : Line) (was now : Seen) (bodies : List (List ℕ)) (texts : List (Option (List ℕ))) → IsTalking first was bodies texts
+    → was.kept.next ≡ Stands.Waits → Stays was now → now.kept.next ≡ Stands.Spent → IsTalking first now bodies texts
+waiting_spent first was now bodies texts t e s next =
+    gives_up first was now bodies texts t (subst (λ n. WireTells (stage_of n) first was.kept.read.items was.line) e t.wire) s next
+
+-- what comes of asking
+abbrev pub Handed : {E : Type 0} → Line → Seen → List (List ℕ) → List (Option (List ℕ)) → Result (Option (List ℕ)) E → Type 0
+Handed first now bodies texts result = MatchResult result (λ came. IsTalking first now (bodies ++ handed came) texts) (λ _. IsTalking first now bodies texts)
+
+pub hands_out : {E : Type 0} (first : Line) (was now : Seen) (bodies : List (List ℕ)) (texts : List (Option (List ℕ))) (result : Result (Option (List ℕ)) E)
+    → IsTalking first was bodies texts → HandsOut was.kept.next result now.kept.next → Stays was now → now.kept.reader ≡ was.kept.reader
+    → Handed first now bodies texts result
+hands_out first was now bodies texts result t h s reader = by_next was.kept.next refl h
+  where
+    wire_at : (next : Standing) → was.kept.next ≡ next → WireTells (stage_of next) first was.kept.read.items was.line
+    wire_at next e = subst (λ n. WireTells (stage_of n) first was.kept.read.items was.line) e t.wire
+
+    failed : IsOpen first was.kept.read.items was.line → IsErr result → now.kept.next ≡ Stands.Spent → Handed first now bodies texts result
+    failed w is next = if_error result (λ came. IsTalking first now (bodies ++ handed came) texts) (IsTalking first now bodies texts) is (gives_up first was now bodies texts t w s next)
+
+    by_next : (next : Standing) → was.kept.next ≡ next → HandsOut next result now.kept.next → Handed first now bodies texts result
+    by_next Stands.Waits e x = failed (wire_at Stands.Waits e) x.0 x.1
+    by_next (Stands.Holds body close) e x =
+        subst (Handed first now bodies texts) (sym x.0)
+        (asked_talks first now body close bodies texts (fed_on first was now (Request body close) bodies texts (holding_fed first was body close bodies texts t e) s reader) x.1)
+    by_next (Stands.Owes close) e x = failed (wire_at (Stands.Owes close) e) x.0 x.1
+    by_next (Stands.Over ending) e x =
+        subst (Handed first now bodies texts) (sym x.0)
+        (subst (λ b. IsTalking first now b texts) (sym (append-nil bodies)) (moved first was now bodies texts t s reader (x.1 ∙ sym e)))
+    by_next Stands.Spent e x = failed (wire_at Stands.Spent e) x.0 x.1
+
+-- how the connection stands then
+abbrev pub StandsThen : {E : Type 0} → Result (Option (List ℕ)) E → Standing → Type 0
+StandsThen result next = MatchResult result (λ came. IsBehindAsking came (stage_of next)) (λ _. stage_of next ≡ Stages.Spent)
+
+over_stage : (ending : Ending) → IsOver (stage_behind ending)
+over_stage Ends.Ended = inl refl
+over_stage Ends.Closed = inr (inl refl)
+over_stage Ends.ReadFailed = inr (inr refl)
+over_stage Ends.WriteFailed = inr (inr refl)
+
+pub stands_then : {E : Type 0} (was now : Standing) (result : Result (Option (List ℕ)) E) → HandsOut was result now → StandsThen result now
+stands_then Stands.Waits now result x = if_error result (λ came. IsBehindAsking came (stage_of now)) (stage_of now ≡ Stages.Spent) x.0 (ap stage_of x.1)
+stands_then (Stands.Holds body close) now result x = subst (λ r. StandsThen r now) (sym x.0) (ap stage_of x.1)
+stands_then (Stands.Owes close) now result x = if_error result (λ came. IsBehindAsking came (stage_of now)) (stage_of now ≡ Stages.Spent) x.0 (ap stage_of x.1)
+stands_then (Stands.Over ending) now result x = subst (λ r. StandsThen r now) (sym x.0) (subst (λ n. IsOver (stage_of n)) (sym x.1) (over_stage ending))
+stands_then Stands.Spent now result x = if_error result (λ came. IsBehindAsking came (stage_of now)) (stage_of now ≡ Stages.Spent) x.0 (ap stage_of x.1)
+
+pub waits_where : (next : Standing) → is_waiting next ≡ true → next ≡ Stands.Waits
+waits_where Stands.Waits e = refl
+waits_where (Stands.Holds body close) e = absurd (cc)
+waits_where (Stands.Owes close) e = absurd (cc)
+waits_where (Stands.Over ending) e = absurd (cc)
+waits_where Stands.Spent e = absurd (cc)
+
+pub interim_fed : (fed : Fed) → is_interim fed ≡ true → fed ≡ Interim
+interim_fed NotYet e = absurd (cc)
+interim_fed Interim e = refl
+interim_fed (Request body close) e = absurd (cc)
+interim_fed (Refused status) e = absurd (cc)
+
+-- ---- what is told
+
+-- a connection that owes an answer gives up
+pub owing_spent : (first : Line) (was now : Seen) (close : Bool) (bodies : List (List ℕ)) (texts : List (Option (List ℕ))) → IsTalking first was bodies texts
+    → was.kept.next ≡ Stands.Owes close → Stays was now → now.kept.next ≡ Stands.Spent → IsTalking first now bodies texts
+owing_spent first was now close bodies texts t e s next =
+    gives_up first was now bodies texts t (subst (λ n. WireTells (stage_of n) first was.kept.read.items was.line) e t.wire) s next
+
+-- only a connection that is spent owes none, where one may be told
+pub owed_or_spent : (next : Standing) → MayBeTold (stage_of next) → owed_in next ≡ None → next ≡ Stands.Spent
+owed_or_spent Stands.Waits (inl e) none = absurd (cc)
+owed_or_spent Stands.Waits (inr e) none = absurd (cc)
+owed_or_spent (Stands.Holds body close) (inl e) none = absurd (cc)
+owed_or_spent (Stands.Holds body close) (inr e) none = absurd (cc)
+owed_or_spent (Stands.Owes close) may none = absurd (cc)
+owed_or_spent (Stands.Over ending) may none = absurd (not_over ending may)
+  where
+    not_over : (ending : Ending) → MayBeTold (stage_behind ending) → ⊥
+    not_over Ends.Ended (inl e) = cc
+    not_over Ends.Ended (inr e) = cc
+    not_over Ends.Closed (inl e) = cc
+    not_over Ends.Closed (inr e) = cc
+    not_over Ends.ReadFailed (inl e) = cc
+    not_over Ends.ReadFailed (inr e) = cc
+    not_over Ends.WriteFailed (inl e) = cc
+    not_over Ends.WriteFailed (inr e) = cc
+owed_or_spent Stands.Spent may none = refl
+
+pub owes_where : (next : Standing) (close : Bool) → owed_in next ≡ Some close → next ≡ Stands.Owes close
+owes_where Stands.Waits close e = absurd (cc)
+owes_where (Stands.Holds body c) close e = absurd (cc)
+owes_where (Stands.Owes c) close e = let same : c ≡ close = cc in ap (λ x. Stands.Owes x) same
+owes_where (Stands.Over ending) close e = absurd (cc)
+owes_where Stands.Spent close e = absurd (cc)
+
+-- the wire failed in the answer
+pub answer_failing : (first : Line) (was mid now : Seen) (close : Bool) (text : Option (List ℕ)) (bodies : List (List ℕ)) (texts : List (Option (List ℕ)))
+    → Owed first was close bodies texts → Sends (answer text close) true was mid → Finishes Ends.WriteFailed mid now → IsTalking first now bodies (texts ++ text ∷ [])
+answer_failing first was mid now close text bodies texts o s f =
+    subst (λ b. IsTalking first now b (texts ++ text ∷ [])) (sym o.2) (sent_failing first was mid now (Request o.0 close) text o.1 texts o.3 s f)
+
+-- the connection closes with the answer
+pub answer_closing : (first : Line) (was mid now : Seen) (close : Bool) (text : Option (List ℕ)) (bodies : List (List ℕ)) (texts : List (Option (List ℕ)))
+    → Owed first was close bodies texts → close ≡ true → Sends (answer text close) false was mid → Finishes Ends.Closed mid now → IsTalking first now bodies (texts ++ text ∷ [])
+answer_closing first was mid now close text bodies texts o c s f =
+    subst (λ b. IsTalking first now b (texts ++ text ∷ [])) (sym o.2) (sent_closing first was mid now (Request o.0 close) text o.1 texts o.3 c s f)
+
+-- it goes on behind the answer
+pub answer_going : (first : Line) (was now : Seen) (close : Bool) (text : Option (List ℕ)) (bodies : List (List ℕ)) (texts : List (Option (List ℕ)))
+    → Owed first was close bodies texts → close ≡ false → Sends (answer text close) false was now → IsGoing first now [] bodies (texts ++ text ∷ [])
+answer_going first was now close text bodies texts o c s =
+    subst (λ b. IsGoing first now [] b (texts ++ text ∷ [])) (sym o.2) (sent_on first was now (Request o.0 close) text o.1 texts o.3 c s)
+
+-- what is owed, where only what comes next was taken out
+pub owed_on : (first : Line) (was now : Seen) (close : Bool) (bodies : List (List ℕ)) (texts : List (Option (List ℕ))) → IsTalking first was bodies texts
+    → was.kept.next ≡ Stands.Owes close → Stays was now → now.kept.reader ≡ was.kept.reader → Owed first now close bodies texts
+owed_on first was now close bodies texts t e s reader =
+    let o = owed first was close bodies texts t e in
+    (o.0, o.1, o.2, fed_on first was now (Request o.0 close) o.1 texts o.3 s reader)
+
+-- where memory ran out behind an answer its text counts for nothing
+pub told_or_spent : {T E : Type 0} (r : Result T E) (P : T → Type 0) (first : Line) (now : Seen) (bodies : List (List ℕ)) (texts : List (Option (List ℕ))) (text : Option (List ℕ))
+    → IsTalking first now bodies (texts ++ text ∷ []) → MatchResult r P (λ _. now.kept.next ≡ Stands.Spent)
+    → MatchResult r (λ _. IsTalking first now bodies (texts ++ text ∷ [])) (λ _. IsTalking first now bodies texts)
+told_or_spent (Ok x) P first now bodies texts text t next = t
+told_or_spent (Err e) P first now bodies texts text t next = spent_any first now bodies bodies (texts ++ text ∷ []) texts t next
+
+pub spent_stage : {T E : Type 0} (r : Result T E) (P : T → Type 0) (next : Standing) → MatchResult r P (λ _. next ≡ Stands.Spent) → MatchResult r P (λ _. stage_of next ≡ Stages.Spent)
+spent_stage (Ok x) P next h = h
+spent_stage (Err e) P next h = ap stage_of h
+
+-- what an error leaves
+pub err_only : {T E : Type 0} (r : Result T E) (P : T → Type 0) (Q : Type 0) → MatchResult r P (λ _. Q) → OnErr r Q
+err_only (Ok x) P Q h = tt
+err_only (Err e) P Q h = h

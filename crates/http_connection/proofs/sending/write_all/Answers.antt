@@ -1,0 +1,85 @@
+-- Piece by piece, until all was taken or the wire failed.
+use Rattle.std.proofs.Common.{◌≡◌, ◌-◌, ◌<◌, ◌≤◌, ℕ, true, false, arith, refl, sym, ap, subst, ◌∙◌, length, take, drop}
+use Rattle.std.proofs.lemmas.List.{length-drop, length-take-le, take_rest}
+use Rattle.std.proofs.Math.Seq.{take-add}
+use Rattle.std.specs.Io.KnownBytes.{Appends}
+use Rattle.std.proofs.KnownBytes.{Appends-nil, Appends-trans, Appends-kept}
+use Rattle.outside_traits.specs.Causes.{Rose}
+use Rattle.http_port.specs.Writing.{IsWritten}
+use Rattle.http_port.proofs.CallLemmas.{nothing_written, written_more, written_so, written_still}
+use Rattle.http_connection.proofs.sending.write_all.Goals as goal
+
+pub loop-done-init : goal.loop-done-init
+loop-done-init g c = record {
+  within = omega arith;
+  written = Appends-nil (g.W.Wire.taken c.args.wire.now);
+  called = nothing_written (g.W.Wire.calls c.args.wire.now) true;
+  faults = refl;
+  given = refl;
+  left = refl;
+  closed = refl;
+}
+
+pub loop-done-preserved : goal.loop-done-preserved
+loop-done-preserved g c =
+    let bytes = c.args.bytes.now in
+    let done = c.loop-done.done in
+    let count = c.in-Ok.count in
+    let rest = take_rest bytes done in
+    let fits : count ≤ length bytes - done = subst (λ k. count ≤ k) (ap length rest ∙ length-drop done bytes) c.in-Ok.ensures.bound in
+    let some : 0 < count = c.in-Ok.ensures.some (subst (λ (k : ℕ). 0 < k) (sym (ap length rest ∙ length-drop done bytes)) (omega (arith, c.loop-done-test.true))) in
+    let taken : count ≡ length (take count (drop done bytes)) = sym (length-take-le count (drop done bytes) (omega (arith, length-drop done bytes))) in
+    let more = subst (λ l. Appends (g.W.Wire.taken c.loop-done.wire) (g.W.Wire.taken c.write.new.self) (take count l)) rest c.in-Ok.ensures.bytes in
+    record {
+      within = omega arith;
+      written = subst (Appends (g.W.Wire.taken c.args.wire.now) (g.W.Wire.taken c.write.new.self)) (sym (take-add done count bytes))
+          (Appends-trans (g.W.Wire.taken c.args.wire.now) (g.W.Wire.taken c.loop-done.wire) (g.W.Wire.taken c.write.new.self) (take done bytes) (take count (drop done bytes)) c.loop-done.invariant.written more);
+      called = subst (λ l. IsWritten (g.W.Wire.calls c.args.wire.now) (g.W.Wire.calls c.write.new.self) l true) (sym (take-add done count bytes))
+          (written_more (g.W.Wire.calls c.args.wire.now) (g.W.Wire.calls c.loop-done.wire) (g.W.Wire.calls c.write.new.self) (take done bytes) (take count (drop done bytes)) count c.loop-done.invariant.called c.in-Ok.ensures.calls taken some);
+      faults = c.in-Ok.ensures.cause.calm ∙ c.loop-done.invariant.faults;
+      given = c.in-Ok.ensures.given ∙ c.loop-done.invariant.given;
+      left = c.in-Ok.ensures.left ∙ c.loop-done.invariant.left;
+      closed = c.in-Ok.ensures.closed ∙ c.loop-done.invariant.closed;
+    }
+
+pub returns-in-Err-clause-takes : goal.returns-in-Err-clause-takes
+returns-in-Err-clause-takes g c =
+    let done = c.loop-done.done in
+    let bytes = c.args.bytes.now in
+    let lt : done < length bytes = omega arith in
+    let rose = c.in-Err.ensures.cause.failed in
+    let calm = c.loop-done.invariant.faults in
+    let later = c.in-Err.ensures.cause.later in
+    record {
+      within = omega arith;
+      taken = Appends-kept (g.W.Wire.taken c.args.wire.now) (g.W.Wire.taken c.loop-done.wire) (g.W.Wire.taken c.write.new.self) (take done bytes) c.loop-done.invariant.written c.in-Err.ensures.bytes;
+      calm = λ e. absurd (omega arith);
+      cause = λ _. subst (λ n. Rose n (g.W.Wire.faults c.write.new.self)) calm rose;
+      later = subst (λ n. n ≤ g.W.Wire.faults c.write.new.self) calm later;
+      given = c.in-Err.ensures.given ∙ c.loop-done.invariant.given;
+      left = c.in-Err.ensures.left ∙ c.loop-done.invariant.left;
+      closed = c.in-Err.ensures.closed ∙ c.loop-done.invariant.closed;
+    }
+
+pub returns-in-Err-clause-calls : goal.returns-in-Err-clause-calls
+returns-in-Err-clause-calls g c =
+    written_still (g.W.Wire.calls c.args.wire.now) (g.W.Wire.calls c.loop-done.wire) (g.W.Wire.calls c.write.new.self) (take c.loop-done.done c.args.bytes.now) c.loop-done.invariant.called c.in-Err.ensures.calls
+
+pub returns-clause-calls : goal.returns-clause-calls
+returns-clause-calls g c =
+    written_so (g.W.Wire.calls c.args.wire.now) (g.W.Wire.calls c.loop-done.wire) (take c.loop-done.done c.args.bytes.now) false c.loop-done.invariant.called
+
+pub returns-clause-takes : goal.returns-clause-takes
+returns-clause-takes g c =
+    let within = c.loop-done.invariant.within in
+    let calm = c.loop-done.invariant.faults in
+    record {
+      within = within;
+      taken = c.loop-done.invariant.written;
+      calm = λ _. calm;
+      cause = λ lt. absurd (omega arith);
+      later = omega (arith, calm);
+      given = c.loop-done.invariant.given;
+      left = c.loop-done.invariant.left;
+      closed = c.loop-done.invariant.closed;
+    }

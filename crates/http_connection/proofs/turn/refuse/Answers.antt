@@ -1,0 +1,60 @@
+-- A refusal is written, or a front of it.
+use Rattle.std.proofs.Common.{refl, ap, ◌∙◌, true, false, None, subst}
+use Rattle.http_port.specs.declared.head_reader.Fed.TheVariants.{Refused}
+use Rattle.http_connection.specs.Seen.{line_of, seen}
+use Rattle.http_connection.specs.Steps.{Sends}
+use Rattle.http_connection.proofs.Passing.{carried_on, spent_talks, untold, sent_failing, sent_closing}
+use Rattle.http_connection.proofs.Calls.{writes_nothing, writes_on}
+use Rattle.http_connection.proofs.turn.refuse.Goals as goal
+
+pub returns-in_err-bytes-clause-talks : goal.returns-in_err-bytes-clause-talks
+returns-in_err-bytes-clause-talks g c = λ first bodies texts h. spent_talks first (seen c.args.kept.now (line_of (g.W.Wire.given c.args.wire.now) (g.W.Wire.left c.args.wire.now) (g.W.Wire.taken c.args.wire.now) (g.W.Wire.faults c.args.wire.now) (g.W.Wire.closed c.args.wire.now))) bodies texts h.carried c.requires
+
+pub returns-in_err-cut-clause-talks : goal.returns-in_err-cut-clause-talks
+returns-in_err-cut-clause-talks g c = λ first bodies texts h.
+    let was = seen c.args.kept.now (line_of (g.W.Wire.given c.args.wire.now) (g.W.Wire.left c.args.wire.now) (g.W.Wire.taken c.args.wire.now) (g.W.Wire.faults c.args.wire.now) (g.W.Wire.closed c.args.wire.now)) in
+    let now = seen c.send.new.kept (line_of (g.W.Wire.given c.send.new.wire) (g.W.Wire.left c.send.new.wire) (g.W.Wire.taken c.send.new.wire) (g.W.Wire.faults c.send.new.wire) (g.W.Wire.closed c.send.new.wire)) in
+    spent_talks first now bodies texts
+    (carried_on first was now h.carried (record {
+      line = ap (λ w. line_of (g.W.Wire.given w) (g.W.Wire.left w) (g.W.Wire.taken w) (g.W.Wire.faults w) (g.W.Wire.closed w)) c.in_err-cut.ensures.sends.1;
+      read = c.in_err-cut.ensures.sends.0.read;
+      written = c.in_err-cut.ensures.sends.0.written;
+    }))
+    (c.in_err-cut.ensures.sends.0.next ∙ c.requires)
+
+pub returns-then-cut-clause-talks : goal.returns-then-cut-clause-talks
+returns-then-cut-clause-talks g c = λ first bodies texts h.
+    let was = seen c.args.kept.now (line_of (g.W.Wire.given c.args.wire.now) (g.W.Wire.left c.args.wire.now) (g.W.Wire.taken c.args.wire.now) (g.W.Wire.faults c.args.wire.now) (g.W.Wire.closed c.args.wire.now)) in
+    let mid = seen c.send.new.kept (line_of (g.W.Wire.given c.send.new.wire) (g.W.Wire.left c.send.new.wire) (g.W.Wire.taken c.send.new.wire) (g.W.Wire.faults c.send.new.wire) (g.W.Wire.closed c.send.new.wire)) in
+    let now = seen c.finish.new.kept (line_of (g.W.Wire.given c.finish.new.wire) (g.W.Wire.left c.finish.new.wire) (g.W.Wire.taken c.finish.new.wire) (g.W.Wire.faults c.finish.new.wire) (g.W.Wire.closed c.finish.new.wire)) in
+    untold first now bodies texts
+    (sent_failing first was mid now (Refused c.args.status) None bodies texts h
+    (subst (λ l. Sends l true was mid) (c.as_slice.ensures ∙ c.in_ok-bytes.ensures) (subst (λ cut. Sends c.as_slice.result.now cut was mid) c.if-cut.true c.in_ok-cut.ensures.sends))
+    c.finish.ensures.finishes)
+
+pub returns-clause-talks : goal.returns-clause-talks
+returns-clause-talks g c = λ first bodies texts h.
+    let was = seen c.args.kept.now (line_of (g.W.Wire.given c.args.wire.now) (g.W.Wire.left c.args.wire.now) (g.W.Wire.taken c.args.wire.now) (g.W.Wire.faults c.args.wire.now) (g.W.Wire.closed c.args.wire.now)) in
+    let mid = seen c.send.new.kept (line_of (g.W.Wire.given c.send.new.wire) (g.W.Wire.left c.send.new.wire) (g.W.Wire.taken c.send.new.wire) (g.W.Wire.faults c.send.new.wire) (g.W.Wire.closed c.send.new.wire)) in
+    let now = seen c.finish-2.new.kept (line_of (g.W.Wire.given c.finish-2.new.wire) (g.W.Wire.left c.finish-2.new.wire) (g.W.Wire.taken c.finish-2.new.wire) (g.W.Wire.faults c.finish-2.new.wire) (g.W.Wire.closed c.finish-2.new.wire)) in
+    untold first now bodies texts
+    (sent_closing first was mid now (Refused c.args.status) None bodies texts h tt
+    (subst (λ l. Sends l false was mid) (c.as_slice.ensures ∙ c.in_ok-bytes.ensures) (subst (λ cut. Sends c.as_slice.result.now cut was mid) c.if-cut.false c.in_ok-cut.ensures.sends))
+    c.finish-2.ensures.finishes)
+
+pub returns-in_err-bytes-clause-wrote : goal.returns-in_err-bytes-clause-wrote
+returns-in_err-bytes-clause-wrote g c =
+    let calls = g.W.Wire.calls in
+    writes_nothing (calls c.args.wire.now) (calls c.args.wire.now) c.args.kept.now.written.items c.args.kept.now.written.items refl refl
+
+pub returns-then-cut-clause-wrote : goal.returns-then-cut-clause-wrote
+returns-then-cut-clause-wrote g c =
+    let calls = g.W.Wire.calls in
+    writes_on (calls c.args.wire.now) (calls c.send.new.wire) (calls c.finish.new.wire) c.args.kept.now.written.items c.send.new.kept.written.items c.finish.new.kept.written.items
+    c.in_ok-cut.ensures.wrote c.finish.ensures.wrote
+
+pub returns-clause-wrote : goal.returns-clause-wrote
+returns-clause-wrote g c =
+    let calls = g.W.Wire.calls in
+    writes_on (calls c.args.wire.now) (calls c.send.new.wire) (calls c.finish-2.new.wire) c.args.kept.now.written.items c.send.new.kept.written.items c.finish-2.new.kept.written.items
+    c.in_ok-cut.ensures.wrote c.finish-2.ensures.wrote

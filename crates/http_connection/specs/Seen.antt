@@ -1,0 +1,26 @@
+-- What contracts see of a connection.
+use Rattle.std.specs.Prelude.{ℕ, Bool, List, Option}
+use Rattle.http_connection.specs.declared.kept.Kept.{Kept}
+
+-- The state of a wire: the bytes that were read of it, that are left and that were written, where these are told; how
+-- often it failed, and whether it is closed.
+pub record Line : Type 0 where
+  pub given : Option (List ℕ)
+  pub left : Option (List ℕ)
+  pub taken : Option (List ℕ)
+  pub faults : ℕ
+  pub closed : Bool
+
+-- the same by its parts
+abbrev pub line_of : Option (List ℕ) → Option (List ℕ) → Option (List ℕ) → ℕ → Bool → Line
+line_of given left taken faults closed =
+    record { given = given; left = left; taken = taken; faults = faults; closed = closed }
+
+-- a connection: what it keeps, and the state of its wire
+pub record Seen : Type 0 where
+  pub kept : Kept
+  pub line : Line
+
+-- the same by its parts
+abbrev pub seen : Kept → Line → Seen
+seen kept line = record { kept = kept; line = line }

@@ -1,0 +1,142 @@
+-- These definitions serve the proofs alone: no promise of a public call speaks of them.
+-- What a connection does step by step.
+use Rattle.std.specs.Prelude.{◌≡◌, ◌<◌, ◌≤◌, ◌+◌, ℕ, Bool, true, false, List, ◌∷◌, ◌++◌, length, take}
+use Rattle.std.specs.Prelude.{Option, None, Some, Result, Ok, IsErr}
+use Rattle.std.specs.Io.KnownBytes.{Appends}
+use Rattle.outside_traits.specs.Calls.{Notes}
+use Rattle.outside_traits.specs.Causes.{Rose}
+use Rattle.outside_traits.specs.declared.calls.WireCall.{WireCall}
+use Rattle.outside_traits.specs.declared.calls.WireCall.TheVariants.{Read}
+use Rattle.http_port.specs.Prompt.{read_in, written_in}
+use Rattle.http_port.specs.declared.head_reader.Fed.{Fed}
+use Rattle.http_port.specs.declared.head_reader.Fed.TheVariants.{NotYet, Interim, Request, Refused}
+use Rattle.http_connection.specs.declared.kept.Kept.{Kept}
+use Rattle.http_connection.specs.declared.stage.Ending.{Ending}
+use Rattle.http_connection.specs.declared.stage.Standing.{Standing}
+use Rattle.http_connection.specs.declared.stage.Standing.TheVariants as Stands
+use Rattle.http_connection.specs.Seen.{Line, Seen}
+use Rattle.http_connection.specs.Talking.{Log, log, log_of, IsAnswered, HasGiven, IsOpen}
+use Rattle.http_connection.specs.Prompt.{IsDone}
+
+-- What is handed out by how the connection stands, and how it stands then: a request that is held; none of a connection
+-- that is over.
+abbrev pub HandsOut : {E : Type 0} → Standing → Result (Option (List ℕ)) E → Standing → Type 0
+HandsOut (Stands.Holds body close) result next = (result ≡ Ok (Some body)) × (next ≡ Stands.Owes close)
+HandsOut (Stands.Over ending) result next = (result ≡ Ok None) × (next ≡ Stands.Over ending)
+HandsOut Stands.Waits result next = IsErr result × (next ≡ Stands.Spent)
+HandsOut (Stands.Owes close) result next = IsErr result × (next ≡ Stands.Spent)
+HandsOut Stands.Spent result next = IsErr result × (next ≡ Stands.Spent)
+
+-- whether the connection closes with the answer that is owed, where one is
+abbrev pub owed_in : Standing → Option Bool
+owed_in Stands.Waits = None
+owed_in (Stands.Holds body close) = None
+owed_in (Stands.Owes close) = Some close
+owed_in (Stands.Over ending) = None
+owed_in Stands.Spent = None
+
+-- the interim line is asked for
+abbrev pub is_interim : Fed → Bool
+is_interim NotYet = false
+is_interim Interim = true
+is_interim (Request body close) = false
+is_interim (Refused status) = false
+
+-- all of the text went out, or a front of it where that was cut
+abbrev pub IsFrontOf : Bool → List ℕ → List ℕ → Type 0
+IsFrontOf false text went = went ≡ text
+IsFrontOf true text went = (count : ℕ) × (went ≡ take count text)
+
+-- a wire that had failed so often before failed since then where what went out was cut
+abbrev pub Counts : Bool → ℕ → ℕ → Type 0
+Counts false before now = now ≡ before
+Counts true before now = (before ≤ now) × Rose before now
+
+-- A wire took so many bytes of the text: all, unless it failed.
+pub record Takes (text : List ℕ) (count : ℕ) (before now : Line) : Type 0 where
+  pub within : count ≤ length text
+  pub taken : Appends before.taken now.taken (take count text)
+  pub calm : count ≡ length text → now.faults ≡ before.faults
+  pub cause : count < length text → Rose before.faults now.faults
+  pub later : before.faults ≤ now.faults
+  pub given : now.given ≡ before.given
+  pub left : now.left ≡ before.left
+  pub closed : now.closed ≡ before.closed
+
+-- The text was written and kept, or a front of it where the wire failed.
+pub record Sends (text : List ℕ) (cut : Bool) (was now : Seen) : Type 0 where
+  pub went : List ℕ
+  pub front : IsFrontOf cut text went
+  pub written : now.kept.written.items ≡ was.kept.written.items ++ went
+  pub taken : Appends was.line.taken now.line.taken went
+  pub counts : Counts cut was.line.faults now.line.faults
+  pub given : now.line.given ≡ was.line.given
+  pub left : now.line.left ≡ was.line.left
+  pub closed : now.line.closed ≡ was.line.closed
+  pub read : now.kept.read.items ≡ was.kept.read.items
+  pub reader : now.kept.reader ≡ was.kept.reader
+  pub next : now.kept.next ≡ was.kept.next
+
+-- Nothing was written.
+pub record Rests (was now : Kept) : Type 0 where
+  pub written : now.written.items ≡ was.written.items
+  pub read : now.read.items ≡ was.read.items
+  pub reader : now.reader ≡ was.reader
+  pub next : now.next ≡ was.next
+
+-- The wire was closed, and the connection is over so.
+pub record Finishes (ending : Ending) (was now : Seen) : Type 0 where
+  pub next : now.kept.next ≡ Stands.Over ending
+  pub closed : now.line.closed ≡ true
+  pub given : now.line.given ≡ was.line.given
+  pub taken : now.line.taken ≡ was.line.taken
+  pub faults : now.line.faults ≡ was.line.faults
+  pub read : now.kept.read.items ≡ was.kept.read.items
+  pub written : now.kept.written.items ≡ was.kept.written.items
+  pub reader : now.kept.reader ≡ was.kept.reader
+
+-- What was read and written is the open wire's.
+pub record IsCarried (first : Line) (now : Seen) : Type 0 where
+  pub given : Appends first.given now.line.given now.kept.read.items
+  pub taken : Appends first.taken now.line.taken now.kept.written.items
+  pub wire : IsOpen first now.kept.read.items now.line
+
+-- All that the reader gave is answered, and this piece was read and not fed.
+pub record IsGoing (first : Line) (now : Seen) (piece : List ℕ) (bodies : List (List ℕ))
+    (texts : List (Option (List ℕ))) : Type 0 where
+  pub carried : IsCarried first now
+  pub early : List ℕ
+  pub whole : now.kept.read.items ≡ early ++ piece
+  pub answered : IsAnswered now.kept.reader (log early now.kept.written.items bodies texts)
+
+-- The reader gave this last, of which nothing was done.
+pub record IsFed (first : Line) (now : Seen) (last : Fed) (bodies : List (List ℕ)) (texts : List (Option (List ℕ)))
+    : Type 0 where
+  pub carried : IsCarried first now
+  pub given : HasGiven last now.kept.reader (log_of now bodies texts)
+
+-- the list begins with this
+abbrev pub Front : List ℕ → List ℕ → Type 0
+Front all front = (rest : List ℕ) × (all ≡ front ++ rest)
+
+-- What had passed with these first calls of the wire, and that all that is due for it was done.
+pub record Stop (was is : Log) (calls : List WireCall) : Type 0 where
+  pub came : List ℕ
+  pub went : List ℕ
+  pub of_read : Front is.read came
+  pub of_written : Front is.written went
+  pub read : length was.read + read_in calls ≡ length came
+  pub written : length was.written + written_in calls ≡ length went
+  pub done : IsDone (log came went was.bodies was.texts)
+
+-- A wire that tells its calls was called so, by which this was read and written; before each read all was done.
+pub record Called (before now : Option (List WireCall)) (was is : Log) : Type 0 where
+  pub calls : List WireCall
+  pub came : List ℕ
+  pub went : List ℕ
+  pub noted : Notes before now calls
+  pub read : is.read ≡ was.read ++ came
+  pub written : is.written ≡ was.written ++ went
+  pub reads : read_in calls ≡ length came
+  pub writes : written_in calls ≡ length went
+  pub stops : (front after : List WireCall) (count : ℕ) → calls ≡ front ++ Read count ∷ after → Stop was is front

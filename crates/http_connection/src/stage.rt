@@ -1,0 +1,77 @@
+//! How a connection stands.
+ghost use Rattle.std.specs.Prelude.{◌≡◌};
+ghost use Rattle.http_connection.specs.Stages.{stage_behind, stage_of};
+
+use jolie_trees::Bytes;
+
+/// How a connection stands, as its user sees it.
+#[derive(Clone, Copy, Debug, PartialEq, Eq)]
+pub enum Stage {
+    /// The next request may be asked for.
+    Reads,
+    /// The request that was handed out last has no answer yet.
+    Owes,
+    /// No more bytes came, and the wire is closed.
+    Ended,
+    /// What was written last closes the connection, and the wire is closed.
+    Closed,
+    /// The wire failed, and is closed.
+    Faulted,
+    /// Memory ran out.
+    Spent,
+}
+
+/// How a connection is over.
+#[derive(Clone, Copy)]
+pub(crate) enum Ending {
+    /// No more bytes came.
+    Ended,
+    /// What was written last closes the connection.
+    Closed,
+    /// The wire failed in a read.
+    ReadFailed,
+    /// The wire failed in a write.
+    WriteFailed,
+}
+
+/// What a connection does next.
+#[derive(Drop)]
+pub(crate) enum Standing {
+    /// It reads more bytes: all that is due for those that came was written.
+    Waits,
+    /// It hands this request out, which is whole.
+    Holds { body: Bytes, close: bool },
+    /// It writes the answer of the request that was handed out, and closes with it or goes on.
+    Owes { close: bool },
+    /// Nothing: it is over, and its wire is closed.
+    Over(Ending),
+    /// Nothing: memory ran out.
+    Spent,
+}
+
+impl Standing {
+    pub(crate) fn stage(&self) -> Stage
+        ensures { result ≡ stage_of self.now }
+    {
+        match self {
+            Standing::Waits => Stage::Reads,
+            Standing::Holds { .. } => Stage::Reads,
+            Standing::Owes { .. } => Stage::Owes,
+            Standing::Over(ending) => ending.stage(),
+            Standing::Spent => Stage::Spent,
+        }
+    }
+}
+
+impl Ending {
+    fn stage(self) -> Stage
+        ensures { result ≡ stage_behind self }
+    {
+        match self {
+            Ending::Ended => Stage::Ended,
+            Ending::Closed => Stage::Closed,
+            Ending::ReadFailed => Stage::Faulted,
+            Ending::WriteFailed => Stage::Faulted,
+        }
+    }
+}
