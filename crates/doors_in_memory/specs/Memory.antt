@@ -1,0 +1,76 @@
+-- What a contract sees of the doors in memory.
+use Rattle.std.specs.Prelude.{◌≡◌, ◌==◌, ℕ, List, [], ◌∷◌, Option, Some, None, Result, Ok, IsErr, false, if◌then◌else◌}
+use Rattle.outside_doors.specs.Counts.{DoorTold, untried}
+use Rattle.outside_doors.specs.Returns.{BookTold, Counted, counted}
+use Rattle.outside_doors.specs.declared.traits.Knock.{Knock}
+use Rattle.outside_doors.specs.declared.traits.Knock.TheVariants.{Came, NotYet, Closed}
+use Rattle.doors_in_memory.specs.declared.visit.Visit.{Visit}
+use Rattle.doors_in_memory.specs.declared.visit.Visit.TheVariants.{Comes, Nobody, Fails}
+use Rattle.outside_traits.specs.Memory.{plan_of}
+use Rattle.outside_traits.specs.Wires.{CalmLine, ScriptedLine}
+
+-- a door that never fails: the wires that are to come, for how many tries then nobody comes, and what it tells
+pub record CalmEntry : Type 0 where
+  pub coming : List CalmLine
+  pub quiet : ℕ
+  pub told : DoorTold
+
+-- a door that follows a script: what its next tries come to, and what it tells
+pub record ScriptedEntry : Type 0 where
+  pub visits : List Visit
+  pub told : DoorTold
+
+-- doors that never fail to open: those that are to be opened in order, and what they tell
+pub record CalmHouse : Type 0 where
+  pub coming : List CalmEntry
+  pub book : BookTold
+
+-- doors that follow a script: those that are to be opened in order, none of one that fails, and what they tell
+pub record ScriptedHouse : Type 0 where
+  pub coming : List (Option ScriptedEntry)
+  pub book : BookTold
+
+-- a calm wire that was not used yet, on which these bytes come in, and for so many that go out there is room
+abbrev pub calm_line : List ℕ → ℕ → CalmLine
+calm_line bytes room = record {
+  tape = record { given = []; left = bytes };
+  shelf = record { taken = []; room = room };
+  calls = Some [];
+  faults = 0;
+  closed = false;
+}
+
+-- a scripted one: its calls of these numbers fail, and each gives and takes at most so many bytes
+abbrev pub scripted_line : List ℕ → ℕ → List ℕ → ℕ → ScriptedLine
+scripted_line failing piece bytes room = record {
+  script = plan_of failing;
+  tape = record { given = []; left = bytes };
+  shelf = record { taken = []; room = room };
+  calls = Some [];
+  piece = piece;
+  closed = false;
+}
+
+-- what a calm door answers: its wires in order, then for so many tries that nobody has come yet, then that nobody comes
+-- any more
+abbrev pub CalmlyAnswers : {E : Type 0} → List CalmLine → ℕ → Result (Knock (Counted CalmLine)) E → Type 0
+CalmlyAnswers (wire ∷ rest) quiet result = result ≡ Ok (Came (counted wire))
+CalmlyAnswers [] quiet result = result ≡ Ok (if quiet == 0 then Closed else NotYet)
+
+-- what a scripted door answers: what its next visit is, and behind the last of them that nobody comes any more
+abbrev pub Answers : {E : Type 0} → List Visit → Result (Knock (Counted ScriptedLine)) E → Type 0
+Answers [] result = result ≡ Ok Closed
+Answers (Comes wire ∷ rest) result = result ≡ Ok (Came (counted wire))
+Answers (Nobody ∷ rest) result = result ≡ Ok NotYet
+Answers (Fails ∷ rest) result = IsErr result
+
+-- the calm door that is opened next: the first that is to be, and behind the last of them one at which nobody comes
+abbrev pub next_entry : List CalmEntry → CalmEntry
+next_entry [] = record { coming = []; quiet = 0; told = untried }
+next_entry (door ∷ rest) = record door { told = untried }
+
+-- the same of scripted doors, where one that is none fails
+abbrev pub Opens : {E : Type 0} → List (Option ScriptedEntry) → Result ScriptedEntry E → Type 0
+Opens [] result = result ≡ Ok (record { visits = []; told = untried })
+Opens (None ∷ rest) result = IsErr result
+Opens (Some door ∷ rest) result = result ≡ Ok (record door { told = untried })

@@ -1,0 +1,122 @@
+ghost use Rattle.std.specs.Prelude.{◌≡◌, ◌++◌, [], ◌∷◌, false, IfOk, IfSome, IsOk, OnErr, OnOk, drop};
+ghost use Rattle.outside_traits.specs.Causes.{HasCause};
+ghost use Rattle.outside_doors.specs.Counts.{with_opened};
+ghost use Rattle.doors_in_memory.specs.Memory.{next_entry};
+ghost use Rattle.outside_doors.specs.Returns.{Lists, no_book};
+
+use crate::calm_door::CalmDoor;
+use crate::queue::Queue;
+use outside_doors::{Book, CountedWire, Counts, Doors, Location, Return};
+use outside_traits::{CalmWire, Failed};
+use std::alloc::{AllocError, Global};
+use std::marker::Model;
+
+/// Doors in memory that never fail to open: those that were handed in, in order, and behind the last of them doors at which nobody comes.
+#[derive(Drop)]
+pub struct CalmDoors {
+    alloc: Global,
+    coming: Queue<CalmDoor>,
+    book: Book<CalmWire>,
+}
+
+impl Model for CalmDoors {
+    ghost use Rattle.doors_in_memory.specs.Memory.{CalmHouse};
+
+    ghost Value = { CalmHouse };
+
+    ghost view = { λ d. record { coming = d.coming; book = d.book } };
+}
+
+impl CalmDoors {
+    pub fn new(alloc: Global) -> CalmDoors
+        ensures { result ≡ record { coming = []; book = no_book } }
+    {
+        CalmDoors {
+            alloc,
+            coming: Queue::new(alloc),
+            book: Book::new(alloc),
+        }
+    }
+
+    /// Has a door open behind those that were handed in before, and makes room for its wires.
+    pub fn expect(&mut self, door: CalmDoor) -> Result<(), AllocError>
+        ensures more { OnOk result (self.new.coming ≡ self.old.coming ++ door ∷ []) }
+        ensures same { OnErr result (self.new.coming ≡ self.old.coming) }
+        ensures book { self.new.book ≡ self.old.book }
+    {
+        self.book.reserve(door.expected())?;
+        self.coming.push(door)?;
+        Ok(())
+    }
+
+    /// What was counted of what was opened and of what came back.
+    pub fn counts(&self) -> &Counts
+        ensures { result.now ≡ self.now.book.tally }
+    {
+        self.book.counts()
+    }
+
+    /// How often a door came back that had failed.
+    pub fn faults(&self) -> u64
+        ensures { result ≡ self.now.book.faults }
+    {
+        self.book.faults()
+    }
+
+    /// The locations that were opened in order: all, where they are told.
+    pub fn locations(&self) -> &[Location]
+        ensures { IfSome self.now.book.locations (λ locations. result.now ≡ locations) }
+    {
+        self.book.locations()
+    }
+
+    /// The wires that came back in order: all, where they are told.
+    pub fn returned(&self) -> &[Return<CalmWire>]
+        ensures { IfSome self.now.book.wires (λ wires. result.now ≡ wires) }
+    {
+        self.book.wires()
+    }
+}
+
+impl Doors for CalmDoors {
+    type D = CalmDoor;
+
+    ghost faults = { λ d. d.book.faults };
+
+    ghost tally = { λ d. d.book.tally };
+
+    ghost locations = { λ d. d.book.locations };
+
+    ghost returned = { λ d. d.book.wires };
+
+    fn open(&mut self, location: &str) -> Result<CalmDoor, Failed>
+        ensures calm { IsOk result }
+        ensures door { IfOk result (λ door. door ≡ next_entry self.old.coming) }
+        ensures coming { self.new.coming ≡ drop 1 self.old.coming }
+        ensures faultless { IfOk result (λ door. door.told.faults ≡ 0) }
+        ensures ungiven { IfOk result (λ door. door.told.wires ≡ 0) }
+        ensures unwaited { IfOk result (λ door. door.told.waits ≡ 0) }
+        ensures unclosed { IfOk result (λ door. door.told.closed ≡ false) }
+        ensures opened { IfOk result (λ _. self.new.book.tally ≡ with_opened self.old.book.tally) }
+        ensures unopened { OnErr result (self.new.book.tally ≡ self.old.book.tally) }
+        ensures listed { IfOk result (λ _. Lists self.old.book.locations self.new.book.locations (location.now ∷ [])) }
+        ensures unlisted { OnErr result (self.new.book.locations ≡ self.old.book.locations) }
+        ensures returned { self.new.book.wires ≡ self.old.book.wires }
+        ensures cause { HasCause self.old.book.faults self.new.book.faults result }
+    {
+        self.book.open(location);
+        let door = match self.coming.next() {
+            None => CalmDoor::new(self.alloc, 0),
+            Some(door) => door.anew(),
+        };
+        Ok(door)
+    }
+
+    fn wire_back(&mut self, wire: CountedWire<CalmWire>) {
+        self.book.wire_back(wire);
+    }
+
+    fn door_back(&mut self, door: CalmDoor) {
+        self.book.door_back(door.counts());
+    }
+}

@@ -1,0 +1,165 @@
+ghost use Rattle.std.specs.Prelude.{◌≡◌, ◌<◌, ◌++◌, [], ◌∷◌, Ok, Some, false, IsTrue, OnErr, OnOk, IfOk, drop};
+ghost use Rattle.outside_traits.specs.Causes.{HasCause};
+ghost use Rattle.outside_doors.specs.Counts.{untried};
+ghost use Rattle.outside_doors.specs.Knocks.{IfCame, IsFresh, closed_after, waits_after, wires_after};
+ghost use Rattle.doors_in_memory.specs.Memory.{Answers, scripted_line};
+ghost use Rattle.doors_in_memory.specs.declared.visit.Visit.TheVariants.{Comes, Fails, Nobody};
+
+use crate::new_wire::NewWire;
+use crate::queue::Queue;
+use crate::visit::Visit;
+use outside_doors::{CountedWire, Door, DoorCounts, Knock};
+use outside_traits::{Failed, Script, ScriptedWire};
+use std::alloc::{AllocError, Global};
+use std::marker::Model;
+
+/// A door in memory that follows a script: what each try comes to, in order, and behind the last of them nobody any more.
+#[derive(Drop)]
+pub struct ScriptedDoor {
+    alloc: Global,
+    visits: Queue<Visit>,
+    counts: DoorCounts,
+}
+
+impl Model for ScriptedDoor {
+    ghost use Rattle.doors_in_memory.specs.Memory.{ScriptedEntry};
+
+    ghost Value = { ScriptedEntry };
+
+    ghost view = { λ d. record { visits = d.visits; told = d.counts } };
+}
+
+impl ScriptedDoor {
+    /// A door at which nobody comes any more.
+    pub fn new(alloc: Global) -> ScriptedDoor
+        ensures { result ≡ record { visits = []; told = untried } }
+    {
+        ScriptedDoor {
+            alloc,
+            visits: Queue::new(alloc),
+            counts: DoorCounts::new(),
+        }
+    }
+
+    /// Has a connection come next, on which these bytes come in, `room` bytes go out in all, at most `piece` a call either way, and the calls of these numbers fail.
+    pub fn expect(
+        &mut self,
+        bytes: &[u8],
+        room: usize,
+        piece: usize,
+        failing: &[u64],
+    ) -> Result<(), AllocError>
+        requires { 0 < piece }
+        ensures more { OnOk result (self.new.visits ≡ self.old.visits ++ Comes (scripted_line failing.now piece bytes.now room) ∷ []) }
+        ensures same { OnErr result (self.new.visits ≡ self.old.visits) }
+        ensures told { self.new.told ≡ self.old.told }
+    {
+        let wire = new_wire(self.alloc, bytes, room, piece, failing)?;
+        self.visits.push(Visit::Comes(wire))?;
+        Ok(())
+    }
+
+    /// Has nobody come at the next try.
+    pub fn expect_nobody(&mut self) -> Result<(), AllocError>
+        ensures more { OnOk result (self.new.visits ≡ self.old.visits ++ Nobody ∷ []) }
+        ensures same { OnErr result (self.new.visits ≡ self.old.visits) }
+        ensures told { self.new.told ≡ self.old.told }
+    {
+        self.visits.push(Visit::Nobody)?;
+        Ok(())
+    }
+
+    /// Has the next try fail.
+    pub fn expect_failure(&mut self) -> Result<(), AllocError>
+        ensures more { OnOk result (self.new.visits ≡ self.old.visits ++ Fails ∷ []) }
+        ensures same { OnErr result (self.new.visits ≡ self.old.visits) }
+        ensures told { self.new.told ≡ self.old.told }
+    {
+        self.visits.push(Visit::Fails)?;
+        Ok(())
+    }
+
+    /// How many visits there are to come, of which each may be a connection.
+    pub(crate) fn expected(&self) -> usize {
+        self.visits.len()
+    }
+
+    /// The same door as it was before any try.
+    pub(crate) fn anew(self) -> ScriptedDoor
+        ensures { result ≡ record self { told = untried } }
+    {
+        let mut door = self;
+        door.counts = DoorCounts::new();
+        door
+    }
+
+    /// What the door counts.
+    pub fn counts(&self) -> &DoorCounts
+        ensures { result.now ≡ self.now.told }
+    {
+        &self.counts
+    }
+}
+
+impl Door for ScriptedDoor {
+    type W = CountedWire<ScriptedWire>;
+
+    ghost faults = { λ d. d.told.faults };
+
+    ghost wires = { λ d. d.told.wires };
+
+    ghost waits = { λ d. d.told.waits };
+
+    ghost closed = { λ d. d.told.closed };
+
+    fn try_accept(&mut self) -> Result<Knock<CountedWire<ScriptedWire>>, Failed>
+        ensures scripted { self.old.told.closed ≡ false → Answers self.old.visits result }
+        ensures visits { self.old.told.closed ≡ false → self.new.visits ≡ drop 1 self.old.visits }
+        ensures fresh { IfCame result (λ wire. IsFresh (Some wire.wire.tape.given) (Some wire.wire.shelf.taken) wire.wire.calls wire.faults wire.wire.closed) }
+        ensures wires { self.new.told.wires ≡ wires_after result self.old.told.wires }
+        ensures waits { self.new.told.waits ≡ waits_after result self.old.told.waits }
+        ensures closed { self.new.told.closed ≡ closed_after result self.old.told.closed }
+        ensures stays { IsTrue self.old.told.closed → result ≡ Ok Knock.Closed }
+        ensures cause { HasCause self.old.told.faults self.new.told.faults result }
+    {
+        if self.counts.is_closed() {
+            return Ok(Knock::Closed);
+        }
+        match self.visits.next() {
+            None => {
+                self.counts.close();
+                Ok(Knock::Closed)
+            }
+            Some(Visit::Comes(wire)) => {
+                self.counts.add_wire();
+                Ok(Knock::Came(wire.into_counted()))
+            }
+            Some(Visit::Nobody) => {
+                self.counts.add_wait();
+                Ok(Knock::NotYet)
+            }
+            Some(Visit::Fails) => {
+                self.counts.add_fault();
+                Err(Failed)
+            }
+        }
+    }
+
+    fn rest(&mut self) {}
+}
+
+/// A wire that was not used yet.
+fn new_wire(
+    alloc: Global,
+    bytes: &[u8],
+    room: usize,
+    piece: usize,
+    failing: &[u64],
+) -> Result<NewWire<ScriptedWire>, AllocError>
+    requires { 0 < piece }
+    ensures { IfOk result (λ wire. wire ≡ scripted_line failing.now piece bytes.now room) }
+{
+    let script = Script::new(alloc, failing)?;
+    let wire = ScriptedWire::new(alloc, bytes, room, piece, script)?;
+    Ok(NewWire::new(wire))
+}

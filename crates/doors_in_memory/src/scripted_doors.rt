@@ -1,0 +1,135 @@
+ghost use Rattle.std.specs.Prelude.{◌≡◌, ◌++◌, [], ◌∷◌, Some, None, false, IfOk, IfSome, OnErr, OnOk, drop};
+ghost use Rattle.outside_traits.specs.Causes.{HasCause};
+ghost use Rattle.outside_doors.specs.Counts.{with_opened};
+ghost use Rattle.doors_in_memory.specs.Memory.{Opens};
+ghost use Rattle.outside_doors.specs.Returns.{Lists, no_book};
+
+use crate::queue::Queue;
+use crate::scripted_door::ScriptedDoor;
+use outside_doors::{Book, CountedWire, Counts, Doors, Location, Return};
+use outside_traits::{Failed, ScriptedWire};
+use std::alloc::{AllocError, Global};
+use std::marker::Model;
+
+/// Doors in memory that follow a script: those that were handed in open in order, or fail where it says so, and behind the last of them come doors at which nobody comes.
+#[derive(Drop)]
+pub struct ScriptedDoors {
+    alloc: Global,
+    coming: Queue<Option<ScriptedDoor>>,
+    book: Book<ScriptedWire>,
+}
+
+impl Model for ScriptedDoors {
+    ghost use Rattle.doors_in_memory.specs.Memory.{ScriptedHouse};
+
+    ghost Value = { ScriptedHouse };
+
+    ghost view = { λ d. record { coming = d.coming; book = d.book } };
+}
+
+impl ScriptedDoors {
+    pub fn new(alloc: Global) -> ScriptedDoors
+        ensures { result ≡ record { coming = []; book = no_book } }
+    {
+        ScriptedDoors {
+            alloc,
+            coming: Queue::new(alloc),
+            book: Book::new(alloc),
+        }
+    }
+
+    /// Has a door open behind those that were handed in before, and makes room for its wires.
+    pub fn expect(&mut self, door: ScriptedDoor) -> Result<(), AllocError>
+        ensures more { OnOk result (self.new.coming ≡ self.old.coming ++ Some door ∷ []) }
+        ensures same { OnErr result (self.new.coming ≡ self.old.coming) }
+        ensures book { self.new.book ≡ self.old.book }
+    {
+        self.book.reserve(door.expected())?;
+        self.coming.push(Some(door))?;
+        Ok(())
+    }
+
+    /// Has a door fail to open behind those that were handed in before.
+    pub fn expect_failure(&mut self) -> Result<(), AllocError>
+        ensures more { OnOk result (self.new.coming ≡ self.old.coming ++ None ∷ []) }
+        ensures same { OnErr result (self.new.coming ≡ self.old.coming) }
+        ensures book { self.new.book ≡ self.old.book }
+    {
+        self.coming.push(None)?;
+        Ok(())
+    }
+
+    /// What was counted of what was opened and of what came back.
+    pub fn counts(&self) -> &Counts
+        ensures { result.now ≡ self.now.book.tally }
+    {
+        self.book.counts()
+    }
+
+    /// How often a door failed to open, or came back that had failed.
+    pub fn faults(&self) -> u64
+        ensures { result ≡ self.now.book.faults }
+    {
+        self.book.faults()
+    }
+
+    /// The locations that were opened in order: all, where they are told.
+    pub fn locations(&self) -> &[Location]
+        ensures { IfSome self.now.book.locations (λ locations. result.now ≡ locations) }
+    {
+        self.book.locations()
+    }
+
+    /// The wires that came back in order: all, where they are told.
+    pub fn returned(&self) -> &[Return<ScriptedWire>]
+        ensures { IfSome self.now.book.wires (λ wires. result.now ≡ wires) }
+    {
+        self.book.wires()
+    }
+}
+
+impl Doors for ScriptedDoors {
+    type D = ScriptedDoor;
+
+    ghost faults = { λ d. d.book.faults };
+
+    ghost tally = { λ d. d.book.tally };
+
+    ghost locations = { λ d. d.book.locations };
+
+    ghost returned = { λ d. d.book.wires };
+
+    fn open(&mut self, location: &str) -> Result<ScriptedDoor, Failed>
+        ensures scripted { Opens self.old.coming result }
+        ensures coming { self.new.coming ≡ drop 1 self.old.coming }
+        ensures faultless { IfOk result (λ door. door.told.faults ≡ 0) }
+        ensures ungiven { IfOk result (λ door. door.told.wires ≡ 0) }
+        ensures unwaited { IfOk result (λ door. door.told.waits ≡ 0) }
+        ensures unclosed { IfOk result (λ door. door.told.closed ≡ false) }
+        ensures opened { IfOk result (λ _. self.new.book.tally ≡ with_opened self.old.book.tally) }
+        ensures unopened { OnErr result (self.new.book.tally ≡ self.old.book.tally) }
+        ensures listed { IfOk result (λ _. Lists self.old.book.locations self.new.book.locations (location.now ∷ [])) }
+        ensures unlisted { OnErr result (self.new.book.locations ≡ self.old.book.locations) }
+        ensures returned { self.new.book.wires ≡ self.old.book.wires }
+        ensures cause { HasCause self.old.book.faults self.new.book.faults result }
+    {
+        let door = match self.coming.next() {
+            None => ScriptedDoor::new(self.alloc),
+            Some(Some(door)) => door.anew(),
+            Some(None) => {
+                self.book.fail();
+                return Err(Failed);
+            }
+        };
+        self.book.open(location);
+        Ok(door)
+    }
+
+    fn wire_back(&mut self, wire: CountedWire<ScriptedWire>) {
+        self.book.wire_back(wire);
+    }
+
+    fn door_back(&mut self, door: ScriptedDoor) {
+        self.book.door_back(door.counts());
+    }
+}

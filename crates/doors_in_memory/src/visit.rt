@@ -1,0 +1,10 @@
+use crate::new_wire::NewWire;
+use outside_traits::ScriptedWire;
+
+/// What a try at a scripted door comes to: a connection, nobody yet, or a failure.
+#[derive(Drop)]
+pub(crate) enum Visit {
+    Comes(NewWire<ScriptedWire>),
+    Nobody,
+    Fails,
+}

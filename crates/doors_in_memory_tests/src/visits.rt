@@ -1,0 +1,85 @@
+//! What comes in at doors.
+
+use outside_doors::{Door, Doors, Knock};
+use outside_traits::{Failed, Wire};
+use std::alloc::AllocError;
+
+/// How many reads there are of a connection at most.
+const READS: u32 = 20;
+
+/// Opens a door at each location, tries it so often, answers each connection with `ok`, and gives all back. It says what it met: `>` and the bytes of a connection, `.` where nobody had come, `#` where nobody comes any more, and `!` of what failed.
+pub fn visit_all<D: Doors>(
+    doors: &mut D,
+    locations: &str,
+    tries: u32,
+    said: &mut String,
+) -> Result<(), AllocError> {
+    for location in locations.split(' ') {
+        said.push_str(location)?;
+        said.push(':')?;
+        match doors.open(location) {
+            Ok(door) => visit(doors, door, tries, said)?,
+            Err(Failed) => said.push('!')?,
+        }
+        said.push('\n')?;
+    }
+    Ok(())
+}
+
+fn visit<D: Doors>(
+    doors: &mut D,
+    door: D::D,
+    tries: u32,
+    said: &mut String,
+) -> Result<(), AllocError> {
+    let mut door = door;
+    for _ in 0..tries {
+        match door.try_accept() {
+            Ok(Knock::Came(wire)) => answer(doors, wire, said)?,
+            Ok(Knock::NotYet) => {
+                door.rest();
+                said.push('.')?;
+            }
+            Ok(Knock::Closed) => said.push('#')?,
+            Err(Failed) => said.push('!')?,
+        }
+    }
+    doors.door_back(door);
+    Ok(())
+}
+
+fn answer<D: Doors>(
+    doors: &mut D,
+    wire: <D::D as Door>::W,
+    said: &mut String,
+) -> Result<(), AllocError> {
+    let mut wire = wire;
+    said.push('>')?;
+    read_all(&mut wire, said)?;
+    if wire.write(b"ok").is_err() {
+        said.push('!')?;
+    }
+    wire.close();
+    doors.wire_back(wire);
+    Ok(())
+}
+
+fn read_all<W: Wire>(wire: &mut W, said: &mut String) -> Result<(), AllocError> {
+    let mut buffer = [0; 3];
+    for _ in 0..READS {
+        match wire.read(&mut buffer) {
+            Ok(0) => break,
+            Ok(count) => add_bytes(said, &buffer[..count])?,
+            Err(Failed) => said.push('!')?,
+        }
+    }
+    Ok(())
+}
+
+/// Adds bytes as a text.
+pub fn add_bytes(said: &mut String, bytes: &[u8]) -> Result<(), AllocError> {
+    for byte in bytes {
+        said.push(char::from(*byte))?;
+    }
+    Ok(())
+}

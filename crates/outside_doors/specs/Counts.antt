@@ -1,0 +1,78 @@
+-- What doors count.
+use Rattle.std.specs.Prelude.{ℕ, ◌+◌, ◌-◌, ◌^◌, min, Bool, false, not, ◌||◌, ◌==◌, if◌then◌else◌}
+
+-- a count to which so many are added; it stops at the last value of its type
+abbrev pub added : ℕ → ℕ → ℕ
+added before more = min (before + more) (2 ^ 64 - 1)
+
+-- a count to which one is added where the test is true
+abbrev pub added_if : Bool → ℕ → ℕ
+added_if test before = if test then added before 1 else before
+
+-- what a door tells of itself
+pub record DoorTold : Type 0 where
+  -- how often a try at it has failed
+  pub faults : ℕ
+  -- how many wires it gave
+  pub wires : ℕ
+  -- how often it answered that nobody has come yet
+  pub waits : ℕ
+  -- whether it has answered that nobody comes any more
+  pub closed : Bool
+
+-- a door that was not tried yet
+abbrev pub untried : DoorTold
+untried = record { faults = 0; wires = 0; waits = 0; closed = false }
+
+-- whether a door has ended: it has answered that nobody comes any more, or a try at it has failed
+abbrev pub has_ended : DoorTold → Bool
+has_ended door = door.closed || not (door.faults == 0)
+
+-- what doors count of what they opened and of what came back to them
+pub record Tally : Type 0 where
+  -- the doors that were opened
+  pub opened : ℕ
+  -- the doors that came back
+  pub doors_back : ℕ
+  -- those of them that had ended
+  pub doors_ended : ℕ
+  -- the wires that the doors which came back had given
+  pub wires_given : ℕ
+  -- the wires that came back
+  pub wires_back : ℕ
+  -- those of them with a count of faults other than 0
+  pub wires_failed : ℕ
+  -- the waits of all doors that came back; a wire that blocks has none
+  pub waits : ℕ
+
+-- before anything was opened
+abbrev pub no_tally : Tally
+no_tally = record {
+  opened = 0;
+  doors_back = 0;
+  doors_ended = 0;
+  wires_given = 0;
+  wires_back = 0;
+  wires_failed = 0;
+  waits = 0;
+}
+
+-- a door was opened
+abbrev pub with_opened : Tally → Tally
+with_opened tally = record tally { opened = added tally.opened 1 }
+
+-- a door came back
+abbrev pub with_door : DoorTold → Tally → Tally
+with_door door tally = record tally {
+  doors_back = added tally.doors_back 1;
+  doors_ended = added_if (has_ended door) tally.doors_ended;
+  wires_given = added tally.wires_given door.wires;
+  waits = added tally.waits door.waits;
+}
+
+-- a wire came back with this count of faults
+abbrev pub with_wire : ℕ → Tally → Tally
+with_wire faults tally = record tally {
+  wires_back = added tally.wires_back 1;
+  wires_failed = added_if (not (faults == 0)) tally.wires_failed;
+}

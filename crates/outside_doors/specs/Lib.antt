@@ -1,0 +1,3 @@
+pub mod Counts
+pub mod Knocks
+pub mod Returns

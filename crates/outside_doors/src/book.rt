@@ -1,0 +1,122 @@
+//! What doors keep of what was opened and of what came back.
+ghost use Rattle.std.specs.Prelude.{◌≡◌, ◌≤◌, ◌==◌, [], ◌∷◌, not, IfSome};
+ghost use Rattle.outside_traits.specs.Causes.{Rose};
+ghost use Rattle.outside_doors.specs.Counts.{added, added_if, with_door, with_opened, with_wire};
+ghost use Rattle.outside_doors.specs.Returns.{Lists, no_book, wire_told};
+
+use crate::counted_wire::CountedWire;
+use crate::counts::{Counts, DoorCounts};
+use crate::returns::{Location, Locations, Return, Returns};
+use outside_traits::Wire;
+use std::alloc::{AllocError, Global};
+use std::marker::Model;
+
+/// What doors tell: their counts, how often a call has failed, the locations that were opened and the wires that came back.
+#[derive(Drop)]
+pub struct Book<W: Wire + Drop> {
+    counts: Counts,
+    faults: u64,
+    locations: Locations,
+    returns: Returns<W>,
+}
+
+impl<W: Wire + Drop> Model for Book<W> {
+    ghost use Rattle.outside_doors.specs.Returns.{BookTold};
+
+    ghost Value = { BookTold };
+
+    ghost view = { λ b. record { tally = b.counts; faults = b.faults; locations = b.locations; wires = b.returns } };
+}
+
+impl<W: Wire + Drop> Book<W> {
+    /// The book before anything was opened.
+    pub fn new(alloc: Global) -> Book<W>
+        ensures { result ≡ no_book }
+    {
+        Book {
+            counts: Counts::new(),
+            faults: 0,
+            locations: Locations::new(alloc),
+            returns: Returns::new(alloc),
+        }
+    }
+
+    /// Makes room for so many more wires that come back.
+    pub fn reserve(&mut self, more: usize) -> Result<(), AllocError>
+        ensures { self.new ≡ self.old }
+    {
+        self.returns.reserve(more)
+    }
+
+    /// A door was opened.
+    pub fn open(&mut self, location: &str)
+        ensures tally { self.new.tally ≡ with_opened self.old.tally }
+        ensures faults { self.new.faults ≡ self.old.faults }
+        ensures locations { Lists self.old.locations self.new.locations (location.now ∷ []) }
+        ensures wires { self.new.wires ≡ self.old.wires }
+    {
+        self.counts.add_opened();
+        self.locations.keep(location);
+    }
+
+    /// A door could not be opened.
+    pub fn fail(&mut self)
+        ensures faults { self.new ≡ record self.old { faults = added self.old.faults 1 } }
+        ensures rose { Rose self.old.faults self.new.faults }
+        ensures later { self.old.faults ≤ self.new.faults }
+    {
+        self.faults = self.faults.saturating_add(1);
+    }
+
+    /// A wire came back.
+    pub fn wire_back(&mut self, wire: CountedWire<W>)
+        ensures tally { self.new.tally ≡ with_wire wire.faults self.old.tally }
+        ensures faults { self.new.faults ≡ self.old.faults }
+        ensures locations { self.new.locations ≡ self.old.locations }
+        ensures wires { Lists self.old.wires self.new.wires (wire_told (W.given wire.wire) (W.taken wire.wire) wire.faults ∷ []) }
+    {
+        self.counts.add_wire(wire.faults());
+        self.returns.keep(wire);
+    }
+
+    /// A door came back.
+    pub fn door_back(&mut self, door: &DoorCounts)
+        ensures tally { self.new.tally ≡ with_door door.now self.old.tally }
+        ensures faults { self.new.faults ≡ added_if (not (door.now.faults == 0)) self.old.faults }
+        ensures locations { self.new.locations ≡ self.old.locations }
+        ensures wires { self.new.wires ≡ self.old.wires }
+    {
+        self.counts.add_door(door);
+        if door.faults() != 0 {
+            self.faults = self.faults.saturating_add(1);
+        }
+    }
+
+    /// What was counted of what was opened and of what came back.
+    pub fn counts(&self) -> &Counts
+        ensures { result.now ≡ self.now.tally }
+    {
+        &self.counts
+    }
+
+    /// How often a door failed to open, or came back that had failed.
+    pub fn faults(&self) -> u64
+        ensures { result ≡ self.now.faults }
+    {
+        self.faults
+    }
+
+    /// The locations that were opened in order: all, where they are told.
+    pub fn locations(&self) -> &[Location]
+        ensures { IfSome self.now.locations (λ locations. result.now ≡ locations) }
+    {
+        self.locations.kept()
+    }
+
+    /// The wires that came back in order: all, where they are told.
+    pub fn wires(&self) -> &[Return<W>]
+        ensures { IfSome self.now.wires (λ wires. result.now ≡ wires) }
+    {
+        self.returns.kept()
+    }
+}

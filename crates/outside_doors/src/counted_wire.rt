@@ -1,0 +1,77 @@
+ghost use Rattle.std.specs.Prelude.{◌≡◌};
+ghost use Rattle.outside_doors.specs.Returns.{counted};
+
+use outside_traits::{Failed, Wire};
+use std::marker::Model;
+
+/// A wire that counts its failures in a number that whoever takes it back can read.
+#[derive(Drop)]
+pub struct CountedWire<W> {
+    wire: W,
+    faults: u64,
+}
+
+impl<W> Model for CountedWire<W> {
+    ghost use Rattle.outside_doors.specs.Returns.{Counted};
+
+    ghost Value = { Counted W };
+
+    ghost view = { λ w. record { wire = w.wire; faults = w.faults } };
+}
+
+impl<W> CountedWire<W> {
+    /// A wire of which no call has failed.
+    pub fn new(wire: W) -> CountedWire<W>
+        ensures { result ≡ counted wire }
+    {
+        CountedWire { wire, faults: 0 }
+    }
+
+    /// The wire itself.
+    pub fn wire(&self) -> &W
+        ensures { result.now ≡ self.now.wire }
+    {
+        &self.wire
+    }
+
+    /// How often a call has failed.
+    pub fn faults(&self) -> u64
+        ensures { result ≡ self.now.faults }
+    {
+        self.faults
+    }
+}
+
+impl<W: Wire> Wire for CountedWire<W> {
+    ghost given = { λ w. W.given w.wire };
+
+    ghost left = { λ w. W.left w.wire };
+
+    ghost taken = { λ w. W.taken w.wire };
+
+    ghost calls = { λ w. W.calls w.wire };
+
+    ghost faults = { λ w. w.faults };
+
+    ghost closed = { λ w. W.closed w.wire };
+
+    fn read(&mut self, into: &mut [u8]) -> Result<usize, Failed> {
+        let answer = self.wire.read(into);
+        if answer.is_err() {
+            self.faults = self.faults.saturating_add(1);
+        }
+        answer
+    }
+
+    fn write(&mut self, from: &[u8]) -> Result<usize, Failed> {
+        let answer = self.wire.write(from);
+        if answer.is_err() {
+            self.faults = self.faults.saturating_add(1);
+        }
+        answer
+    }
+
+    fn close(&mut self) {
+        self.wire.close();
+    }
+}

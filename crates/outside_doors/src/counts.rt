@@ -1,0 +1,210 @@
+//! The counts of a door, and those of what opens doors.
+ghost use Rattle.std.specs.Prelude.{◌≡◌, ◌≤◌, true};
+ghost use Rattle.outside_traits.specs.Causes.{Rose};
+ghost use Rattle.outside_doors.specs.Counts.{added, no_tally, untried, with_door, with_opened, with_wire};
+
+use std::marker::Model;
+
+/// What a door tells of itself.
+#[derive(Drop)]
+pub struct DoorCounts {
+    faults: u64,
+    wires: u64,
+    waits: u64,
+    is_closed: bool,
+}
+
+impl Model for DoorCounts {
+    ghost use Rattle.outside_doors.specs.Counts.{DoorTold};
+
+    ghost Value = { DoorTold };
+
+    ghost view = { λ c. record { faults = c.faults; wires = c.wires; waits = c.waits; closed = c.is_closed } };
+}
+
+impl DoorCounts {
+    /// Those of a door that was not tried yet.
+    pub fn new() -> DoorCounts
+        ensures { result ≡ untried }
+    {
+        DoorCounts {
+            faults: 0,
+            wires: 0,
+            waits: 0,
+            is_closed: false,
+        }
+    }
+
+    /// How often a try has failed.
+    pub fn faults(&self) -> u64
+        ensures { result ≡ self.now.faults }
+    {
+        self.faults
+    }
+
+    /// How many wires the door gave.
+    pub fn wires(&self) -> u64
+        ensures { result ≡ self.now.wires }
+    {
+        self.wires
+    }
+
+    /// How often it answered that nobody has come yet.
+    pub fn waits(&self) -> u64
+        ensures { result ≡ self.now.waits }
+    {
+        self.waits
+    }
+
+    /// Whether it has answered that nobody comes any more.
+    pub fn is_closed(&self) -> bool
+        ensures { result ≡ self.now.closed }
+    {
+        self.is_closed
+    }
+
+    /// Counts a try that failed.
+    pub fn add_fault(&mut self)
+        ensures faults { self.new ≡ record self.old { faults = added self.old.faults 1 } }
+        ensures rose { Rose self.old.faults self.new.faults }
+        ensures later { self.old.faults ≤ self.new.faults }
+    {
+        self.faults = self.faults.saturating_add(1);
+    }
+
+    /// Counts a wire that the door gave.
+    pub fn add_wire(&mut self)
+        ensures { self.new ≡ record self.old { wires = added self.old.wires 1 } }
+    {
+        self.wires = self.wires.saturating_add(1);
+    }
+
+    /// Counts an answer that nobody has come yet.
+    pub fn add_wait(&mut self)
+        ensures { self.new ≡ record self.old { waits = added self.old.waits 1 } }
+    {
+        self.waits = self.waits.saturating_add(1);
+    }
+
+    /// Notes the answer that nobody comes any more.
+    pub fn close(&mut self)
+        ensures { self.new ≡ record self.old { closed = true } }
+    {
+        self.is_closed = true;
+    }
+}
+
+/// What is counted of the doors that were opened, and of the doors and wires that came back.
+#[derive(Drop)]
+pub struct Counts {
+    opened: u64,
+    doors_back: u64,
+    doors_ended: u64,
+    wires_given: u64,
+    wires_back: u64,
+    wires_failed: u64,
+    waits: u64,
+}
+
+impl Model for Counts {
+    ghost use Rattle.outside_doors.specs.Counts.{Tally};
+
+    ghost Value = { Tally };
+
+    ghost view = { λ c. record { opened = c.opened; doors_back = c.doors_back; doors_ended = c.doors_ended; wires_given = c.wires_given; wires_back = c.wires_back; wires_failed = c.wires_failed; waits = c.waits } };
+}
+
+impl Counts {
+    /// Those before anything was opened.
+    pub fn new() -> Counts
+        ensures { result ≡ no_tally }
+    {
+        Counts {
+            opened: 0,
+            doors_back: 0,
+            doors_ended: 0,
+            wires_given: 0,
+            wires_back: 0,
+            wires_failed: 0,
+            waits: 0,
+        }
+    }
+
+    /// The doors that were opened.
+    pub fn opened(&self) -> u64
+        ensures { result ≡ self.now.opened }
+    {
+        self.opened
+    }
+
+    /// The doors that came back.
+    pub fn doors_back(&self) -> u64
+        ensures { result ≡ self.now.doors_back }
+    {
+        self.doors_back
+    }
+
+    /// Those of them that had answered that nobody comes any more, or had failed.
+    pub fn doors_ended(&self) -> u64
+        ensures { result ≡ self.now.doors_ended }
+    {
+        self.doors_ended
+    }
+
+    /// The wires that the doors which came back had given.
+    pub fn wires_given(&self) -> u64
+        ensures { result ≡ self.now.wires_given }
+    {
+        self.wires_given
+    }
+
+    /// The wires that came back.
+    pub fn wires_back(&self) -> u64
+        ensures { result ≡ self.now.wires_back }
+    {
+        self.wires_back
+    }
+
+    /// Those of them that had failed.
+    pub fn wires_failed(&self) -> u64
+        ensures { result ≡ self.now.wires_failed }
+    {
+        self.wires_failed
+    }
+
+    /// The waits of the doors that came back.
+    pub fn waits(&self) -> u64
+        ensures { result ≡ self.now.waits }
+    {
+        self.waits
+    }
+
+    /// Counts a door that was opened.
+    pub fn add_opened(&mut self)
+        ensures { self.new ≡ with_opened self.old }
+    {
+        self.opened = self.opened.saturating_add(1);
+    }
+
+    /// Counts a door that came back.
+    pub fn add_door(&mut self, door: &DoorCounts)
+        ensures { self.new ≡ with_door door.now self.old }
+    {
+        self.doors_back = self.doors_back.saturating_add(1);
+        if door.is_closed || door.faults != 0 {
+            self.doors_ended = self.doors_ended.saturating_add(1);
+        }
+        self.wires_given = self.wires_given.saturating_add(door.wires);
+        self.waits = self.waits.saturating_add(door.waits);
+    }
+
+    /// Counts a wire that came back with this count of faults.
+    pub fn add_wire(&mut self, faults: u64)
+        ensures { self.new ≡ with_wire faults self.old }
+    {
+        self.wires_back = self.wires_back.saturating_add(1);
+        if faults != 0 {
+            self.wires_failed = self.wires_failed.saturating_add(1);
+        }
+    }
+}

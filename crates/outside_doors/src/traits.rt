@@ -1,0 +1,94 @@
+ghost use Rattle.std.specs.Prelude.{◌≡◌, ◌<◌, ℕ, Bool, false, List, [], ◌∷◌, Ok, IsTrue, IfOk, OnErr};
+ghost use Rattle.std.specs.declared.option.Option.{Option};
+ghost use Rattle.outside_traits.specs.Causes.{HasCause, Rose};
+ghost use Rattle.outside_doors.specs.Counts.{Tally, with_door, with_opened, with_wire};
+ghost use Rattle.outside_doors.specs.Knocks.{IfCame, IsFresh, closed_after, waits_after, wires_after};
+ghost use Rattle.outside_doors.specs.Returns.{Lists, WireTold, wire_told};
+
+use outside_traits::{Failed, Wire};
+
+/// What a try at a door finds: a connection, nobody yet, or that nobody comes any more.
+#[derive(Drop)]
+pub enum Knock<W> {
+    Came(W),
+    NotYet,
+    Closed,
+}
+
+/// A door on which connections come in.
+pub trait Door {
+    type W: Wire + Drop;
+
+    /// How often a try has failed.
+    ghost faults: { Self → ℕ };
+
+    /// How many wires it gave.
+    ghost wires: { Self → ℕ };
+
+    /// How often it answered that nobody has come yet.
+    ghost waits: { Self → ℕ };
+
+    /// Whether it has answered that nobody comes any more.
+    ghost closed: { Self → Bool };
+
+    /// The next connection, if one has come.
+    fn try_accept(&mut self) -> Result<Knock<Self::W>, Failed>
+        ensures fresh { IfCame result (λ wire. IsFresh (Self.W.given wire) (Self.W.taken wire) (Self.W.calls wire) (Self.W.faults wire) (Self.W.closed wire)) }
+        ensures wires { wires self.new ≡ wires_after result (wires self.old) }
+        ensures waits { waits self.new ≡ waits_after result (waits self.old) }
+        ensures closed { closed self.new ≡ closed_after result (closed self.old) }
+        ensures stays { IsTrue (closed self.old) → result ≡ Ok Knock.Closed }
+        ensures cause { HasCause (faults self.old) (faults self.new) result };
+
+    /// Waits for a while where nobody has come yet. A real door waits for at most 1,000 ms, and one in memory not at all.
+    fn rest(&mut self)
+        ensures faults { faults self.new ≡ faults self.old }
+        ensures wires { wires self.new ≡ wires self.old }
+        ensures waits { waits self.new ≡ waits self.old }
+        ensures closed { closed self.new ≡ closed self.old };
+}
+
+/// What opens doors, and takes them and their wires back.
+pub trait Doors {
+    type D: Door + Drop;
+
+    /// How often a call has failed, or a door came back that had failed.
+    ghost faults: { Self → ℕ };
+
+    /// What is counted of what was opened and of what came back.
+    ghost tally: { Self → Tally };
+
+    /// The locations that were opened in order, where they are told.
+    ghost locations: { Self → Option (List (List ℕ)) };
+
+    /// The wires that came back in order, where they are told.
+    ghost returned: { Self → Option (List WireTold) };
+
+    /// Opens a door at a location.
+    fn open(&mut self, location: &str) -> Result<Self::D, Failed>
+        ensures faultless { IfOk result (λ door. Self.D.faults door ≡ 0) }
+        ensures ungiven { IfOk result (λ door. Self.D.wires door ≡ 0) }
+        ensures unwaited { IfOk result (λ door. Self.D.waits door ≡ 0) }
+        ensures unclosed { IfOk result (λ door. Self.D.closed door ≡ false) }
+        ensures opened { IfOk result (λ _. tally self.new ≡ with_opened (tally self.old)) }
+        ensures unopened { OnErr result (tally self.new ≡ tally self.old) }
+        ensures listed { IfOk result (λ _. Lists (locations self.old) (locations self.new) (location.now ∷ [])) }
+        ensures unlisted { OnErr result (locations self.new ≡ locations self.old) }
+        ensures returned { returned self.new ≡ returned self.old }
+        ensures cause { HasCause (faults self.old) (faults self.new) result };
+
+    /// Takes a wire that its user is through with, and closes it.
+    fn wire_back(&mut self, wire: <Self::D as Door>::W)
+        ensures tally { tally self.new ≡ with_wire (Self.D.W.faults wire) (tally self.old) }
+        ensures listed { Lists (returned self.old) (returned self.new) (wire_told (Self.D.W.given wire) (Self.D.W.taken wire) (Self.D.W.faults wire) ∷ []) }
+        ensures locations { locations self.new ≡ locations self.old }
+        ensures faults { faults self.new ≡ faults self.old };
+
+    /// Takes a door that its user is through with, and closes it.
+    fn door_back(&mut self, door: Self::D)
+        ensures tally { tally self.new ≡ with_door (record { faults = Self.D.faults door; wires = Self.D.wires door; waits = Self.D.waits door; closed = Self.D.closed door }) (tally self.old) }
+        ensures locations { locations self.new ≡ locations self.old }
+        ensures returned { returned self.new ≡ returned self.old }
+        ensures raised { 0 < Self.D.faults door → Rose (faults self.old) (faults self.new) }
+        ensures calm { Self.D.faults door ≡ 0 → faults self.new ≡ faults self.old };
+}
