@@ -94,7 +94,9 @@ impl<'a> Talk<'a> {
 
     /// Notes what was written in a step.
     fn note_written(&mut self, before: usize) -> Result<(), AllocError> {
-        let fresh = self.connection.written().get(before..).unwrap_or(&[]);
+        let Some(fresh) = self.connection.written().get(before..) else {
+            return Ok(());
+        };
         if fresh.is_empty() {
             return Ok(());
         }
