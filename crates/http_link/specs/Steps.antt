@@ -37,6 +37,7 @@ FitsExtent (Sized n) = n ≤ 65536
 FitsExtent ToEnd = Unit {0}
 FitsExtent Refused = Unit {0}
 
+-- a head is no longer than the longest one, and what follows it is within the limits
 abbrev pub Fits : Announced → Type 0
 Fits a = (a.head ≤ longest_head) × FitsExtent a.extent
 

@@ -47,6 +47,7 @@ pub record Telling : Type 0 where
   pub last : Option WireTraffic
   pub faults : ℕ
 
+-- what is told of a dialler, from its four parts
 abbrev pub telling : WireTraffic → Option (List (List ℕ)) → Option WireTraffic → ℕ → Telling
 telling blank dialled last faults = record { blank = blank; dialled = dialled; last = last; faults = faults }
 
