@@ -13,7 +13,8 @@ brings back, `= ` the status where it is not 0, `. ` what goes on with the line 
 `<!-- rows GROUP -->` has statements and what they answer, by twos; the statements stand in the place of BODY in the
 page's block ```jolie frame, and the line that is sent is GO. A table behind `<!-- refused GROUP -->` has texts in its
 first column and in its last one what they are refused by: statements where the place is `+N`, counted from their first
-byte, and files else.
+byte, and files else. What is too long for a row of the table before it stands in a block ```jolie rows or ```jolie
+refused behind it: each program over lines of its own, and then what the table would say of it as a comment.
 """
 import json
 import os
@@ -78,12 +79,16 @@ def answered(cell):
     return ["0", json.dumps(said, separators=(",", ":"), sort_keys=True, ensure_ascii=False)]
 
 
+def answered_row(body, answer, frame):
+    return small_row(one_line(body), frame.replace("BODY", body), answered(answer))
+
+
 def table_rows(table, frame):
     said = ""
     for line in table[2:]:
         cells = [it[1:-1] for it in cells_of(line) if re.fullmatch(r"`[^`]+`", it)]
         for body, answer in zip(cells[::2], cells[1::2]):
-            said += small_row(body, frame.replace("BODY", body), answered(answer))
+            said += answered_row(body, answer, frame)
     return said
 
 
@@ -91,15 +96,35 @@ def cells_of(line):
     return [it.strip().replace("\\|", "|") for it in re.split(r"(?<!\\)\|", line)[1:-1]]
 
 
+def refused_row(text, refusal, frame):
+    stage, reason, place = refusal.split()
+    program = frame.replace("BODY", text) if place[0] == "+" else text + "\n"
+    place = int(place) + (frame.index("BODY") if place[0] == "+" else 0)
+    return small_row(one_line(text), program, ["3", f"refused {stage} {reason} {place}"])
+
+
 def refused_rows(table, frame):
     said = ""
     for line in table[2:]:
         first, *_, last = [re.findall(r"`([^`]+)`", it) for it in cells_of(line)]
         for text, refusal in zip(first, last * len(first) if len(last) == 1 else last):
-            stage, reason, place = refusal.split()
-            program = frame.replace("BODY", text) if place[0] == "+" else text + "\n"
-            place = int(place) + (frame.index("BODY") if place[0] == "+" else 0)
-            said += small_row(text, program, ["3", f"refused {stage} {reason} {place}"])
+            said += refused_row(text, refusal, frame)
+    return said
+
+
+def one_line(text):
+    return " ".join(text.split())
+
+
+def block_rows(block, row_of, frame):
+    """The rows of a block of programs, each of which ends with what is said of it."""
+    said, program = "", []
+    for line in block:
+        if line.startswith("// "):
+            said += row_of("\n".join(program), line[3:], frame)
+            program = []
+        elif line:
+            program.append(line)
     return said
 
 
@@ -124,6 +149,8 @@ def page_rows(page):
             at = end
             if block[1] == "lines":
                 said += row(block[2], body)
+            elif block[2] in ("rows", "refused"):
+                said += block_rows(body, answered_row if block[2] == "rows" else refused_row, frame)
             elif block[2] != "frame":
                 said += group(block[2], field("file", "\n".join(body) + "\n"))
         elif table:
