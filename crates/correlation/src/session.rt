@@ -116,7 +116,8 @@ impl Sets {
     }
 }
 
-/// What was written into the variables of a session, which contracts see as their list.
+/// What was written into the variables of a session, which contracts see as their list. Outside of this module it is
+/// read as the key of a session alone.
 #[derive(Drop)]
 pub struct Values {
     list: Vec<Written>,
@@ -170,7 +171,7 @@ impl Values {
     }
 
     /// What a variable has, once it is written.
-    pub fn find(&self, variable: u32) -> Option<&Root>
+    fn find(&self, variable: u32) -> Option<&Root>
         ensures { option_copied result ≡ value_of self.now variable }
     {
         for written in &self.list {
@@ -182,7 +183,7 @@ impl Values {
     }
 
     /// The values of variables, where each is written.
-    pub fn of_all(&self, alloc: Global, variables: &[u32]) -> Result<Option<Vec<Root>>, AllocError>
+    fn of_all(&self, alloc: Global, variables: &[u32]) -> Result<Option<Vec<Root>>, AllocError>
         ensures { IfOk result (λ k. option_map (λ (v : Vec Root Global). v.items) k
             ≡ all_there (map (value_of self.now) variables.now)) }
     {
@@ -227,7 +228,11 @@ impl Session {
 
     /// The key in the set that has a variable, once it is complete.
     #[tactic(auto, using(crate::proofs::Writing::key_found, crate::proofs::Writing::no_key))]
-    pub fn key_with(&self, alloc: Global, variable: u32) -> Result<Option<Completed>, AllocError>
+    pub(crate) fn key_with(
+        &self,
+        alloc: Global,
+        variable: u32,
+    ) -> Result<Option<Completed>, AllocError>
         requires live { self.now.released ≡ false }
         requires sets { are_sets self.now.sets ≡ true }
         ensures { IfOk result (λ k. option_map shown k ≡ key_with variable self.now) }
