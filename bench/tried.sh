@@ -1,12 +1,14 @@
 #!/bin/sh
-# Lists the must-fail edits that stood at one of three commits and that no crate has any more, by the crate that they
-# were of. They were all refused in the gate of their commit: 31dedfb on 2026-11-28, c85175f and 8fbca77 on 2026-11-29.
+# Lists the must-fail edits that stood at one of four commits and that no crate has any more, by the crate that they
+# were of. They were all refused in the gate of their commit: 31dedfb on 2026-11-28, c85175f, 8fbca77 and ef3915f on
+# 2026-11-29.
 # With -m the list is put between its two marker comments in docs/tried.md. Outside the gate: bench/tried.sh [-m]
 set -eu
 top=$(cd "$(dirname "$0")/.." && pwd)
 first=31dedfb
 second=c85175f
 third=8fbca77
+fourth=ef3915f
 page=docs/tried.md
 work=$(mktemp -d)
 trap 'rm -rf "$work"' EXIT
@@ -22,6 +24,7 @@ names() {
     git ls-tree -r --name-only "$first" crates | names | sed 's/^term_session /first_session /'
     git ls-tree -r --name-only "$second" crates | names
     git ls-tree -r --name-only "$third" crates | names
+    git ls-tree -r --name-only "$fourth" crates | names
 } | sort -u > "$work/stood"
 git ls-files --cached --others --exclude-standard crates | while read -r path; do
     [ -e "$path" ] && echo "$path"
