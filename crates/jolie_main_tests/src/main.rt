@@ -7,7 +7,7 @@ mod sessions;
 mod words;
 
 use crate::runs::{ended, expected_end, travelled};
-use crate::sessions::{counts, kinds, recorded};
+use crate::sessions::left;
 use crate::words::{asked, refused_by};
 use std::alloc::Global;
 use std::io;
@@ -30,9 +30,7 @@ fn told(alloc: Global, row: &Row<'_>) -> anyhow::Result<String> {
     match row.text(alloc, "call")?.as_str() {
         "words" => asked(alloc, row),
         "sentence" => refused_by(alloc, row),
-        "record" => recorded(alloc, row),
-        "kinds" => kinds(alloc, row),
-        "counts" => counts(alloc, row),
+        "record" | "kinds" | "counts" => left(alloc, row),
         "trips" => travelled(alloc, row),
         _ => ended(alloc, row),
     }

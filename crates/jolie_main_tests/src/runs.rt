@@ -5,7 +5,7 @@ ghost use Rattle.std.specs.Prelude.{◌<◌, length};
 use crate::objects::{files, links, notes, output, source, words};
 use jolie_main::run;
 use outside_links::{ScriptedLink, Trip};
-use outside_traits::{ScriptedFiles, ScriptedSource};
+use outside_traits::{ScriptedFiles, ScriptedSink, ScriptedSource};
 use std::alloc::{AllocError, Global};
 use test_rows::Row;
 
@@ -65,13 +65,38 @@ fn ended_on(
 ) -> anyhow::Result<String>
     requires link { 0 < length links.old.items }
 {
-    let words = words(alloc, row)?;
     let mut output = output(alloc, row)?;
     let mut notes = notes(alloc, row)?;
-    let ended = run(alloc, &words, files, source, &mut output, &mut notes, links)?;
-    let status = u32::from(ended.status);
-    let written = written(alloc, row, output.bytes())?;
-    let noted = text_of(alloc, notes.bytes())?;
+    let status = status_of(alloc, row, files, source, &mut output, &mut notes, links)?;
+    told(alloc, row, status, output.bytes(), notes.bytes())
+}
+
+/// The status of the run of a row.
+fn status_of(
+    alloc: Global,
+    row: &Row<'_>,
+    files: &mut ScriptedFiles,
+    source: &mut ScriptedSource,
+    output: &mut ScriptedSink,
+    notes: &mut ScriptedSink,
+    links: &mut Vec<ScriptedLink>,
+) -> anyhow::Result<u32>
+    requires link { 0 < length links.old.items }
+{
+    let words = words(alloc, row)?;
+    let ended = run(alloc, &words, files, source, output, notes, links)?;
+    Ok(u32::from(ended.status))
+}
+
+fn told(
+    alloc: Global,
+    row: &Row<'_>,
+    status: u32,
+    output: &[u8],
+    notes: &[u8],
+) -> anyhow::Result<String> {
+    let written = written(alloc, row, output)?;
+    let noted = text_of(alloc, notes)?;
     Ok(end_words(alloc, status, written.as_str(), noted.as_str())?)
 }
 

@@ -3,26 +3,24 @@
 use crate::objects::{files, links, notes, output, source, words};
 use behaviour_tree::{Event, Events};
 use jolie_main::{Ended, run};
-use outside_traits::{ScriptedFiles, ScriptedSource};
+use outside_traits::{ScriptedFiles, ScriptedSink, ScriptedSource};
 use std::alloc::{AllocError, Global};
 use test_rows::Row;
 
-/// What the run of a row leaves: its sessions with their events, and how many entries its history has.
-pub fn recorded(alloc: Global, row: &Row<'_>) -> anyhow::Result<String> {
+/// What the run of a row leaves, as its call asks for it: of its sessions the events, with how many entries its history
+/// has; the kinds of the events, with their strands; or how many events there are.
+pub fn left(alloc: Global, row: &Row<'_>) -> anyhow::Result<String> {
+    let call = row.text(alloc, "call")?;
     let ended = ended(alloc, row)?;
-    Ok(record_words(alloc, &ended)?)
+    Ok(left_words(alloc, call.as_str(), &ended)?)
 }
 
-/// Of each session of the run of a row the kinds of its events, with their strands.
-pub fn kinds(alloc: Global, row: &Row<'_>) -> anyhow::Result<String> {
-    let ended = ended(alloc, row)?;
-    Ok(kinds_words(alloc, &ended)?)
-}
-
-/// Of each session of the run of a row how many events it has.
-pub fn counts(alloc: Global, row: &Row<'_>) -> anyhow::Result<String> {
-    let ended = ended(alloc, row)?;
-    Ok(counts_words(alloc, &ended)?)
+fn left_words(alloc: Global, call: &str, ended: &Ended) -> Result<String, AllocError> {
+    match call {
+        "record" => record_words(alloc, ended),
+        "kinds" => kinds_words(alloc, ended),
+        _ => counts_words(alloc, ended),
+    }
 }
 
 /// How the run of a row ends.
@@ -42,19 +40,22 @@ fn ended_on(
     files: &mut ScriptedFiles,
     source: &mut ScriptedSource,
 ) -> anyhow::Result<Ended> {
-    let words = words(alloc, row)?;
     let mut output = output(alloc, row)?;
     let mut notes = notes(alloc, row)?;
+    ended_by(alloc, row, files, source, &mut output, &mut notes)
+}
+
+fn ended_by(
+    alloc: Global,
+    row: &Row<'_>,
+    files: &mut ScriptedFiles,
+    source: &mut ScriptedSource,
+    output: &mut ScriptedSink,
+    notes: &mut ScriptedSink,
+) -> anyhow::Result<Ended> {
+    let words = words(alloc, row)?;
     let mut links = links(alloc, row)?;
-    Ok(run(
-        alloc,
-        &words,
-        files,
-        source,
-        &mut output,
-        &mut notes,
-        &mut links,
-    )?)
+    Ok(run(alloc, &words, files, source, output, notes, &mut links)?)
 }
 
 fn record_words(alloc: Global, ended: &Ended) -> Result<String, AllocError> {
