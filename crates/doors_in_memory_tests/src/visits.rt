@@ -34,18 +34,22 @@ fn visit<D: Doors>(
 ) -> Result<(), AllocError> {
     let mut door = door;
     for _ in 0..tries {
-        match door.try_accept() {
-            Ok(Knock::Came(wire)) => answer(doors, wire, said)?,
-            Ok(Knock::NotYet) => {
-                door.rest();
-                said.push('.')?;
-            }
-            Ok(Knock::Closed) => said.push('#')?,
-            Err(Failed) => said.push('!')?,
-        }
+        knock(doors, &mut door, said)?;
     }
     doors.door_back(door);
     Ok(())
+}
+
+fn knock<D: Doors>(doors: &mut D, door: &mut D::D, said: &mut String) -> Result<(), AllocError> {
+    match door.try_accept() {
+        Ok(Knock::Came(wire)) => answer(doors, wire, said),
+        Ok(Knock::NotYet) => {
+            door.rest();
+            said.push('.')
+        }
+        Ok(Knock::Closed) => said.push('#'),
+        Err(Failed) => said.push('!'),
+    }
 }
 
 fn answer<D: Doors>(
@@ -54,13 +58,18 @@ fn answer<D: Doors>(
     said: &mut String,
 ) -> Result<(), AllocError> {
     let mut wire = wire;
+    talk(&mut wire, said)?;
+    doors.wire_back(wire);
+    Ok(())
+}
+
+fn talk<W: Wire>(wire: &mut W, said: &mut String) -> Result<(), AllocError> {
     said.push('>')?;
-    read_all(&mut wire, said)?;
+    read_all(wire, said)?;
     if wire.write(b"ok").is_err() {
         said.push('!')?;
     }
     wire.close();
-    doors.wire_back(wire);
     Ok(())
 }
 

@@ -1,15 +1,17 @@
 //! Rows of connections that are served alone.
 
-use crate::talk::Talk;
+use crate::talk::ended;
 use std::alloc::{AllocError, Global};
 use test_rows::{Row, TableError};
 
 /// What the connection comes to in pieces of each size; or step by step, where the row says how many bytes are in a piece; or so where the wire fails; or how the wire is called.
 pub(crate) fn given(alloc: Global, row: &Row<'_>) -> Result<String, TableError> {
     let stream = row.bytes(alloc, "bytes")?;
-    let stream = stream.as_slice();
     let says = row.text(alloc, "says")?;
-    let says = says.as_str();
+    given_of(alloc, row, stream.as_slice(), says.as_str())
+}
+
+fn given_of(alloc: Global, row: &Row<'_>, stream: &[u8], says: &str) -> Result<String, TableError> {
     if !row.has("piece") {
         return Ok(in_all_pieces(alloc, stream, says)?);
     }
@@ -25,17 +27,12 @@ pub(crate) fn given(alloc: Global, row: &Row<'_>) -> Result<String, TableError> 
 }
 
 fn calls(alloc: Global, stream: &[u8], says: &str, piece: usize) -> Result<String, AllocError> {
-    let mut talk = Talk::new(alloc, stream, says, piece, &[])?;
-    talk.finish()?;
-    talk.into_calls()
+    ended(alloc, stream, says, piece, &[])?.calls(alloc)
 }
 
 fn steps(alloc: Global, stream: &[u8], says: &str, piece: usize) -> Result<String, AllocError> {
-    let mut talk = Talk::new(alloc, stream, says, piece, &[])?;
-    talk.finish()?;
-    let mut steps = String::new(alloc);
-    steps.push_str(talk.steps.as_str())?;
-    Ok(steps)
+    let ended = ended(alloc, stream, says, piece, &[])?;
+    String::from_str(alloc, ended.steps())
 }
 
 fn outcome(
@@ -45,19 +42,28 @@ fn outcome(
     piece: usize,
     failing: &[u64],
 ) -> Result<String, AllocError> {
-    let mut talk = Talk::new(alloc, stream, says, piece, failing)?;
-    talk.finish()?;
-    talk.into_outcome()?.text(alloc)
+    ended(alloc, stream, says, piece, failing)?.text(alloc)
 }
 
 /// What it comes to whole, and a remark where that differs in pieces.
 fn in_all_pieces(alloc: Global, stream: &[u8], says: &str) -> Result<String, AllocError> {
     let mut whole = outcome(alloc, stream, says, stream.len(), &[])?;
-    for piece in 1..stream.len() {
-        if outcome(alloc, stream, says, piece, &[])?.as_str() != whole.as_str() {
-            whole.push_str(", and it differs in pieces")?;
-            return Ok(whole);
-        }
+    if !is_same_in_pieces(alloc, stream, says, whole.as_str())? {
+        whole.push_str(", and it differs in pieces")?;
     }
     Ok(whole)
+}
+
+fn is_same_in_pieces(
+    alloc: Global,
+    stream: &[u8],
+    says: &str,
+    whole: &str,
+) -> Result<bool, AllocError> {
+    for piece in 1..stream.len() {
+        if outcome(alloc, stream, says, piece, &[])?.as_str() != whole {
+            return Ok(false);
+        }
+    }
+    Ok(true)
 }

@@ -1,6 +1,6 @@
 //! Rows of two connections beside one another: both are asked before one is told, the second first.
 
-use crate::talk::Talk;
+use crate::talk::{Ended, Talk};
 use std::alloc::{AllocError, Global};
 use test_rows::{Row, TableError};
 
@@ -9,17 +9,33 @@ const MOST: usize = 1000;
 
 /// What both come to.
 pub(crate) fn given(alloc: Global, row: &Row<'_>) -> Result<String, TableError> {
+    let stream = row.bytes(alloc, "bytes")?;
+    let says = row.text(alloc, "says")?;
     let piece = row.number(alloc, "piece")? as usize;
-    let first = row.bytes(alloc, "bytes")?;
-    let first_says = row.text(alloc, "says")?;
-    let second = row.bytes(alloc, "beside")?;
-    let second_says = row.text(alloc, "beside_says")?;
-    let mut one = Talk::new(alloc, first.as_slice(), first_says.as_str(), piece, &[])?;
-    let mut other = Talk::new(alloc, second.as_slice(), second_says.as_str(), piece, &[])?;
-    both(&mut one, &mut other)?;
-    let mut text = one.into_outcome()?.text(alloc)?;
+    let mut talk = Talk::new(alloc, stream.as_slice(), says.as_str(), piece, &[])?;
+    let other = ended_beside(alloc, row, &mut talk, piece)?;
+    let one = talk.into_ended()?;
+    Ok(lines(alloc, &one, &other)?)
+}
+
+/// The second connection, when both are over.
+fn ended_beside(
+    alloc: Global,
+    row: &Row<'_>,
+    one: &mut Talk<'_>,
+    piece: usize,
+) -> Result<Box<Ended>, TableError> {
+    let stream = row.bytes(alloc, "beside")?;
+    let says = row.text(alloc, "beside_says")?;
+    let mut other = Talk::new(alloc, stream.as_slice(), says.as_str(), piece, &[])?;
+    both(one, &mut other)?;
+    Ok(other.into_ended()?)
+}
+
+fn lines(alloc: Global, one: &Ended, other: &Ended) -> Result<String, AllocError> {
+    let mut text = one.text(alloc)?;
     text.push_str("\n")?;
-    text.push_str(other.into_outcome()?.text(alloc)?.as_str())?;
+    text.push_str(other.text(alloc)?.as_str())?;
     Ok(text)
 }
 

@@ -10,17 +10,16 @@ const ROOM: usize = 2000;
 /// The most steps of a connection.
 const MOST: usize = 1000;
 
-/// A connection, the words that answer its requests one after another, and what was seen of it.
+/// A connection, the words that answer its requests one after another, and what was seen of it: what each step brought,
+/// and the bodies that were handed out.
 #[derive(Drop)]
 pub(crate) struct Talk<'a> {
     alloc: Global,
-    connection: Connection<ScriptedWire>,
+    connection: Box<Connection<ScriptedWire>>,
     words: Vec<&'a str>,
     told: usize,
-    /// What each step brought.
-    pub(crate) steps: String,
-    /// The bodies that were handed out.
-    pub(crate) asked: String,
+    steps: String,
+    asked: String,
 }
 
 impl<'a> Talk<'a> {
@@ -32,12 +31,11 @@ impl<'a> Talk<'a> {
         piece: usize,
         failing: &[u64],
     ) -> Result<Talk<'a>, AllocError> {
-        let script = Script::new(alloc, failing)?;
-        let wire = ScriptedWire::new(alloc, stream, ROOM, piece.max(1), script)?;
         let words = words.split(' ').collect(alloc)?;
+        let connection = connected(alloc, stream, piece, failing)?;
         Ok(Talk {
             alloc,
-            connection: Connection::new(alloc, wire),
+            connection,
             words,
             told: 0,
             steps: String::new(alloc),
@@ -51,20 +49,25 @@ impl<'a> Talk<'a> {
             return Ok(());
         }
         let before = self.connection.written().len();
-        let came = self.connection.next_request()?;
-        match came {
+        match self.connection.next_request()? {
             None => self.note("no more")?,
-            Some(body) => {
-                let body = String::from_utf8_lossy(self.alloc, body.as_slice())?;
-                if !self.asked.is_empty() {
-                    self.asked.push_str(", ")?;
-                }
-                self.asked.push_str(body.as_str())?;
-                self.note("asked ")?;
-                self.steps.push_str(body.as_str())?;
-            }
+            Some(body) => self.note_body(body.as_slice())?,
         }
         self.note_written(before)
+    }
+
+    fn note_body(&mut self, body: &[u8]) -> Result<(), AllocError> {
+        let body = String::from_utf8_lossy(self.alloc, body)?;
+        self.note_asked(body.as_str())
+    }
+
+    fn note_asked(&mut self, body: &str) -> Result<(), AllocError> {
+        if !self.asked.is_empty() {
+            self.asked.push_str(", ")?;
+        }
+        self.asked.push_str(body)?;
+        self.note("asked ")?;
+        self.steps.push_str(body)
     }
 
     /// Tells an answer where one is owed: the next word, of which `nothing` is no text.
@@ -100,8 +103,8 @@ impl<'a> Talk<'a> {
         if fresh.is_empty() {
             return Ok(());
         }
-        let fresh = String::from_utf8_lossy(self.alloc, fresh)?;
         self.steps.push_str(" / ")?;
+        let fresh = String::from_utf8_lossy(self.alloc, fresh)?;
         self.steps.push_str(fresh.as_str())
     }
 
@@ -111,7 +114,7 @@ impl<'a> Talk<'a> {
     }
 
     /// Asks and tells until the connection is over.
-    pub(crate) fn finish(&mut self) -> Result<(), AllocError> {
+    fn finish(&mut self) -> Result<(), AllocError> {
         for _ in 0..MOST {
             if self.is_over() {
                 return Ok(());
@@ -122,58 +125,109 @@ impl<'a> Talk<'a> {
         Ok(())
     }
 
-    /// The calls of the wire, in order.
-    pub(crate) fn into_calls(self) -> Result<String, AllocError> {
-        let Talk {
-            alloc,
-            connection,
-            ..
-        } = self;
-        let (wire, _, _) = connection.into_parts();
-        listed(alloc, wire.calls())
-    }
-
-    /// What was asked, what was written and how it ended, where that is what the wire tells too.
-    pub(crate) fn into_outcome(self) -> Result<Outcome, AllocError> {
+    /// The wire, what passed over it and what was seen of it.
+    pub(crate) fn into_ended(self) -> Result<Box<Ended>, AllocError> {
         let Talk {
             alloc,
             connection,
             words: _,
             told: _,
-            steps: _,
+            steps,
             asked,
         } = self;
         let end = name_of(connection.stage());
-        let (wire, read, written) = connection.into_parts();
-        let is_same = wire.given() == read.as_slice() && wire.taken() == written.as_slice();
-        Ok(Outcome {
+        let (wire, read, written) = Box::into_inner(connection).into_parts();
+        let ended = Ended {
+            wire,
+            read,
+            written,
+            end,
+            steps,
             asked,
-            end: if is_same {
-                end
-            } else {
-                "the wire tells another"
-            },
-            written: String::from_utf8_lossy(alloc, written.as_slice())?,
-            calls: wire.calls().len(),
-        })
+        };
+        Ok(Box::new(alloc, ended)?)
     }
 }
 
-/// What a connection came to, and how often its wire was called.
-#[derive(Drop)]
-pub(crate) struct Outcome {
-    pub(crate) asked: String,
-    pub(crate) end: &'static str,
-    pub(crate) written: String,
-    pub(crate) calls: usize,
+/// A connection over a wire that gives and takes so many bytes a call, and fails at these calls.
+fn connected(
+    alloc: Global,
+    stream: &[u8],
+    piece: usize,
+    failing: &[u64],
+) -> Result<Box<Connection<ScriptedWire>>, AllocError> {
+    let script = Script::new(alloc, failing)?;
+    let wire = ScriptedWire::new(alloc, stream, ROOM, piece.max(1), script)?;
+    Ok(Box::new(alloc, Connection::new(alloc, wire))?)
 }
 
-impl Outcome {
+/// A connection that is over, or without memory: its wire, what passed, how it ended, and what was seen of it.
+#[derive(Drop)]
+pub(crate) struct Ended {
+    wire: ScriptedWire,
+    read: Vec<u8>,
+    written: Vec<u8>,
+    end: &'static str,
+    steps: String,
+    asked: String,
+}
+
+/// A connection that is asked and told until it is over.
+pub(crate) fn ended(
+    alloc: Global,
+    stream: &[u8],
+    words: &str,
+    piece: usize,
+    failing: &[u64],
+) -> Result<Box<Ended>, AllocError> {
+    let mut talk = Talk::new(alloc, stream, words, piece, failing)?;
+    talk.finish()?;
+    talk.into_ended()
+}
+
+impl Ended {
+    /// What each step brought.
+    pub(crate) fn steps(&self) -> &str {
+        self.steps.as_str()
+    }
+
+    /// How often the wire was called.
+    pub(crate) fn call_count(&self) -> usize {
+        self.wire.calls().len()
+    }
+
+    /// The calls of the wire, in order.
+    pub(crate) fn calls(&self, alloc: Global) -> Result<String, AllocError> {
+        listed(alloc, self.wire.calls())
+    }
+
+    /// How it ended, where the wire tells the same of what passed.
+    pub(crate) fn end(&self) -> &'static str {
+        if self.wire.given() == self.read.as_slice()
+            && self.wire.taken() == self.written.as_slice()
+        {
+            self.end
+        } else {
+            "the wire tells another"
+        }
+    }
+
+    /// What was asked, how it ended and what was written.
     pub(crate) fn text(&self, alloc: Global) -> Result<String, AllocError> {
         let asked = self.asked.as_str();
-        let end = self.end;
-        let written = self.written.as_str();
+        let end = self.end();
+        let written = String::from_utf8_lossy(alloc, self.written.as_slice())?;
+        let written = written.as_str();
         format!(in alloc; "{asked}\n{end}\n{written}")
+    }
+
+    /// Whether no more was asked and written than here, and the same as far as it went.
+    pub(crate) fn begins_as(&self, whole: &Ended) -> bool {
+        whole.asked.as_str().starts_with(self.asked.as_str())
+            && whole
+                .written
+                .as_slice()
+                .starts_with(self.written.as_slice())
     }
 }
 
