@@ -44,6 +44,15 @@ over "$work/empty" check "$twice"
 row 'a program is ok' 0 ok ''
 over "$work/empty" check "$work/bad.ol"
 row 'a refusal is one line with its place' 3 'refused check CompOutsideHandler 19' ''
+over "$work/empty" explain "$twice"
+row 'a program is explained by ok' 0 ok ''
+over "$work/empty" explain "$work/bad.ol"
+row 'a refusal is explained by its line, a mark and the rule' 3 "$work/bad.ol:1:20: \`comp\` stands in no handler [check CompOutsideHandler]
+service S { main { comp(q) } }
+                   ^
+rule: \`comp\` stands in a handler of \`install\`, or of the brackets behind a call" ''
+over "$work/empty" explain "$work/none.ol"
+row 'a file that is not there is told' 2 "$work/none.ol: cannot be read" ''
 over "$work/empty" print "$work/type.ol"
 row 'what is printed has one space between every two tokens' 0 'type Req : void { n : int }' ''
 over "$work/empty" check "$work/bytes.ol"

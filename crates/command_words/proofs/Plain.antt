@@ -98,6 +98,9 @@ unfolding walked
 file_goes action.Check file rest end f more =
     goes_on (command_shape action.Check) (walk_from nothing_held) (at_file file) end file rest (rw (f.dashes, f.long, f.short) refl)
     (rw (f.dashes, f.long, f.short) refl) more
+file_goes action.Explain file rest end f more =
+    goes_on (command_shape action.Explain) (walk_from nothing_held) (at_file file) end file rest (rw (f.dashes, f.long, f.short) refl)
+    (rw (f.dashes, f.long, f.short) refl) more
 file_goes action.Print file rest end f more =
     goes_on (command_shape action.Print) (walk_from nothing_held) (at_file file) end file rest (rw (f.dashes, f.long, f.short) refl)
     (rw (f.dashes, f.long, f.short) refl) more
@@ -130,6 +133,8 @@ alone_is_faultless : (act : Action) (file : List ℕ) → IsWord file → fault_
 unfolding defaults_fault
 alone_is_faultless action.Check file f =
     line_is_faultless action.Check (file ∷ []) (at_file file) (file_goes action.Check file [] (at_file file) f (goes_nowhere _ _)) refl
+alone_is_faultless action.Explain file f =
+    line_is_faultless action.Explain (file ∷ []) (at_file file) (file_goes action.Explain file [] (at_file file) f (goes_nowhere _ _)) refl
 alone_is_faultless action.Print file f =
     line_is_faultless action.Print (file ∷ []) (at_file file) (file_goes action.Print file [] (at_file file) f (goes_nowhere _ _)) refl
 alone_is_faultless action.Run file f =
@@ -139,6 +144,8 @@ alone_enters : (act : Action) (file : List ℕ) → IsWord file
     → asked_in (subcommand_of program (name_of act ∷ file ∷ [])) ≡ Some (asked_of act file (values_of None None))
 alone_enters action.Check file f =
     line_enters action.Check (file ∷ []) (at_file file) (file_goes action.Check file [] (at_file file) f (goes_nowhere _ _)) ∙ refl
+alone_enters action.Explain file f =
+    line_enters action.Explain (file ∷ []) (at_file file) (file_goes action.Explain file [] (at_file file) f (goes_nowhere _ _)) ∙ refl
 alone_enters action.Print file f =
     line_enters action.Print (file ∷ []) (at_file file) (file_goes action.Print file [] (at_file file) f (goes_nowhere _ _)) ∙ refl
 alone_enters action.Run file f =
@@ -312,6 +319,8 @@ has_options : (act : Action) (options : List (List ℕ)) (v : Values) → plain_
 has_options action.Run options v e = of_run refl (has_values options v e)
 has_options action.Check [] v e = alone refl (sym (same_Some (values_of None None) v e))
 has_options action.Check (word ∷ rest) v e = absurd (none-some v e)
+has_options action.Explain [] v e = alone refl (sym (same_Some (values_of None None) v e))
+has_options action.Explain (word ∷ rest) v e = absurd (none-some v e)
 has_options action.Print [] v e = alone refl (sym (same_Some (values_of None None) v e))
 has_options action.Print (word ∷ rest) v e = absurd (none-some v e)
 
@@ -376,7 +385,7 @@ enters act file options v f (of_run is has) =
 
 -- each command of the table is called by its name
 table_names : Each (λ (c : CommandWords). c.name ≡ name_of c.action) commands
-table_names = (refl, (refl, (refl, tt)))
+table_names = (refl, (refl, (refl, (refl, tt))))
 
 abbrev pub action_found : Option CommandWords → Option Action
 action_found = option_map (λ command. command.action)

@@ -91,11 +91,13 @@ at_name name words = record (walk_from nothing_held) { stopped = Some (name, wor
 name_is_met : (act : Action) → walked top.rules all_names (walk_from nothing_held) (name_of act) ≡ at_name (name_of act) []
 unfolding walked
 name_is_met action.Check = refl
+name_is_met action.Explain = refl
 name_is_met action.Print = refl
 name_is_met action.Run = refl
 
 name_is_faultless : (act : Action) → turn_fault top all_names (walk_from nothing_held) (name_of act) ≡ []
 name_is_faultless action.Check = refl
+name_is_faultless action.Explain = refl
 name_is_faultless action.Print = refl
 name_is_faultless action.Run = refl
 
@@ -120,6 +122,7 @@ below_is_faultless : (act : Action) (words : List Text) → level_fault (command
     → fault_by [] (at_name (name_of act) words) ≡ []
 unfolding defaults_fault
 below_is_faultless action.Check words none = ap (λ (k : Kinds). or_else k (end_fault top nothing_held true)) none
+below_is_faultless action.Explain words none = ap (λ (k : Kinds). or_else k (end_fault top nothing_held true)) none
 below_is_faultless action.Print words none = ap (λ (k : Kinds). or_else k (end_fault top nothing_held true)) none
 below_is_faultless action.Run words none = ap (λ (k : Kinds). or_else k (end_fault top nothing_held true)) none
 
@@ -135,6 +138,7 @@ rows_enter : (act : Action) (words : List Text)
     → asked_in (entered (built program) (Some (name_of act, words)))
     ≡ with_file (Some act) (file_in (rows_after (command_shape act).rules [] words)) (values_in (rows_after (command_shape act).rules [] words))
 rows_enter action.Check words = refl
+rows_enter action.Explain words = refl
 rows_enter action.Print words = refl
 rows_enter action.Run words = refl
 

@@ -28,6 +28,7 @@ run_options =
 abbrev pub commands : List CommandWords
 commands =
     record { action = action.Check; name = codes "check"; operands = codes "FILE" ∷ []; options = [] }
+    ∷ record { action = action.Explain; name = codes "explain"; operands = codes "FILE" ∷ []; options = [] }
     ∷ record { action = action.Print; name = codes "print"; operands = codes "FILE" ∷ []; options = [] }
     ∷ record { action = action.Run; name = codes "run"; operands = codes "FILE" ∷ []; options = run_options }
     ∷ []

@@ -27,6 +27,7 @@ spelled words = map (λ word. string_bytes word) words
 -- how a command is called
 abbrev pub name_of : Action → List ℕ
 name_of action.Check = codes "check"
+name_of action.Explain = codes "explain"
 name_of action.Print = codes "print"
 name_of action.Run = codes "run"
 

@@ -4,6 +4,7 @@
 #[derive(Clone, Copy, Debug, PartialEq, Eq)]
 pub enum Action {
     Check,
+    Explain,
     Print,
     Run,
 }
@@ -66,11 +67,18 @@ const PICKS: OptionRow = OptionRow {
 };
 
 /// The commands.
-pub static COMMANDS: [CommandRow; 3] = [
+pub static COMMANDS: [CommandRow; 4] = [
     CommandRow {
         action: Action::Check,
         name: "check",
         about: "Says whether FILE is well formed, and else where it is not",
+        operands: &[FILE],
+        options: &[],
+    },
+    CommandRow {
+        action: Action::Explain,
+        name: "explain",
+        about: "Says what is wrong with FILE and where, in words",
         operands: &[FILE],
         options: &[],
     },

@@ -1,6 +1,6 @@
 -- What a command does, from what its parts do.
-use Rattle.std.proofs.Common.{◌≡◌, refl, sym, subst, ℕ, List, Option, IfSome, Result, Ok, Err, IfOk}
-use Rattle.std.specs.Prelude.{MatchResult, codes}
+use Rattle.std.proofs.Common.{◌≡◌, inl, inr, refl, sym, subst, ℕ, Bool, true, false, List, Option, None, Some, IfSome, Result, Ok, Err, IfOk}
+use Rattle.std.specs.Prelude.{MatchOption, MatchResult, codes}
 use Rattle.std.specs.declared.alloc.AllocError.{AllocError}
 use Rattle.jolie_ast.specs.declared.tree.Definition.{Definition}
 use Rattle.jolie_ast.specs.Printed.{printed_text}
@@ -18,13 +18,15 @@ use Rattle.command_words.specs.declared.words.Command.{Command}
 use Rattle.command_words.specs.declared.words.Words.{Words}
 use Rattle.command_words.specs.declared.words.Words.TheVariants as words
 use Rattle.command_words.specs.Usage.{IsUnderstood}
-use Rattle.jolie_main.specs.declared.refusal.Refusal.{Refusal}
-use Rattle.jolie_main.specs.declared.verdict.Verdict.{Verdict}
-use Rattle.jolie_main.specs.declared.verdict.Verdict.TheVariants as verdict
-use Rattle.jolie_main.specs.Programs.{IsChecked, IsUncheckedBy}
-use Rattle.jolie_main.specs.RefusalLines.{IsVerdict, refusal_line}
-use Rattle.jolie_main.specs.Outside.{Outside, outside, program_bytes, FirstTravelled, IsWritten}
-use Rattle.jolie_main.specs.Headline.{Says, Checks, Prints, Runs, ShowsAlone, IsEmptyRecord, Does, Obeys, Promises}
+use Rattle.file_verdicts.specs.declared.refusal.Refusal.{Refusal}
+use Rattle.file_verdicts.specs.declared.verdict.Verdict.{Verdict}
+use Rattle.file_verdicts.specs.declared.verdict.Verdict.TheVariants as verdict
+use Rattle.file_verdicts.specs.Programs.{IsChecked, IsProgram, IsUncheckedBy}
+use Rattle.file_verdicts.specs.RefusalLines.{IsVerdict, refusal_line}
+use Rattle.jolie_main.specs.Outside.{Outside, outside, program_bytes, FirstTravelled, IsSaid, IsWritten}
+use Rattle.outside_traits.specs.Causes.{Rose}
+use Rattle.explain_text.specs.Explained.{unreadable_line, IsExplained}
+use Rattle.jolie_main.specs.Headline.{Says, Checks, Explains, Prints, Runs, ShowsAlone, IsEmptyRecord, Does, Obeys, Promises, TellsOfFile}
 use Rattle.jolie_main.specs.Headline as headline
 
 -- ---- a text
@@ -64,6 +66,31 @@ not_passed text found refusal (Ok ended) before now right is status written =
     headline.unchecked (refusal_line refusal) (subst (λ x. IsFound text x) is right) status written
 not_passed text found refusal (Err e) before now right is status written = tt
 
+-- what was found of a text that is to be explained
+abbrev IsFoundRefused : List ℕ → Option Refusal → Type 0
+IsFoundRefused text found = MatchOption found (IsProgram text) (λ why. IsUncheckedBy text (refusal_line why))
+
+-- `explain` says `ok` of a program
+pub explained_as_ok : (file text said : List ℕ) (found : Option Refusal) (status : ℕ) (before now : Taking)
+    → IsFoundRefused text found → found ≡ None → said ≡ codes "ok\n" → Says said status before now
+    → Explains file text status before now
+explained_as_ok file text said found status before now right is same says =
+    let program : IsProgram text = subst (λ x. IsFoundRefused text x) is right in
+    headline.passed program.parts program.checked (subst (λ t. Says t status before now) same says)
+
+-- a text went out, whole or cut
+pub written_of : (all : Bool) (shown text : List ℕ) (before now : Taking) → IsSaid all shown before now → shown ≡ text
+    → IsWritten text before now
+written_of true shown text before now said same = subst (λ t. IsWritten t before now) same (inl said)
+written_of false shown text before now said same = subst (λ t. IsWritten t before now) same (inr said)
+
+-- and explains another text
+pub explained_so : (file text lines : List ℕ) (found : Option Refusal) (refusal : Refusal) (status : ℕ) (before now : Taking)
+    → IsFoundRefused text found → found ≡ Some refusal → IsExplained file text refusal lines → status ≡ 3
+    → IsWritten lines before now → Explains file text status before now
+explained_so file text lines found refusal status before now right is told stands written =
+    headline.unchecked refusal lines (subst (λ x. IsFoundRefused text x) is right) told stands written
+
 -- ---- a run
 
 -- a program runs
@@ -95,6 +122,8 @@ abbrev DoesBy : Command → List ℕ → Ended → (Outside × Outside) → Acti
 DoesBy c text ended around act = elim act [
   | action.Check ↦ Checks text ended.status around.0.lines.output around.1.lines.output
       × ShowsAlone ended around.0 around.1
+  | action.Explain ↦ Explains c.file text ended.status around.0.lines.output around.1.lines.output
+      × ShowsAlone ended around.0 around.1
   | action.Print ↦ Prints text ended.status around.0.lines.output around.1.lines.output
       × ShowsAlone ended around.0 around.1
   | action.Run ↦ Runs c text ended around.0 around.1
@@ -120,6 +149,20 @@ module _ (c : Command) (held : List ℕ → Option (List ℕ)) (name text : List
         record { empty = empty; input = refl; notes = refl; trips = refl },
       )
   obeys_check shown faults faults_now source output output_now notes trips (Err e) is calm same shows empty = tt
+
+  pub obeys_explain : (shown : List ℕ) (faults faults_now : ℕ) (source : Giving) (output output_now notes : Taking)
+      (trips : List (Option (List Made))) (r : Result Ended AllocError) → c.action ≡ action.Explain → faults_now ≡ faults
+      → shown ≡ text → (called : List ℕ) → called ≡ c.file
+      → IfOk r (λ ended. Explains called shown ended.status output output_now) → IfOk r (λ ended. IsEmptyRecord ended.report)
+      → IfOk r (λ ended. Obeys c (held c.file) ended
+      (outside faults (lines source output notes) trips) (outside faults_now (lines source output_now notes) trips))
+  obeys_explain shown faults faults_now source output output_now notes trips (Ok ended) is calm same called by shows empty =
+      obeys action.Explain ended (outside faults (lines source output notes) trips)
+      (outside faults_now (lines source output_now notes) trips) is calm (
+        subst (λ n. Explains n text ended.status output output_now) by (subst (λ t. Explains called t ended.status output output_now) same shows),
+        record { empty = empty; input = refl; notes = refl; trips = refl },
+      )
+  obeys_explain shown faults faults_now source output output_now notes trips (Err e) is calm same called by shows empty = tt
 
   pub obeys_print : (shown : List ℕ) (faults faults_now : ℕ) (source : Giving) (output output_now notes : Taking)
       (trips : List (Option (List Made))) (r : Result Ended AllocError) → c.action ≡ action.Print → faults_now ≡ faults
@@ -153,6 +196,39 @@ module _ (c : Command) (held : List ℕ → Option (List ℕ)) (name text : List
       (subst (λ t. Runs c t ended (outside faults before trips) (outside faults_now now trips_now)) same
       (again shown ended faults faults_now before now trips trips_now (runs faults)))
   obeys_run shown faults faults_now before now trips trips_now (Err e) is calm same runs = tt
+
+-- ---- a file that can't be read
+
+-- what each action writes of it
+abbrev TellsBy : Command → (Taking × Taking) → Action → Type 0
+TellsBy c around act = elim act [
+  | action.Check ↦ around.1 ≡ around.0
+  | action.Explain ↦ IsWritten (unreadable_line c.file) around.0 around.1
+  | action.Print ↦ around.1 ≡ around.0
+  | action.Run ↦ around.1 ≡ around.0
+]
+
+-- an action that writes nothing of it, or its line
+pub tells : (c : Command) (act : Action) (before now : Taking) → c.action ≡ act → TellsBy c (before, now) act → TellsOfFile c before now
+tells c act before now is told = subst (λ a. TellsBy c (before, now) a) (sym is) told
+
+-- `explain` writes its line
+pub tells_line : (c : Command) (called : List ℕ) (r : Result Ended AllocError) (before now : Taking) → c.action ≡ action.Explain → called ≡ c.file
+    → IfOk r (λ ended. IsWritten (unreadable_line called) before now) → IfOk r (λ ended. TellsOfFile c before now)
+tells_line c called (Ok ended) before now is by written =
+    tells c action.Explain before now is (subst (λ n. IsWritten (unreadable_line n) before now) by written)
+tells_line c called (Err e) before now is by written = tt
+
+-- the command is done
+pub obeys_failed : (c : Command) (told : Option (List ℕ)) (faults faults_now : ℕ) (source : Giving)
+    (output output_now notes : Taking) (trips : List (Option (List Made))) (r : Result Ended AllocError)
+    → Rose faults faults_now → IfOk r (λ ended. ended.status ≡ 2) → IfOk r (λ ended. TellsOfFile c output output_now)
+    → IfOk r (λ ended. IsEmptyRecord ended.report)
+    → IfOk r (λ ended. Obeys c told ended
+    (outside faults (lines source output notes) trips) (outside faults_now (lines source output_now notes) trips))
+obeys_failed c told faults faults_now source output output_now notes trips (Ok ended) rose status tells empty =
+    headline.failed status rose tells (record { empty = empty; input = refl; notes = refl; trips = refl })
+obeys_failed c told faults faults_now source output output_now notes trips (Err e) rose status tells empty = tt
 
 -- ---- the words
 

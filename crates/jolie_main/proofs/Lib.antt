@@ -1,3 +1,1 @@
 pub mod CommandsDone
-pub mod ReadOrRefused
-pub mod TextsAsPrograms

@@ -14,8 +14,11 @@ use Rattle.command_words.specs.declared.table.Action.TheVariants as action
 use Rattle.command_words.specs.declared.words.Command.{Command}
 use Rattle.command_words.specs.declared.words.Words.{Words}
 use Rattle.command_words.specs.declared.words.Words.TheVariants as words
-use Rattle.jolie_main.specs.Verdicts.{IsAccepted, IsRefusedBy}
-use Rattle.jolie_main.specs.Programs.{IsChecked, IsUncheckedBy}
+use Rattle.file_verdicts.specs.Verdicts.{IsAccepted, IsRefusedBy}
+use Rattle.file_verdicts.specs.Programs.{IsChecked, IsUncheckedBy}
+use Rattle.file_verdicts.specs.declared.refusal.Refusal.{Refusal}
+use Rattle.file_verdicts.specs.RefusalLines.{refusal_line}
+use Rattle.explain_text.specs.Explained.{unreadable_line, IsExplained}
 use Rattle.jolie_main.specs.Outside.{Outside, FirstTravelled, IsReadOf, IsWhole, IsCut, IsWritten}
 
 -- nothing was recorded
@@ -38,6 +41,13 @@ pub data Checks (text : List ℕ) (status : ℕ) (before now : Taking) : Type 0 
       → Checks text status before now
   unchecked : (line : List ℕ) → IsUncheckedBy text line → status ≡ 3 → IsWritten line before now
       → Checks text status before now
+
+-- What `explain` does with the text of a file: it says `ok` of a program, or explains why the text is refused at status 3.
+pub data Explains (file text : List ℕ) (status : ℕ) (before now : Taking) : Type 0 where
+  passed : (parts : ProgramParts) → IsChecked text parts → Says (codes "ok\n") status before now
+      → Explains file text status before now
+  unchecked : (r : Refusal) (lines : List ℕ) → IsUncheckedBy text (refusal_line r) → IsExplained file text r lines
+      → status ≡ 3 → IsWritten lines before now → Explains file text status before now
 
 -- What `print` does with a text: it prints the definitions, or refuses the text by its line at status 3.
 pub data Prints (text : List ℕ) (status : ℕ) (before now : Taking) : Type 0 where
@@ -71,17 +81,27 @@ pub data Runs (c : Command) (text : List ℕ) (ended : Ended) (before now : Outs
 abbrev pub Does : Command → List ℕ → Ended → Outside → Outside → Type 0
 Does c text ended before now = elim c.action [
   | action.Check ↦ Checks text ended.status before.lines.output now.lines.output × ShowsAlone ended before now
+  | action.Explain ↦ Explains c.file text ended.status before.lines.output now.lines.output × ShowsAlone ended before now
   | action.Print ↦ Prints text ended.status before.lines.output now.lines.output × ShowsAlone ended before now
   | action.Run ↦ Runs c text ended before now
 ]
 
--- A command over a file: it does so with the text that is read of it, or the file failed, and then the status is 2 and
--- nothing is read, written, sent or recorded.
+-- what a command writes of a file that can't be read: `explain` says so, and the others write nothing
+abbrev pub TellsOfFile : Command → Taking → Taking → Type 0
+TellsOfFile c before now = elim c.action [
+  | action.Check ↦ now ≡ before
+  | action.Explain ↦ IsWritten (unreadable_line c.file) before now
+  | action.Print ↦ now ≡ before
+  | action.Run ↦ now ≡ before
+]
+
+-- A command over a file: it does so with the text that is read of it, or the file failed, and then the status is 2,
+-- nothing is read, noted, sent or recorded, and what is said of the file is all that is written.
 pub data Obeys (c : Command) (told : Option (List ℕ)) (ended : Ended) (before now : Outside) : Type 0 where
   read : (text : List ℕ) → IsReadOf told text → now.file_faults ≡ before.file_faults → Does c text ended before now
       → Obeys c told ended before now
-  failed : ended.status ≡ 2 → Rose before.file_faults now.file_faults → IsEmptyRecord ended.report
-      → now.lines ≡ before.lines → now.trips ≡ before.trips → Obeys c told ended before now
+  failed : ended.status ≡ 2 → Rose before.file_faults now.file_faults
+      → TellsOfFile c before.lines.output now.lines.output → ShowsAlone ended before now → Obeys c told ended before now
 
 -- ---- the words
 

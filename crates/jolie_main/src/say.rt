@@ -4,10 +4,10 @@ ghost use Rattle.std.specs.Prelude.{◌≡◌, IfOk};
 ghost use Rattle.line_front.specs.Writing.{taking};
 ghost use Rattle.jolie_main.specs.Headline.{Says, IsEmptyRecord};
 ghost use Rattle.jolie_main.specs.Outside.{IsSaid, IsWritten};
-ghost use Rattle.jolie_main.specs.RefusalLines.{refusal_line};
+ghost use Rattle.file_verdicts.specs.RefusalLines.{refusal_line};
 
-use crate::refusal::Refusal;
 use command_words::status::{DONE, OUTPUT_FAILED, REFUSED, USAGE_ERROR};
+use file_verdicts::Refusal;
 use jolie_trees::Bytes;
 use line_run::Ended;
 use office_core::History;

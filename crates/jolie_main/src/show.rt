@@ -4,9 +4,8 @@ ghost use Rattle.std.specs.Prelude.{IfOk};
 ghost use Rattle.jolie_main.specs.Headline.{Checks, Prints, IsEmptyRecord};
 ghost use Rattle.line_front.specs.Writing.{taking};
 
-use crate::checked::program_in;
 use crate::say::{refuse, tell};
-use crate::verdict::{Verdict, verdict_of};
+use file_verdicts::{Verdict, program_in, verdict_of};
 use jolie_ast::print;
 use line_run::Ended;
 use outside_traits::Sink;

@@ -10,12 +10,12 @@ ghost use Rattle.line_run.specs.Lined.{giving, outside as lines, task, IsLined};
 ghost use Rattle.jolie_main.specs.Outside.{outside, FirstTravelled};
 ghost use Rattle.jolie_main.specs.Headline.{Obeys, Promises, Runs};
 
-use crate::checked::program_in;
-use crate::say::{refuse, show_usage_error, tell, without_record};
+use crate::explain::{explain_text, file_failed};
+use crate::say::{refuse, show_usage_error, tell};
 use crate::show::{check_text, print_text};
 use behaviour_tree::Program;
-use command_words::status::FILE_FAILED;
 use command_words::{Action, Command, Words, understood};
+use file_verdicts::program_in;
 use line_run::{Ended, run_lines};
 use outside_links::Link;
 use outside_traits::{CallError, Files, Sink, Source};
@@ -25,9 +25,9 @@ use term_turn::Seated;
 /// The most bytes that are read of a file: one more than a text may have, so that one that is too long shows.
 const MOST: u64 = 1_048_577;
 
-/// Does what the words of the command line say: `check FILE` says whether the file is a program, `print FILE` prints
-/// its definitions, and `run FILE` runs its services over the lines of the input. Calls to services elsewhere go by the
-/// first link, and console output goes to the notes.
+/// Does what the words of the command line say: `check FILE` says whether the file is a program, `explain FILE` says in
+/// words why it is none, `print FILE` prints its definitions, and `run FILE` runs its services over the lines of the
+/// input. Calls to services elsewhere go by the first link, and console output goes to the notes.
 ///
 /// The status is 0 where all that was asked for was done, 1 for a usage error, 2 where the file can't be read, 3 for a
 /// file that is refused, 4 where the input failed, 5 where the output or the notes failed, and 6 where none of these
@@ -73,11 +73,12 @@ fn obey<F: Files, S: Source, K: Sink, N: Sink, L: Link>(
 {
     let text = match files.read(command.file.as_str(), MOST) {
         Ok(text) => text,
-        Err(CallError::Failed) => return Ok(without_record(alloc, FILE_FAILED)),
+        Err(CallError::Failed) => return file_failed(alloc, command, output),
         Err(CallError::Memory(cause)) => return Err(cause),
     };
     match command.action {
         Action::Check => check_text(alloc, &text, output),
+        Action::Explain => explain_text(alloc, command.file.as_str(), &text, output),
         Action::Print => print_text(alloc, &text, output),
         Action::Run => run_text(alloc, &text, command, input, output, notes, links),
     }

@@ -1,5 +1,5 @@
 -- Each command does what it promises with what was read.
-use Rattle.jolie_main.proofs.CommandsDone.{obeys_check, obeys_print, obeys_run}
+use Rattle.jolie_main.proofs.CommandsDone.{obeys_check, obeys_explain, obeys_failed, obeys_print, obeys_run}
 use Rattle.jolie_main.proofs.top.obey.Goals as goal
 
 pub returns-in-Check-clause-obeyed : goal.returns-in-Check-clause-obeyed
@@ -7,6 +7,17 @@ returns-in-Check-clause-obeyed g c =
     obeys_check c.args.command.now (g.F.Files.held c.args.files.now) c.as_str.result.now c.in-Ok.text.items c.as_str.ensures
     c.in-Ok.ensures.bytes _ _ _ _ _ _ _ _ c.check_text.result c.in-Check.is c.in-Ok.ensures.cause.calm c.deref.ensures.value
     c.check_text.ensures.shows c.check_text.ensures.empty
+
+pub returns-in-Err-Failed-clause-obeyed : goal.returns-in-Err-Failed-clause-obeyed
+returns-in-Err-Failed-clause-obeyed g c =
+    obeys_failed c.args.command.now (g.F.Files.held c.args.files.now c.args.command.now.file) _ _ _ _ _ _ _ c.file_failed.result
+    (c.read.ensures.cause.failed (cc)) c.file_failed.ensures.status c.file_failed.ensures.told c.file_failed.ensures.empty
+
+pub returns-in-Explain-clause-obeyed : goal.returns-in-Explain-clause-obeyed
+returns-in-Explain-clause-obeyed g c =
+    obeys_explain c.args.command.now (g.F.Files.held c.args.files.now) c.as_str.result.now c.in-Ok.text.items c.as_str.ensures
+    c.in-Ok.ensures.bytes _ _ _ _ _ _ _ _ c.explain_text.result c.in-Explain.is c.in-Ok.ensures.cause.calm
+    c.deref-in-Explain.ensures.value _ c.as_str-in-Explain.ensures c.explain_text.ensures.explains c.explain_text.ensures.empty
 
 pub returns-in-Print-clause-obeyed : goal.returns-in-Print-clause-obeyed
 returns-in-Print-clause-obeyed g c =

@@ -1,6 +1,6 @@
 -- A program runs by the first link, and another text is refused.
 use Rattle.jolie_main.proofs.CommandsDone.{not_run, ran}
-use Rattle.jolie_main.proofs.TextsAsPrograms.{has_some}
+use Rattle.file_verdicts.proofs.TextsAsPrograms.{has_some}
 use Rattle.jolie_main.proofs.top.run_text.Goals as goal
 
 pub run_program-requires-clause-some : goal.run_program-requires-clause-some

@@ -1,0 +1,72 @@
+-- What a person reads of a refusal: what is wrong, and the rule that says so.
+use Rattle.std.specs.Prelude.{ℕ, List, codes}
+use Rattle.check_base.specs.declared.refusal.CheckName.{CheckName}
+use Rattle.check_base.specs.declared.refusal.CheckName.TheVariants as check
+use Rattle.file_verdicts.specs.declared.refusal.Cause.{Cause}
+use Rattle.file_verdicts.specs.declared.refusal.Cause.TheVariants as cause
+use Rattle.explain_text.specs.declared.advice.Advice.{Advice}
+use Rattle.explain_text.specs.declared.advice.Advice.TheVariants as advice
+
+-- what is wrong, by the name of the check
+abbrev pub check_words : CheckName → List ℕ
+check_words check.DuplicateName = codes "this name stands here a second time"
+check_words check.UnknownType = codes "there is no such type or interface, or it leads to no value"
+check_words check.UnknownPort = codes "there is no such port, or no service at its location"
+check_words check.UnknownOperation = codes "the port has no such operation"
+check_words check.WrongKind = codes "this is of another kind than its place asks for"
+check_words check.Uncorrelated = codes "messages of an operation could not find their session"
+check_words check.TwoSets = codes "this type stands in another set too"
+check_words check.CompOutsideHandler = codes "`comp` stands in no handler"
+check_words check.ChOutsideHandler = codes "`cH` stands in no handler"
+check_words check.NoStart = codes "there is no service, or it has nothing to begin with"
+check_words check.InitNotAssignment = codes "this statement sets nothing"
+
+-- what is wrong
+abbrev pub words_of : Cause → List ℕ
+words_of cause.TooLong = codes "the file has more than 1,048,576 bytes"
+words_of cause.BadByte = codes "no word, number, text or sign has this byte here"
+words_of cause.OpenString = codes "this text has no closing quote"
+words_of cause.OpenComment = codes "this comment has no */"
+words_of cause.BadNumber = codes "this is no number of the language"
+words_of cause.Syntax = codes "this may not stand here"
+words_of cause.TooDeep = codes "this opens a 65th level"
+words_of (cause.Check name) = check_words name
+
+-- the rule of a check
+abbrev pub check_rule : CheckName → List ℕ
+check_rule check.DuplicateName =
+    codes "in one place each has a name of its own: definitions, ports, fields, operations, handlers"
+check_rule check.UnknownType =
+    codes "a name is that of a type or interface of the file; what a set names is a field with a value"
+check_rule check.UnknownPort =
+    codes "a message goes to a port of its service, and `local://name` is an input port of the file"
+check_rule check.UnknownOperation = codes "a port has the operations of its interfaces"
+check_rule check.WrongKind =
+    codes "a call that is answered is `op@Port(x)(y)` or `op@Port(x)()`, one that is not is `op@Port(x)`"
+check_rule check.Uncorrelated =
+    codes "an operation of a concurrent service begins a session, or a set names fields of its type"
+check_rule check.TwoSets = codes "in a service a type stands in one set at most"
+check_rule check.CompOutsideHandler = codes "`comp` stands in a handler of `install`, or of the brackets behind a call"
+check_rule check.ChOutsideHandler = codes "`cH` stands in a handler, for the one that it replaces"
+check_rule check.NoStart =
+    codes "a file has a service, a service a `main`, and that of a concurrent one begins with an input"
+check_rule check.InitNotAssignment = codes "a statement of `init` has `=`, `<<`, `++` or `--`"
+
+-- the rule that is broken; of a token that may not stand there the hints say it
+abbrev pub rule_of : Cause → List ℕ
+rule_of cause.TooLong = codes "a file has at most 1,048,576 bytes"
+rule_of cause.BadByte =
+    codes "a text is \"..\" with the escapes \\n \\t \\r \\\" \\\\, and outside of it and of comments all is ASCII"
+rule_of cause.OpenString = codes "a text begins and ends with \", and \\\" is a quote in it"
+rule_of cause.OpenComment = codes "a comment is /* .. */, or // up to the end of its line"
+rule_of cause.BadNumber =
+    codes "an int is at most 2147483647, a long at most 9223372036854775807L; there are no fractions"
+rule_of cause.Syntax = codes ""
+rule_of cause.TooDeep = codes "brackets, `-` and `!` before operands and `else if` open a level; there are at most 64"
+rule_of (cause.Check name) = check_rule name
+
+-- what is advised
+abbrev pub advice_words : Advice → List ℕ
+advice_words advice.Separator = codes "`;` stands between two statements, and none behind the last"
+advice_words advice.Handlers = codes "`,` stands between two handlers, and a handler is `Fault => what it does`"
+advice_words advice.Compound = codes "`y += 1` is `y = y + 1` here"

@@ -1,0 +1,2 @@
+pub mod ReadOrRefused
+pub mod TextsAsPrograms
