@@ -1,6 +1,6 @@
 //! Rows of connections that are served alone.
 
-use crate::talk::ended;
+use crate::talk::finished;
 use std::alloc::{AllocError, Global};
 use test_rows::{Row, TableError};
 
@@ -27,11 +27,11 @@ fn given_of(alloc: Global, row: &Row<'_>, stream: &[u8], says: &str) -> Result<S
 }
 
 fn calls(alloc: Global, stream: &[u8], says: &str, piece: usize) -> Result<String, AllocError> {
-    ended(alloc, stream, says, piece, &[])?.calls(alloc)
+    finished(alloc, stream, says, piece, &[])?.calls(alloc)
 }
 
 fn steps(alloc: Global, stream: &[u8], says: &str, piece: usize) -> Result<String, AllocError> {
-    let ended = ended(alloc, stream, says, piece, &[])?;
+    let ended = finished(alloc, stream, says, piece, &[])?;
     String::from_str(alloc, ended.steps())
 }
 
@@ -42,7 +42,7 @@ fn outcome(
     piece: usize,
     failing: &[u64],
 ) -> Result<String, AllocError> {
-    ended(alloc, stream, says, piece, failing)?.text(alloc)
+    finished(alloc, stream, says, piece, failing)?.text(alloc)
 }
 
 /// What it comes to whole, and a remark where that differs in pieces.

@@ -14,7 +14,7 @@ pub(crate) fn given(alloc: Global, row: &Row<'_>) -> Result<String, TableError> 
     let piece = row.number(alloc, "piece")? as usize;
     let mut talk = Talk::new(alloc, stream.as_slice(), says.as_str(), piece, &[])?;
     let other = ended_beside(alloc, row, &mut talk, piece)?;
-    let one = talk.into_ended()?;
+    let one = Box::into_inner(talk).into_ended()?;
     Ok(lines(alloc, &one, &other)?)
 }
 
@@ -29,7 +29,7 @@ fn ended_beside(
     let says = row.text(alloc, "beside_says")?;
     let mut other = Talk::new(alloc, stream.as_slice(), says.as_str(), piece, &[])?;
     both(one, &mut other)?;
-    Ok(other.into_ended()?)
+    Ok(Box::into_inner(other).into_ended()?)
 }
 
 fn lines(alloc: Global, one: &Ended, other: &Ended) -> Result<String, AllocError> {

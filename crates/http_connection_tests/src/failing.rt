@@ -1,6 +1,6 @@
 //! Rows of connections whose wire fails at each of its calls.
 
-use crate::talk::{Ended, ended};
+use crate::talk::{Ended, finished};
 use std::alloc::{AllocError, Global};
 use test_rows::{Row, TableError};
 
@@ -13,7 +13,7 @@ pub(crate) fn given(alloc: Global, row: &Row<'_>) -> Result<String, TableError> 
 }
 
 fn told(alloc: Global, stream: &[u8], says: &str, piece: usize) -> Result<String, AllocError> {
-    let whole = ended(alloc, stream, says, piece, &[])?;
+    let whole = finished(alloc, stream, says, piece, &[])?;
     let wrong = count_wrong(alloc, stream, says, piece, &whole)?;
     let calls = whole.call_count();
     format!(in alloc; "{calls} calls, {wrong} with another outcome than a front")
@@ -29,7 +29,7 @@ fn count_wrong(
 ) -> Result<u64, AllocError> {
     let mut wrong = 0_u64;
     for call in 0..whole.call_count() as u64 {
-        let cut = ended(alloc, stream, says, piece, &[call])?;
+        let cut = finished(alloc, stream, says, piece, &[call])?;
         if cut.end() != "faulted" || !cut.begins_as(whole) {
             wrong = wrong.saturating_add(1);
         }

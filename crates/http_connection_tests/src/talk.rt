@@ -15,7 +15,7 @@ const MOST: usize = 1000;
 #[derive(Drop)]
 pub(crate) struct Talk<'a> {
     alloc: Global,
-    connection: Box<Connection<ScriptedWire>>,
+    connection: Connection<ScriptedWire>,
     words: Vec<&'a str>,
     told: usize,
     steps: String,
@@ -30,17 +30,18 @@ impl<'a> Talk<'a> {
         words: &'a str,
         piece: usize,
         failing: &[u64],
-    ) -> Result<Talk<'a>, AllocError> {
+    ) -> Result<Box<Talk<'a>>, AllocError> {
         let words = words.split(' ').collect(alloc)?;
         let connection = connected(alloc, stream, piece, failing)?;
-        Ok(Talk {
+        let talk = Talk {
             alloc,
             connection,
             words,
             told: 0,
             steps: String::new(alloc),
             asked: String::new(alloc),
-        })
+        };
+        Ok(Box::new(alloc, talk)?)
     }
 
     /// Asks for a request where one may be asked for.
@@ -136,7 +137,7 @@ impl<'a> Talk<'a> {
             asked,
         } = self;
         let end = name_of(connection.stage());
-        let (wire, read, written) = Box::into_inner(connection).into_parts();
+        let (wire, read, written) = connection.into_parts();
         let ended = Ended {
             wire,
             read,
@@ -155,10 +156,10 @@ fn connected(
     stream: &[u8],
     piece: usize,
     failing: &[u64],
-) -> Result<Box<Connection<ScriptedWire>>, AllocError> {
+) -> Result<Connection<ScriptedWire>, AllocError> {
     let script = Script::new(alloc, failing)?;
     let wire = ScriptedWire::new(alloc, stream, ROOM, piece.max(1), script)?;
-    Ok(Box::new(alloc, Connection::new(alloc, wire))?)
+    Ok(Connection::new(alloc, wire))
 }
 
 /// A connection that is over, or without memory: its wire, what passed, how it ended, and what was seen of it.
@@ -173,7 +174,7 @@ pub(crate) struct Ended {
 }
 
 /// A connection that is asked and told until it is over.
-pub(crate) fn ended(
+pub(crate) fn finished(
     alloc: Global,
     stream: &[u8],
     words: &str,
@@ -182,7 +183,7 @@ pub(crate) fn ended(
 ) -> Result<Box<Ended>, AllocError> {
     let mut talk = Talk::new(alloc, stream, words, piece, failing)?;
     talk.finish()?;
-    talk.into_ended()
+    Box::into_inner(talk).into_ended()
 }
 
 impl Ended {

@@ -42,7 +42,7 @@ pub data Checks (text : List ℕ) (status : ℕ) (before now : Taking) : Type 0 
   unchecked : (line : List ℕ) → IsUncheckedBy text line → status ≡ 3 → IsWritten line before now
       → Checks text status before now
 
--- What `explain` does with the text of a file: it says `ok` of a program, or explains why the text is refused at status 3.
+-- What `explain` does with the text of a file: it says `ok` of a program, or explains why it is refused, at status 3.
 pub data Explains (file text : List ℕ) (status : ℕ) (before now : Taking) : Type 0 where
   passed : (parts : ProgramParts) → IsChecked text parts → Says (codes "ok\n") status before now
       → Explains file text status before now
@@ -81,7 +81,8 @@ pub data Runs (c : Command) (text : List ℕ) (ended : Ended) (before now : Outs
 abbrev pub Does : Command → List ℕ → Ended → Outside → Outside → Type 0
 Does c text ended before now = elim c.action [
   | action.Check ↦ Checks text ended.status before.lines.output now.lines.output × ShowsAlone ended before now
-  | action.Explain ↦ Explains c.file text ended.status before.lines.output now.lines.output × ShowsAlone ended before now
+  | action.Explain ↦
+      Explains c.file text ended.status before.lines.output now.lines.output × ShowsAlone ended before now
   | action.Print ↦ Prints text ended.status before.lines.output now.lines.output × ShowsAlone ended before now
   | action.Run ↦ Runs c text ended before now
 ]

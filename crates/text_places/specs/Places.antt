@@ -1,4 +1,4 @@
--- Where a place of a text stands for who reads it. A place is a number of bytes; one behind the end is taken as the end.
+-- Where a place of a text stands for who reads it. A place is a number of bytes; one behind the end is the end.
 use Rattle.std.specs.Prelude.{ℕ, ◌+◌, ◌-◌, Bool, ◌||◌, not, ◌==◌, nat_lt, if◌then◌else◌, Option, None, Some}
 use Rattle.std.specs.Prelude.{List, ◌++◌, codes, length, take, drop, count_by, slice_index}
 use Rattle.std.specs.List.{before_first, after_last, filter_map}
