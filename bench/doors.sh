@@ -1,0 +1,169 @@
+#!/bin/sh
+# Has guests of bench/guests.py come in at doors over the sockets of this machine, well and ill, and compares what is
+# said of each with what docs/http.md says of doors over sockets. Outside the gate, over libraries that `rt ci` has
+# proved: bench/doors.sh
+# shellcheck source=bench/common.sh
+. "$(dirname "$0")/common.sh"
+
+make_crate 'door_trials: socket_doors outside_doors outside_sockets outside_traits anyhow' <<'EOF'
+//! Follows the lines of its input at doors over sockets, and says what came of each: `open LOCATION`; `accept`, `rest`
+//! and `shut` of the door that was opened last; `read`, `write TEXT`, `fill COUNT` and `back` of the wire that came
+//! last; and `told`.
+#![tactic(auto)]
+
+use outside_doors::{Door, Doors, Knock};
+use outside_sockets::SocketWire;
+use outside_traits::Wire;
+use socket_doors::{Patience, PatientStream, SocketDoor, SocketDoors};
+use std::alloc::{AllocError, Global};
+use std::net::Net;
+use std::rt::Clock;
+use std::time::Duration;
+
+#[derive(Drop)]
+struct House<H: Net + Clock + Copy + Drop> {
+    alloc: Global,
+    doors: SocketDoors<H>,
+    open: Vec<SocketDoor<H>>,
+    wires: Vec<SocketWire<PatientStream<H::Stream, H>>>,
+}
+
+fn main(rt: HostRuntime) -> anyhow::Result<()> {
+    let alloc = rt.alloc();
+    let mut house = House {
+        alloc,
+        doors: SocketDoors::new(&rt, patience()),
+        open: Vec::new(alloc),
+        wires: Vec::new(alloc),
+    };
+    for line in rt.lines(alloc) {
+        let said = house.follow(line?.as_str())?;
+        println!(rt; "{said}")?;
+    }
+    Ok(())
+}
+
+fn patience() -> Patience {
+    Patience {
+        idle: Duration::from_millis(600),
+        request: Duration::from_millis(1_200),
+        answer: Duration::from_millis(900),
+        rest: Duration::from_millis(400),
+    }
+}
+
+impl<H: Net + Clock + Copy + Drop> House<H> {
+    fn follow(&mut self, line: &str) -> Result<String, AllocError> {
+        let (verb, rest) = line.split_once(' ').unwrap_or((line, ""));
+        match verb {
+            "open" => self.open(rest),
+            "accept" => self.accept(),
+            "rest" => self.rest(),
+            "shut" => self.shut(),
+            "read" => self.read(),
+            "write" => self.write(rest.as_bytes()),
+            "fill" => self.fill(rest.parse().unwrap_or(0)),
+            "back" => self.back(),
+            _ => self.told(),
+        }
+    }
+
+    fn say(&self, text: &str) -> Result<String, AllocError> {
+        String::from_str(self.alloc, text)
+    }
+
+    fn open(&mut self, location: &str) -> Result<String, AllocError> {
+        match self.doors.open(location) {
+            Ok(door) => {
+                self.open.push(door)?;
+                self.say("opened")
+            }
+            Err(_) => self.say("failed"),
+        }
+    }
+
+    fn accept(&mut self) -> Result<String, AllocError> {
+        let Some(door) = self.open.last_mut() else {
+            return self.say("no door");
+        };
+        match door.try_accept() {
+            Ok(Knock::Came(wire)) => {
+                self.wires.push(wire)?;
+                self.say("came")
+            }
+            Ok(Knock::NotYet) => self.say("not yet"),
+            Ok(Knock::Closed) => self.say("closed"),
+            Err(_) => self.say("failed"),
+        }
+    }
+
+    fn rest(&mut self) -> Result<String, AllocError> {
+        if let Some(door) = self.open.last_mut() {
+            door.rest();
+        }
+        self.say("rested")
+    }
+
+    fn shut(&mut self) -> Result<String, AllocError> {
+        if let Some(door) = self.open.pop() {
+            self.doors.door_back(door);
+        }
+        self.say("shut")
+    }
+
+    fn read(&mut self) -> Result<String, AllocError> {
+        let mut bytes = [0_u8; 64];
+        let Some(wire) = self.wires.last_mut() else {
+            return self.say("no wire");
+        };
+        match wire.read(&mut bytes) {
+            Ok(count) => {
+                let text = std::str::from_utf8(&bytes[..count]).unwrap_or("?");
+                format!(in self.alloc; "read {text}")
+            }
+            Err(_) => self.say("failed"),
+        }
+    }
+
+    fn write(&mut self, bytes: &[u8]) -> Result<String, AllocError> {
+        let Some(wire) = self.wires.last_mut() else {
+            return self.say("no wire");
+        };
+        match wire.write(bytes) {
+            Ok(count) => format!(in self.alloc; "wrote {count}"),
+            Err(_) => self.say("failed"),
+        }
+    }
+
+    /// Writes so many pieces.
+    fn fill(&mut self, count: u32) -> Result<String, AllocError> {
+        let Some(wire) = self.wires.last_mut() else {
+            return self.say("no wire");
+        };
+        for _ in 0..count {
+            if wire.write(&[b'x'; 4_096]).is_err() {
+                return self.say("failed");
+            }
+        }
+        self.say("filled")
+    }
+
+    fn back(&mut self) -> Result<String, AllocError> {
+        if let Some(wire) = self.wires.pop() {
+            self.doors.wire_back(wire);
+        }
+        self.say("back")
+    }
+
+    fn told(&mut self) -> Result<String, AllocError> {
+        let counts = self.doors.counts();
+        let (opened, back, ended) = (counts.opened(), counts.doors_back(), counts.doors_ended());
+        let (given, wires, failed) = (counts.wires_given(), counts.wires_back(), counts.wires_failed());
+        let (waits, faults) = (counts.waits(), self.doors.faults());
+        let doors = format!(in self.alloc; "doors {opened} {back} {ended} wires {given} {wires} {failed}")?;
+        format!(in self.alloc; "{doors} waits {waits} faults {faults}")
+    }
+}
+EOF
+build_over_proved
+python3 "$top/bench/guests.py" "$work/crates/$name/out/$name"

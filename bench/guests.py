@@ -1,0 +1,250 @@
+#!/usr/bin/env python3
+"""Guests who come in at doors over sockets well or ill, for bench/doors.sh.
+
+    bench/guests.py PROGRAM    runs the program, which follows the lines of its input at doors, and compares what it
+                               says of each with what docs/http.md says of doors over sockets
+"""
+import resource
+import socket
+import struct
+import subprocess
+import sys
+import threading
+import time
+
+# How many seconds the program waits: for a next request, for the rest of one, for an answer to be taken, in a rest.
+IDLE, REQUEST, ANSWER, REST = 0.6, 1.2, 0.9, 0.4
+
+# What is allowed beyond a time.
+LATE = 0.25
+
+
+class House:
+    """A run of the program."""
+
+    def __init__(self, program, files=None):
+        def few_files():
+            if files:
+                resource.setrlimit(resource.RLIMIT_NOFILE, (files, files))
+
+        self.process = subprocess.Popen(
+            [program], stdin=subprocess.PIPE, stdout=subprocess.PIPE, text=True, preexec_fn=few_files)
+
+    def say(self, line):
+        """What the program says of a line."""
+        self.process.stdin.write(line + "\n")
+        self.process.stdin.flush()
+        return self.process.stdout.readline().rstrip("\n")
+
+    def timed(self, line):
+        """The same, and how many seconds it took."""
+        before = time.monotonic()
+        said = self.say(line)
+        return said, time.monotonic() - before
+
+    def end(self):
+        self.process.stdin.close()
+        return self.process.wait()
+
+
+class Rows:
+    def __init__(self):
+        self.rows = 0
+        self.wrong = 0
+
+    def row(self, name, have, want):
+        self.rows += 1
+        if have != want:
+            self.wrong += 1
+            print(f"{name}: {have}\n  expected: {want}")
+
+    def time(self, name, took, least, most):
+        right = least <= took <= most
+        want = f"{least:.2f} to {most:.2f} s"
+        self.row(name, want if right else f"{took:.3f} s", want)
+
+
+def free_port():
+    with socket.socket() as listener:
+        listener.bind(("127.0.0.1", 0))
+        return listener.getsockname()[1]
+
+
+def come(port, host="127.0.0.1"):
+    return socket.create_connection((host, port))
+
+
+def reset(guest):
+    """Closes a connection by a reset."""
+    guest.setsockopt(socket.SOL_SOCKET, socket.SO_LINGER, struct.pack("ii", 1, 0))
+    guest.close()
+
+
+def drip(guest):
+    """Sends a byte now and then, for as long as the other side takes them."""
+
+    def send():
+        try:
+            while True:
+                guest.sendall(b"x")
+                time.sleep(0.1)
+        except OSError:
+            pass
+
+    threading.Thread(target=send, daemon=True).start()
+
+
+def is_refused(port):
+    try:
+        come(port).close()
+        return False
+    except ConnectionRefusedError:
+        return True
+
+
+def one_door(rows, house, port):
+    rows.row("a door", house.say(f"open socket://127.0.0.1:{port}"), "opened")
+    rows.row("nobody", house.say("accept"), "not yet")
+    said, took = house.timed("rest")
+    rows.row("a rest", said, "rested")
+    rows.time("a rest where nobody comes", took, REST - 0.01, REST + LATE)
+    guests = []
+    coming = threading.Timer(0.1, lambda: guests.append(come(port)))
+    coming.start()
+    _, took = house.timed("rest")
+    coming.join()
+    rows.time("a rest ends where somebody comes", took, 0.05, 0.1 + LATE)
+    rows.row("somebody", house.say("accept"), "came")
+    rows.row("nobody else", house.say("accept"), "not yet")
+    guest = guests[0]
+    guest.sendall(b"hello")
+    rows.row("what a guest sends", house.say("read"), "read hello")
+    rows.row("an answer", house.say("write good day"), "wrote 8")
+    rows.row("what a guest gets", guest.recv(64), b"good day")
+    for word in ["one", "two", "three"]:
+        time.sleep(IDLE / 2)
+        guest.sendall(word.encode())
+        rows.row("a next request", house.say("read"), f"read {word}")
+        rows.row("its answer", house.say("write ok"), "wrote 2")
+        rows.row("what a guest gets then", guest.recv(64), b"ok")
+    guest.shutdown(socket.SHUT_WR)
+    rows.row("the end of what a guest sends", house.say("read"), "read ")
+    rows.row("an answer behind it", house.say("write bye"), "wrote 3")
+    rows.row("what a guest gets behind it", guest.recv(64), b"bye")
+    rows.row("a wire that goes back", house.say("back"), "back")
+    rows.row("a wire that went back is closed", guest.recv(64), b"")
+    guest.close()
+
+
+def ill_guests(rows, house, port):
+    guest = come(port)
+    rows.row("a guest who says nothing", house.say("accept"), "came")
+    said, took = house.timed("read")
+    rows.row("a guest who says nothing is given up", said, "failed")
+    rows.time("idle", took, IDLE - 0.01, IDLE + LATE)
+    house.say("back")
+    guest.close()
+
+    guest = come(port)
+    rows.row("a guest who drips", house.say("accept"), "came")
+    drip(guest)
+    before = time.monotonic()
+    reads = 0
+    while house.say("read") != "failed":
+        reads += 1
+    rows.time("a request that is never whole", time.monotonic() - before, REQUEST - 0.01, REQUEST + LATE)
+    rows.row("it is read as it comes", reads > 5, True)
+    house.say("back")
+    guest.close()
+
+    guest = come(port)
+    rows.row("a guest who takes nothing", house.say("accept"), "came")
+    said, took = house.timed("fill 100000")
+    rows.row("an answer that is not taken", said, "failed")
+    rows.time("an answer that is not taken", took, ANSWER - 0.01, ANSWER + LATE + 0.5)
+    house.say("back")
+    guest.close()
+
+    guest = come(port)
+    time.sleep(0.05)
+    reset(guest)
+    time.sleep(0.05)
+    rows.row("a guest who has gone", house.say("accept"), "came")
+    rows.row("a guest who has gone sends nothing", house.say("read"), "failed")
+    rows.row("a guest who has gone takes nothing", house.say("write x"), "failed")
+    house.say("back")
+
+    guests = [come(port) for _ in range(50)]
+    rows.row("many at once", [house.say("accept") for _ in guests], ["came" for _ in guests])
+    rows.row("no more than that", house.say("accept"), "not yet")
+    guests[-1].sendall(b"last")
+    rows.row("the last of many", house.say("read"), "read last")
+    for guest in guests:
+        house.say("back")
+        guest.close()
+
+
+def places(rows, house, port):
+    rows.row("an address that is in use", house.say(f"open socket://127.0.0.1:{port}"), "failed")
+    for location in ["local://shop", "http://127.0.0.1:9", "127.0.0.1:9", "socket://127.0.0.1", "socket://",
+                     "socket://127.0.0.1:port", "socket://127.0.0.1:65536", "socket://nobody.invalid:9", ""]:
+        rows.row(f"no door at {location!r}", house.say(f"open {location}"), "failed")
+    other = free_port()
+    rows.row("a location with a path", house.say(f"open socket://127.0.0.1:{other}/calls/x:1"), "opened")
+    guest = come(other)
+    rows.row("a second door", house.say("accept"), "came")
+    house.say("back")
+    guest.close()
+    rows.row("a door that goes back", house.say("shut"), "shut")
+    rows.row("a door that went back is closed", is_refused(other), True)
+    rows.row("it may open again at once", house.say(f"open socket://127.0.0.1:{other}"), "opened")
+    house.say("shut")
+    rows.row("all addresses", house.say(f"open socket://0.0.0.0:{other}"), "opened")
+    guest = come(other)
+    rows.row("a guest at one of all addresses", house.say("accept"), "came")
+    house.say("back")
+    guest.close()
+    house.say("shut")
+    rows.row("a name", house.say(f"open socket://localhost:{other}"), "opened")
+    guest = come(other, "localhost")
+    rows.row("a guest at a name", house.say("accept"), "came")
+    house.say("back")
+    guest.close()
+    house.say("shut")
+
+
+def few_files(rows, program):
+    """Where the system has no file left for a connection, the door has failed."""
+    house = House(program, files=8)
+    port = free_port()
+    house.say(f"open socket://127.0.0.1:{port}")
+    guests = [come(port) for _ in range(10)]
+    said = [house.say("accept") for _ in guests]
+    rows.row("no file is left", set(said), {"came", "failed"})
+    came = said.count("came")
+    house.say("shut")
+    rows.row("a door that has failed is told", house.say("told"),
+             f"doors 1 1 1 wires {came} 0 0 waits 0 faults 1")
+    rows.row("it ends", house.end(), 0)
+    for guest in guests:
+        guest.close()
+
+
+def main(program):
+    rows = Rows()
+    house = House(program)
+    port = free_port()
+    one_door(rows, house, port)
+    ill_guests(rows, house, port)
+    places(rows, house, port)
+    rows.row("the first door still stands", house.say("accept"), "not yet")
+    house.say("shut")
+    rows.row("what is told", house.say("told"), "doors 5 5 0 wires 58 58 4 waits 4 faults 10")
+    rows.row("the program ends", house.end(), 0)
+    few_files(rows, program)
+    print(f"{rows.rows} rows, {rows.wrong} of them wrong")
+    return 1 if rows.wrong else 0
+
+
+if __name__ == "__main__":
+    sys.exit(main(sys.argv[1]))

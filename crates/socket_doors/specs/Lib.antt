@@ -1,0 +1,4 @@
+pub mod Arrivals
+pub mod Locations
+pub mod Patience
+pub mod Told

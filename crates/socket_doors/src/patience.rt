@@ -1,0 +1,69 @@
+//! How long a connection is waited for.
+ghost use Rattle.std.specs.Prelude.{◌≡◌};
+ghost use Rattle.std.specs.Duration.{as_nanos};
+ghost use Rattle.socket_doors.specs.Patience.{reading_time, turn_read, turn_write, writing_time};
+
+use std::time::{Duration, Instant};
+
+/// How long those who come in at a door are waited for.
+#[derive(Clone, Copy)]
+pub struct Patience {
+    /// How long the first bytes of a request may take.
+    pub idle: Duration,
+    /// How long the rest of it may take, from these on.
+    pub request: Duration,
+    /// How long an answer may take to be taken, from its first write on.
+    pub answer: Duration,
+    /// How long a rest is where nobody comes. It is 1,000 ms at most, whatever stands here.
+    pub rest: Duration,
+}
+
+/// What a connection is at: nothing of a next request has come, one has begun, or its answer has.
+#[derive(Clone, Copy)]
+pub(crate) enum Turn {
+    Idle,
+    Request(Instant),
+    Answer(Instant),
+}
+
+impl Turn {
+    /// How long a read may take that begins now.
+    pub(crate) fn reading_time(self, patience: &Patience, now: Instant) -> Duration
+        ensures { as_nanos result ≡ reading_time patience.now self now }
+    {
+        match self {
+            Turn::Request(start) => patience.request.saturating_sub(now.duration_since(start)),
+            Turn::Idle | Turn::Answer(_) => patience.idle,
+        }
+    }
+
+    /// How long a write may take that begins now.
+    pub(crate) fn writing_time(self, patience: &Patience, now: Instant) -> Duration
+        ensures { as_nanos result ≡ writing_time patience.now self now }
+    {
+        match self {
+            Turn::Answer(start) => patience.answer.saturating_sub(now.duration_since(start)),
+            Turn::Idle | Turn::Request(_) => patience.answer,
+        }
+    }
+
+    /// What it is at behind a read that has just given so many bytes.
+    pub(crate) fn after_read(self, count: usize, now: Instant) -> Turn
+        ensures { result ≡ turn_read self count now }
+    {
+        match self {
+            Turn::Request(_) => self,
+            Turn::Idle | Turn::Answer(_) => { if count == 0 { self } else { Turn::Request(now) } }
+        }
+    }
+
+    /// What it is at in a write that begins now.
+    pub(crate) fn at_write(self, now: Instant) -> Turn
+        ensures { result ≡ turn_write self now }
+    {
+        match self {
+            Turn::Answer(_) => self,
+            Turn::Idle | Turn::Request(_) => Turn::Answer(now),
+        }
+    }
+}

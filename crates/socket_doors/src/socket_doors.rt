@@ -1,0 +1,126 @@
+ghost use Rattle.std.specs.Prelude.{◌≡◌, ◌∷◌, [], None, false, IfOk, OnErr, IfSome, IsTrue};
+ghost use Rattle.outside_traits.specs.Causes.{HasCause};
+ghost use Rattle.outside_doors.specs.Counts.{with_opened};
+ghost use Rattle.outside_doors.specs.Returns.{Lists};
+ghost use Rattle.socket_doors.specs.Locations.{is_of_socket};
+ghost use Rattle.socket_doors.specs.Told.{untold_book};
+
+use crate::location::address_of;
+use crate::patience::Patience;
+use crate::patient_stream::PatientStream;
+use crate::socket_door::SocketDoor;
+use outside_doors::{Counts, Doors};
+use outside_sockets::SocketWire;
+use outside_traits::{Failed, Wire};
+use std::marker::Model;
+use std::net::{Net, OpenListener, TcpListener};
+use std::rt::Clock;
+
+/// Doors over the TCP sockets of the system. They tell what they count, and neither locations nor wires: to tell these they would have to keep them, and the wires have no end.
+#[derive(Drop)]
+pub struct SocketDoors<H: Net + Clock + Copy + Drop> {
+    host: H,
+    patience: Patience,
+    counts: Counts,
+    faults: u64,
+}
+
+impl<H: Net + Clock + Copy + Drop> Model for SocketDoors<H> {
+    ghost use Rattle.std.specs.Prelude.{None};
+    ghost use Rattle.outside_doors.specs.Returns.{BookTold};
+
+    ghost Value = { BookTold };
+
+    ghost view = { λ d. record { tally = d.counts; faults = d.faults; locations = None; wires = None } };
+}
+
+impl<H: Net + Clock + Copy + Drop> SocketDoors<H> {
+    /// Doors at which those who come are waited for with this patience.
+    pub fn new(host: H, patience: Patience) -> SocketDoors<H>
+        ensures { result ≡ untold_book }
+    {
+        SocketDoors {
+            host,
+            patience,
+            counts: Counts::new(),
+            faults: 0,
+        }
+    }
+
+    /// What was counted of what was opened and of what came back.
+    pub fn counts(&self) -> &Counts
+        ensures { result.now ≡ self.now.tally }
+    {
+        &self.counts
+    }
+
+    /// How often a door failed to open, or came back that had failed.
+    pub fn faults(&self) -> u64
+        ensures { result ≡ self.now.faults }
+    {
+        self.faults
+    }
+}
+
+impl<H: Net + Clock + Copy + Drop> Doors for SocketDoors<H> {
+    type D = SocketDoor<H>;
+
+    ghost faults = { λ d. d.faults };
+
+    ghost tally = { λ d. d.tally };
+
+    ghost locations = { λ d. d.locations };
+
+    ghost returned = { λ d. d.wires };
+
+    // Only the location of a socket has a door.
+    fn open(&mut self, location: &str) -> Result<SocketDoor<H>, Failed>
+        ensures form { IfOk result (λ _. IsTrue (is_of_socket location.now)) }
+        ensures faultless { IfOk result (λ door. door.faults ≡ 0) }
+        ensures ungiven { IfOk result (λ door. door.wires ≡ 0) }
+        ensures unwaited { IfOk result (λ door. door.waits ≡ 0) }
+        ensures unclosed { IfOk result (λ door. door.closed ≡ false) }
+        ensures opened { IfOk result (λ _. self.new.tally ≡ with_opened self.old.tally) }
+        ensures unopened { OnErr result (self.new.tally ≡ self.old.tally) }
+        ensures listed { IfOk result (λ _. Lists self.old.locations self.new.locations (location.now ∷ [])) }
+        ensures unlisted { OnErr result (self.new.locations ≡ self.old.locations) }
+        ensures returned { self.new.wires ≡ self.old.wires }
+        ensures cause { HasCause self.old.faults self.new.faults result }
+    {
+        match listener_at(&self.host, location) {
+            Some(listener) => {
+                self.counts.add_opened();
+                Ok(SocketDoor::new(self.host, listener, self.patience))
+            }
+            None => {
+                self.faults = self.faults.saturating_add(1);
+                Err(Failed)
+            }
+        }
+    }
+
+    fn wire_back(&mut self, mut wire: SocketWire<PatientStream<H::Stream, H>>) {
+        wire.close();
+        self.counts.add_wire(wire.faults());
+    }
+
+    fn door_back(&mut self, door: SocketDoor<H>) {
+        self.counts.add_door(door.counts());
+        if door.counts().faults() != 0 {
+            self.faults = self.faults.saturating_add(1);
+        }
+    }
+}
+
+/// A listener at the location of a socket whose accept does not wait, none where there can't be one.
+///
+/// A name may have several addresses. The first is taken at which the system lets it listen, and no other: a listener has
+/// one address, and a door one listener, so that a rest can wait for all who come to it.
+fn listener_at<H: Net>(host: &H, location: &str) -> Option<H::Listener>
+    ensures { IfSome result (λ _. IsTrue (is_of_socket location.now)) }
+{
+    let address = address_of(location)?;
+    let listener = TcpListener::bind(host, address).ok()?;
+    listener.set_nonblocking(true).ok()?;
+    Some(listener)
+}
