@@ -1,0 +1,44 @@
+-- What a run over connections posted and wrote.
+use Rattle.std.specs.Prelude.{◌≡◌, ◌⊎◌, ℕ, Bool, true, false, List, length, map, nat_eq}
+use Rattle.std.specs.Prelude.{Option, Some, slice_get}
+use Rattle.std.specs.List.{list_all}
+use Rattle.office_core.specs.declared.history.Entry.{Entry}
+use Rattle.office_core.specs.Limits.{Setting, first_worker}
+use Rattle.office_core.specs.Accepted.{past_of}
+use Rattle.office_front.specs.Dealings.{Asked}
+use Rattle.run_record.specs.declared.record.Traffic.{Traffic}
+use Rattle.run_record.specs.Postings.{posts_by, posts_of}
+use Rattle.branch_workers.specs.Texts.{Came, posting_of, response}
+use Rattle.connection_runs.specs.Ports.{has_door}
+use Rattle.connection_runs.specs.Visits.{Visit, came_at, AreTaken, HavePassed}
+
+-- whose request each posting is, and what it brings in, in the order of the postings
+pub record Requests : Type 0 where
+  pub asked : List Asked
+  pub came : List Came
+
+-- Each text that was told to a request is the response to its posting.
+abbrev pub AreResponses : Setting → List Entry → List Visit → Requests → Type 0
+AreResponses w h visits all = (j : ℕ) (a : Asked) (c : Came) (visit : Visit) (text : Option (List ℕ))
+    → slice_get all.asked j ≡ Some a → slice_get all.came j ≡ Some c
+    → slice_get visits a.traffic ≡ Some visit → slice_get visit.texts a.request ≡ Some text
+    → text ≡ response w (past_of w h) first_worker j c
+
+-- a text was told to each request that was taken from a connection
+abbrev pub is_told : Visit → Bool
+is_told visit = nat_eq (length visit.texts) (length visit.bodies)
+
+-- The requests of the connections of this traffic were posted to the services of their doors, each once and those of
+-- one connection in their order, by the worker that has the connections. What was written on each is what is to be
+-- written where the responses to its postings are told, or a front of that where its wire failed. Unless the front
+-- halted, each posting's response was told.
+pub record IsServed (w : Setting) (h : List Entry) (halted : Bool) (traffic : List Traffic) : Type 0 where
+  pub visits : List Visit
+  pub all : Requests
+  pub doors : list_all (λ (visit : Visit). has_door w.parts visit.service) visits ≡ true
+  pub passed : HavePassed visits traffic
+  pub taken : AreTaken visits all.asked
+  pub came : map (came_at visits) all.asked ≡ map Some all.came
+  pub posted : posts_by first_worker h ≡ posts_of 0 (map posting_of all.came)
+  pub responses : AreResponses w h visits all
+  pub told : halted ≡ false → list_all is_told visits ≡ true
