@@ -1,0 +1,14 @@
+pub mod Changing
+pub mod Notes
+pub mod Telling
+pub mod Saying
+pub mod Entries
+pub mod Doors
+pub mod Links
+pub mod Coming
+pub mod Counting
+pub mod Requests
+pub mod OneMore
+pub mod Waiting
+pub mod Asking
+pub mod FirstReading

@@ -1,0 +1,16 @@
+-- One more came at the door.
+use Rattle.std.proofs.Common.{refl, ◌∙◌, arith}
+use Rattle.door_front.proofs.Coming.{new_link-at, room-tested, takes-next}
+use Rattle.door_front.proofs.accepting.accept_at.Goals as goal
+
+pub loop-alloc-preserved : goal.loop-alloc-preserved
+loop-alloc-preserved g c =
+    let w = c.in-Some.wire in
+    let fits = c.ranges.most in
+    takes-next _ c.args.most c.args.port.now c.loop-alloc.port c.knock.new.self c.args.links.now.items c.loop-alloc.links.items c.push.new.self.items
+    c.new.result c.loop-alloc.invariant c.knock.ensures.goes c.in-Some.ensures.wires
+    (new_link-at _ (g.D.W.Wire.given w) (g.D.W.Wire.left w) (g.D.W.Wire.taken w) (g.D.W.Wire.calls w) (g.D.W.Wire.faults w) (g.D.W.Wire.closed w)
+    c.new.result (w, refl) c.in-Some.ensures.fresh c.new.ensures.owed c.new.ensures.stage c.new.ensures.talks)
+    (c.new.ensures.service ∙ c.service.ensures)
+    (room-tested c.args.most c.loop-alloc.links.items c.deref.result.now c.has_room.result c.deref.ensures.value c.has_room.ensures c.loop-alloc-test.true)
+    (omega arith) c.in_ok-push-in-Some.ensures.items

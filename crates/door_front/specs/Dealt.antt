@@ -1,0 +1,200 @@
+-- What passed between a front over doors and its run.
+use Rattle.std.specs.Prelude.{◌≡◌, ◌≢◌, ◌⊎◌, ℕ, suc, ◌-◌, ◌^◌, ◌<◌, ◌≤◌, min, Bool, true, false, List, [], ◌∷◌}
+use Rattle.std.specs.Prelude.{length, map, take, nat_eq, nat_lt, count_by, Option, None, Some, Contains, slice_get}
+use Rattle.std.specs.List.{list_all, list_any, sum_by}
+use Rattle.std.specs.Io.KnownBytes.{Appends}
+use Rattle.outside_traits.specs.Causes.{Rose}
+use Rattle.outside_doors.specs.Counts.{has_ended}
+use Rattle.behaviour_tree.specs.Data.{ProgramParts}
+use Rattle.office_front.specs.Dealings.{Asked, Told, Said, Dealings}
+use Rattle.office_front.specs.Calls.{most_postings}
+use Rattle.branch_workers.specs.Texts.{Came, posting_of}
+use Rattle.branch_workers.specs.Lines.{IsFront, IsProperFront}
+use Rattle.posting_texts.specs.Told.{response_told}
+use Rattle.connection_runs.specs.Visits.{Visit, came_at, AreTaken}
+use Rattle.connection_runs.specs.Served.{Requests}
+use Rattle.http_connection.specs.declared.stage.Stage.{Stage}
+use Rattle.http_connection.specs.declared.stage.Stage.TheVariants as Stages
+use Rattle.http_connection.specs.Stages.{stage_of, IsOver}
+use Rattle.http_connection.specs.Seen.{Line}
+use Rattle.http_connection.specs.Talking.{IsTalking}
+use Rattle.door_front.specs.declared.link.Owed.{Owed}
+use Rattle.door_front.specs.Keeping.{PortTold, LinkTold, Keeping, services_of, no_more}
+
+-- the most connections that are open at once
+abbrev pub most_open : ℕ
+most_open = 1024
+
+-- a sink: what it took, where that is told, and how often it failed
+pub record Taking : Type 0 where
+  pub taken : Option (List ℕ)
+  pub faults : ℕ
+
+-- the same by its parts
+abbrev pub taking : Option (List ℕ) → ℕ → Taking
+taking taken faults = record { taken = taken; faults = faults }
+
+-- the two sides of a front over doors: what it keeps, and the sink of its notes
+pub record Sides : Type 0 where
+  pub kept : Keeping
+  pub notes : Taking
+
+-- the same by its parts
+abbrev pub sides_of : Keeping → Taking → Sides
+sides_of kept notes = record { kept = kept; notes = notes }
+
+-- ---- connections
+
+-- A wire as it comes: as far as it tells nothing was read or written on it; it has not failed, and it is open.
+pub record IsNewLine (line : Line) : Type 0 where
+  pub unread : line.given ≡ None ⊎ line.given ≡ Some []
+  pub unwritten : line.taken ≡ None ⊎ line.taken ≡ Some []
+  pub faultless : line.faults ≡ 0
+  pub is_open : line.closed ≡ false
+
+-- a connection owes an answer at this stage exactly where a request of it has none yet
+abbrev pub OwesAt : Option Owed → Stage → Type 0
+OwesAt None stage = stage ≢ Stages.Owes
+OwesAt (Some owed) stage = stage ≡ Stages.Owes
+
+-- A connection of a front and what passed on it: it was made with a new wire of its door's, handed out these bodies and
+-- was told these texts; and memory did not run out.
+pub record IsLink (IsMade : Line → Type 0) (link : LinkTold) (visit : Visit) : Type 0 where
+  pub service : visit.service ≡ link.service
+  pub stage : visit.stage ≡ stage_of link.seen.kept.next
+  pub memory : visit.stage ≢ Stages.Spent
+  pub owes : OwesAt link.owed visit.stage
+  pub first : Line
+  pub made : IsMade first
+  pub fresh : IsNewLine first
+  pub talks : IsTalking first link.seen visit.bodies visit.texts
+
+-- what passed on each connection, in order
+abbrev pub AreLinks : (Line → Type 0) → List LinkTold → List Visit → Type 0
+AreLinks IsMade [] [] = Unit {0}
+AreLinks IsMade [] (v ∷ vs) = ⊥
+AreLinks IsMade (l ∷ ls) [] = ⊥
+AreLinks IsMade (l ∷ ls) (v ∷ vs) = IsLink IsMade l v × AreLinks IsMade ls vs
+
+-- ---- what was told
+
+-- What a request was told: its posting's place was told this, and the text of that was told to it.
+pub record IsHeard (parts : ProgramParts) (heard : List Told) (j : ℕ) (c : Came) (text : Option (Option (List ℕ)))
+    : Type 0 where
+  pub told : Told
+  pub there : Contains heard told
+  pub place : told.place ≡ j
+  pub said : text ≡ Some (response_told parts c told.outcomes)
+
+-- The request of a posting waits for its answer: it is the one that its connection owes an answer, behind all texts
+-- that were told to it.
+pub record IsOwed (links : List LinkTold) (j : ℕ) (a : Asked) (c : Came) (visit : Visit) : Type 0 where
+  pub link : LinkTold
+  pub there : slice_get links a.traffic ≡ Some link
+  pub owed : link.owed ≡ Some (record { place = j; read = c.read })
+  pub last : a.request ≡ length visit.texts
+
+-- Each posting's request was told what was told of its place, or waits for its answer.
+abbrev pub AreHeard : ProgramParts → Keeping → List Visit → Requests → List Told → Type 0
+AreHeard parts kept visits all heard = (j : ℕ) (a : Asked) (c : Came) (visit : Visit)
+    → slice_get all.asked j ≡ Some a → slice_get all.came j ≡ Some c → slice_get visits a.traffic ≡ Some visit
+    → IsHeard parts heard j c (slice_get visit.texts a.request) ⊎
+    (IsOwed kept.links j a c visit × (list_any (λ (t : Told). nat_eq j t.place) heard ≡ false))
+
+-- The notes were written, unless the front halted: then a front of them was, since their sink failed.
+pub data HasNoted (first now : Taking) (s : Said) (notes : List ℕ) : Type 0 where
+  entire : s.halted ≡ false → now.faults ≡ first.faults → notes ≡ s.noted → HasNoted first now s notes
+  in_part : s.halted ≡ true → Rose first.faults now.faults → IsProperFront notes s.noted → HasNoted first now s notes
+
+-- What was said to a front, since its sides were the first.
+pub record HasSaid (first now : Sides) (s : Said) : Type 0 where
+  pub notes : List ℕ
+  pub written : Appends first.notes.taken now.notes.taken notes
+  pub noted : HasNoted first.notes now.notes s notes
+  pub halted : s.halted ≡ now.kept.halted
+  pub faults : s.faults ≡ now.notes.faults
+
+-- ---- when there is no posting
+
+-- when the front was asked last a request of connection k had no answer yet
+pub record HadNoAnswer (d : Dealings) (k : ℕ) : Type 0 where
+  pub place : ℕ
+  pub asked : Asked
+  pub there : slice_get d.brought.asked place ≡ Some asked
+  pub traffic : asked.traffic ≡ k
+  pub untold : list_any (λ (t : Told). nat_eq place t.place) (take d.brought.seen d.said.told) ≡ false
+
+-- when the front was asked last, connection k waited for an answer, or it was over
+abbrev pub WasBusy : Dealings → ℕ → Bool → LinkTold → Type 0
+WasBusy d k true link = HadNoAnswer d k
+WasBusy d k false link = IsOver (stage_of link.seen.kept.next)
+
+-- the same of each connection, the first of which has the number k
+abbrev pub WereBusy : Dealings → ℕ → List Bool → List LinkTold → Type 0
+WereBusy d k [] [] = Unit {0}
+WereBusy d k [] (l ∷ ls) = ⊥
+WereBusy d k (b ∷ bs) [] = ⊥
+WereBusy d k (b ∷ bs) (l ∷ ls) = WasBusy d k b l × WereBusy d (suc k) bs ls
+
+-- a door that has not ended was tried so often without anybody coming
+abbrev pub has_waited : ℕ → PortTold → Type 0
+has_waited n port = (has_ended port.door ≡ true) ⊎ (min n (2 ^ 64 - 1) ≤ port.door.waits)
+
+-- the same of each door
+abbrev pub HaveWaited : ℕ → List PortTold → Type 0
+HaveWaited n [] = Unit {0}
+HaveWaited n (p ∷ ps) = has_waited n p × HaveWaited n ps
+
+-- The front had no posting: each connection waited for an answer or was over. Where one may come some time, so many
+-- connections were open as may be, or nobody came at any door, each time that there was none in a row. Else no
+-- connection can come any more.
+pub record HadNone (kept : Keeping) (d : Dealings) : Type 0 where
+  pub busy : List Bool
+  pub each : WereBusy d 0 busy kept.links
+  pub over : d.brought.ended ≡ true → no_more kept ≡ true
+  pub some : d.brought.ended ≡ false → no_more kept ≡ false
+  pub waited : d.brought.ended ≡ false
+      → (most_open ≤ count_by (λ (b : Bool). b) busy) ⊎ HaveWaited d.brought.waits kept.ports
+
+-- the front had no posting when it was asked last
+abbrev pub GaveNone : Dealings → Type 0
+GaveNone d = (d.brought.ended ≡ true) ⊎ (0 < d.brought.waits)
+
+-- ---- all of it
+
+-- What a front over doors brought and what was said to it, since its sides were the first; its wires were made so. A
+-- door that failed counts as one at which nobody comes any more, and a wire that failed ends its own connection alone,
+-- so that no failure of what is read is counted here.
+pub record HasDealt (IsMade : Line → Type 0) (parts : ProgramParts) (first now : Sides) (d : Dealings) : Type 0 where
+  pub services : services_of now.kept ≡ services_of first.kept
+  pub most : now.kept.most ≡ first.kept.most
+  pub within : list_all (λ n. nat_lt n (length parts.services)) (services_of now.kept) ≡ true
+  pub visits : List Visit
+  pub links : AreLinks IsMade now.kept.links visits
+  pub came_in : sum_by (λ (p : PortTold). p.door.wires) now.kept.ports ≡ length now.kept.links
+  pub doors : list_all (λ (v : Visit). list_any (nat_eq v.service) (services_of now.kept)) visits ≡ true
+  pub accepted : length now.kept.links ≤ now.kept.most
+  pub all : Requests
+  pub asked : all.asked ≡ d.brought.asked
+  pub traffics : map (λ (a : Asked). a.traffic) all.asked ≡ now.kept.traffics
+  pub taken : AreTaken visits all.asked
+  pub came : map (came_at visits) all.asked ≡ map Some all.came
+  pub given : d.brought.given ≡ map posting_of all.came
+  pub heard : List Told
+  pub told : IsFront heard d.said.told
+  pub all_told : d.said.halted ≡ false → heard ≡ d.said.told
+  pub places : list_all (λ (t : Told). nat_lt t.place (length all.asked)) heard ≡ true
+  pub answers : AreHeard parts now.kept visits all heard
+  pub said : HasSaid first now d.said
+  pub left : d.brought.left ≡ None
+  pub faults : d.brought.faults ≡ 0
+  pub seen : d.brought.seen ≤ length d.said.told
+  pub none : d.said.halted ≡ false → GaveNone d → HadNone now.kept d ⊎ (most_postings ≤ length d.brought.given)
+
+-- memory ran out in a call: it is known only whether the front halted
+abbrev pub HasRunOut : Keeping → Dealings → Type 0
+HasRunOut kept d = (kept.spent ≡ true) × (d.said.halted ≡ kept.halted)
+
+-- The same, unless memory ran out in a call.
+abbrev pub MayHaveDealt : (Line → Type 0) → ProgramParts → Sides → Sides → Dealings → Type 0
+MayHaveDealt IsMade parts first now d = HasRunOut now.kept d ⊎ HasDealt IsMade parts first now d

@@ -1,0 +1,4 @@
+pub mod Keeping
+pub mod Dealt
+pub mod AnswerSteps
+pub mod NextSteps

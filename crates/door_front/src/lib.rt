@@ -1,0 +1,17 @@
+//! A front over doors: postings come in as requests of connections, and their answers go out on these.
+#![tactic(auto)]
+
+mod accepting;
+mod answering;
+mod front;
+mod kept;
+mod link;
+mod next;
+mod noting;
+mod port;
+mod reading;
+
+pub use front::DoorFront;
+pub use kept::Kept;
+pub use link::Link;
+pub use port::Port;
