@@ -1,0 +1,105 @@
+-- The order in which one worker answers has each posting.
+use Rattle.std.proofs.Common.{◌≡◌, ◌<◌, ◌≤◌, ℕ, zero, suc, ◌+◌, ◌-◌, Bool, true, false, ◌||◌, List, [], ◌∷◌, ◌++◌}
+use Rattle.std.proofs.Common.{refl, sym, ap, subst, ◌∙◌, cond, arith, nat_eq, flat_map, true≢false}
+use Rattle.std.specs.List.{filter, list_any}
+use Rattle.office_core.specs.declared.history.Entry.{Entry}
+use Rattle.office_core.specs.Limits.{Setting}
+use Rattle.office_core.specs.Accepted.{past_of}
+use Rattle.run_record.specs.Order.{numbers_from, finished_at, finished_there, order_alone, is_finished}
+use Rattle.order_laws.proofs.Lists.{true_left, true_right, itself, any_append, eq_true}
+use Rattle.order_laws.proofs.Least.{least_bound}
+
+-- ---- a number among others
+
+-- it is among them
+abbrev pub is_in : ℕ → List ℕ → Bool
+is_in j xs = list_any (nat_eq j) xs
+
+-- one of two is true
+or_cases : (a b : Bool) (P : Type 0) → (a || b) ≡ true → (a ≡ true → P) → (b ≡ true → P) → P
+or_cases true b P h f g = f refl
+or_cases false b P h f g = g h
+
+-- in front or behind
+in_front : (j : ℕ) (xs ys : List ℕ) → is_in j xs ≡ true → is_in j (xs ++ ys) ≡ true
+in_front j xs ys h = any_append (nat_eq j) xs ys ∙ true_left (is_in j xs) (is_in j ys) h
+
+in_back : (j : ℕ) (xs ys : List ℕ) → is_in j ys ≡ true → is_in j (xs ++ ys) ≡ true
+in_back j xs ys h = any_append (nat_eq j) xs ys ∙ true_right (is_in j xs) (is_in j ys) h
+
+beyond : (n j : ℕ) → n ≤ j → nat_eq j n ≡ false → suc n ≤ j
+beyond n j low e = more (λ same. true≢false (sym (subst (λ m. nat_eq j m ≡ true) same (itself j)) ∙ e))
+  where
+    more : (j ≡ n → ⊥) → suc n ≤ j
+    more apart = omega (arith, low, apart)
+
+one_further : (n k j : ℕ) → j < n + suc k → j < suc n + k
+one_further n k j high = omega (arith, high)
+
+either_way : (b : Bool) (c : Bool) → (b ≡ false → c ≡ true) → (b || c) ≡ true
+either_way true c h = refl
+either_way false c h = h refl
+
+-- among the numbers from one on
+pub in_numbers : (n k j : ℕ) → n ≤ j → j < n + k → is_in j (numbers_from n k) ≡ true
+in_numbers n zero j low high = absurd (omega (arith, low, high))
+in_numbers n (suc k) j low high =
+    either_way (nat_eq j n) (is_in j (numbers_from (suc n) k))
+    (λ e. in_numbers (suc n) k j (beyond n j low e) (one_further n k j high))
+
+filter_here : (p : ℕ → Bool) (j x : ℕ) (xs : List ℕ) → p j ≡ true → nat_eq j x ≡ true
+    → is_in j (cond (p x) (x ∷ filter p xs) (filter p xs)) ≡ true
+filter_here p j x xs is e =
+    ap (λ b. is_in j (cond b (x ∷ filter p xs) (filter p xs))) (ap p (sym (eq_true j x e)) ∙ is)
+    ∙ true_left (nat_eq j x) (is_in j (filter p xs)) e
+
+filter_later : (p : ℕ → Bool) (j x : ℕ) (xs : List ℕ) (b : Bool) → is_in j (filter p xs) ≡ true
+    → is_in j (cond b (x ∷ filter p xs) (filter p xs)) ≡ true
+filter_later p j x xs true g = true_right (nat_eq j x) (is_in j (filter p xs)) g
+filter_later p j x xs false g = g
+
+-- among those of a kind
+pub in_filter : (p : ℕ → Bool) (j : ℕ) (xs : List ℕ) → is_in j xs ≡ true → p j ≡ true → is_in j (filter p xs) ≡ true
+in_filter p j [] h is = h
+in_filter p j (x ∷ xs) h is =
+    or_cases (nat_eq j x) (is_in j xs) (is_in j (cond (p x) (x ∷ filter p xs) (filter p xs)) ≡ true) h
+    (filter_here p j x xs is)
+    (λ g. filter_later p j x xs (p x) (in_filter p j xs g is))
+
+-- among what one of them gives
+pub in_flat : (f : ℕ → List ℕ) (i j : ℕ) (xs : List ℕ) → is_in i xs ≡ true → is_in j (f i) ≡ true
+    → is_in j (flat_map f xs) ≡ true
+in_flat f i j [] h g = absurd (true≢false (sym h))
+in_flat f i j (x ∷ xs) h g =
+    or_cases (nat_eq i x) (is_in i xs) (is_in j (f x ++ flat_map f xs) ≡ true) h
+    (λ e. in_front j (f x) (flat_map f xs) (subst (λ m. is_in j (f m) ≡ true) (eq_true i x e) g))
+    (λ e. in_back j (f x) (flat_map f xs) (in_flat f i j xs e g))
+
+-- ---- the order
+
+-- each posting is answered
+pub order_has : (w : Setting) (h : List Entry) (actor count j : ℕ) → j < count
+    → is_in j (order_alone w h actor count) ≡ true
+order_has w h actor count j below =
+    in_flat (finished_there w (past_of w h) actor count) at j (numbers_from 0 (suc count))
+    (in_numbers 0 (suc count) at low high)
+    (in_filter (λ m. nat_eq at (finished_at w (past_of w h) actor count m)) j (numbers_from 0 count)
+    (in_numbers 0 count j from below_all) (itself at))
+  where
+    at : ℕ
+    at = finished_at w (past_of w h) actor count j
+
+    bound : at ≤ j + (count - j)
+    bound = least_bound (is_finished w (past_of w h) actor j) j (count - j)
+
+    low : 0 ≤ at
+    low = omega arith
+
+    high : at < 0 + suc count
+    high = omega (arith, bound, below)
+
+    from : 0 ≤ j
+    from = omega arith
+
+    below_all : j < 0 + count
+    below_all = omega (arith, below)

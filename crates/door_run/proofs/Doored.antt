@@ -1,0 +1,295 @@
+-- A run over doors by what its front and its worker say, and by what was opened and came back.
+use Rattle.std.proofs.Common.{◌≡◌, ◌≤◌, ◌+◌, refl, sym, ap, subst, ◌∙◌, ℕ, Bool, true, false, not, ◌||◌, List, [], ◌∷◌, length, map, arith}
+use Rattle.std.proofs.Common.{inl, inr, nat_eq, nat_lt, sum_by, true≢false}
+use Rattle.std.specs.List.{list_all, list_any}
+use Rattle.std.proofs.lemmas.List.Sums.{sum_by-cons}
+use Rattle.outside_traits.specs.Causes.{Rose}
+use Rattle.outside_doors.specs.Counts.{DoorTold}
+use Rattle.outside_doors.specs.Returns.{Lists}
+use Rattle.office_core.specs.Limits.{Setting, run_of}
+use Rattle.office_core.specs.declared.history.Entry.{Entry}
+use Rattle.run_record.specs.declared.record.Record.{Record}
+use Rattle.run_record.specs.declared.record.Traffic.{Traffic}
+use Rattle.run_record.specs.Run.{Hands, alone, IsRun, IsSpent}
+use Rattle.branch_workers.specs.Statuses.{HasStatus}
+use Rattle.office_front.specs.Dealings.{Dealings}
+use Rattle.run_alone.specs.declared.worker.Finished.{Finished}
+use Rattle.run_alone.specs.Ran.{Ran}
+use Rattle.run_alone.specs.Picks.{TookPicks}
+use Rattle.connection_runs.specs.Ports.{DoorAt, doors_of, has_door}
+use Rattle.connection_runs.specs.Visits.{Visit}
+use Rattle.http_connection.specs.Seen.{Line}
+use Rattle.door_front.specs.Keeping.{PortTold, Keeping, AreNew, IsEmpty, services_of}
+use Rattle.door_front.specs.Dealt.{Sides, HasDealt, MayHaveDealt}
+use Rattle.line_run.specs.declared.run.Ended.{Ended}
+use Rattle.door_run.specs.Used.{DoorsTold, Used, IsUsed, RoseWhere, marked, came_at_door, some_failed, has_failed, with_wires, with_doors, location_of}
+use Rattle.door_run.specs.Doored.{Task, Outside, outside, faults_of, rules_of, AreNoted, IsDoored}
+use Rattle.door_run.specs.Steps.{Opens, opened_by, port_at, GivesBack, traffic_of, wire_of, door_of, with_traffic, status_of}
+use Rattle.door_run.proofs.Lists.{length_map, any_map, all_map}
+use Rattle.door_run.proofs.Serving.{served_so, as_many}
+use Rattle.door_run.proofs.Wires.{wires_are}
+use Rattle.door_run.proofs.Ending.{noted_so, through_so}
+use Rattle.door_run.proofs.Statuses.{status_so}
+use Rattle.door_run.proofs.Telling.{rose_then}
+use Rattle.door_run.proofs.Openings.{all_marked, any_marked, all_from}
+use Rattle.order_laws.proofs.Lists.{all_weaker}
+
+-- ---- the record with its traffic
+
+module _ (w : Setting) (budget : ℕ) (run : Record) (t : List Traffic) where
+  -- what a run is does not speak of its traffic
+  run_with : (hands : Hands) (halted : Bool) → IsRun w budget hands halted run → IsRun w budget hands halted (with_traffic run t)
+  run_with hands halted k = record {
+    legal = k.legal;
+    stopped = k.stopped;
+    closed = k.closed;
+    actors = k.actors;
+    posted = k.posted;
+    sessions = k.sessions;
+    within = k.within;
+    answered = k.answered;
+    quiet = k.quiet;
+    still = k.still;
+  }
+
+  -- nor is whether a session could still act
+  spent_with : IsSpent w budget run → IsSpent w budget (with_traffic run t)
+  spent_with k = record { session = k.session; events = k.events; there = k.there; used = k.used; more = k.more }
+
+  spent_without : IsSpent w budget (with_traffic run t) → IsSpent w budget run
+  spent_without k = record { session = k.session; events = k.events; there = k.there; used = k.used; more = k.more }
+
+-- ---- services
+
+-- the service of a door
+abbrev service_at : DoorAt → ℕ
+service_at door = door.service
+
+abbrev service_in : PortTold → ℕ
+service_in port = port.service
+
+services_at : (places : List DoorAt) → map service_in (map port_at places) ≡ map service_at places
+services_at [] = refl
+services_at (p ∷ ps) = ap (λ l. p.service ∷ l) (services_at ps)
+
+-- of the doors that were opened each leads to a service of the program
+pub within_so : (t : Task) (opened : List Bool) (kept : Keeping) → kept.ports ≡ map port_at (marked opened (doors_of t.parts))
+    → list_all (λ n. nat_lt n (length t.parts.services)) (services_of kept) ≡ true
+within_so t opened kept ports =
+    ap (λ ps. list_all (λ n. nat_lt n (length t.parts.services)) (map service_in ps)) ports
+    ∙ ap (list_all (λ n. nat_lt n (length t.parts.services))) (services_at (marked opened (doors_of t.parts)))
+    ∙ all_map (λ n. nat_lt n (length t.parts.services)) service_at (marked opened (doors_of t.parts))
+    ∙ all_marked (λ (door : DoorAt). nat_lt door.service (length t.parts.services)) opened (doors_of t.parts)
+    (subst (λ n. list_all (λ (door : DoorAt). nat_lt door.service n) (doors_of t.parts) ≡ true) (same (length t.parts.services))
+    (all_from 0 t.parts.services))
+  where
+    same : (n : ℕ) → 0 + n ≡ n
+    same n = omega arith
+
+-- ---- sums
+
+wires_by : (ports : List PortTold) → sum_by (λ (door : DoorTold). door.wires) (map door_of ports) ≡ sum_by (λ (p : PortTold). p.door.wires) ports
+wires_by [] = refl
+wires_by (p ∷ ps) =
+    sum_by-cons (λ (door : DoorTold). door.wires) p.door (map door_of ps)
+    ∙ ap (λ n. p.door.wires + n) (wires_by ps)
+    ∙ sym (sum_by-cons (λ (q : PortTold). q.door.wires) p ps)
+
+-- ---- the run
+
+module _ (IsMade : Line → Type 0) (t : Task) (before mid after : DoorsTold) (ports : List PortTold) (failed : Bool)
+    (o : Opens (doors_of t.parts) (opened_by before [] false) (opened_by mid ports failed))
+    (first now : Sides) (begins : first.kept.ports ≡ ports) (most : first.kept.most ≡ t.connections)
+    (d : Dealings) (finished : Finished) (ran : Ran (rules_of t) t.text d finished) (f : HasDealt IsMade t.parts first now d)
+    (picked : TookPicks (rules_of t) [] finished.report)
+    (back : GivesBack (map wire_of now.kept.links) (map door_of now.kept.ports) mid after) where
+  -- the history
+  abbrev h : List Entry
+  h = finished.report.history.entries.items
+
+  -- the doors that were opened
+  abbrev opened : List DoorAt
+  opened = marked o.opened (doors_of t.parts)
+
+  -- what was done with doors
+  abbrev used : Used
+  used = record { opened = o.opened; doors = map door_of now.kept.ports; wires = map wire_of now.kept.links }
+
+  begins_opened : first.kept.ports ≡ map port_at opened
+  begins_opened = begins ∙ o.ports
+
+  -- the services of the doors
+  services_now : services_of now.kept ≡ map service_at opened
+  services_now = f.services ∙ ap (map service_in) begins_opened ∙ services_at opened
+
+  -- each door came back
+  back_so : length (map door_of now.kept.ports) ≡ length opened
+  back_so =
+      length_map door_of now.kept.ports ∙ sym (length_map service_in now.kept.ports)
+      ∙ ap length services_now ∙ length_map service_at opened
+
+  given_so : sum_by (λ (door : DoorTold). door.wires) used.doors ≡ length used.wires
+  given_so = wires_by now.kept.ports ∙ f.came_in ∙ sym (length_map wire_of now.kept.links)
+
+  -- what the doors tell
+  uses_so : IsUsed (doors_of t.parts) before after used
+  uses_so = record {
+    tried = o.tried;
+    back = back_so;
+    given = given_so;
+    tally =
+        back.doors_then.tally ∙ ap (with_doors used.doors) back.wires_first.tally
+        ∙ ap (λ x. with_doors used.doors (with_wires used.wires x)) o.tally;
+    locations = subst (λ x. Lists before.locations x (map location_of opened))
+        (sym (back.doors_then.locations ∙ back.wires_first.locations)) o.locations;
+    returned = subst (λ x. Lists x after.returned used.wires) o.returned
+        (subst (λ x. Lists mid.returned x used.wires) (sym back.doors_then.returned) back.wires_first.returned);
+    faults = rose_then (list_any not o.opened) (list_any has_failed used.doors) before.faults mid.faults after.faults o.faults
+        (subst (λ n. RoseWhere (list_any has_failed used.doors) n after.faults) back.wires_first.faults back.doors_then.faults);
+  }
+
+  -- each connection came at a door that was opened
+  at_doors : list_all (came_at_door opened) f.visits ≡ true
+  at_doors =
+      all_weaker (λ (v : Visit). list_any (nat_eq v.service) (services_of now.kept)) (came_at_door opened)
+      (λ v at. sym (ap (list_any (nat_eq v.service)) services_now ∙ any_map (nat_eq v.service) service_at opened) ∙ at)
+      f.visits f.doors
+
+  abbrev doors_so : list_all (λ (visit : Visit). has_door t.parts visit.service) f.visits ≡ true
+  doors_so =
+      all_weaker (came_at_door opened) (λ (visit : Visit). has_door t.parts visit.service)
+      (λ v at. any_marked (λ (door : DoorAt). nat_eq v.service door.service) o.opened (doors_of t.parts) at)
+      f.visits at_doors
+
+  -- the outside before and after
+  abbrev was : Outside
+  was = outside before first.notes
+
+  abbrev is : Outside
+  is = outside after now.notes
+
+  noted : AreNoted (run_of t.parts) h d.said.halted first.notes now.notes
+  noted = noted_so (run_of t.parts) h first.notes now.notes d.said f.said.notes f.said.written f.said.noted ran.dealt.noted
+
+  -- the end
+  abbrev pub ended : Ended
+  ended = record {
+    status = status_of d.said.halted (some_failed used) finished.spent;
+    report = with_traffic finished.report (map traffic_of now.kept.links);
+  }
+
+  rose_of : (x : Bool) (a b : ℕ) → RoseWhere x a b → x ≡ true → Rose a b
+  rose_of true a b k e = k
+  rose_of false a b k e = absurd (true≢false (sym e))
+
+  same_of : (x : Bool) (a b : ℕ) → RoseWhere x a b → x ≡ false → b ≡ a
+  same_of true a b k e = absurd (true≢false e)
+  same_of false a b k e = k
+
+  status : HasStatus ended.status (faults_of was) (faults_of is) (IsSpent (run_of t.parts) t.budget ended.report)
+  status =
+      status_so d.said.halted (some_failed used) finished.spent (faults_of was) (faults_of is)
+      (IsSpent (run_of t.parts) t.budget ended.report)
+      (λ e. inr (noted.in_part e).1) (λ e. (refl, (noted.entire e).1))
+      (rose_of (some_failed used) before.faults after.faults uses_so.faults)
+      (same_of (some_failed used) before.faults after.faults uses_so.faults) refl
+      (λ e. spent_with (run_of t.parts) t.budget finished.report (map traffic_of now.kept.links) (ran.spent.0 e))
+      (λ more. ran.spent.1 (spent_without (run_of t.parts) t.budget finished.report (map traffic_of now.kept.links) more))
+
+  accepted : length f.visits ≤ t.connections
+  accepted =
+      subst (λ n. n ≤ t.connections) (as_many IsMade now.kept.links f.visits f.links)
+      (subst (λ n. length now.kept.links ≤ n) (f.most ∙ most) f.accepted)
+
+  -- A run over doors leaves what it is to leave.
+  pub doored_so : IsDoored IsMade t was is ended
+  doored_so = record {
+    halted = d.said.halted;
+    run = run_with (run_of t.parts) t.budget finished.report (map traffic_of now.kept.links) alone d.said.halted ran.run;
+    program = ran.program;
+    posters = ran.dealt.posters;
+    served = served_so IsMade t.parts h first now d f ran.dealt doors_so;
+    accepted = accepted;
+    noted = noted;
+    picks = record { last = picked.last; goes = picked.goes; history = picked.history; sessions = picked.sessions };
+    consoles = ran.consoles;
+    used = used;
+    uses = uses_so;
+    wires = wires_are IsMade now.kept.links f.visits f.links;
+    doors = at_doors;
+    through = through_so IsMade t.parts h first now d f ran.dealt t.connections (f.most ∙ most);
+    status = status;
+  }
+
+  -- ---- by other words
+
+  -- whether a door failed, by what was seen of it
+  pub failed_is : (failed || list_any has_failed (map door_of now.kept.ports)) ≡ some_failed used
+  failed_is = ap (λ x. x || list_any has_failed (map door_of now.kept.ports)) o.failed
+
+-- the end of a run by its parts
+ended_by : (it : Ended) (n : ℕ) (run : Record) → it.status ≡ n → it.report ≡ run → record { status = n; report = run } ≡ it
+ended_by it n run s r =
+    ap (λ m. record { status = m; report = run }) (sym s) ∙ ap (λ x. record { status = it.status; report = x }) (sym r)
+
+-- a run over doors by other names of its outside and its end
+doored-as : (IsMade : Line → Type 0) (t : Task) (before first now later : Outside) (a b : Ended) → before ≡ first → now ≡ later → a ≡ b
+    → IsDoored IsMade t before now a → IsDoored IsMade t first later b
+doored-as IsMade t before first now later a b f l i k =
+    subst (λ x. IsDoored IsMade t first later x) i
+    (subst (λ x. IsDoored IsMade t first x a) l (subst (λ x. IsDoored IsMade t x now a) f k))
+
+-- memory did not run out
+dealt_so : (IsMade : Line → Type 0) (parts : _) (first now : Sides) (d : Dealings) → now.kept.spent ≡ false
+    → MayHaveDealt IsMade parts first now d → HasDealt IsMade parts first now d
+dealt_so IsMade parts first now d unspent (inl out) = absurd (true≢false (sym out.0 ∙ unspent))
+dealt_so IsMade parts first now d unspent (inr f) = f
+
+-- what came of the doors and of what the front kept
+pub record Ends (failed : Bool) (mid after : DoorsTold) (kept : Keeping) (finished : Finished) (it : Ended) : Type 0 where
+  pub back : GivesBack (map wire_of kept.links) (map door_of kept.ports) mid after
+  pub status : it.status ≡ status_of kept.halted (failed || list_any has_failed (map door_of kept.ports)) finished.spent
+  pub report : it.report ≡ with_traffic finished.report (map traffic_of kept.links)
+
+-- the whole by its parts
+pub doored_by : (IsMade : Line → Type 0) (t : Task) (before mid after : DoorsTold) (ports : List PortTold) (failed : Bool)
+    (o : Opens (doors_of t.parts) (opened_by before [] false) (opened_by mid ports failed))
+    (first now : Sides) (begins : first.kept.ports ≡ ports) (most : first.kept.most ≡ t.connections)
+    (d : Dealings) (finished : Finished) (ran : Ran (rules_of t) t.text d finished)
+    (may : MayHaveDealt IsMade t.parts first now d) (unspent : now.kept.spent ≡ false)
+    (picked : TookPicks (rules_of t) [] finished.report) (it : Ended) (ends : Ends failed mid after now.kept finished it)
+    (former later : Outside) → outside before first.notes ≡ former → outside after now.notes ≡ later → IsDoored IsMade t former later it
+doored_by IsMade t before mid after ports failed o first now begins most d finished ran may unspent picked it ends former later w l =
+    let f = dealt_so IsMade t.parts first now d unspent may in
+    let halted : now.kept.halted ≡ d.said.halted = sym f.said.halted in
+    let doors = failed_is IsMade t before mid after ports failed o first now begins most d finished ran f picked ends.back in
+    doored-as IsMade t (outside before first.notes) former (outside after now.notes) later
+    (ended IsMade t before mid after ports failed o first now begins most d finished ran f picked ends.back) it w l
+    (ended_by it _ _
+    (ends.status
+    ∙ ap (λ x. status_of x (failed || list_any has_failed (map door_of now.kept.ports)) finished.spent) halted
+    ∙ ap (λ x. status_of d.said.halted x finished.spent) doors)
+    ends.report)
+    (doored_so IsMade t before mid after ports failed o first now begins most d finished ran f picked ends.back)
+
+-- ---- the front at the beginning
+
+new_ports : (places : List DoorAt) → AreNew (map port_at places)
+new_ports [] = tt
+new_ports (p ∷ ps) = (refl, new_ports ps)
+
+-- nothing came yet
+pub empty_so : (kept : Keeping) (places : List DoorAt) → kept.ports ≡ map port_at places → kept.links ≡ [] → kept.traffics ≡ []
+    → kept.halted ≡ false → kept.spent ≡ false → IsEmpty kept
+empty_so kept places ports links traffics halted spent = record {
+  ports = subst AreNew (sym ports) (new_ports places);
+  links = links;
+  traffics = traffics;
+  halted = halted;
+  spent = spent;
+}
+
+-- a status by what it is of
+pub status_by : (a b c d e f s : Bool) → a ≡ b → c ≡ d → e ≡ f → status_of a (c || e) s ≡ status_of b (d || f) s
+status_by a b c d e f s i j k =
+    ap (λ x. status_of x (c || e) s) i ∙ ap (λ x. status_of b (x || e) s) j ∙ ap (λ x. status_of b (d || x) s) k

@@ -1,0 +1,262 @@
+-- Doors are opened, one after another.
+use Rattle.std.proofs.Common.{◌≡◌, ◌<◌, ◌+◌, min, ℕ, zero, suc, take, get_or, Bool, true, false, not, ◌||◌, List, [], ◌∷◌, ◌++◌, length, map, cond}
+use Rattle.std.proofs.Common.{refl, sym, ap, subst, ◌∙◌, arith, append_assoc, append-nil, length-append, nat_lt}
+use Rattle.std.specs.List.{list_all, list_any, filter}
+use Rattle.std.proofs.lemmas.List.{map-append, length-take}
+use Rattle.outside_traits.specs.Causes.{Rose}
+use Rattle.outside_doors.specs.Counts.{with_opened}
+use Rattle.behaviour_tree.specs.PartsView.{port_view, service_view}
+use Rattle.behaviour_tree.specs.declared.program.Port.{Port}
+use Rattle.behaviour_tree.specs.declared.program.Service.{Service}
+use Rattle.std.proofs.lemmas.Bool.{lt-ltb}
+use Rattle.behaviour_tree.specs.Data.{PortPart, ServicePart}
+use Rattle.outside_doors.specs.Returns.{Lists}
+use Rattle.connection_runs.specs.Ports.{DoorAt, is_door, locations_of, doors_from}
+use Rattle.door_front.specs.Keeping.{PortTold}
+use Rattle.door_run.specs.Used.{DoorsTold, RoseWhere, marked, location_of, with_openings}
+use Rattle.door_run.specs.Steps.{door_to, location_in, doors_at, port_at, Opened, opened_by, Opens}
+use Rattle.door_run.proofs.Lists.{length_map}
+use Rattle.door_run.proofs.Telling.{Lists-nil, Lists-then, rose_then, with_openings-append}
+use Rattle.order_laws.proofs.Least.{filter_append}
+use Rattle.order_laws.proofs.Lists.{any_append, all_append, both_true, left_true, right_true, true_right}
+
+-- ---- marks
+
+no_suc : (n : ℕ) → 0 ≡ suc n → ⊥
+no_suc n e = omega (arith, e)
+
+one_less : (m n : ℕ) → suc m ≡ suc n → m ≡ n
+one_less m n e = omega (arith, e)
+
+-- those that are marked of two lists behind one another
+pub marked-append : {A : Type 0} (ms ns : List Bool) (xs ys : List A) → length ms ≡ length xs
+    → marked (ms ++ ns) (xs ++ ys) ≡ marked ms xs ++ marked ns ys
+marked-append [] ns [] ys e = refl
+marked-append [] ns (x ∷ xs) ys e = absurd (no_suc (length xs) e)
+marked-append (m ∷ ms) ns [] ys e = absurd (no_suc (length ms) (sym e))
+marked-append (true ∷ ms) ns (x ∷ xs) ys e =
+    ap (λ l. x ∷ l) (marked-append ms ns xs ys (one_less (length ms) (length xs) e))
+marked-append (false ∷ ms) ns (x ∷ xs) ys e = marked-append ms ns xs ys (one_less (length ms) (length xs) e)
+
+-- what holds of all holds of those that are marked
+pub all_marked : {A : Type 0} (p : A → Bool) (ms : List Bool) (xs : List A) → list_all p xs ≡ true → list_all p (marked ms xs) ≡ true
+all_marked p [] xs h = none xs h
+  where
+    none : (ys : List _) → list_all p ys ≡ true → list_all p (marked [] ys) ≡ true
+    none ys g = refl
+all_marked p (m ∷ ms) [] h = refl
+all_marked p (true ∷ ms) (x ∷ xs) h =
+    both_true (p x) (list_all p (marked ms xs)) (left_true (p x) (list_all p xs) h)
+    (all_marked p ms xs (right_true (p x) (list_all p xs) h))
+all_marked p (false ∷ ms) (x ∷ xs) h = all_marked p ms xs (right_true (p x) (list_all p xs) h)
+
+or_more : (a b c : Bool) → (b ≡ true → c ≡ true) → (a || b) ≡ true → (a || c) ≡ true
+or_more true b c f h = refl
+or_more false b c f h = f h
+
+-- one that is marked is one of all
+pub any_marked : {A : Type 0} (p : A → Bool) (ms : List Bool) (xs : List A) → list_any p (marked ms xs) ≡ true → list_any p xs ≡ true
+any_marked p [] xs h = absurd (clash h)
+  where
+    clash : false ≡ true → ⊥
+    clash e = let b : false ≡ true = e in cc
+any_marked p (m ∷ ms) [] h = h
+any_marked p (true ∷ ms) (x ∷ xs) h = or_more (p x) (list_any p (marked ms xs)) (list_any p xs) (any_marked p ms xs) h
+any_marked p (false ∷ ms) (x ∷ xs) h = true_right (p x) (list_any p xs) (any_marked p ms xs h)
+
+-- ---- doors are opened
+
+or_assoc : (x y z : Bool) → ((x || y) || z) ≡ (x || (y || z))
+or_assoc true y z = refl
+or_assoc false y z = refl
+
+or_false : (x : Bool) → x ≡ (x || false)
+or_false true = refl
+or_false false = refl
+
+-- none yet
+pub opens_none : (a : Opened) → Opens [] a a
+opens_none a = record {
+  opened = [];
+  tried = refl;
+  ports = sym (append-nil a.ports);
+  tally = refl;
+  locations = Lists-nil a.doors.locations;
+  returned = refl;
+  faults = refl;
+  failed = or_false a.failed;
+}
+
+-- some and then others
+pub opens_more : (xs ys : List DoorAt) (a b c : Opened) → Opens xs a b → Opens ys b c → Opens (xs ++ ys) a c
+opens_more xs ys a b c k l =
+    let both : marked (k.opened ++ l.opened) (xs ++ ys) ≡ marked k.opened xs ++ marked l.opened ys =
+    marked-append k.opened l.opened xs ys k.tried in
+    record {
+      opened = k.opened ++ l.opened;
+      tried =
+          length-append k.opened l.opened ∙ ap (λ n. n + length l.opened) k.tried ∙ ap (λ n. length xs + n) l.tried
+          ∙ sym (length-append xs ys);
+      ports =
+          l.ports ∙ ap (λ ps. ps ++ map port_at (marked l.opened ys)) k.ports
+          ∙ append_assoc a.ports (map port_at (marked k.opened xs)) (map port_at (marked l.opened ys))
+          ∙ ap (λ ps. a.ports ++ ps) (sym (map-append port_at (marked k.opened xs) (marked l.opened ys)))
+          ∙ ap (λ ps. a.ports ++ map port_at ps) (sym both);
+      tally =
+          l.tally ∙ ap (with_openings (marked l.opened ys)) k.tally
+          ∙ sym (with_openings-append (marked k.opened xs) (marked l.opened ys) a.doors.tally)
+          ∙ ap (λ ps. with_openings ps a.doors.tally) (sym both);
+      locations = subst (λ ls. Lists a.doors.locations c.doors.locations ls)
+          (sym (map-append location_of (marked k.opened xs) (marked l.opened ys)) ∙ ap (map location_of) (sym both))
+          (Lists-then a.doors.locations b.doors.locations c.doors.locations _ _ k.locations l.locations);
+      returned = l.returned ∙ k.returned;
+      faults = subst (λ x. RoseWhere x a.doors.faults c.doors.faults) (sym (any_append not k.opened l.opened))
+          (rose_then (list_any not k.opened) (list_any not l.opened) a.doors.faults b.doors.faults c.doors.faults k.faults l.faults);
+      failed =
+          l.failed ∙ ap (λ x. x || list_any not l.opened) k.failed
+          ∙ or_assoc a.failed (list_any not k.opened) (list_any not l.opened)
+          ∙ ap (λ x. a.failed || x) (sym (any_append not k.opened l.opened));
+    }
+
+-- ---- where doors are
+
+-- the doors of more ports
+pub doors_at-append : (n : ℕ) (ps qs : List PortPart) → doors_at n (ps ++ qs) ≡ doors_at n ps ++ doors_at n qs
+doors_at-append n ps qs =
+    ap (λ l. map (door_to n) (map location_in l)) (filter_append is_door ps qs)
+    ∙ ap (map (door_to n)) (map-append location_in (filter is_door ps) (filter is_door qs))
+    ∙ map-append (door_to n) (map location_in (filter is_door ps)) (map location_in (filter is_door qs))
+
+-- a port has one door or none
+pub no_door_at : (n : ℕ) (p : PortPart) → is_door p ≡ false → doors_at n (p ∷ []) ≡ []
+no_door_at n p h = ap (λ b. map (door_to n) (map location_in (cond b (p ∷ []) []))) h
+
+pub one_door_at : (n : ℕ) (p : PortPart) → is_door p ≡ true → doors_at n (p ∷ []) ≡ door_to n p.location ∷ []
+one_door_at n p h = ap (λ b. map (door_to n) (map location_in (cond b (p ∷ []) []))) h
+
+-- the doors of one service more
+pub doors_from-append : (n m : ℕ) (ss : List ServicePart) (s : ServicePart) → m ≡ n + length ss
+    → doors_from n (ss ++ s ∷ []) ≡ doors_from n ss ++ doors_at m s.ports
+doors_from-append n m [] s e = append-nil (doors_at n s.ports) ∙ ap (λ k. doors_at k s.ports) (same n m e)
+  where
+    same : (k l : ℕ) → l ≡ k + 0 → k ≡ l
+    same k l h = omega (arith, h)
+doors_from-append n m (x ∷ ss) s e =
+    ap (λ l. doors_at n x.ports ++ l) (doors_from-append (suc n) m ss s (further n m (length ss) e))
+    ∙ sym (append_assoc (doors_at n x.ports) (doors_from (suc n) ss) (doors_at m s.ports))
+  where
+    further : (k l c : ℕ) → l ≡ k + suc c → l ≡ suc k + c
+    further k l c h = omega (arith, h)
+
+-- ---- to which services they lead
+
+less : (m n : ℕ) → m < n → nat_lt m n ≡ true
+less m n h = lt-ltb m n h
+
+all_at : (n most : ℕ) → n < most → (locations : List (List ℕ))
+    → list_all (λ (door : DoorAt). nat_lt door.service most) (map (λ location. record { service = n; location = location }) locations) ≡ true
+all_at n most h [] = refl
+all_at n most h (l ∷ ls) = both_true (nat_lt n most) _ (less n most h) (all_at n most h ls)
+
+-- the services of doors are those of the program
+pub all_from : (n : ℕ) (ss : List ServicePart) → list_all (λ (door : DoorAt). nat_lt door.service (n + length ss)) (doors_from n ss) ≡ true
+all_from n [] = refl
+all_from n (s ∷ ss) =
+    all_append (λ (door : DoorAt). nat_lt door.service (n + suc (length ss))) (doors_at n s.ports) (doors_from (suc n) ss)
+    (all_at n (n + suc (length ss)) (within n (length ss)) (locations_of s))
+    (subst (λ most. list_all (λ (door : DoorAt). nat_lt door.service most) (doors_from (suc n) ss) ≡ true)
+    (further n (length ss)) (all_from (suc n) ss))
+  where
+    within : (k c : ℕ) → k < k + suc c
+    within k c = omega arith
+
+    further : (k c : ℕ) → suc k + c ≡ k + suc c
+    further k c = omega arith
+
+-- ---- one more of a list
+
+-- what one item more makes
+pub map_next : {A B : Type 0} (f : A → B) (xs : List A) (i : ℕ) (d : A) → i < length xs
+    → map f (take (i + 1) xs) ≡ map f (take i xs) ++ f (get_or xs i d) ∷ []
+map_next f xs i d h = ap (map f) (taken xs i d h) ∙ map-append f (take i xs) (get_or xs i d ∷ [])
+  where
+    none : (k : ℕ) → k < 0 → ⊥
+    none k g = omega (arith, g)
+
+    lower : (k n : ℕ) → suc k < suc n → k < n
+    lower k n g = omega (arith, g)
+
+    one : (k : ℕ) → k + 1 ≡ suc k
+    one k = omega arith
+
+    by_suc : {C : Type 0} (ys : List C) (k : ℕ) (e : C) → k < length ys → take (suc k) ys ≡ take k ys ++ get_or ys k e ∷ []
+    by_suc [] k e g = absurd (none k g)
+    by_suc (y ∷ ys) zero e g = refl
+    by_suc (y ∷ ys) (suc k) e g = ap (λ l. y ∷ l) (by_suc ys k e (lower k (length ys) g))
+
+    taken : {C : Type 0} (ys : List C) (k : ℕ) (e : C) → k < length ys → take (k + 1) ys ≡ take k ys ++ get_or ys k e ∷ []
+    taken ys k e g = ap (λ n. take n ys) (one k) ∙ by_suc ys k e g
+
+-- ---- one more door
+
+or_true : (x : Bool) → true ≡ (x || true)
+or_true true = refl
+or_true false = refl
+
+module _ (place : DoorAt) (a b : DoorsTold) (ports : List PortTold) (failed : Bool) where
+  -- it is opened
+  pub opens_one : (more : List PortTold) → b.tally ≡ with_opened a.tally → Lists a.locations b.locations (place.location ∷ [])
+      → b.returned ≡ a.returned → b.faults ≡ a.faults → more ≡ ports ++ port_at place ∷ []
+      → Opens (place ∷ []) (opened_by a ports failed) (opened_by b more failed)
+  opens_one more tally locations returned faults is = record {
+    opened = true ∷ [];
+    tried = refl;
+    ports = is;
+    tally = tally;
+    locations = locations;
+    returned = returned;
+    faults = faults;
+    failed = or_false failed;
+  }
+
+  -- it can't be opened
+  pub opens_failed : b.tally ≡ a.tally → b.locations ≡ a.locations → b.returned ≡ a.returned → Rose a.faults b.faults
+      → Opens (place ∷ []) (opened_by a ports failed) (opened_by b ports true)
+  opens_failed tally locations returned rose = record {
+    opened = false ∷ [];
+    tried = refl;
+    ports = sym (append-nil ports);
+    tally = tally;
+    locations = subst (λ l. Lists a.locations l []) (sym locations) (Lists-nil a.locations);
+    returned = returned;
+    faults = rose;
+    failed = or_true failed;
+  }
+
+-- the doors of one port more
+pub opens_port : (n : ℕ) (ports : List Port) (i : ℕ) (item : Port) → i < length ports → item ≡ get_or ports i item → (a b c : Opened)
+    → Opens (doors_at n (map port_view (take i ports))) a b → Opens (doors_at n (port_view item ∷ [])) b c
+    → Opens (doors_at n (map port_view (take (i + 1) ports))) a c
+opens_port n ports i item h is a b c k l =
+    subst (λ ps. Opens ps a c)
+    (sym (ap (doors_at n) (map_next port_view ports i item h)
+    ∙ doors_at-append n (map port_view (take i ports)) (port_view (get_or ports i item) ∷ [])))
+    (opens_more (doors_at n (map port_view (take i ports))) (doors_at n (port_view (get_or ports i item) ∷ [])) a b c k
+    (subst (λ p. Opens (doors_at n (port_view p ∷ [])) b c) is l))
+
+-- the doors of one service more
+pub opens_service : (services : List Service) (i : ℕ) (item : Service) → i < length services → item ≡ get_or services i item → (a b c : Opened)
+    → Opens (doors_from 0 (map service_view (take i services))) a b → Opens (doors_at i (map port_view item.ports.items)) b c
+    → Opens (doors_from 0 (map service_view (take (i + 1) services))) a c
+opens_service services i item h is a b c k l =
+    subst (λ ps. Opens ps a c)
+    (sym (ap (doors_from 0) (map_next service_view services i item h)
+    ∙ doors_from-append 0 i (map service_view (take i services)) (service_view (get_or services i item)) count))
+    (opens_more (doors_from 0 (map service_view (take i services))) (doors_at i (map port_view (get_or services i item).ports.items)) a b c k
+    (subst (λ (s : Service). Opens (doors_at i (map port_view s.ports.items)) b c) is l))
+  where
+    count : i ≡ 0 + length (map service_view (take i services))
+    count =
+        let m : length (map service_view (take i services)) ≡ length (take i services) = length_map service_view (take i services) in
+        let n : length (take i services) ≡ min i (length services) = length-take i services in
+        omega (arith, h, m, n)

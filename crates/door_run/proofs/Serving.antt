@@ -1,0 +1,189 @@
+-- What came on connections was served, by what passed between their front and a run.
+use Rattle.std.proofs.Common.{◌≡◌, ◌≢◌, ◌<◌, ◌≤◌, ℕ, zero, suc, true, false, List, [], ◌∷◌, length, map, take}
+use Rattle.std.proofs.Common.{refl, sym, ap, subst, ◌∙◌, arith, ◌⊎◌, ⊎_elim, true≢false, count_by, nat_eq}
+use Rattle.std.proofs.Common.{Option, Some, option_map, slice_get, Contains}
+use Rattle.std.specs.List.{list_all, list_any}
+use Rattle.behaviour_tree.specs.Data.{ProgramParts}
+use Rattle.office_core.specs.declared.history.Entry.{Entry}
+use Rattle.office_core.specs.Limits.{run_of, first_worker}
+use Rattle.office_core.specs.Accepted.{past_of}
+use Rattle.office_front.specs.Dealings.{Asked, Told, Dealings}
+use Rattle.office_front.specs.Calls.{is_of}
+use Rattle.run_record.specs.Postings.{told, posts_of}
+use Rattle.branch_workers.specs.Texts.{Came, posting_of, response}
+use Rattle.posting_texts.specs.Told.{response_told}
+use Rattle.posting_texts.proofs.Responses.{response_told-of}
+use Rattle.run_alone.specs.Ran.{Dealt}
+use Rattle.connection_runs.specs.Ports.{has_door}
+use Rattle.connection_runs.specs.Visits.{Visit, came_at, HasPassed, HavePassed}
+use Rattle.connection_runs.specs.Served.{IsServed, is_told}
+use Rattle.http_connection.specs.Law.{holding, Keeps}
+use Rattle.http_connection.specs.Talking.{log}
+use Rattle.http_connection.specs.Seen.{Line}
+use Rattle.http_connection.proofs.Words.{keeps_word}
+use Rattle.door_front.specs.Keeping.{LinkTold}
+use Rattle.door_front.specs.Dealt.{Sides, IsLink, AreLinks, IsHeard, IsOwed, HasDealt}
+use Rattle.door_run.specs.Steps.{traffic_of}
+use Rattle.door_run.proofs.Covered.{order_has, is_in}
+use Rattle.door_run.proofs.Requests.{IsNth, nth_of}
+use Rattle.door_run.proofs.Texts.{texts_within}
+use Rattle.door_run.proofs.Lists.{get_past, get_within, get_some, get_map, length_map, all_by_place, any_map, contains_front}
+use Rattle.order_laws.proofs.Lists.{same_of, none_not_some, eq_true, itself}
+
+-- ---- connections
+
+module _ (IsMade : Line → Type 0) where
+  -- the bytes of a connection are what its requests and their texts make
+  link_passed : (l : LinkTold) (v : Visit) → IsLink IsMade l v → HasPassed v (traffic_of l)
+  link_passed l v k = record {
+    stage = k.memory;
+    keeps = λ reading. subst (λ s. ∥ Keeps s (holding l.seen.kept.read.items reading) (log l.seen.kept.read.items l.seen.kept.written.items v.bodies v.texts) ∥₁)
+        (sym k.stage) ((keeps_word k.first l.seen v.bodies v.texts k.talks).keeps reading);
+  }
+
+  pub links_passed : (ls : List LinkTold) (vs : List Visit) → AreLinks IsMade ls vs → HavePassed vs (map traffic_of ls)
+  links_passed [] [] k = tt
+  links_passed [] (v ∷ vs) k = absurd k
+  links_passed (l ∷ ls) [] k = absurd k
+  links_passed (l ∷ ls) (v ∷ vs) k = (link_passed l v k.0, links_passed ls vs k.1)
+
+  -- each visit has its connection
+  pub link_at : (ls : List LinkTold) (vs : List Visit) → AreLinks IsMade ls vs → (n : ℕ) (v : Visit) → slice_get vs n ≡ Some v
+      → (l : LinkTold) × IsLink IsMade l v
+  link_at [] [] k n v h = absurd (none_not_some v h)
+  link_at [] (u ∷ vs) k n v h = absurd k
+  link_at (l ∷ ls) [] k n v h = absurd k
+  link_at (l ∷ ls) (u ∷ vs) k zero v h = (l, subst (IsLink IsMade l) (same_of u v h) k.0)
+  link_at (l ∷ ls) (u ∷ vs) k (suc n) v h = link_at ls vs k.1 n v h
+
+  -- they are as many
+  pub as_many : (ls : List LinkTold) (vs : List Visit) → AreLinks IsMade ls vs → length ls ≡ length vs
+  as_many [] [] k = refl
+  as_many [] (v ∷ vs) k = absurd k
+  as_many (l ∷ ls) [] k = absurd k
+  as_many (l ∷ ls) (v ∷ vs) k = ap suc (as_many ls vs k.1)
+
+-- ---- the run
+
+module _ (IsMade : Line → Type 0) (parts : ProgramParts) (h : List Entry) (first now : Sides) (d : Dealings)
+    (f : HasDealt IsMade parts first now d) (k : Dealt (run_of parts) h d) where
+  -- as many postings came in as requests were asked
+  pub came_long : length f.all.asked ≡ length f.all.came
+  came_long = sym (length_map (came_at f.visits) f.all.asked) ∙ ap length f.came ∙ length_map Some f.all.came
+
+  pub given_long : length d.brought.given ≡ length f.all.asked
+  given_long = ap length f.given ∙ length_map posting_of f.all.came ∙ sym came_long
+
+  -- what stands at a place came in
+  given_at : (j : ℕ) (c : Came) → slice_get f.all.came j ≡ Some c → slice_get d.brought.given j ≡ Some (posting_of c)
+  given_at j c h = ap (λ l. slice_get l j) f.given ∙ get_map posting_of f.all.came j ∙ ap (option_map posting_of) h
+
+  -- what was told of a place is the response
+  module _ (j : ℕ) (c : Came) (there : slice_get f.all.came j ≡ Some c) where
+    told_response : (t : Told) → Contains d.said.told t → t.place ≡ j
+        → response_told parts c t.outcomes ≡ response (run_of parts) (past_of (run_of parts) h) first_worker j c
+    told_response t inside place =
+        let is = k.told t inside in
+        let same : is.0 ≡ posting_of c =
+        same_of is.0 (posting_of c) (sym is.1 ∙ ap (slice_get d.brought.given) place ∙ given_at j c there) in
+        response_told-of (run_of parts) (past_of (run_of parts) h) c j t.outcomes
+        (subst (λ n. told (run_of parts) (past_of (run_of parts) h) first_worker n (posting_of c) ≡ Some t.outcomes) place
+        (subst (λ p. told (run_of parts) (past_of (run_of parts) h) first_worker t.place p ≡ Some t.outcomes) same is.2))
+
+    heard_response : (at : Option (Option (List ℕ))) (text : Option (List ℕ)) → at ≡ Some text → IsHeard parts f.heard j c at
+        → text ≡ response (run_of parts) (past_of (run_of parts) h) first_worker j c
+    heard_response at text is heard =
+        same_of text (response_told parts c heard.told.outcomes) (sym is ∙ heard.said)
+        ∙ told_response heard.told (contains_front f.heard d.said.told heard.told f.told heard.there) heard.place
+
+  owed_none : (j : ℕ) (a : Asked) (c : Came) (visit : Visit) (text : Option (List ℕ))
+      → slice_get visit.texts a.request ≡ Some text → IsOwed now.kept.links j a c visit → ⊥
+  owed_none j a c visit text is owed =
+      none_not_some text (sym (get_past visit.texts) ∙ ap (slice_get visit.texts) (sym owed.last) ∙ is)
+
+  -- each text is the response to its posting
+  pub response_so : (j : ℕ) (a : Asked) (c : Came) (visit : Visit) (text : Option (List ℕ))
+      → slice_get f.all.asked j ≡ Some a → slice_get f.all.came j ≡ Some c
+      → slice_get f.visits a.traffic ≡ Some visit → slice_get visit.texts a.request ≡ Some text
+      → text ≡ response (run_of parts) (past_of (run_of parts) h) first_worker j c
+  response_so j a c visit text asked came there is =
+      ⊎_elim (λ heard. heard_response j c came (slice_get visit.texts a.request) text is heard)
+      (λ owed. absurd (owed_none j a c visit text is owed.0)) (f.answers j a c visit asked came there)
+
+  -- ---- all were told
+
+  module _ (running : d.said.halted ≡ false) where
+    -- each place was told of
+    told_each : (j : ℕ) → j < length f.all.asked → list_any (λ (t : Told). nat_eq j t.place) f.heard ≡ true
+    told_each j below =
+        ap (list_any (λ (t : Told). nat_eq j t.place)) (f.all_told running)
+        ∙ sym (any_map (nat_eq j) (λ (t : Told). t.place) d.said.told)
+        ∙ ap (is_in j) k.order
+        ∙ order_has (run_of parts) h first_worker (length d.brought.given) j (subst (λ n. j < n) (sym given_long) below)
+
+    -- so each request that was asked has its text
+    text_there : (j : ℕ) (a : Asked) (c : Came) (visit : Visit) → slice_get f.all.asked j ≡ Some a
+        → slice_get f.all.came j ≡ Some c → slice_get f.visits a.traffic ≡ Some visit → a.request < length visit.texts
+    text_there j a c visit asked came there =
+        ⊎_elim (λ heard. get_within visit.texts a.request (response_told parts c heard.told.outcomes) heard.said)
+        (λ owed. absurd (true≢false (sym (told_each j (get_within f.all.asked j a asked)) ∙ owed.1)))
+        (f.answers j a c visit asked came there)
+
+    came_there : (j : ℕ) (a : Asked) → slice_get f.all.asked j ≡ Some a → (c : Came) × (slice_get f.all.came j ≡ Some c)
+    came_there j a asked =
+        get_some f.all.came j (subst (λ n. j < n) came_long (get_within f.all.asked j a asked))
+
+    -- the last request of a connection has its text
+    last_told : (n : ℕ) (visit : Visit) → slice_get f.visits n ≡ Some visit → (m : ℕ) → length visit.bodies ≡ suc m
+        → m < length visit.texts
+    last_told n visit there m long =
+        let nth : IsNth (is_of n) f.all.asked m =
+        nth_of (is_of n) f.all.asked m (less_than (count_by (is_of n) f.all.asked) m (f.taken.all n visit there ∙ long)) in
+        let of : n ≡ nth.item.traffic = eq_true n nth.item.traffic nth.kind in
+        let came = came_there nth.place nth.item nth.there in
+        let request : nth.item.request ≡ m =
+        f.taken.in_order nth.place nth.item nth.there
+        ∙ ap (λ t. count_by (is_of t) (take nth.place f.all.asked)) (sym of) ∙ nth.before in
+        subst (λ r. r < length visit.texts) request
+        (text_there nth.place nth.item came.0 visit nth.there came.1
+        (ap (slice_get f.visits) (sym of) ∙ there))
+      where
+        less_than : (c l : ℕ) → c ≡ suc l → l < c
+        less_than c l e = omega (arith, e)
+
+    all_told_by : (n : ℕ) (visit : Visit) → slice_get f.visits n ≡ Some visit → (b : ℕ) → length visit.bodies ≡ b
+        → length visit.texts ≤ b → length visit.texts ≡ b
+    all_told_by n visit there zero long most = let none : length visit.texts ≤ 0 = most in omega (arith, none)
+    all_told_by n visit there (suc m) long most =
+        let last : m < length visit.texts = last_told n visit there m long in omega (arith, last, most)
+
+    same_eq : (m n : ℕ) → m ≡ n → nat_eq m n ≡ true
+    same_eq m n e = subst (λ l. nat_eq m l ≡ true) e (itself m)
+
+    told_so : (n : ℕ) (visit : Visit) → slice_get f.visits n ≡ Some visit → is_told visit ≡ true
+    told_so n visit there =
+        let link = link_at IsMade now.kept.links f.visits f.links n visit there in
+        same_eq (length visit.texts) (length visit.bodies)
+        (all_told_by n visit there (length visit.bodies) refl
+        (texts_within link.1.first link.0.seen visit.bodies visit.texts
+        (λ e. link.1.memory (link.1.stage ∙ e)) link.1.talks))
+
+    pub all_told_so : list_all is_told f.visits ≡ true
+    all_told_so = all_by_place is_told f.visits told_so
+
+  -- ---- the whole
+
+  module _ (doors : list_all (λ (visit : Visit). has_door parts visit.service) f.visits ≡ true) where
+    -- what came on the connections was served
+    abbrev pub served_so : IsServed (run_of parts) h d.said.halted (map traffic_of now.kept.links)
+    served_so = record {
+      visits = f.visits;
+      all = f.all;
+      doors = doors;
+      passed = links_passed IsMade now.kept.links f.visits f.links;
+      taken = record { in_order = f.taken.in_order; all = f.taken.all };
+      came = f.came;
+      posted = k.posted ∙ ap (posts_of 0) f.given;
+      responses = response_so;
+      told = all_told_so;
+    }

@@ -1,0 +1,142 @@
+-- What doors tell, over several of their calls.
+use Rattle.std.proofs.Common.{◌≡◌, ◌≤◌, ◌+◌, ◌-◌, ◌^◌, min, ℕ, suc, length, Bool, true, false, ◌||◌, List, [], ◌∷◌, ◌++◌}
+use Rattle.std.proofs.Common.{refl, sym, ap, subst, ◌∙◌, arith, append_assoc, append-nil, Option, None, Some, map}
+use Rattle.std.specs.List.{list_any}
+use Rattle.outside_traits.specs.Causes.{Rose}
+use Rattle.outside_doors.specs.Counts.{DoorTold, Tally}
+use Rattle.outside_doors.specs.Returns.{WireTold, Lists}
+use Rattle.connection_runs.specs.Ports.{DoorAt}
+use Rattle.door_run.specs.Used.{DoorsTold, RoseWhere, with_openings, with_wires, with_doors, has_failed}
+use Rattle.door_run.specs.Steps.{GivesWires, GivesDoors, wire_of, door_of, traffic_of}
+use Rattle.run_record.specs.declared.record.Traffic.{Traffic}
+use Rattle.door_front.specs.Keeping.{LinkTold, PortTold}
+use Rattle.order_laws.proofs.Lists.{any_append}
+
+-- ---- counts
+
+rose_rose : (a b c : ℕ) → min (a + 1) (2 ^ 64 - 1) ≤ b → min (b + 1) (2 ^ 64 - 1) ≤ c → min (a + 1) (2 ^ 64 - 1) ≤ c
+rose_rose a b c h g = omega (arith, h, g)
+
+-- one call after another
+pub rose_then : (x y : Bool) (a b c : ℕ) → RoseWhere x a b → RoseWhere y b c → RoseWhere (x || y) a c
+rose_then true true a b c h g = rose_rose a b c h g
+rose_then true false a b c h g = subst (Rose a) (sym g) h
+rose_then false y a b c h g = subst (λ n. RoseWhere y n c) h g
+
+pub with_openings-append : (xs ys : List DoorAt) (t : Tally) → with_openings (xs ++ ys) t ≡ with_openings ys (with_openings xs t)
+with_openings-append [] ys t = refl
+with_openings-append (x ∷ xs) ys t = with_openings-append xs ys _
+
+pub with_wires-append : (xs ys : List WireTold) (t : Tally) → with_wires (xs ++ ys) t ≡ with_wires ys (with_wires xs t)
+with_wires-append [] ys t = refl
+with_wires-append (x ∷ xs) ys t = with_wires-append xs ys _
+
+pub with_doors-append : (xs ys : List DoorTold) (t : Tally) → with_doors (xs ++ ys) t ≡ with_doors ys (with_doors xs t)
+with_doors-append [] ys t = refl
+with_doors-append (x ∷ xs) ys t = with_doors-append xs ys _
+
+-- ---- lists that are told
+
+pub Lists-nil : {A : Type 0} (a : Option (List A)) → Lists a a []
+Lists-nil None = tt
+Lists-nil (Some x) = sym (append-nil x)
+
+pub Lists-then : {A : Type 0} (a b c : Option (List A)) (xs ys : List A) → Lists a b xs → Lists b c ys → Lists a c (xs ++ ys)
+Lists-then None None None xs ys p q = tt
+Lists-then None None (Some z) xs ys p q = absurd q
+Lists-then None (Some y) c xs ys p q = absurd p
+Lists-then (Some x) None None xs ys p q = tt
+Lists-then (Some x) None (Some z) xs ys p q = absurd q
+Lists-then (Some x) (Some y) None xs ys p q = tt
+Lists-then (Some x) (Some y) (Some z) xs ys p q = q ∙ ap (λ l. l ++ ys) p ∙ append_assoc x xs ys
+
+-- ---- what comes back
+
+-- none yet
+pub no_wires : (a : DoorsTold) → GivesWires [] a a
+no_wires a = record { tally = refl; returned = Lists-nil a.returned; locations = refl; faults = refl }
+
+pub no_doors : (a : DoorsTold) → GivesDoors [] a a
+no_doors a = record { tally = refl; returned = refl; locations = refl; faults = refl }
+
+-- some and then others
+pub more_wires : (xs ys : List WireTold) (a b c : DoorsTold) → GivesWires xs a b → GivesWires ys b c → GivesWires (xs ++ ys) a c
+more_wires xs ys a b c k l = record {
+  tally = l.tally ∙ ap (with_wires ys) k.tally ∙ sym (with_wires-append xs ys a.tally);
+  returned = Lists-then a.returned b.returned c.returned xs ys k.returned l.returned;
+  locations = l.locations ∙ k.locations;
+  faults = l.faults ∙ k.faults;
+}
+
+pub more_doors : (xs ys : List DoorTold) (a b c : DoorsTold) → GivesDoors xs a b → GivesDoors ys b c → GivesDoors (xs ++ ys) a c
+more_doors xs ys a b c k l = record {
+  tally = l.tally ∙ ap (with_doors ys) k.tally ∙ sym (with_doors-append xs ys a.tally);
+  returned = l.returned ∙ k.returned;
+  locations = l.locations ∙ k.locations;
+  faults = subst (λ x. RoseWhere x a.faults c.faults) (sym (any_append has_failed xs ys))
+      (rose_then (list_any has_failed xs) (list_any has_failed ys) a.faults b.faults c.faults k.faults l.faults);
+}
+
+-- one door that came back, by whether it had failed
+pub rose_if : (failed : Bool) (before now : ℕ) → (failed ≡ true → Rose before now) → (failed ≡ false → now ≡ before) → RoseWhere failed before now
+rose_if true before now raised calm = raised refl
+rose_if false before now raised calm = calm refl
+
+-- ---- one after another
+
+or_assoc : (x y z : Bool) → ((x || y) || z) ≡ (x || (y || z))
+or_assoc true y z = refl
+or_assoc false y z = refl
+
+one_less : (m n k : ℕ) → n + 1 ≡ m → m ≡ suc k → n ≡ k
+one_less m n k e h = omega (arith, e, h)
+
+-- how many are left
+pub left_on : {A : Type 0} (x : A) (old rest : List A) (m n : ℕ) → old ≡ x ∷ rest → n + 1 ≡ m → m ≡ length old → n ≡ length rest
+left_on x old rest m n is less long = one_less m n (length rest) less (long ∙ ap length is)
+
+-- none is left
+pub none_left : {A : Type 0} (xs : List A) (n : ℕ) → n ≡ 0 → n ≡ length xs → xs ≡ []
+none_left [] n e h = refl
+none_left (x ∷ xs) n e h = absurd (clash n (length xs) e h)
+  where
+    clash : (m k : ℕ) → m ≡ 0 → m ≡ suc k → ⊥
+    clash m k f g = omega (arith, f, g)
+
+-- what the wires that are left make of all
+pub wires_on : (all : List WireTold) (a b c : DoorsTold) (x : LinkTold) (old rest : List LinkTold) → old ≡ x ∷ rest
+    → ((after : DoorsTold) → GivesWires (map wire_of old) b after → GivesWires all a after) → GivesWires (wire_of x ∷ []) b c
+    → (after : DoorsTold) → GivesWires (map wire_of rest) c after → GivesWires all a after
+wires_on all a b c x old rest is k one after m =
+    k after (subst (λ l. GivesWires (map wire_of l) b after) (sym is) (more_wires (wire_of x ∷ []) (map wire_of rest) b c after one m))
+
+pub wires_end : (all : List WireTold) (a b : DoorsTold) (old : List LinkTold) → old ≡ []
+    → ((after : DoorsTold) → GivesWires (map wire_of old) b after → GivesWires all a after) → GivesWires all a b
+wires_end all a b old none k = k b (subst (λ l. GivesWires (map wire_of l) b b) (sym none) (no_wires b))
+
+-- the same of doors
+pub doors_on : (all : List DoorTold) (a b c : DoorsTold) (x : PortTold) (old rest : List PortTold) → old ≡ x ∷ rest
+    → ((after : DoorsTold) → GivesDoors (map door_of old) b after → GivesDoors all a after) → GivesDoors (x.door ∷ []) b c
+    → (after : DoorsTold) → GivesDoors (map door_of rest) c after → GivesDoors all a after
+doors_on all a b c x old rest is k one after m =
+    k after (subst (λ l. GivesDoors (map door_of l) b after) (sym is) (more_doors (x.door ∷ []) (map door_of rest) b c after one m))
+
+pub doors_end : (all : List DoorTold) (a b : DoorsTold) (old : List PortTold) → old ≡ []
+    → ((after : DoorsTold) → GivesDoors (map door_of old) b after → GivesDoors all a after) → GivesDoors all a b
+doors_end all a b old none k = k b (subst (λ l. GivesDoors (map door_of l) b b) (sym none) (no_doors b))
+
+-- whether one of the doors had failed
+pub failed_on : (f h all : Bool) (x : PortTold) (old rest : List PortTold) → old ≡ x ∷ rest → h ≡ has_failed x.door
+    → (f || list_any has_failed (map door_of old)) ≡ all → ((f || h) || list_any has_failed (map door_of rest)) ≡ all
+failed_on f h all x old rest is failed k =
+    or_assoc f h (list_any has_failed (map door_of rest))
+    ∙ ap (λ b. f || (b || list_any has_failed (map door_of rest))) failed
+    ∙ ap (λ l. f || list_any has_failed (map door_of l)) (sym is) ∙ k
+
+-- the bytes of one connection more
+pub traffic_on : (done all : List Traffic) (t : Traffic) (x : LinkTold) (old rest : List LinkTold) → old ≡ x ∷ rest → t ≡ traffic_of x
+    → done ++ map traffic_of old ≡ all → (done ++ t ∷ []) ++ map traffic_of rest ≡ all
+traffic_on done all t x old rest is same k =
+    append_assoc done (t ∷ []) (map traffic_of rest)
+    ∙ ap (λ u. done ++ u ∷ map traffic_of rest) same
+    ∙ ap (λ l. done ++ map traffic_of l) (sym is) ∙ k

@@ -1,0 +1,15 @@
+-- Of a port that is no door none is opened.
+use Rattle.std.proofs.Common.{sym, subst, ◌∙◌}
+use Rattle.behaviour_tree.specs.PartsView.{port_view}
+use Rattle.door_run.specs.Used.{doors_told}
+use Rattle.door_run.specs.Steps.{Opens, opened_by}
+use Rattle.door_run.proofs.Openings.{no_door_at, opens_none}
+use Rattle.door_run.proofs.opening.open_port.Goals as goal
+
+pub returns-then-not-is_door : goal.returns-then-not-is_door
+returns-then-not-is_door g c =
+    let before = opened_by (doors_told (g.D.Doors.faults c.args.doors.now) (g.D.Doors.tally c.args.doors.now) (g.D.Doors.locations c.args.doors.now) (g.D.Doors.returned c.args.doors.now))
+    c.args.opening.now.ports.items c.args.opening.now.failed in
+    subst (λ places. Opens places before before)
+    (sym (no_door_at c.args.number (port_view c.args.port.now) (sym c.is_door.ensures ∙ c.if-not-is_door.true)))
+    (opens_none before)

@@ -1,0 +1,4 @@
+pub mod Used
+pub mod Through
+pub mod Doored
+pub mod Steps

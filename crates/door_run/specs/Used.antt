@@ -1,0 +1,108 @@
+-- What a run did with doors: where it opened them, and what came back to them.
+use Rattle.std.specs.Prelude.{◌≡◌, ◌↔◌, ℕ, ◌<◌, ◌==◌, Bool, true, false, not, ◌||◌, if◌then◌else◌}
+use Rattle.std.specs.Prelude.{List, [], ◌∷◌, length, map, sum_by, Option, nat_eq}
+use Rattle.std.specs.List.{list_any}
+use Rattle.std.specs.Io.KnownBytes.{Appends}
+use Rattle.outside_traits.specs.Causes.{Rose}
+use Rattle.outside_doors.specs.Counts.{DoorTold, Tally, with_opened, with_door, with_wire}
+use Rattle.outside_doors.specs.Returns.{WireTold, Lists}
+use Rattle.run_record.specs.declared.record.Traffic.{Traffic}
+use Rattle.connection_runs.specs.Ports.{DoorAt}
+use Rattle.connection_runs.specs.Visits.{Visit}
+use Rattle.http_connection.specs.declared.stage.Stage.TheVariants as Stages
+use Rattle.http_connection.specs.Seen.{Line}
+
+-- What doors tell of themselves: how often a door failed to open or came back that had failed, their counts, and, where
+-- they are told, the locations that were opened and the wires that came back.
+pub record DoorsTold : Type 0 where
+  pub faults : ℕ
+  pub tally : Tally
+  pub locations : Option (List (List ℕ))
+  pub returned : Option (List WireTold)
+
+-- the same by its parts
+abbrev pub doors_told : ℕ → Tally → Option (List (List ℕ)) → Option (List WireTold) → DoorsTold
+doors_told faults tally locations returned =
+    record { faults = faults; tally = tally; locations = locations; returned = returned }
+
+-- What a run did with doors: for each location whether a door was opened there, what each of these doors told when it
+-- came back, and what the wire of each connection told when it came back.
+pub record Used : Type 0 where
+  pub opened : List Bool
+  pub doors : List DoorTold
+  pub wires : List WireTold
+
+-- ---- where doors are opened
+
+-- those of a list that are marked
+abbrev pub marked : {A : Type 0} → List Bool → List A → List A
+marked [] xs = []
+marked (m ∷ ms) [] = []
+marked (m ∷ ms) (x ∷ xs) = if m then x ∷ marked ms xs else marked ms xs
+
+-- the location of a door
+abbrev pub location_of : DoorAt → List ℕ
+location_of door = door.location
+
+-- a connection came at one of the doors: it leads to its service
+abbrev pub came_at_door : List DoorAt → Visit → Bool
+came_at_door doors visit = list_any (λ (door : DoorAt). nat_eq visit.service door.service) doors
+
+-- ---- what doors count
+
+-- doors were opened there
+abbrev pub with_openings : List DoorAt → Tally → Tally
+with_openings [] tally = tally
+with_openings (place ∷ places) tally = with_openings places (with_opened tally)
+
+-- these wires came back
+abbrev pub with_wires : List WireTold → Tally → Tally
+with_wires [] tally = tally
+with_wires (w ∷ ws) tally = with_wires ws (with_wire w.faults tally)
+
+-- these doors came back
+abbrev pub with_doors : List DoorTold → Tally → Tally
+with_doors [] tally = tally
+with_doors (d ∷ ds) tally = with_doors ds (with_door d tally)
+
+-- a count of faults rose where this is true; else it is as it was
+abbrev pub RoseWhere : Bool → ℕ → ℕ → Type 0
+RoseWhere true before now = Rose before now
+RoseWhere false before now = now ≡ before
+
+-- a door has failed
+abbrev pub has_failed : DoorTold → Bool
+has_failed door = not (door.faults == 0)
+
+-- a door could not be opened, or it came back and had failed
+abbrev pub some_failed : Used → Bool
+some_failed used = list_any not used.opened || list_any has_failed used.doors
+
+-- Doors were opened at these locations, in order; where one could not be opened it was left out. All of them came back,
+-- and as many wires as they gave; and the doors count and tell just this.
+pub record IsUsed (places : List DoorAt) (before now : DoorsTold) (used : Used) : Type 0 where
+  pub tried : length used.opened ≡ length places
+  pub back : length used.doors ≡ length (marked used.opened places)
+  pub given : sum_by (λ (door : DoorTold). door.wires) used.doors ≡ length used.wires
+  pub tally : now.tally
+      ≡ with_doors used.doors (with_wires used.wires (with_openings (marked used.opened places) before.tally))
+  pub locations : Lists before.locations now.locations (map location_of (marked used.opened places))
+  pub returned : Lists before.returned now.returned used.wires
+  pub faults : RoseWhere (some_failed used) before.faults now.faults
+
+-- ---- wires
+
+-- A wire that came back from a connection which has these bytes: it was made so, what it told since is
+-- these bytes; and it has failed exactly where its connection ended with a failure.
+pub record IsWireOf (IsMade : Line → Type 0) (visit : Visit) (traffic : Traffic) (wire : WireTold) : Type 0 where
+  pub first : Line
+  pub came : IsMade first
+  pub read : Appends first.given wire.read traffic.read
+  pub written : Appends first.taken wire.written traffic.written
+  pub failed : (visit.stage ≡ Stages.Faulted) ↔ (0 < wire.faults)
+
+-- the wires are those of the connections, in order
+abbrev pub AreWires : (Line → Type 0) → List Visit → List Traffic → List WireTold → Type 0
+AreWires IsMade [] [] [] = Unit {0}
+AreWires IsMade (v ∷ vs) (t ∷ ts) (w ∷ ws) = IsWireOf IsMade v t w × AreWires IsMade vs ts ws
+AreWires IsMade vs ts ws = ⊥
