@@ -5,7 +5,7 @@ use Rattle.std.proofs.lemmas.Option.{none-some, same_Some}
 use Rattle.clap.specs.Words.{Row, first_of, first_value, found_of, rows_of, subcommand_name_of, subcommand_rows_of}
 use Rattle.clap.specs.declared.parser.ArgMatches.{ArgMatches}
 use Rattle.clap.proofs.WalkLemmas.{first_value-rows}
-use Rattle.command_words.specs.Usage.{action_of, asked_in, budget_by, file_in, picks_by, said_by, values_in, with_file}
+use Rattle.command_words.specs.Usage.{action_of, asked_in, budget_by, connections_by, file_in, number_by, picks_by, said_by, values_in, with_file}
 use Rattle.command_words.specs.declared.table.Action.{Action}
 use Rattle.command_words.specs.declared.words.Words.{Words}
 use Rattle.command_words.specs.declared.words.Words.TheVariants as words
@@ -29,29 +29,33 @@ entered_as m name rows asked file e f a b =
     ap₂ (λ asked file. with_file asked file (values_in rows)) a b
     ∙ sym (ap asked_in (entered_pair (subcommand_rows_of m) name rows (e ∙ name_entered m) f))
 
--- what is said of a command, by its budget and its picks
-abbrev said_of : Action → List ℕ → ℕ → Option (List ℕ) → Words
-said_of asked file budget picks =
-    elim (option_map (λ picks. record { action = asked; file = file; budget = budget; picks = picks }) picks) [
+-- what is said of a command, by what its options come to
+abbrev said_of : Action → List ℕ → ℕ → ℕ → Option (List ℕ) → Words
+said_of asked file budget connections picks =
+    elim
+    (option_map
+    (λ picks. record { action = asked; file = file; budget = budget; picks = picks; connections = connections }) picks) [
       | None ↦ words.UsageError (codes "picks\n")
       | Some c ↦ words.Command c
     ]
 
-pub said_as : (m : ArgMatches) (name : List ℕ) (rows : List Row) (asked : Action) (file : List ℕ) (budget : ℕ) (picks : Option (List ℕ))
-    → Some name ≡ subcommand_name_of m → Some rows ≡ option_map (λ p. p.1) (subcommand_rows_of m) → Some asked ≡ action_of name → Some file ≡ file_in rows
-    → budget ≡ budget_by (first_of (codes "budget") rows) → picks ≡ picks_by (first_of (codes "picks") rows)
-    → Some (said_of asked file budget picks) ≡ option_map said_by (asked_in (subcommand_rows_of m))
-said_as m name rows asked file budget picks e f a b n l =
-    ap₂ (λ budget picks. Some (said_of asked file budget picks)) n l
-    ∙ ap (option_map said_by) (entered_as m name rows (Some asked) (Some file) e f a b)
+module _ (m : ArgMatches) (name : List ℕ) (rows : List Row) (asked : Action) (file : List ℕ) (named : Some name ≡ subcommand_name_of m)
+    (found : Some rows ≡ option_map (λ p. p.1) (subcommand_rows_of m)) (is : Some asked ≡ action_of name) (has : Some file ≡ file_in rows) where
+  pub said_as : (budget connections : ℕ) (picks : Option (List ℕ)) → budget ≡ budget_by (first_of (codes "budget") rows)
+      → connections ≡ connections_by (first_of (codes "connections") rows) → picks ≡ picks_by (first_of (codes "picks") rows)
+      → Some (said_of asked file budget connections picks) ≡ option_map said_by (asked_in (subcommand_rows_of m))
+  said_as budget connections picks n k l =
+      ap (λ budget. Some (said_of asked file budget connections picks)) n
+      ∙ ap₂ (λ connections picks. Some (said_of asked file (budget_by (first_of (codes "budget") rows)) connections picks)) k l
+      ∙ ap (option_map said_by) (entered_as m name rows (Some asked) (Some file) named found is has)
 
 pub value_found : (m : ArgMatches) (id : List ℕ) (value : Option (List ℕ)) → value ≡ first_value (found_of m) id
     → value ≡ first_of id (rows_of (found_of m))
 value_found m id value e = e ∙ first_value-rows (found_of m) id
 
-pub budget_found : (m : ArgMatches) (given : Option (List ℕ)) (r : ℕ) → given ≡ first_value (found_of m) (codes "budget") → r ≡ budget_by given
-    → r ≡ budget_by (first_of (codes "budget") (rows_of (found_of m)))
-budget_found m given r e is = is ∙ ap budget_by (value_found m (codes "budget") given e)
+pub number_found : (most : ℕ) (m : ArgMatches) (id : List ℕ) (given : Option (List ℕ)) (r : ℕ) → given ≡ first_value (found_of m) id
+    → r ≡ number_by most given → r ≡ number_by most (first_of id (rows_of (found_of m)))
+number_found most m id given r e is = is ∙ ap (number_by most) (value_found m id given e)
 
 pub picks_found : (m : ArgMatches) (given : Option (List ℕ)) (r : Option (List ℕ)) → given ≡ first_value (found_of m) (codes "picks") → r ≡ picks_by given
     → r ≡ picks_by (first_of (codes "picks") (rows_of (found_of m)))

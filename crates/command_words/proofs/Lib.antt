@@ -8,4 +8,4 @@ pub mod Faultless
 pub mod AmongMatches
 pub mod WordsUnderstood
 pub mod Picks
-pub mod Budgets
+pub mod NumbersWithin

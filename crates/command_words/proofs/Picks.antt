@@ -7,7 +7,7 @@ use Rattle.std.proofs.Common.{◌∙◌, ap, ap₂, sym, arith, append_assoc, ap
 use Rattle.std.proofs.lemmas.List.{at_drop_more}
 use Rattle.std.proofs.lemmas.Bool.{lt-ltb}
 use Rattle.std.proofs.lemmas.Bool.Decides.{nat_tests}
-use Rattle.command_words.specs.Numbers.{is_pick, picks_in, picks_of, pieces}
+use Rattle.command_words.specs.Numbers.{is_pick, picks_of, pieces}
 use Rattle.command_words.specs.Steps.{longer}
 
 -- ---- one piece

@@ -8,18 +8,18 @@ use Rattle.clap.specs.Lexer.{long_of, short_of}
 use Rattle.clap.specs.ValueTests.{is_unsigned_in}
 use Rattle.clap.specs.Faults.{defaults_fault, turn_fault}
 use Rattle.clap.specs.Simple.{Shape}
-use Rattle.clap.specs.Walk.{Held, Row, Waiting, Walk, idle, nothing_held, option, settled_rows, walk_from, walked}
+use Rattle.clap.specs.Walk.{Held, Row, Waiting, Walk, finished, idle, nothing_held, option, settled_rows, walk_from, walked}
 use Rattle.clap.specs.Words.{fault_of, subcommand_of}
-use Rattle.command_words.specs.Numbers.{most_events, picks_of}
+use Rattle.command_words.specs.Numbers.{most_connections, most_events, picks_of}
 use Rattle.command_words.specs.Table.{CommandWords, commands}
 use Rattle.command_words.specs.Grammar.{program}
-use Rattle.command_words.specs.Usage.{Asked, Values, action_of, are_picks, asked_in, command_of, is_budget, is_option, name_of, plain_asked, plain_of, plain_values, with_file}
+use Rattle.command_words.specs.Usage.{Asked, Values, action_of, are_connections, are_picks, asked_in, command_of, file_in, is_budget, is_option, is_with_value, name_of, no_values, plain_asked, plain_of, plain_pair, values_in, with_file}
 use Rattle.command_words.specs.Usage as usage
 use Rattle.command_words.specs.declared.table.Action.{Action}
 use Rattle.command_words.specs.declared.table.Action.TheVariants as action
 use Rattle.command_words.specs.declared.words.Command.{Command}
 use Rattle.command_words.proofs.Origins.{both_true, is_no_flag}
-use Rattle.command_words.proofs.Walking.{Goes, command_shape, goes_nowhere, goes_on, line_enters, line_is_faultless}
+use Rattle.command_words.proofs.Walking.{Goes, command_shape, end_fault, goes_nowhere, goes_on, line_enters, line_is_faultless}
 
 -- ---- a word that is no option
 
@@ -47,18 +47,23 @@ is_word (b ∷ bs) e = record { dashes = not_dashes b bs e; long = not_long b bs
 abbrev pub asked_of : Action → List ℕ → Values → Asked
 asked_of asked file values = record { action = asked; file = file; values = values }
 
-abbrev values_of : Option (List ℕ) → Option (List ℕ) → Values
-values_of budget list = record { budget = budget; list = list }
+-- the line of a command is met without a fault, and asks for the command with these values
+record IsMet (act : Action) (file : List ℕ) (options : List (List ℕ)) (v : Values) : Type 0 where
+  faultless : fault_of program (name_of act ∷ file ∷ options) ≡ []
+  enters : asked_in (subcommand_of program (name_of act ∷ file ∷ options)) ≡ Some (asked_of act file v)
 
--- a budget's number
-abbrev IsBudget : List ℕ → Type 0
-IsBudget n = is_unsigned_in 1 most_events n ≡ true
+-- what a command asks for by what is held
+abbrev asked_by : Action → Held → Option Asked
+asked_by act h =
+    with_file (Some act) (file_in (finished (command_shape act).rules h)) (values_in (finished (command_shape act).rules h))
 
-abbrev budget_word : List ℕ
-budget_word = codes "--budget"
-
-abbrev picks_word : List ℕ
-picks_word = codes "--picks"
+line_is_met : (act : Action) (file : List ℕ) (options : List (List ℕ)) (v : Values) (end : Walk)
+    → Goes (command_shape act) (walk_from nothing_held) (file ∷ options) end → end_fault (command_shape act) end.held false ≡ []
+    → asked_by act end.held ≡ Some (asked_of act file v) → IsMet act file options v
+line_is_met act file options v end goes clean has = record {
+  faultless = line_is_faultless act (file ∷ options) end goes clean;
+  enters = line_enters act (file ∷ options) end goes ∙ has;
+}
 
 -- ---- word by word
 
@@ -82,16 +87,6 @@ at_option rows id = walk_at (held_at rows id []) (option id)
 abbrev at_value : List Row → List ℕ → List ℕ → Walk
 at_value rows id value = walk_at (held_at rows id (value ∷ [])) idle
 
-abbrev run_shape : Shape
-run_shape = command_shape action.Run
-
--- the rows once what was pending is used
-abbrev rows_with : List Row → List ℕ → List ℕ → List Row
-rows_with rows id value = settled_rows run_shape.rules (Some (id, value ∷ [])) rows
-
-abbrev file_rows : List ℕ → List Row
-file_rows file = rows_with [] (codes "FILE") file
-
 file_goes : (act : Action) (file : List ℕ) (rest : List (List ℕ)) (end : Walk) → IsWord file → Goes (command_shape act) (at_file file) rest end
     → Goes (command_shape act) (walk_from nothing_held) (file ∷ rest) end
 unfolding walked
@@ -107,285 +102,335 @@ file_goes action.Print file rest end f more =
 file_goes action.Run file rest end f more =
     goes_on (command_shape action.Run) (walk_from nothing_held) (at_file file) end file rest (rw (f.dashes, f.long, f.short) refl)
     (rw (f.dashes, f.long, f.short) refl) more
+file_goes action.Serve file rest end f more =
+    goes_on (command_shape action.Serve) (walk_from nothing_held) (at_file file) end file rest (rw (f.dashes, f.long, f.short) refl)
+    (rw (f.dashes, f.long, f.short) refl) more
 
--- an option with its value, where the one before is used first
-budget_goes : (after : List Row) (w : Walk) (n : List ℕ) (rest : List (List ℕ)) (end : Walk) → IsWord n
-    → turn_fault run_shape [] w budget_word ≡ [] → walked run_shape.rules [] w budget_word ≡ at_option after (codes "budget")
-    → Goes run_shape (at_value after (codes "budget") n) rest end → Goes run_shape w (budget_word ∷ n ∷ rest) end
-unfolding walked
-budget_goes after w n rest end g clean is more =
-    goes_on run_shape w (at_option after (codes "budget")) end budget_word (n ∷ rest) clean is
-    (goes_on run_shape (at_option after (codes "budget")) (at_value after (codes "budget") n) end n rest
-    (rw (g.dashes, g.long, g.short) refl) (rw (g.dashes, g.long, g.short) refl) more)
+-- ---- FILE alone
 
-picks_go : (after : List Row) (w : Walk) (l : List ℕ) (rest : List (List ℕ)) (end : Walk) → IsWord l
-    → turn_fault run_shape [] w picks_word ≡ [] → walked run_shape.rules [] w picks_word ≡ at_option after (codes "picks")
-    → Goes run_shape (at_value after (codes "picks") l) rest end → Goes run_shape w (picks_word ∷ l ∷ rest) end
-unfolding walked
-picks_go after w l rest end g clean is more =
-    goes_on run_shape w (at_option after (codes "picks")) end picks_word (l ∷ rest) clean is
-    (goes_on run_shape (at_option after (codes "picks")) (at_value after (codes "picks") l) end l rest
-    (rw (g.dashes, g.long, g.short) refl) (rw (g.dashes, g.long, g.short) refl) more)
-
--- ---- lines
-
-alone_is_faultless : (act : Action) (file : List ℕ) → IsWord file → fault_of program (name_of act ∷ file ∷ []) ≡ []
+alone_is_clean : (act : Action) (file : List ℕ) → end_fault (command_shape act) (at_file file).held false ≡ []
 unfolding defaults_fault
-alone_is_faultless action.Check file f =
-    line_is_faultless action.Check (file ∷ []) (at_file file) (file_goes action.Check file [] (at_file file) f (goes_nowhere _ _)) refl
-alone_is_faultless action.Explain file f =
-    line_is_faultless action.Explain (file ∷ []) (at_file file) (file_goes action.Explain file [] (at_file file) f (goes_nowhere _ _)) refl
-alone_is_faultless action.Print file f =
-    line_is_faultless action.Print (file ∷ []) (at_file file) (file_goes action.Print file [] (at_file file) f (goes_nowhere _ _)) refl
-alone_is_faultless action.Run file f =
-    line_is_faultless action.Run (file ∷ []) (at_file file) (file_goes action.Run file [] (at_file file) f (goes_nowhere _ _)) refl
+alone_is_clean action.Check file = refl
+alone_is_clean action.Explain file = refl
+alone_is_clean action.Print file = refl
+alone_is_clean action.Run file = refl
+alone_is_clean action.Serve file = refl
 
-alone_enters : (act : Action) (file : List ℕ) → IsWord file
-    → asked_in (subcommand_of program (name_of act ∷ file ∷ [])) ≡ Some (asked_of act file (values_of None None))
-alone_enters action.Check file f =
-    line_enters action.Check (file ∷ []) (at_file file) (file_goes action.Check file [] (at_file file) f (goes_nowhere _ _)) ∙ refl
-alone_enters action.Explain file f =
-    line_enters action.Explain (file ∷ []) (at_file file) (file_goes action.Explain file [] (at_file file) f (goes_nowhere _ _)) ∙ refl
-alone_enters action.Print file f =
-    line_enters action.Print (file ∷ []) (at_file file) (file_goes action.Print file [] (at_file file) f (goes_nowhere _ _)) ∙ refl
-alone_enters action.Run file f =
-    line_enters action.Run (file ∷ []) (at_file file) (file_goes action.Run file [] (at_file file) f (goes_nowhere _ _)) ∙ refl
+alone_has : (act : Action) (file : List ℕ) → asked_by act (at_file file).held ≡ Some (asked_of act file no_values)
+alone_has action.Check file = refl
+alone_has action.Explain file = refl
+alone_has action.Print file = refl
+alone_has action.Run file = refl
+alone_has action.Serve file = refl
 
--- FILE and a budget
-budget_walk : (file n : List ℕ) → IsWord file → IsWord n
-    → Goes run_shape (walk_from nothing_held) (file ∷ budget_word ∷ n ∷ []) (at_value (file_rows file) (codes "budget") n)
+alone_is_met : (act : Action) (file : List ℕ) → IsWord file → IsMet act file [] no_values
+alone_is_met act file f =
+    line_is_met act file [] no_values (at_file file) (file_goes act file [] (at_file file) f (goes_nowhere _ _))
+    (alone_is_clean act file) (alone_has act file)
+
+-- ---- commands with two options
+
+-- a command with a budget and another option
+data WithTwo : Type 0 where
+  runs : WithTwo
+  serves : WithTwo
+
+-- one of its options: the budget, or the other one
+data Side : Type 0 where
+  left : Side
+  right : Side
+
+abbrev beside : Side → Side
+beside left = right
+beside right = left
+
+abbrev act_of : WithTwo → Action
+act_of runs = action.Run
+act_of serves = action.Serve
+
+abbrev shape_of : WithTwo → Shape
+shape_of t = command_shape (act_of t)
+
+-- the name of an option
+abbrev id_of : WithTwo → Side → List ℕ
+id_of runs left = codes "budget"
+id_of runs right = codes "picks"
+id_of serves left = codes "budget"
+id_of serves right = codes "connections"
+
+-- the word that begins it
+abbrev word_of : WithTwo → Side → List ℕ
+word_of runs left = codes "--budget"
+word_of runs right = codes "--picks"
+word_of serves left = codes "--budget"
+word_of serves right = codes "--connections"
+
+-- the values that it takes
+abbrev takes : WithTwo → Side → List ℕ → Bool
+takes runs left value = is_unsigned_in 1 most_events value
+takes runs right value = is_some (picks_of value)
+takes serves left value = is_unsigned_in 1 most_events value
+takes serves right value = is_unsigned_in 1 most_connections value
+
+-- what both options were given, by what one of them was, or one and then the other
+abbrev given_one : Side → List ℕ → Option (List ℕ) × Option (List ℕ)
+given_one left v = (Some v, None)
+given_one right v = (None, Some v)
+
+abbrev given_two : Side → List ℕ → List ℕ → Option (List ℕ) × Option (List ℕ)
+given_two left v w = (Some v, Some w)
+given_two right v w = (Some w, Some v)
+
+-- the values of the command then
+abbrev values_of : WithTwo → Option (List ℕ) × Option (List ℕ) → Values
+values_of runs given = record no_values { budget = given.0; list = given.1 }
+values_of serves given = record no_values { budget = given.0; connections = given.1 }
+
+-- the rows once what was pending is used
+abbrev rows_with : WithTwo → List Row → List ℕ → List ℕ → List Row
+rows_with t rows id value = settled_rows (shape_of t).rules (Some (id, value ∷ [])) rows
+
+abbrev file_rows : WithTwo → List ℕ → List Row
+file_rows t file = rows_with t [] (codes "FILE") file
+
+-- one option was met behind FILE
+abbrev at_one : WithTwo → Side → List ℕ → List ℕ → Walk
+at_one t o file v = at_value (file_rows t file) (id_of t o) v
+
+-- and the other one behind it
+abbrev one_rows : WithTwo → Side → List ℕ → List ℕ → List Row
+one_rows t o file v = rows_with t (file_rows t file) (id_of t o) v
+
+abbrev at_two : WithTwo → Side → List ℕ → List ℕ → List ℕ → Walk
+at_two t o file v w = at_value (one_rows t o file v) (id_of t (beside o)) w
+
+-- the word behind an option is its value
+value_is_met : (t : WithTwo) (o : Side) (rows : List Row) (v : List ℕ) → IsWord v
+    → walked (shape_of t).rules [] (at_option rows (id_of t o)) v ≡ at_value rows (id_of t o) v
 unfolding walked
-budget_walk file n f g =
-    file_goes action.Run file (budget_word ∷ n ∷ []) (at_value (file_rows file) (codes "budget") n) f
-    (budget_goes (file_rows file) (at_file file) n [] (at_value (file_rows file) (codes "budget") n) g refl refl (goes_nowhere _ _))
+value_is_met runs left rows v g = rw (g.dashes, g.long, g.short) refl
+value_is_met runs right rows v g = rw (g.dashes, g.long, g.short) refl
+value_is_met serves left rows v g = rw (g.dashes, g.long, g.short) refl
+value_is_met serves right rows v g = rw (g.dashes, g.long, g.short) refl
 
-budget_is_faultless : (file n : List ℕ) → IsWord file → IsWord n → IsBudget n
-    → fault_of program (codes "run" ∷ file ∷ budget_word ∷ n ∷ []) ≡ []
-unfolding defaults_fault
-budget_is_faultless file n f g in_range =
-    line_is_faultless action.Run (file ∷ budget_word ∷ n ∷ []) (at_value (file_rows file) (codes "budget") n) (budget_walk file n f g)
-    (rw in_range refl)
+value_is_faultless : (t : WithTwo) (o : Side) (rows : List Row) (v : List ℕ) → IsWord v
+    → turn_fault (shape_of t) [] (at_option rows (id_of t o)) v ≡ []
+value_is_faultless runs left rows v g = rw (g.dashes, g.long, g.short) refl
+value_is_faultless runs right rows v g = rw (g.dashes, g.long, g.short) refl
+value_is_faultless serves left rows v g = rw (g.dashes, g.long, g.short) refl
+value_is_faultless serves right rows v g = rw (g.dashes, g.long, g.short) refl
 
-budget_enters : (file n : List ℕ) → IsWord file → IsWord n
-    → asked_in (subcommand_of program (codes "run" ∷ file ∷ budget_word ∷ n ∷ [])) ≡ Some (asked_of action.Run file (values_of (Some n) None))
-budget_enters file n f g =
-    line_enters action.Run (file ∷ budget_word ∷ n ∷ []) (at_value (file_rows file) (codes "budget") n) (budget_walk file n f g) ∙ refl
+-- an option with its value, where what was pending is used first
+option_goes : (t : WithTwo) (o : Side) (after : List Row) (w : Walk) (v : List ℕ) (rest : List (List ℕ)) (end : Walk) → IsWord v
+    → turn_fault (shape_of t) [] w (word_of t o) ≡ [] → walked (shape_of t).rules [] w (word_of t o) ≡ at_option after (id_of t o)
+    → Goes (shape_of t) (at_value after (id_of t o) v) rest end → Goes (shape_of t) w (word_of t o ∷ v ∷ rest) end
+option_goes t o after w v rest end g clean is more =
+    goes_on (shape_of t) w (at_option after (id_of t o)) end (word_of t o) (v ∷ rest) clean is
+    (goes_on (shape_of t) (at_option after (id_of t o)) (at_value after (id_of t o) v) end v rest
+    (value_is_faultless t o after v g) (value_is_met t o after v g) more)
 
--- FILE and picks
-picks_walk : (file l : List ℕ) → IsWord file → IsWord l
-    → Goes run_shape (walk_from nothing_held) (file ∷ picks_word ∷ l ∷ []) (at_value (file_rows file) (codes "picks") l)
+-- behind FILE
+one_is_begun : (t : WithTwo) (o : Side) (file : List ℕ)
+    → walked (shape_of t).rules [] (at_file file) (word_of t o) ≡ at_option (file_rows t file) (id_of t o)
 unfolding walked
-picks_walk file l f g =
-    file_goes action.Run file (picks_word ∷ l ∷ []) (at_value (file_rows file) (codes "picks") l) f
-    (picks_go (file_rows file) (at_file file) l [] (at_value (file_rows file) (codes "picks") l) g refl refl (goes_nowhere _ _))
+one_is_begun runs left file = refl
+one_is_begun runs right file = refl
+one_is_begun serves left file = refl
+one_is_begun serves right file = refl
 
-picks_are_faultless : (file l : List ℕ) → IsWord file → IsWord l → fault_of program (codes "run" ∷ file ∷ picks_word ∷ l ∷ []) ≡ []
-unfolding defaults_fault
-picks_are_faultless file l f g =
-    line_is_faultless action.Run (file ∷ picks_word ∷ l ∷ []) (at_value (file_rows file) (codes "picks") l) (picks_walk file l f g) refl
+one_is_faultless : (t : WithTwo) (o : Side) (file : List ℕ) → turn_fault (shape_of t) [] (at_file file) (word_of t o) ≡ []
+one_is_faultless runs left file = refl
+one_is_faultless runs right file = refl
+one_is_faultless serves left file = refl
+one_is_faultless serves right file = refl
 
-picks_enter : (file l : List ℕ) → IsWord file → IsWord l
-    → asked_in (subcommand_of program (codes "run" ∷ file ∷ picks_word ∷ l ∷ [])) ≡ Some (asked_of action.Run file (values_of None (Some l)))
-picks_enter file l f g =
-    line_enters action.Run (file ∷ picks_word ∷ l ∷ []) (at_value (file_rows file) (codes "picks") l) (picks_walk file l f g) ∙ refl
-
--- FILE, a budget and picks
-abbrev budget_rows : List ℕ → List ℕ → List Row
-budget_rows file n = rows_with (file_rows file) (codes "budget") n
-
-budget_first_walk : (file n l : List ℕ) → IsWord file → IsWord n → IsWord l → IsBudget n
-    → Goes run_shape (walk_from nothing_held) (file ∷ budget_word ∷ n ∷ picks_word ∷ l ∷ []) (at_value (budget_rows file n) (codes "picks") l)
+-- behind FILE and the other option
+two_are_begun : (t : WithTwo) (o : Side) (file v : List ℕ)
+    → walked (shape_of t).rules [] (at_one t o file v) (word_of t (beside o)) ≡ at_option (one_rows t o file v) (id_of t (beside o))
 unfolding walked
-budget_first_walk file n l f g h in_range =
-    let end = at_value (budget_rows file n) (codes "picks") l in
-    file_goes action.Run file (budget_word ∷ n ∷ picks_word ∷ l ∷ []) end f
-    (budget_goes (file_rows file) (at_file file) n (picks_word ∷ l ∷ []) end g refl refl
-    (picks_go (budget_rows file n) (at_value (file_rows file) (codes "budget") n) l [] end h
-    (rw in_range refl) refl (goes_nowhere _ _)))
+two_are_begun runs left file v = refl
+two_are_begun runs right file v = refl
+two_are_begun serves left file v = refl
+two_are_begun serves right file v = refl
 
-budget_first_is_faultless : (file n l : List ℕ) → IsWord file → IsWord n → IsWord l → IsBudget n
-    → fault_of program (codes "run" ∷ file ∷ budget_word ∷ n ∷ picks_word ∷ l ∷ []) ≡ []
+two_are_faultless : (t : WithTwo) (o : Side) (file v : List ℕ) → takes t o v ≡ true
+    → turn_fault (shape_of t) [] (at_one t o file v) (word_of t (beside o)) ≡ []
+two_are_faultless runs left file v taken = rw taken refl
+two_are_faultless runs right file v taken = refl
+two_are_faultless serves left file v taken = rw taken refl
+two_are_faultless serves right file v taken = rw taken refl
+
+-- at the end
+one_is_clean : (t : WithTwo) (o : Side) (file v : List ℕ) → takes t o v ≡ true → end_fault (shape_of t) (at_one t o file v).held false ≡ []
 unfolding defaults_fault
-budget_first_is_faultless file n l f g h in_range =
-    line_is_faultless action.Run (file ∷ budget_word ∷ n ∷ picks_word ∷ l ∷ []) (at_value (budget_rows file n) (codes "picks") l)
-    (budget_first_walk file n l f g h in_range) refl
+one_is_clean runs left file v taken = rw taken refl
+one_is_clean runs right file v taken = refl
+one_is_clean serves left file v taken = rw taken refl
+one_is_clean serves right file v taken = rw taken refl
 
-budget_first_enters : (file n l : List ℕ) → IsWord file → IsWord n → IsWord l → IsBudget n
-    → asked_in (subcommand_of program (codes "run" ∷ file ∷ budget_word ∷ n ∷ picks_word ∷ l ∷ []))
-    ≡ Some (asked_of action.Run file (values_of (Some n) (Some l)))
-budget_first_enters file n l f g h in_range =
-    line_enters action.Run (file ∷ budget_word ∷ n ∷ picks_word ∷ l ∷ []) (at_value (budget_rows file n) (codes "picks") l)
-    (budget_first_walk file n l f g h in_range) ∙ refl
+one_has : (t : WithTwo) (o : Side) (file v : List ℕ)
+    → asked_by (act_of t) (at_one t o file v).held ≡ Some (asked_of (act_of t) file (values_of t (given_one o v)))
+one_has runs left file v = refl
+one_has runs right file v = refl
+one_has serves left file v = refl
+one_has serves right file v = refl
 
--- FILE, picks and a budget
-abbrev picks_rows : List ℕ → List ℕ → List Row
-picks_rows file l = rows_with (file_rows file) (codes "picks") l
-
-picks_first_walk : (file l n : List ℕ) → IsWord file → IsWord l → IsWord n
-    → Goes run_shape (walk_from nothing_held) (file ∷ picks_word ∷ l ∷ budget_word ∷ n ∷ []) (at_value (picks_rows file l) (codes "budget") n)
-unfolding walked
-picks_first_walk file l n f g h =
-    let end = at_value (picks_rows file l) (codes "budget") n in
-    file_goes action.Run file (picks_word ∷ l ∷ budget_word ∷ n ∷ []) end f
-    (picks_go (file_rows file) (at_file file) l (budget_word ∷ n ∷ []) end g refl refl
-    (budget_goes (picks_rows file l) (at_value (file_rows file) (codes "picks") l) n [] end h
-    refl refl (goes_nowhere _ _)))
-
-picks_first_are_faultless : (file l n : List ℕ) → IsWord file → IsWord l → IsWord n → IsBudget n
-    → fault_of program (codes "run" ∷ file ∷ picks_word ∷ l ∷ budget_word ∷ n ∷ []) ≡ []
+two_are_clean : (t : WithTwo) (o : Side) (file v w : List ℕ) → takes t (beside o) w ≡ true
+    → end_fault (shape_of t) (at_two t o file v w).held false ≡ []
 unfolding defaults_fault
-picks_first_are_faultless file l n f g h in_range =
-    line_is_faultless action.Run (file ∷ picks_word ∷ l ∷ budget_word ∷ n ∷ []) (at_value (picks_rows file l) (codes "budget") n)
-    (picks_first_walk file l n f g h) (rw in_range refl)
+two_are_clean runs left file v w taken = refl
+two_are_clean runs right file v w taken = rw taken refl
+two_are_clean serves left file v w taken = rw taken refl
+two_are_clean serves right file v w taken = rw taken refl
 
-picks_first_enter : (file l n : List ℕ) → IsWord file → IsWord l → IsWord n
-    → asked_in (subcommand_of program (codes "run" ∷ file ∷ picks_word ∷ l ∷ budget_word ∷ n ∷ []))
-    ≡ Some (asked_of action.Run file (values_of (Some n) (Some l)))
-picks_first_enter file l n f g h =
-    line_enters action.Run (file ∷ picks_word ∷ l ∷ budget_word ∷ n ∷ []) (at_value (picks_rows file l) (codes "budget") n)
-    (picks_first_walk file l n f g h) ∙ refl
+two_have : (t : WithTwo) (o : Side) (file v w : List ℕ)
+    → asked_by (act_of t) (at_two t o file v w).held ≡ Some (asked_of (act_of t) file (values_of t (given_two o v w)))
+two_have runs left file v w = refl
+two_have runs right file v w = refl
+two_have serves left file v w = refl
+two_have serves right file v w = refl
+
+-- ---- lines with options
+
+-- what an option takes, and is no option itself
+record IsTaken (is_taken : List ℕ → Bool) (v : List ℕ) : Type 0 where
+  word : IsWord v
+  taken : is_taken v ≡ true
+
+none_is_met : (t : WithTwo) (file : List ℕ) → IsWord file → IsMet (act_of t) file [] (values_of t (None, None))
+none_is_met runs file f = alone_is_met action.Run file f
+none_is_met serves file f = alone_is_met action.Serve file f
+
+one_is_met : (t : WithTwo) (o : Side) (file v : List ℕ) → IsWord file → IsTaken (takes t o) v
+    → IsMet (act_of t) file (word_of t o ∷ v ∷ []) (values_of t (given_one o v))
+one_is_met t o file v f g =
+    line_is_met (act_of t) file (word_of t o ∷ v ∷ []) (values_of t (given_one o v)) (at_one t o file v)
+    (file_goes (act_of t) file (word_of t o ∷ v ∷ []) (at_one t o file v) f
+    (option_goes t o (file_rows t file) (at_file file) v [] (at_one t o file v) g.word (one_is_faultless t o file) (one_is_begun t o file)
+    (goes_nowhere _ _)))
+    (one_is_clean t o file v g.taken) (one_has t o file v)
+
+two_are_met : (t : WithTwo) (o : Side) (file v w : List ℕ) → IsWord file → IsTaken (takes t o) v → IsTaken (takes t (beside o)) w
+    → IsMet (act_of t) file (word_of t o ∷ v ∷ word_of t (beside o) ∷ w ∷ []) (values_of t (given_two o v w))
+two_are_met t o file v w f g h =
+    let end = at_two t o file v w in
+    let last = word_of t (beside o) ∷ w ∷ [] in
+    line_is_met (act_of t) file (word_of t o ∷ v ∷ last) (values_of t (given_two o v w)) end
+    (file_goes (act_of t) file (word_of t o ∷ v ∷ last) end f
+    (option_goes t o (file_rows t file) (at_file file) v last end g.word (one_is_faultless t o file) (one_is_begun t o file)
+    (option_goes t (beside o) (one_rows t o file v) (at_one t o file v) w [] end h.word (two_are_faultless t o file v g.taken) (two_are_begun t o file v)
+    (goes_nowhere _ _))))
+    (two_are_clean t o file v w h.taken) (two_have t o file v w)
 
 -- ---- which options are plain
 
--- the options of a run, with what they give
-data HasValues (options : List (List ℕ)) (v : Values) : Type 0 where
-  no_options : options ≡ [] → v ≡ values_of None None → HasValues options v
-  with_budget : (n : List ℕ) → is_option n ≡ false → IsBudget n → options ≡ budget_word ∷ n ∷ [] → v ≡ values_of (Some n) None → HasValues options v
-  with_picks : (l : List ℕ) → is_option l ≡ false → options ≡ picks_word ∷ l ∷ [] → v ≡ values_of None (Some l) → HasValues options v
-  budget_then_picks : (n l : List ℕ) → is_option n ≡ false → is_option l ≡ false → IsBudget n → options ≡ budget_word ∷ n ∷ picks_word ∷ l ∷ []
-      → v ≡ values_of (Some n) (Some l) → HasValues options v
-  picks_then_budget : (l n : List ℕ) → is_option l ≡ false → is_option n ≡ false → IsBudget n → options ≡ picks_word ∷ l ∷ budget_word ∷ n ∷ []
-      → v ≡ values_of (Some n) (Some l) → HasValues options v
+-- the word is the option and the one behind it is taken
+with_value_is : (name : List ℕ) (is_taken : List ℕ → Bool) (word v : List ℕ) → is_with_value name is_taken word v ≡ true
+    → (word ≡ name) × IsTaken is_taken v
+with_value_is name is_taken word v e =
+    let a = both_true (bytes_eq word name) _ e in
+    let b = both_true (not (is_option v)) _ a.1 in
+    ((bytes_eq-Decides word name).0 a.0, record { word = is_word v (is_no_flag (is_option v) b.0); taken = b.1 })
 
-budget_is : (word value : List ℕ) → is_budget word value ≡ true → (word ≡ budget_word) × (is_option value ≡ false) × IsBudget value
-budget_is word value e =
-    let a = both_true (bytes_eq word budget_word) _ e in
-    let b = both_true (not (is_option value)) _ a.1 in
-    ((bytes_eq-Decides word budget_word).0 a.0, is_no_flag (is_option value) b.0, b.1)
+-- what holds of two options in each of their plain forms
+record OfPair (x y : List ℕ) (takes_x takes_y : List ℕ → Bool) (P : List (List ℕ) → Option (List ℕ) × Option (List ℕ) → Type 0) : Type 0 where
+  none : P [] (None, None)
+  x_alone : (v : List ℕ) → IsTaken takes_x v → P (x ∷ v ∷ []) (Some v, None)
+  y_alone : (v : List ℕ) → IsTaken takes_y v → P (y ∷ v ∷ []) (None, Some v)
+  x_first : (v w : List ℕ) → IsTaken takes_x v → IsTaken takes_y w → P (x ∷ v ∷ y ∷ w ∷ []) (Some v, Some w)
+  y_first : (v w : List ℕ) → IsTaken takes_y v → IsTaken takes_x w → P (y ∷ v ∷ x ∷ w ∷ []) (Some w, Some v)
 
-picks_are : (word value : List ℕ) → are_picks word value ≡ true → (word ≡ picks_word) × (is_option value ≡ false)
-picks_are word value e =
-    let a = both_true (bytes_eq word picks_word) _ e in
-    let b = both_true (not (is_option value)) _ a.1 in
-    ((bytes_eq-Decides word picks_word).0 a.0, is_no_flag (is_option value) b.0)
+-- holds of all that is plain
+module _ (x y : List ℕ) (takes_x takes_y : List ℕ → Bool) (P : List (List ℕ) → Option (List ℕ) × Option (List ℕ) → Type 0) (each : OfPair x y takes_x takes_y P)
+    (given : Option (List ℕ) × Option (List ℕ)) where
+  abbrev is_x : List ℕ → List ℕ → Bool
+  is_x = is_with_value x takes_x
 
-one_option : (word value : List ℕ) (v : Values) (b : Bool) → is_budget word value ≡ b → (p : Bool) → are_picks word value ≡ p
-    → (if b then Some (values_of (Some value) None) else if p then Some (values_of None (Some value)) else None) ≡ Some v
-    → HasValues (word ∷ value ∷ []) v
-one_option word value v true is p not_needed e =
-    let k = budget_is word value is in
-    with_budget value k.1 k.2 (ap (λ (w : List ℕ). w ∷ value ∷ []) k.0) (sym (same_Some (values_of (Some value) None) v e))
-one_option word value v false is true are e =
-    let k = picks_are word value are in
-    with_picks value k.1 (ap (λ (w : List ℕ). w ∷ value ∷ []) k.0) (sym (same_Some (values_of None (Some value)) v e))
-one_option word value v false is false are e = absurd (none-some v e)
+  abbrev is_y : List ℕ → List ℕ → Bool
+  is_y = is_with_value y takes_y
 
-two_options : (word value other last : List ℕ) (v : Values) (b : Bool) → (is_budget word value && are_picks other last) ≡ b
-    → (p : Bool) → (are_picks word value && is_budget other last) ≡ p
-    → (if b then Some (values_of (Some value) (Some last)) else if p then Some (values_of (Some last) (Some value)) else None) ≡ Some v
-    → HasValues (word ∷ value ∷ other ∷ last ∷ []) v
-two_options word value other last v true is p not_needed e =
-    let both = both_true (is_budget word value) _ is in
-    let k = budget_is word value both.0 in
-    let m = picks_are other last both.1 in
-    budget_then_picks value last k.1 m.1 k.2
-    (ap (λ (w : List ℕ). w ∷ value ∷ other ∷ last ∷ []) k.0 ∙ ap (λ (w : List ℕ). budget_word ∷ value ∷ w ∷ last ∷ []) m.0)
-    (sym (same_Some (values_of (Some value) (Some last)) v e))
-two_options word value other last v false is true are e =
-    let both = both_true (are_picks word value) _ are in
-    let k = picks_are word value both.0 in
-    let m = budget_is other last both.1 in
-    picks_then_budget value last k.1 m.1 m.2
-    (ap (λ (w : List ℕ). w ∷ value ∷ other ∷ last ∷ []) k.0 ∙ ap (λ (w : List ℕ). picks_word ∷ value ∷ w ∷ last ∷ []) m.0)
-    (sym (same_Some (values_of (Some last) (Some value)) v e))
-two_options word value other last v false is false are e = absurd (none-some v e)
+  -- the words that were found are the options
+  one_named : (word name v : List ℕ) (found : Option (List ℕ) × Option (List ℕ)) → word ≡ name → found ≡ given → P (name ∷ v ∷ []) found
+      → P (word ∷ v ∷ []) given
+  one_named word name v found is gives p = subst (λ (w : List ℕ). P (w ∷ v ∷ []) given) (sym is) (subst (P (name ∷ v ∷ [])) gives p)
 
-has_values : (options : List (List ℕ)) (v : Values) → plain_values options ≡ Some v → HasValues options v
-has_values [] v e = no_options refl (sym (same_Some (values_of None None) v e))
-has_values (word ∷ []) v e = absurd (none-some v e)
-has_values (word ∷ value ∷ []) v e = one_option word value v (is_budget word value) refl (are_picks word value) refl e
-has_values (word ∷ value ∷ other ∷ []) v e = absurd (none-some v e)
-has_values (word ∷ value ∷ other ∷ last ∷ []) v e =
-    two_options word value other last v (is_budget word value && are_picks other last) refl
-    (are_picks word value && is_budget other last) refl e
-has_values (word ∷ value ∷ other ∷ last ∷ more ∷ rest) v e = absurd (none-some v e)
+  two_named : (word name other next v w : List ℕ) (found : Option (List ℕ) × Option (List ℕ)) → word ≡ name → other ≡ next → found ≡ given
+      → P (name ∷ v ∷ next ∷ w ∷ []) found → P (word ∷ v ∷ other ∷ w ∷ []) given
+  two_named word name other next v w found is then_is gives p =
+      subst (λ (z : List ℕ). P (z ∷ v ∷ other ∷ w ∷ []) given) (sym is)
+      (subst (λ (z : List ℕ). P (name ∷ v ∷ z ∷ w ∷ []) given) (sym then_is) (subst (P (name ∷ v ∷ next ∷ w ∷ [])) gives p))
 
--- the options of a command, with what they give
-data HasOptions (act : Action) (options : List (List ℕ)) (v : Values) : Type 0 where
-  alone : options ≡ [] → v ≡ values_of None None → HasOptions act options v
-  of_run : act ≡ action.Run → HasValues options v → HasOptions act options v
+  one_option : (word v : List ℕ) (a : Bool) → is_x word v ≡ a → (b : Bool) → is_y word v ≡ b
+      → (if a then Some (Some v, None) else if b then Some (None, Some v) else None) ≡ Some given → P (word ∷ v ∷ []) given
+  one_option word v true is b not_needed e =
+      let k = with_value_is x takes_x word v is in
+      one_named word x v (Some v, None) k.0 (same_Some (Some v, None) given e) (each.x_alone v k.1)
+  one_option word v false is true are e =
+      let k = with_value_is y takes_y word v are in
+      one_named word y v (None, Some v) k.0 (same_Some (None, Some v) given e) (each.y_alone v k.1)
+  one_option word v false is false are e = absurd (none-some given e)
 
-has_options : (act : Action) (options : List (List ℕ)) (v : Values) → plain_of act options ≡ Some v → HasOptions act options v
-has_options action.Run options v e = of_run refl (has_values options v e)
-has_options action.Check [] v e = alone refl (sym (same_Some (values_of None None) v e))
-has_options action.Check (word ∷ rest) v e = absurd (none-some v e)
-has_options action.Explain [] v e = alone refl (sym (same_Some (values_of None None) v e))
-has_options action.Explain (word ∷ rest) v e = absurd (none-some v e)
-has_options action.Print [] v e = alone refl (sym (same_Some (values_of None None) v e))
-has_options action.Print (word ∷ rest) v e = absurd (none-some v e)
+  two_options : (word v other w : List ℕ) (a : Bool) → (is_x word v && is_y other w) ≡ a → (b : Bool) → (is_y word v && is_x other w) ≡ b
+      → (if a then Some (Some v, Some w) else if b then Some (Some w, Some v) else None) ≡ Some given → P (word ∷ v ∷ other ∷ w ∷ []) given
+  two_options word v other w true is b not_needed e =
+      let both = both_true (is_x word v) _ is in
+      let k = with_value_is x takes_x word v both.0 in
+      let m = with_value_is y takes_y other w both.1 in
+      two_named word x other y v w (Some v, Some w) k.0 m.0 (same_Some (Some v, Some w) given e) (each.x_first v w k.1 m.1)
+  two_options word v other w false is true are e =
+      let both = both_true (is_y word v) _ are in
+      let k = with_value_is y takes_y word v both.0 in
+      let m = with_value_is x takes_x other w both.1 in
+      two_named word y other x v w (Some w, Some v) k.0 m.0 (same_Some (Some w, Some v) given e) (each.y_first v w k.1 m.1)
+  two_options word v other w false is false are e = absurd (none-some given e)
 
--- ---- what the parser makes of them
+  pair_is : (options : List (List ℕ)) → plain_pair is_x is_y options ≡ Some given → P options given
+  pair_is [] e = subst (P []) (same_Some (None, None) given e) each.none
+  pair_is (word ∷ []) e = absurd (none-some given e)
+  pair_is (word ∷ v ∷ []) e = one_option word v (is_x word v) refl (is_y word v) refl e
+  pair_is (word ∷ v ∷ other ∷ []) e = absurd (none-some given e)
+  pair_is (word ∷ v ∷ other ∷ w ∷ []) e =
+      two_options word v other w (is_x word v && is_y other w) refl (is_y word v && is_x other w) refl e
+  pair_is (word ∷ v ∷ other ∷ w ∷ more ∷ rest) e = absurd (none-some given e)
 
-abbrev IsFaultless : List (List ℕ) → Type 0
-IsFaultless line = fault_of program line ≡ []
+-- the plain options of a command are met
+abbrev MetWith : WithTwo → List ℕ → List (List ℕ) → Option (List ℕ) × Option (List ℕ) → Type 0
+MetWith t file options given = IsMet (act_of t) file options (values_of t given)
 
-abbrev Enters : List (List ℕ) → Asked → Type 0
-Enters line a = asked_in (subcommand_of program line) ≡ Some a
+pairs_are_met : (t : WithTwo) (file : List ℕ) → IsWord file
+    → OfPair (word_of t left) (word_of t right) (takes t left) (takes t right) (MetWith t file)
+pairs_are_met t file f = record {
+  none = none_is_met t file f;
+  x_alone = λ v g. one_is_met t left file v f g;
+  y_alone = λ v g. one_is_met t right file v f g;
+  x_first = λ v w g h. two_are_met t left file v w f g h;
+  y_first = λ v w g h. two_are_met t right file v w f g h;
+}
 
-run_is_faultless : (file : List ℕ) (options : List (List ℕ)) (v : Values) → IsWord file → HasValues options v → IsFaultless (codes "run" ∷ file ∷ options)
-run_is_faultless file options v f (no_options is gives) =
-    subst (λ (o : List (List ℕ)). IsFaultless (codes "run" ∷ file ∷ o)) (sym is) (alone_is_faultless action.Run file f)
-run_is_faultless file options v f (with_budget n free in_range is gives) =
-    subst (λ (o : List (List ℕ)). IsFaultless (codes "run" ∷ file ∷ o)) (sym is) (budget_is_faultless file n f (is_word n free) in_range)
-run_is_faultless file options v f (with_picks l free is gives) =
-    subst (λ (o : List (List ℕ)). IsFaultless (codes "run" ∷ file ∷ o)) (sym is) (picks_are_faultless file l f (is_word l free))
-run_is_faultless file options v f (budget_then_picks n l free loose in_range is gives) =
-    subst (λ (o : List (List ℕ)). IsFaultless (codes "run" ∷ file ∷ o)) (sym is)
-    (budget_first_is_faultless file n l f (is_word n free) (is_word l loose) in_range)
-run_is_faultless file options v f (picks_then_budget l n free loose in_range is gives) =
-    subst (λ (o : List (List ℕ)). IsFaultless (codes "run" ∷ file ∷ o)) (sym is)
-    (picks_first_are_faultless file l n f (is_word l free) (is_word n loose) in_range)
+options_are_met : (t : WithTwo) (file : List ℕ) (options : List (List ℕ)) (v : Values) (found : Option (Option (List ℕ) × Option (List ℕ))) → IsWord file
+    → plain_pair (is_with_value (word_of t left) (takes t left)) (is_with_value (word_of t right) (takes t right)) options ≡ found
+    → option_map (values_of t) found ≡ Some v → IsMet (act_of t) file options v
+options_are_met t file options v None f is e = absurd (none-some v e)
+options_are_met t file options v (Some given) f is e =
+    subst (IsMet (act_of t) file options) (same_Some (values_of t given) v e)
+    (pair_is (word_of t left) (word_of t right) (takes t left) (takes t right) (MetWith t file) (pairs_are_met t file f) given options is)
 
-run_enters : (file : List ℕ) (options : List (List ℕ)) (v : Values) → IsWord file → HasValues options v
-    → Enters (codes "run" ∷ file ∷ options) (asked_of action.Run file v)
-run_enters file options v f (no_options is gives) =
-    ap (λ (o : List (List ℕ)). asked_in (subcommand_of program (codes "run" ∷ file ∷ o))) is ∙ alone_enters action.Run file f
-    ∙ ap (λ (v : Values). Some (asked_of action.Run file v)) (sym gives)
-run_enters file options v f (with_budget n free in_range is gives) =
-    ap (λ (o : List (List ℕ)). asked_in (subcommand_of program (codes "run" ∷ file ∷ o))) is ∙ budget_enters file n f (is_word n free)
-    ∙ ap (λ (v : Values). Some (asked_of action.Run file v)) (sym gives)
-run_enters file options v f (with_picks l free is gives) =
-    ap (λ (o : List (List ℕ)). asked_in (subcommand_of program (codes "run" ∷ file ∷ o))) is ∙ picks_enter file l f (is_word l free)
-    ∙ ap (λ (v : Values). Some (asked_of action.Run file v)) (sym gives)
-run_enters file options v f (budget_then_picks n l free loose in_range is gives) =
-    ap (λ (o : List (List ℕ)). asked_in (subcommand_of program (codes "run" ∷ file ∷ o))) is
-    ∙ budget_first_enters file n l f (is_word n free) (is_word l loose) in_range
-    ∙ ap (λ (v : Values). Some (asked_of action.Run file v)) (sym gives)
-run_enters file options v f (picks_then_budget l n free loose in_range is gives) =
-    ap (λ (o : List (List ℕ)). asked_in (subcommand_of program (codes "run" ∷ file ∷ o))) is
-    ∙ picks_first_enter file l n f (is_word l free) (is_word n loose)
-    ∙ ap (λ (v : Values). Some (asked_of action.Run file v)) (sym gives)
-
-faultless : (act : Action) (file : List ℕ) (options : List (List ℕ)) (v : Values) → IsWord file → HasOptions act options v
-    → IsFaultless (name_of act ∷ file ∷ options)
-faultless act file options v f (alone is gives) =
-    subst (λ (o : List (List ℕ)). IsFaultless (name_of act ∷ file ∷ o)) (sym is) (alone_is_faultless act file f)
-faultless act file options v f (of_run is has) =
-    subst (λ (a : Action). IsFaultless (name_of a ∷ file ∷ options)) (sym is) (run_is_faultless file options v f has)
-
-enters : (act : Action) (file : List ℕ) (options : List (List ℕ)) (v : Values) → IsWord file → HasOptions act options v
-    → Enters (name_of act ∷ file ∷ options) (asked_of act file v)
-enters act file options v f (alone is gives) =
-    ap (λ (o : List (List ℕ)). asked_in (subcommand_of program (name_of act ∷ file ∷ o))) is ∙ alone_enters act file f
-    ∙ ap (λ (v : Values). Some (asked_of act file v)) (sym gives)
-enters act file options v f (of_run is has) =
-    subst (λ (a : Action). Enters (name_of a ∷ file ∷ options) (asked_of a file v)) (sym is) (run_enters file options v f has)
+plain_is_met : (act : Action) (file : List ℕ) (options : List (List ℕ)) (v : Values) → IsWord file → plain_of act options ≡ Some v
+    → IsMet act file options v
+plain_is_met action.Run file options v f e = options_are_met runs file options v (plain_pair is_budget are_picks options) f refl e
+plain_is_met action.Serve file options v f e = options_are_met serves file options v (plain_pair is_budget are_connections options) f refl e
+plain_is_met action.Check file [] v f e = subst (IsMet action.Check file []) (same_Some no_values v e) (alone_is_met action.Check file f)
+plain_is_met action.Check file (word ∷ rest) v f e = absurd (none-some v e)
+plain_is_met action.Explain file [] v f e = subst (IsMet action.Explain file []) (same_Some no_values v e) (alone_is_met action.Explain file f)
+plain_is_met action.Explain file (word ∷ rest) v f e = absurd (none-some v e)
+plain_is_met action.Print file [] v f e = subst (IsMet action.Print file []) (same_Some no_values v e) (alone_is_met action.Print file f)
+plain_is_met action.Print file (word ∷ rest) v f e = absurd (none-some v e)
 
 -- ---- which words are plain
 
 -- each command of the table is called by its name
 table_names : Each (λ (c : CommandWords). c.name ≡ name_of c.action) commands
-table_names = (refl, (refl, (refl, (refl, tt))))
+table_names = (refl, (refl, (refl, (refl, (refl, tt)))))
 
 abbrev pub action_found : Option CommandWords → Option Action
 action_found = option_map (λ command. command.action)
@@ -405,8 +450,7 @@ name_is word a e = name_in word commands a table_names e
 
 record IsPlain (line : List (List ℕ)) (a : Asked) : Type 0 where
   options : List (List ℕ)
-  no_option : is_option a.file ≡ false
-  has : HasOptions a.action options a.values
+  met : IsMet a.action a.file options a.values
   is : line ≡ name_of a.action ∷ a.file ∷ options
 
 plain_with : (name file : List ℕ) (options : List (List ℕ)) (a : Asked) (act : Action) → is_option file ≡ false → action_of name ≡ Some act
@@ -416,8 +460,7 @@ plain_with name file options a act free is None has e = absurd (none-some a e)
 plain_with name file options a act free is (Some v) has e =
     subst (IsPlain (name ∷ file ∷ options)) (same_Some (asked_of act file v) a e) (record {
       options = options;
-      no_option = free;
-      has = has_options act options v has;
+      met = plain_is_met act file options v (is_word file free) has;
       is = ap (λ (word : List ℕ). word ∷ file ∷ options) (name_is name act is);
     })
 
@@ -437,13 +480,13 @@ pub plain_line_is_faultless : (line : List (List ℕ)) (a : Asked) → plain_ask
 plain_line_is_faultless line a e =
     let is = plain_is line a e in
     subst (λ (words : List (List ℕ)). fault_of program words ≡ []) (sym is.is)
-    (faultless a.action a.file is.options a.values (is_word a.file is.no_option) is.has)
+    is.met.faultless
 
 pub plain_line_enters : (line : List (List ℕ)) (a : Asked) → plain_asked line ≡ Some a → asked_in (subcommand_of program line) ≡ Some a
 plain_line_enters line a e =
     let is = plain_is line a e in
     subst (λ (words : List (List ℕ)). asked_in (subcommand_of program words) ≡ Some a) (sym is.is)
-    (enters a.action a.file is.options a.values (is_word a.file is.no_option) is.has)
+    is.met.enters
 
 -- ---- the command of plain words
 

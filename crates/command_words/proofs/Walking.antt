@@ -1,13 +1,13 @@
 -- A line is walked over word by word: first the name of a command, and behind it what is the command's own.
-use Rattle.std.specs.Prelude.{◌≡◌, Bool, true, false, List, [], ◌∷◌, ◌++◌, Option, Some, None, is_some, if◌then◌else◌, option_map, unwrap_or, find, fold, refl}
+use Rattle.std.specs.Prelude.{◌≡◌, Bool, true, false, List, [], ◌∷◌, ◌++◌, Option, Some, is_some, if◌then◌else◌, unwrap_or, find, fold, refl}
 use Rattle.std.proofs.Common.{◌∙◌, ap, ap₂, sym, append_assoc, append-nil}
-use Rattle.clap.specs.Walk.{Held, Names, Rule, Text, Walk, answers_to, finished, nothing_held, rows_after, settled, walk, walk_from, walked, walked_from}
+use Rattle.clap.specs.Walk.{Held, Names, Text, Walk, answers_to, finished, nothing_held, rows_after, settled, walk, walk_from, walked, walked_from}
 use Rattle.clap.specs.Simple.{Shape, built, entered, label_of, names_of}
 use Rattle.clap.specs.Kinds.{Kinds, or_else}
 use Rattle.clap.specs.Faults.{check_fault, defaults_fault, entered_fault, level_fault, settle_fault, turn_fault, walk_fault}
 use Rattle.clap.specs.Words.{fault_of, subcommand_of}
 use Rattle.command_words.specs.Grammar.{program}
-use Rattle.command_words.specs.Usage.{Asked, asked_in, file_in, name_of, values_in, with_file}
+use Rattle.command_words.specs.Usage.{asked_in, file_in, name_of, values_in, with_file}
 use Rattle.command_words.specs.declared.table.Action.{Action}
 use Rattle.command_words.specs.declared.table.Action.TheVariants as action
 
@@ -94,12 +94,14 @@ name_is_met action.Check = refl
 name_is_met action.Explain = refl
 name_is_met action.Print = refl
 name_is_met action.Run = refl
+name_is_met action.Serve = refl
 
 name_is_faultless : (act : Action) → turn_fault top all_names (walk_from nothing_held) (name_of act) ≡ []
 name_is_faultless action.Check = refl
 name_is_faultless action.Explain = refl
 name_is_faultless action.Print = refl
 name_is_faultless action.Run = refl
+name_is_faultless action.Serve = refl
 
 line_is_walked : (act : Action) (words : List Text) → walk top.rules all_names nothing_held (name_of act ∷ words) ≡ at_name (name_of act) words
 line_is_walked act words =
@@ -125,6 +127,7 @@ below_is_faultless action.Check words none = ap (λ (k : Kinds). or_else k (end_
 below_is_faultless action.Explain words none = ap (λ (k : Kinds). or_else k (end_fault top nothing_held true)) none
 below_is_faultless action.Print words none = ap (λ (k : Kinds). or_else k (end_fault top nothing_held true)) none
 below_is_faultless action.Run words none = ap (λ (k : Kinds). or_else k (end_fault top nothing_held true)) none
+below_is_faultless action.Serve words none = ap (λ (k : Kinds). or_else k (end_fault top nothing_held true)) none
 
 -- a line whose words the command takes has no fault
 pub line_is_faultless : (act : Action) (words : List Text) (end : Walk) → Goes (command_shape act) (walk_from nothing_held) words end
@@ -141,6 +144,7 @@ rows_enter action.Check words = refl
 rows_enter action.Explain words = refl
 rows_enter action.Print words = refl
 rows_enter action.Run words = refl
+rows_enter action.Serve words = refl
 
 pub line_enters : (act : Action) (words : List Text) (end : Walk) → Goes (command_shape act) (walk_from nothing_held) words end
     → asked_in (subcommand_of program (name_of act ∷ words))

@@ -1,5 +1,5 @@
 -- What is understood of words, from what the parser makes of them.
-use Rattle.std.specs.Prelude.{◌≡◌, ◌≤◌, ℕ, Bool, true, false, List, [], ◌∷◌, Option, Some, None, option_map, if◌then◌else◌, codes, find, refl, IfSome, IsSome, is_some, Contains}
+use Rattle.std.specs.Prelude.{◌≡◌, ◌≤◌, ℕ, Bool, true, false, List, [], Option, Some, None, option_map, if◌then◌else◌, codes, find, refl, IfSome, IsSome, is_some, Contains}
 use Rattle.std.specs.Str.Parse.{digits_value, without_leading_plus}
 use Rattle.std.specs.List.{AllByRecursion as Each}
 use Rattle.std.proofs.Common.{◌∙◌, ap, sym, subst, inl, inr, arith}
@@ -16,8 +16,8 @@ use Rattle.clap.specs.declared.error.kind.ErrorKind.{ErrorKind}
 use Rattle.clap.specs.declared.error.kind.ErrorKind.TheVariants as kind
 use Rattle.command_words.specs.Grammar.{program}
 use Rattle.command_words.specs.Said.{IsFound, IsToldOf, command_in}
-use Rattle.command_words.specs.Numbers.{budget_of, most_events}
-use Rattle.command_words.specs.Usage.{Asked, IsCaused, IsUnderstood, Values, action_of, asked_in, budget_by, command_of, file_in, name_of, picks_by, said_by, values_in, with_file}
+use Rattle.command_words.specs.Numbers.{most_connections, most_events}
+use Rattle.command_words.specs.Usage.{Asked, IsCaused, IsUnderstood, Values, action_of, asked_in, budget_by, command_of, command_with, connections_by, file_in, name_of, number_by, picks_by, values_in, with_file}
 use Rattle.command_words.specs.Usage as usage
 use Rattle.command_words.specs.declared.table.Action.{Action}
 use Rattle.command_words.specs.declared.words.Command.{Command}
@@ -73,34 +73,34 @@ line_has_asked line a e = line_comes (Contains line) line a (recursion_from_All 
 
 -- ---- a command that was asked for
 
--- a budget is one from 1 to the most events
-budget_within : (text : List ℕ) (b : Bool) → is_unsigned_in 1 most_events text ≡ b
-    → (1 ≤ (if b then digits_value 10 (without_leading_plus text) else most_events))
-    × ((if b then digits_value 10 (without_leading_plus text) else most_events) ≤ most_events)
-budget_within text true is = let has = accepts-Accepts false (parser.Unsigned 1 most_events) text is in (has.2, has.3)
-budget_within text false is = (omega arith, omega arith)
+-- the number of an option is one from 1 to the most
+module _ (most : ℕ) (some : 1 ≤ most) where
+  number_within : (text : List ℕ) (b : Bool) → is_unsigned_in 1 most text ≡ b
+      → (1 ≤ (if b then digits_value 10 (without_leading_plus text) else most))
+      × ((if b then digits_value 10 (without_leading_plus text) else most) ≤ most)
+  number_within text true is = let has = accepts-Accepts false (parser.Unsigned 1 most) text is in (has.2, has.3)
+  number_within text false is = (some, omega arith)
 
-budget_in_range : (given : Option (List ℕ)) → (1 ≤ budget_by given) × (budget_by given ≤ most_events)
-budget_in_range None = (omega arith, omega arith)
-budget_in_range (Some text) = budget_within text (is_unsigned_in 1 most_events text) refl
+  number_in_range : (given : Option (List ℕ)) → (1 ≤ number_by most given) × (number_by most given ≤ most)
+  number_in_range None = (some, omega arith)
+  number_in_range (Some text) = number_within text (is_unsigned_in 1 most text) refl
 
--- it has the action, the file and the budget that were asked for
+-- it has the action, the file and the numbers that were asked for
 record IsMade (a : Asked) (c : Command) : Type 0 where
   by_action : a.action ≡ c.action
   of_file : a.file ≡ c.file
   budget : budget_by a.values.budget ≡ c.budget
+  connections : connections_by a.values.connections ≡ c.connections
 
-made_by : (a : Asked) (c : Command) (picks : Option (List ℕ))
-    → option_map (λ picks. record { action = a.action; file = a.file; budget = budget_by a.values.budget; picks = picks }) picks ≡ Some c
-    → IsMade a c
+made_by : (a : Asked) (c : Command) (picks : Option (List ℕ)) → option_map (command_with a) picks ≡ Some c → IsMade a c
 made_by a c None e = absurd (none-some c e)
 made_by a c (Some picks) e =
-    let made : Command = record { action = a.action; file = a.file; budget = budget_by a.values.budget; picks = picks } in
-    let same = same_Some made c e in
+    let same = same_Some (command_with a picks) c e in
     record {
       by_action = ap (λ (c : Command). c.action) same;
       of_file = ap (λ (c : Command). c.file) same;
       budget = ap (λ (c : Command). c.budget) same;
+      connections = ap (λ (c : Command). c.connections) same;
     }
 
 made_of : (a : Asked) (c : Command) → command_of a ≡ Some c → IsMade a c
@@ -127,7 +127,9 @@ said_command line a c none is made_so =
       by_name = λ d said. subst (λ (act : Action). Contains line (name_of act)) (made.by_action ∙ ap (λ (c : Command). c.action) (same_command c d said)) has.0;
       of_file = λ d said. subst (λ (file : List ℕ). Contains line file) (made.of_file ∙ ap (λ (c : Command). c.file) (same_command c d said)) has.1;
       budget = λ d said. subst (λ (n : ℕ). (1 ≤ n) × (n ≤ most_events)) (made.budget ∙ ap (λ (c : Command). c.budget) (same_command c d said))
-          (budget_in_range a.values.budget);
+          (number_in_range most_events (omega arith) a.values.budget);
+      connections = λ d said. subst (λ (n : ℕ). (1 ≤ n) × (n ≤ most_connections)) (made.connections ∙ ap (λ (c : Command). c.connections) (same_command c d said))
+          (number_in_range most_connections (omega arith) a.values.connections);
     }
 
 -- something else, of words that are no plain ones
@@ -139,6 +141,7 @@ said_otherwise line said none why not_plain = record {
   by_name = λ c is. absurd (none-some c (sym none ∙ ap command_in is));
   of_file = λ c is. absurd (none-some c (sym none ∙ ap command_in is));
   budget = λ c is. absurd (none-some c (sym none ∙ ap command_in is));
+  connections = λ c is. absurd (none-some c (sym none ∙ ap command_in is));
 }
 
 -- what is said of what was asked for

@@ -10,10 +10,14 @@ use Rattle.clap.specs.ValueTests.{is_unsigned_in}
 abbrev pub most_events : ℕ
 most_events = 10000
 
--- the number of a budget, from 1 to the most events; `clap` lets no other text through
-abbrev pub budget_of : List ℕ → ℕ
-budget_of text =
-    if is_unsigned_in 1 most_events text then digits_value 10 (without_leading_plus text) else most_events
+-- the most connections that are accepted
+abbrev pub most_connections : ℕ
+most_connections = 65536
+
+-- the number that a text writes, where it is from 1 to the most; `clap` lets no other text through
+abbrev pub number_of : ℕ → List ℕ → ℕ
+number_of most text =
+    if is_unsigned_in 1 most text then digits_value 10 (without_leading_plus text) else most
 
 -- ---- picks
 

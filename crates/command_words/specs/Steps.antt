@@ -1,12 +1,11 @@
 -- These definitions serve the proofs alone: no promise speaks of them.
--- How the number of a budget and a list are read.
+-- How the number of an option and a list are read.
 use Rattle.std.specs.Prelude.{ℕ, ◌+◌, ◌*◌, ◌^◌, ◌&&◌, nat_le, nat_lt, Option, Some, None, if◌then◌else◌}
 use Rattle.std.specs.Char.{digit_value, is_ascii_digit}
-use Rattle.command_words.specs.Numbers.{most_events}
 
--- the number where it is a budget, else the most
-abbrev pub within : ℕ → ℕ
-within number = if nat_lt 0 number && nat_le number most_events then number else most_events
+-- the number where it is from 1 to the most, else the most
+abbrev pub within : ℕ → ℕ → ℕ
+within number most = if nat_lt 0 number && nat_le number most then number else most
 
 -- the number with one digit more, where the byte is a digit and 32 bits hold it
 abbrev pub longer : ℕ → ℕ → Option ℕ

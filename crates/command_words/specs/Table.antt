@@ -1,5 +1,6 @@
 -- The commands of the program, as a table.
 use Rattle.std.specs.Prelude.{ℕ, List, [], ◌∷◌, codes}
+use Rattle.command_words.specs.Numbers.{most_connections, most_events}
 use Rattle.command_words.specs.declared.table.Action.{Action}
 use Rattle.command_words.specs.declared.table.Action.TheVariants as action
 use Rattle.command_words.specs.declared.table.Takes.{Takes}
@@ -17,12 +18,17 @@ pub record CommandWords : Type 0 where
   pub operands : List (List ℕ)
   pub options : List OptionWords
 
+-- how many events a session may have
+abbrev pub budget_option : OptionWords
+budget_option = record { name = codes "budget"; takes = takes.Number 1 most_events }
+
 -- the options of a run
 abbrev pub run_options : List OptionWords
-run_options =
-    record { name = codes "budget"; takes = takes.Number 1 10000 }
-    ∷ record { name = codes "picks"; takes = takes.List }
-    ∷ []
+run_options = budget_option ∷ record { name = codes "picks"; takes = takes.List } ∷ []
+
+-- the options of a service that is served
+abbrev pub serve_options : List OptionWords
+serve_options = budget_option ∷ record { name = codes "connections"; takes = takes.Number 1 most_connections } ∷ []
 
 -- the commands
 abbrev pub commands : List CommandWords
@@ -31,4 +37,5 @@ commands =
     ∷ record { action = action.Explain; name = codes "explain"; operands = codes "FILE" ∷ []; options = [] }
     ∷ record { action = action.Print; name = codes "print"; operands = codes "FILE" ∷ []; options = [] }
     ∷ record { action = action.Run; name = codes "run"; operands = codes "FILE" ∷ []; options = run_options }
+    ∷ record { action = action.Serve; name = codes "serve"; operands = codes "FILE" ∷ []; options = serve_options }
     ∷ []

@@ -10,7 +10,7 @@ use Rattle.clap.specs.Words.{IsAmong, Row, fault_of, first_of, subcommand_of}
 use Rattle.clap.specs.declared.error.kind.ErrorKind.{ErrorKind}
 use Rattle.clap.specs.declared.error.kind.ErrorKind.TheVariants as kind
 use Rattle.command_words.specs.Grammar.{program}
-use Rattle.command_words.specs.Numbers.{budget_of, most_events, picks_of}
+use Rattle.command_words.specs.Numbers.{most_connections, most_events, number_of, picks_of}
 use Rattle.command_words.specs.Table.{CommandWords, commands}
 use Rattle.command_words.specs.declared.table.Action.{Action}
 use Rattle.command_words.specs.declared.table.Action.TheVariants as action
@@ -30,6 +30,7 @@ name_of action.Check = codes "check"
 name_of action.Explain = codes "explain"
 name_of action.Print = codes "print"
 name_of action.Run = codes "run"
+name_of action.Serve = codes "serve"
 
 -- the command of that name in a table
 abbrev pub action_in : List CommandWords → List ℕ → Option Action
@@ -43,14 +44,19 @@ action_of = action_in commands
 abbrev pub file_in : List Row → Option (List ℕ)
 file_in = first_of (codes "FILE")
 
--- what the options of a run were given, as texts
+-- what the options of a command were given, as texts
 pub record Values : Type 0 where
   pub budget : Option (List ℕ)
   pub list : Option (List ℕ)
+  pub connections : Option (List ℕ)
 
 -- the values of options among what was found
 abbrev pub values_in : List Row → Values
-values_in rows = record { budget = first_of (codes "budget") rows; list = first_of (codes "picks") rows }
+values_in rows = record {
+  budget = first_of (codes "budget") rows;
+  list = first_of (codes "picks") rows;
+  connections = first_of (codes "connections") rows;
+}
 
 -- what was asked for: a command over its FILE, with what its options were given
 pub record Asked : Type 0 where
@@ -67,19 +73,35 @@ with_file asked file values =
 abbrev pub asked_in : Option (List ℕ × List Row) → Option Asked
 asked_in = option_and_then (λ entered. with_file (action_of entered.0) (file_in entered.1) (values_in entered.1))
 
+-- the number that an option was given, or the most where it was given none
+abbrev pub number_by : ℕ → Option (List ℕ) → ℕ
+number_by most given = option_map_or (number_of most) given most
+
 -- how many events a session may have: the budget that was given, or the most
 abbrev pub budget_by : Option (List ℕ) → ℕ
-budget_by given = option_map_or budget_of given most_events
+budget_by = number_by most_events
+
+-- how many connections are accepted: the number that was given, or the most
+abbrev pub connections_by : Option (List ℕ) → ℕ
+connections_by = number_by most_connections
 
 -- the picks, where the LIST that was given is one; none where none was given
 abbrev pub picks_by : Option (List ℕ) → Option (List ℕ)
 picks_by given = elim given [ None ↦ Some [] | Some list ↦ picks_of list ]
 
+-- the command that was asked for, with these picks
+abbrev pub command_with : Asked → List ℕ → Command
+command_with a picks = record {
+  action = a.action;
+  file = a.file;
+  budget = budget_by a.values.budget;
+  picks = picks;
+  connections = connections_by a.values.connections;
+}
+
 -- the command that was asked for, where its LIST is one
 abbrev pub command_of : Asked → Option Command
-command_of a =
-    option_map (λ picks. record { action = a.action; file = a.file; budget = budget_by a.values.budget; picks = picks })
-    (picks_by a.values.list)
+command_of a = option_map (command_with a) (picks_by a.values.list)
 
 -- what is said then: the command, or that its LIST is none
 abbrev pub said_by : Asked → Words
@@ -92,34 +114,50 @@ abbrev pub is_option : List ℕ → Bool
 is_option [] = false
 is_option (b ∷ bs) = b == 45
 
+-- the word is this option, and the one behind it is no option and one of the values that it takes
+abbrev pub is_with_value : List ℕ → (List ℕ → Bool) → List ℕ → List ℕ → Bool
+is_with_value option takes word value = bytes_eq word option && (not (is_option value) && takes value)
+
 -- the word begins a budget, and the one behind it is its number
 abbrev pub is_budget : List ℕ → List ℕ → Bool
-is_budget word value =
-    bytes_eq word (codes "--budget") && (not (is_option value) && is_unsigned_in 1 most_events value)
+is_budget = is_with_value (codes "--budget") (is_unsigned_in 1 most_events)
 
 -- the word begins picks, and the one behind it is their LIST
 abbrev pub are_picks : List ℕ → List ℕ → Bool
-are_picks word list = bytes_eq word (codes "--picks") && (not (is_option list) && is_some (picks_of list))
+are_picks = is_with_value (codes "--picks") (λ list. is_some (picks_of list))
 
--- the values of options of a run in their plain form, each at most once and in any order
-abbrev pub plain_values : List (List ℕ) → Option Values
-plain_values [] = Some (record { budget = None; list = None })
-plain_values (word ∷ []) = None
-plain_values (word ∷ value ∷ []) =
-    if is_budget word value then Some (record { budget = Some value; list = None })
-    else if are_picks word value then Some (record { budget = None; list = Some value })
-    else None
-plain_values (word ∷ value ∷ other ∷ []) = None
-plain_values (word ∷ value ∷ other ∷ last ∷ []) =
-    if is_budget word value && are_picks other last then Some (record { budget = Some value; list = Some last })
-    else if are_picks word value && is_budget other last then Some (record { budget = Some last; list = Some value })
-    else None
-plain_values (word ∷ value ∷ other ∷ last ∷ more ∷ rest) = None
+-- the word begins a number of connections, and the one behind it is that number
+abbrev pub are_connections : List ℕ → List ℕ → Bool
+are_connections = is_with_value (codes "--connections") (is_unsigned_in 1 most_connections)
 
--- the values of options of a command: of a run alone there are some
+-- the values of two options in their plain form, each at most once and in any order, by what each looks like
+abbrev pub plain_pair : (List ℕ → List ℕ → Bool) → (List ℕ → List ℕ → Bool) → List (List ℕ)
+    → Option (Option (List ℕ) × Option (List ℕ))
+plain_pair is_first is_second [] = Some (None, None)
+plain_pair is_first is_second (word ∷ []) = None
+plain_pair is_first is_second (word ∷ value ∷ []) =
+    if is_first word value then Some (Some value, None)
+    else if is_second word value then Some (None, Some value)
+    else None
+plain_pair is_first is_second (word ∷ value ∷ other ∷ []) = None
+plain_pair is_first is_second (word ∷ value ∷ other ∷ last ∷ []) =
+    if is_first word value && is_second other last then Some (Some value, Some last)
+    else if is_second word value && is_first other last then Some (Some last, Some value)
+    else None
+plain_pair is_first is_second (word ∷ value ∷ other ∷ last ∷ more ∷ rest) = None
+
+-- no option was given
+abbrev pub no_values : Values
+no_values = record { budget = None; list = None; connections = None }
+
+-- the values of options of a command: of a run and of a service that is served there are some
 abbrev pub plain_of : Action → List (List ℕ) → Option Values
-plain_of action.Run options = plain_values options
-plain_of other [] = Some (record { budget = None; list = None })
+plain_of action.Run options =
+    option_map (λ given. record no_values { budget = given.0; list = given.1 }) (plain_pair is_budget are_picks options)
+plain_of action.Serve options =
+    option_map (λ given. record no_values { budget = given.0; connections = given.1 })
+    (plain_pair is_budget are_connections options)
+plain_of other [] = Some no_values
 plain_of other (word ∷ rest) = None
 
 -- what words in their plain form ask for: a command by its name, one FILE, which is no option, and its options
@@ -152,10 +190,12 @@ pub data IsCaused (line : List (List ℕ)) : Words → Type 0 where
       → k ≢ kind.DisplayHelp → k ≢ kind.DisplayVersion → IsCaused line (words.UsageError text)
 
 -- What was understood of the words: what is said has its cause, plain words ask for their command, a command has its
--- name and its file from the words, and a session of it may have from one event to the most.
+-- name and its file from the words, a session of it may have from one event to the most, and from one connection to
+-- the most are accepted.
 pub record IsUnderstood (line : List (List ℕ)) (said : Words) : Type 0 where
   pub cause : IsCaused line said
   pub plainly : (c : Command) → plain line ≡ Some c → said ≡ words.Command c
   pub by_name : (c : Command) → said ≡ words.Command c → Contains line (name_of c.action)
   pub of_file : (c : Command) → said ≡ words.Command c → Contains line c.file
   pub budget : (c : Command) → said ≡ words.Command c → (1 ≤ c.budget) × (c.budget ≤ most_events)
+  pub connections : (c : Command) → said ≡ words.Command c → (1 ≤ c.connections) × (c.connections ≤ most_connections)

@@ -3,9 +3,9 @@
 ghost use Rattle.std.specs.Prelude.{◌≡◌, IfOk, codes, map, option_map};
 ghost use Rattle.clap.specs.Words.{first_of, found_of, rows_of, subcommand_rows_of};
 ghost use Rattle.command_words.specs.Rows.{command_words};
-ghost use Rattle.command_words.specs.Usage.{action_in, action_of, asked_in, budget_by, file_in, picks_by, said_by};
+ghost use Rattle.command_words.specs.Usage.{action_in, action_of, asked_in, file_in, number_by, picks_by, said_by};
 
-use crate::numbers::{MOST_EVENTS, budget_of, picks_of};
+use crate::numbers::{MOST_CONNECTIONS, MOST_EVENTS, number_of, picks_of};
 use crate::table::{Action, COMMANDS, CommandRow};
 use crate::words::{Command, Words};
 use clap::ArgMatches;
@@ -32,13 +32,15 @@ pub fn words_found(alloc: Global, matches: &ArgMatches<'_>) -> Result<Option<Wor
     let Some(picks) = picks_given(alloc, given)? else {
         return Ok(Some(Words::UsageError(Text::new(alloc, NO_LIST)?)));
     };
-    let budget = budget_given(given);
+    let budget = number_given(given, "budget", MOST_EVENTS);
+    let connections = number_given(given, "connections", MOST_CONNECTIONS);
     let file = Text::new(alloc, file)?;
     Ok(Some(Words::Command(Command {
         action,
         file,
         budget,
         picks,
+        connections,
     })))
 }
 
@@ -49,13 +51,13 @@ fn file_given<'a>(given: &ArgMatches<'a>) -> Option<&'a str>
     given.get_str("FILE")
 }
 
-/// How many events a session may have.
-fn budget_given(given: &ArgMatches<'_>) -> u32
-    ensures { result ≡ budget_by (first_of (codes "budget") (rows_of (found_of given.now))) }
+/// The number that the option of that name was given, or the most.
+fn number_given(given: &ArgMatches<'_>, name: &str, most: u32) -> u32
+    ensures { result ≡ number_by most (first_of name.now (rows_of (found_of given.now))) }
 {
-    match given.get_str("budget") {
-        Some(text) => budget_of(text),
-        None => MOST_EVENTS,
+    match given.get_str(name) {
+        Some(text) => number_of(text, most),
+        None => most,
     }
 }
 

@@ -10,22 +10,25 @@ use std::alloc::{AllocError, Global};
 /// The most events that a session may have.
 pub const MOST_EVENTS: u32 = 10_000;
 
-/// The budget that a text writes, which the parser let through.
-pub fn budget_of(text: &str) -> u32
-    ensures { result ≡ spec.budget_of text.now }
+/// The most connections that are accepted.
+pub const MOST_CONNECTIONS: u32 = 65_536;
+
+/// The number from 1 to the most that a text writes, which the parser let through.
+pub fn number_of(text: &str, most: u32) -> u32
+    ensures { result ≡ spec.number_of most text.now }
 {
     match text.parse::<u32>() {
-        Ok(number) => within(number),
-        Err(_) => MOST_EVENTS,
+        Ok(number) => within(number, most),
+        Err(_) => most,
     }
 }
 
-/// The number where it is a budget, else the most.
-fn within(number: u32) -> u32
-    ensures { result ≡ steps.within number }
+/// The number where it is from 1 to the most, else the most.
+fn within(number: u32, most: u32) -> u32
+    ensures { result ≡ steps.within number most }
 {
-    if number == 0 || number > MOST_EVENTS {
-        return MOST_EVENTS;
+    if number == 0 || number > most {
+        return most;
     }
     number
 }

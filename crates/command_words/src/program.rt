@@ -28,7 +28,7 @@ fn bare_program<'a>(alloc: Global) -> Result<Command<'a>, AllocError>
 {
     Command::new(alloc, "roqsulei")
         .version(VERSION)
-        .about("Checks, prints and runs services written in Jolie")
+        .about("Checks, prints, runs and serves services written in Jolie")
         .after_help(MEANINGS)
         .no_binary_name(true)
         .subcommand_required(true)

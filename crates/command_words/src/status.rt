@@ -21,6 +21,9 @@ pub const OUTPUT_FAILED: u8 = 5;
 /// A session used its whole budget of events and could act all the same.
 pub const BUDGET_USED: u8 = 6;
 
+/// A location could not be listened at, or its door failed.
+pub const DOORS_FAILED: u8 = 7;
+
 /// Memory ran out: what the program makes of an error of `run`.
 pub const OUT_OF_MEMORY: u8 = 9;
 
@@ -33,4 +36,5 @@ pub const MEANINGS: &str = "Status:
   4  the input failed
   5  the output or the notes failed
   6  a session used its whole budget and could act all the same
+  7  a location could not be listened at, or its door failed
   9  out of memory";

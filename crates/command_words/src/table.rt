@@ -7,6 +7,7 @@ pub enum Action {
     Explain,
     Print,
     Run,
+    Serve,
 }
 
 /// An operand of a command, which has to be given.
@@ -66,8 +67,18 @@ const PICKS: OptionRow = OptionRow {
     takes: Takes::List,
 };
 
+/// How many connections are accepted.
+const CONNECTIONS: OptionRow = OptionRow {
+    name: "connections",
+    help: "The most connections that are accepted, from 1 to 65536; without it 65536",
+    takes: Takes::Number {
+        least: 1,
+        most: 65_536,
+    },
+};
+
 /// The commands.
-pub static COMMANDS: [CommandRow; 4] = [
+pub static COMMANDS: [CommandRow; 5] = [
     CommandRow {
         action: Action::Check,
         name: "check",
@@ -95,5 +106,12 @@ pub static COMMANDS: [CommandRow; 4] = [
         about: "Runs the services of FILE over lines of JSON-RPC from the standard input",
         operands: &[FILE],
         options: &[BUDGET, PICKS],
+    },
+    CommandRow {
+        action: Action::Serve,
+        name: "serve",
+        about: "Serves FILE over HTTP at the locations of its input ports",
+        operands: &[FILE],
+        options: &[BUDGET, CONNECTIONS],
     },
 ];

@@ -15,13 +15,15 @@ use jolie_trees::Text;
 use sqlite_items::Items;
 use std::alloc::{AllocError, Global};
 
-/// A command and its FILE; and of a run how many events a session may have, and where its turns begin to look.
+/// A command and its FILE; how many events a session may have, where the turns of a run begin to look, and how many
+/// connections a service that is served accepts.
 #[derive(Debug, Drop)]
 pub struct Command {
     pub action: Action,
     pub file: Text,
     pub budget: u32,
     pub picks: Items<u32>,
+    pub connections: u32,
 }
 
 /// What the words of the command line say.

@@ -7,10 +7,12 @@ use Rattle.jolie_ast.specs.Printed.{printed_text}
 use Rattle.behaviour_tree.specs.Data.{ProgramParts}
 use Rattle.behaviour_tree.specs.PartsView.{parts_of}
 use Rattle.behaviour_tree.specs.declared.program.Program.{Program}
-use Rattle.office_core.specs.Limits.{run_of}
 use Rattle.outside_links.specs.Trips.{Made}
 use Rattle.line_front.specs.Writing.{Taking}
 use Rattle.line_run.specs.declared.run.Ended.{Ended}
+use Rattle.http_connection.specs.Seen.{Line}
+use Rattle.door_run.specs.Used.{DoorsTold}
+use Rattle.door_run.specs.Doored.{task as doors_task, IsDoored}
 use Rattle.line_run.specs.Lined.{Giving, Outside as Lines, outside as lines, task, IsLined}
 use Rattle.command_words.specs.declared.table.Action.{Action}
 use Rattle.command_words.specs.declared.table.Action.TheVariants as action
@@ -23,10 +25,10 @@ use Rattle.file_verdicts.specs.declared.verdict.Verdict.{Verdict}
 use Rattle.file_verdicts.specs.declared.verdict.Verdict.TheVariants as verdict
 use Rattle.file_verdicts.specs.Programs.{IsChecked, IsProgram, IsUncheckedBy}
 use Rattle.file_verdicts.specs.RefusalLines.{IsVerdict, refusal_line}
-use Rattle.jolie_main.specs.Outside.{Outside, outside, program_bytes, FirstTravelled, IsSaid, IsWritten}
+use Rattle.jolie_main.specs.Outside.{outside, Around, around, at_doors, program_bytes, IsSaid, IsWritten}
 use Rattle.outside_traits.specs.Causes.{Rose}
 use Rattle.explain_text.specs.Explained.{unreadable_line, IsExplained}
-use Rattle.jolie_main.specs.Headline.{Says, Checks, Explains, Prints, Runs, ShowsAlone, IsEmptyRecord, Does, Obeys, Promises, TellsOfFile}
+use Rattle.jolie_main.specs.Headline.{Says, Checks, Explains, Prints, Runs, Serves, HasTravelled, IsTurnedDown, ShowsAlone, IsEmptyRecord, Obeys, Promises, TellsOfFile}
 use Rattle.jolie_main.specs.Headline as headline
 
 -- ---- a text
@@ -91,121 +93,208 @@ pub explained_so : (file text lines : List ℕ) (found : Option Refusal) (refusa
 explained_so file text lines found refusal status before now right is told stands written =
     headline.unchecked refusal lines (subst (λ x. IsFoundRefused text x) is right) told stands written
 
--- ---- a run
+-- ---- a run, and a service that is served
+
+-- what a text comes to that was found to be no program
+turned_down : (text : List ℕ) (found : Result Program Refusal) (refusal : Refusal) (ended : Ended) (a : Around)
+    → IsFound text found → found ≡ Err refusal → ended.status ≡ 3
+    → IsWritten (refusal_line refusal) a.before.lines.output a.now.lines.output → ShowsAlone ended a
+    → IsTurnedDown text ended a
+turned_down text found refusal ended a right is status written alone = record {
+  line = refusal_line refusal;
+  why = subst (λ x. IsFound text x) is right;
+  status = status;
+  written = written;
+  alone = alone;
+}
 
 -- a program runs
 pub ran : (c : Command) (text : List ℕ) (found : Result Program Refusal) (program : Program) (r : Result Ended AllocError)
-    (before now : Outside) → IsFound text found → found ≡ Ok program
-    → IfOk r (IsLined (task (parts_of program) text c.budget c.picks) before.lines now.lines)
-    → IfOk r (λ ended. FirstTravelled (run_of (parts_of program)) ended.report.history.entries.items before.trips now.trips)
-    → IfOk r (λ ended. Runs c text ended before now)
-ran c text found program (Ok ended) before now right is lined travelled =
-    headline.ran (parts_of program) (subst (λ x. IsFound text x) is right) lined travelled
-ran c text found program (Err e) before now right is lined travelled = tt
+    (a : Around) → IsFound text found → found ≡ Ok program
+    → IfOk r (IsLined (task (parts_of program) text c.budget c.picks) a.before.lines a.now.lines)
+    → a.now.doors ≡ a.before.doors → IfOk r (λ ended. HasTravelled (parts_of program) ended a)
+    → IfOk r (λ ended. Runs c text ended a)
+ran c text found program (Ok ended) a right is lined doors travelled =
+    headline.ran (parts_of program) (subst (λ x. IsFound text x) is right) lined doors travelled
+ran c text found program (Err e) a right is lined doors travelled = tt
 
 -- and another text is refused
 pub not_run : (c : Command) (text : List ℕ) (found : Result Program Refusal) (refusal : Refusal) (r : Result Ended AllocError)
-    (file_faults : ℕ) (source : Giving) (output output_now notes : Taking) (trips : List (Option (List Made)))
+    (file_faults : ℕ) (source : Giving) (output output_now notes : Taking) (doors : DoorsTold) (trips : List (Option (List Made)))
     → IsFound text found → found ≡ Err refusal → IfOk r (λ ended. ended.status ≡ 3)
     → IfOk r (λ ended. IsWritten (refusal_line refusal) output output_now) → IfOk r (λ ended. IsEmptyRecord ended.report)
     → IfOk r (λ ended. Runs c text ended
-    (outside file_faults (lines source output notes) trips) (outside file_faults (lines source output_now notes) trips))
-not_run c text found refusal (Ok ended) file_faults source output output_now notes trips right is status written empty =
-    headline.refused (refusal_line refusal) (subst (λ x. IsFound text x) is right) status written
-    (record { empty = empty; input = refl; notes = refl; trips = refl })
-not_run c text found refusal (Err e) file_faults source output output_now notes trips right is status written empty = tt
+    (around (outside file_faults (lines source output notes) doors trips) (outside file_faults (lines source output_now notes) doors trips)))
+not_run c text found refusal (Ok ended) file_faults source output output_now notes doors trips right is status written empty =
+    headline.refused (turned_down text found refusal ended
+    (around (outside file_faults (lines source output notes) doors trips) (outside file_faults (lines source output_now notes) doors trips))
+    right is status written (record { empty = empty; input = refl; notes = refl; doors = refl; trips = refl }))
+not_run c text found refusal (Err e) file_faults source output output_now notes doors trips right is status written empty = tt
+
+-- a program is served
+pub served : (IsMade : Line → Type 0) (c : Command) (text : List ℕ) (found : Result Program Refusal) (program : Program)
+    (r : Result Ended AllocError) (a : Around) → IsFound text found → found ≡ Ok program
+    → IfOk r (IsDoored IsMade (doors_task (parts_of program) text c.budget c.connections) (at_doors a.before) (at_doors a.now))
+    → a.now.lines.source ≡ a.before.lines.source → a.now.lines.output ≡ a.before.lines.output
+    → IfOk r (λ ended. HasTravelled (parts_of program) ended a) → IfOk r (λ ended. Serves IsMade c text ended a)
+served IsMade c text found program (Ok ended) a right is doored source output travelled =
+    headline.served (parts_of program) (subst (λ x. IsFound text x) is right) doored source output travelled
+served IsMade c text found program (Err e) a right is doored source output travelled = tt
+
+-- and another text is refused
+pub not_served : (IsMade : Line → Type 0) (c : Command) (text : List ℕ) (found : Result Program Refusal) (refusal : Refusal)
+    (r : Result Ended AllocError) (file_faults : ℕ) (source : Giving) (output output_now notes : Taking) (doors : DoorsTold)
+    (trips : List (Option (List Made))) → IsFound text found → found ≡ Err refusal → IfOk r (λ ended. ended.status ≡ 3)
+    → IfOk r (λ ended. IsWritten (refusal_line refusal) output output_now) → IfOk r (λ ended. IsEmptyRecord ended.report)
+    → IfOk r (λ ended. Serves IsMade c text ended
+    (around (outside file_faults (lines source output notes) doors trips) (outside file_faults (lines source output_now notes) doors trips)))
+not_served IsMade c text found refusal (Ok ended) file_faults source output output_now notes doors trips right is status written empty =
+    headline.refused (turned_down text found refusal ended
+    (around (outside file_faults (lines source output notes) doors trips) (outside file_faults (lines source output_now notes) doors trips))
+    right is status written (record { empty = empty; input = refl; notes = refl; doors = refl; trips = refl }))
+not_served IsMade c text found refusal (Err e) file_faults source output output_now notes doors trips right is status written empty = tt
 
 -- ---- a command over a file that was read, by the name that it was read by
 
 -- what each action does
-abbrev DoesBy : Command → List ℕ → Ended → (Outside × Outside) → Action → Type 0
-DoesBy c text ended around act = elim act [
-  | action.Check ↦ Checks text ended.status around.0.lines.output around.1.lines.output
-      × ShowsAlone ended around.0 around.1
-  | action.Explain ↦ Explains c.file text ended.status around.0.lines.output around.1.lines.output
-      × ShowsAlone ended around.0 around.1
-  | action.Print ↦ Prints text ended.status around.0.lines.output around.1.lines.output
-      × ShowsAlone ended around.0 around.1
-  | action.Run ↦ Runs c text ended around.0 around.1
+abbrev DoesBy : (Line → Type 0) → Command → List ℕ → (Ended × Around) → Action → Type 0
+DoesBy IsMade c text did act = elim act [
+  | action.Check ↦ Checks text did.0.status did.1.before.lines.output did.1.now.lines.output × ShowsAlone did.0 did.1
+  | action.Explain ↦ Explains c.file text did.0.status did.1.before.lines.output did.1.now.lines.output
+      × ShowsAlone did.0 did.1
+  | action.Print ↦ Prints text did.0.status did.1.before.lines.output did.1.now.lines.output × ShowsAlone did.0 did.1
+  | action.Run ↦ Runs c text did.0 did.1
+  | action.Serve ↦ Serves IsMade c text did.0 did.1
 ]
 
-module _ (c : Command) (held : List ℕ → Option (List ℕ)) (name text : List ℕ) (named : name ≡ c.file)
+module _ (IsMade : Line → Type 0) (c : Command) (held : List ℕ → Option (List ℕ)) (name text : List ℕ) (named : name ≡ c.file)
     (read : IfSome (held name) (λ all. text ≡ program_bytes all)) where
-  obeys : (act : Action) (ended : Ended) (before now : Outside) → c.action ≡ act → now.file_faults ≡ before.file_faults
-      → DoesBy c text ended (before, now) act → Obeys c (held c.file) ended before now
-  obeys act ended before now is calm does =
+  obeys : (act : Action) (ended : Ended) (a : Around) → c.action ≡ act → a.now.file_faults ≡ a.before.file_faults
+      → DoesBy IsMade c text (ended, a) act → Obeys IsMade c (held c.file) ended a
+  obeys act ended a is calm does =
       headline.read text (subst (λ n. IfSome (held n) (λ all. text ≡ program_bytes all)) named read) calm
-      (subst (λ a. DoesBy c text ended (before, now) a) (sym is) does)
+      (subst (λ x. DoesBy IsMade c text (ended, a) x) (sym is) does)
 
   pub obeys_check : (shown : List ℕ) (faults faults_now : ℕ) (source : Giving) (output output_now notes : Taking)
-      (trips : List (Option (List Made))) (r : Result Ended AllocError) → c.action ≡ action.Check → faults_now ≡ faults
+      (doors : DoorsTold) (trips : List (Option (List Made))) (r : Result Ended AllocError) → c.action ≡ action.Check → faults_now ≡ faults
       → shown ≡ text → IfOk r (λ ended. Checks shown ended.status output output_now) → IfOk r (λ ended. IsEmptyRecord ended.report)
-      → IfOk r (λ ended. Obeys c (held c.file) ended
-      (outside faults (lines source output notes) trips) (outside faults_now (lines source output_now notes) trips))
-  obeys_check shown faults faults_now source output output_now notes trips (Ok ended) is calm same shows empty =
-      obeys action.Check ended (outside faults (lines source output notes) trips)
-      (outside faults_now (lines source output_now notes) trips) is calm (
+      → IfOk r (λ ended. Obeys IsMade c (held c.file) ended
+      (around (outside faults (lines source output notes) doors trips) (outside faults_now (lines source output_now notes) doors trips)))
+  obeys_check shown faults faults_now source output output_now notes doors trips (Ok ended) is calm same shows empty =
+      obeys action.Check ended (around (outside faults (lines source output notes) doors trips)
+      (outside faults_now (lines source output_now notes) doors trips)) is calm (
         subst (λ t. Checks t ended.status output output_now) same shows,
-        record { empty = empty; input = refl; notes = refl; trips = refl },
+        record { empty = empty; input = refl; notes = refl; doors = refl; trips = refl },
       )
-  obeys_check shown faults faults_now source output output_now notes trips (Err e) is calm same shows empty = tt
+  obeys_check shown faults faults_now source output output_now notes doors trips (Err e) is calm same shows empty = tt
 
   pub obeys_explain : (shown : List ℕ) (faults faults_now : ℕ) (source : Giving) (output output_now notes : Taking)
-      (trips : List (Option (List Made))) (r : Result Ended AllocError) → c.action ≡ action.Explain → faults_now ≡ faults
+      (doors : DoorsTold) (trips : List (Option (List Made))) (r : Result Ended AllocError) → c.action ≡ action.Explain → faults_now ≡ faults
       → shown ≡ text → (called : List ℕ) → called ≡ c.file
       → IfOk r (λ ended. Explains called shown ended.status output output_now) → IfOk r (λ ended. IsEmptyRecord ended.report)
-      → IfOk r (λ ended. Obeys c (held c.file) ended
-      (outside faults (lines source output notes) trips) (outside faults_now (lines source output_now notes) trips))
-  obeys_explain shown faults faults_now source output output_now notes trips (Ok ended) is calm same called by shows empty =
-      obeys action.Explain ended (outside faults (lines source output notes) trips)
-      (outside faults_now (lines source output_now notes) trips) is calm (
+      → IfOk r (λ ended. Obeys IsMade c (held c.file) ended
+      (around (outside faults (lines source output notes) doors trips) (outside faults_now (lines source output_now notes) doors trips)))
+  obeys_explain shown faults faults_now source output output_now notes doors trips (Ok ended) is calm same called by shows empty =
+      obeys action.Explain ended (around (outside faults (lines source output notes) doors trips)
+      (outside faults_now (lines source output_now notes) doors trips)) is calm (
         subst (λ n. Explains n text ended.status output output_now) by (subst (λ t. Explains called t ended.status output output_now) same shows),
-        record { empty = empty; input = refl; notes = refl; trips = refl },
+        record { empty = empty; input = refl; notes = refl; doors = refl; trips = refl },
       )
-  obeys_explain shown faults faults_now source output output_now notes trips (Err e) is calm same called by shows empty = tt
+  obeys_explain shown faults faults_now source output output_now notes doors trips (Err e) is calm same called by shows empty = tt
 
   pub obeys_print : (shown : List ℕ) (faults faults_now : ℕ) (source : Giving) (output output_now notes : Taking)
-      (trips : List (Option (List Made))) (r : Result Ended AllocError) → c.action ≡ action.Print → faults_now ≡ faults
+      (doors : DoorsTold) (trips : List (Option (List Made))) (r : Result Ended AllocError) → c.action ≡ action.Print → faults_now ≡ faults
       → shown ≡ text → IfOk r (λ ended. Prints shown ended.status output output_now) → IfOk r (λ ended. IsEmptyRecord ended.report)
-      → IfOk r (λ ended. Obeys c (held c.file) ended
-      (outside faults (lines source output notes) trips) (outside faults_now (lines source output_now notes) trips))
-  obeys_print shown faults faults_now source output output_now notes trips (Ok ended) is calm same shows empty =
-      obeys action.Print ended (outside faults (lines source output notes) trips)
-      (outside faults_now (lines source output_now notes) trips) is calm (
+      → IfOk r (λ ended. Obeys IsMade c (held c.file) ended
+      (around (outside faults (lines source output notes) doors trips) (outside faults_now (lines source output_now notes) doors trips)))
+  obeys_print shown faults faults_now source output output_now notes doors trips (Ok ended) is calm same shows empty =
+      obeys action.Print ended (around (outside faults (lines source output notes) doors trips)
+      (outside faults_now (lines source output_now notes) doors trips)) is calm (
         subst (λ t. Prints t ended.status output output_now) same shows,
-        record { empty = empty; input = refl; notes = refl; trips = refl },
+        record { empty = empty; input = refl; notes = refl; doors = refl; trips = refl },
       )
-  obeys_print shown faults faults_now source output output_now notes trips (Err e) is calm same shows empty = tt
+  obeys_print shown faults faults_now source output output_now notes doors trips (Err e) is calm same shows empty = tt
+
+  -- what is done with a text does not hang on how often the files failed
+  still_down : (text : List ℕ) (ended : Ended) (n faults faults_now : ℕ) (before now : Lines) (doors doors_now : DoorsTold)
+      (trips trips_now : List (Option (List Made)))
+      → IsTurnedDown text ended (around (outside n before doors trips) (outside n now doors_now trips_now))
+      → IsTurnedDown text ended (around (outside faults before doors trips) (outside faults_now now doors_now trips_now))
+  still_down text ended n faults faults_now before now doors doors_now trips trips_now down = record {
+    line = down.line;
+    why = down.why;
+    status = down.status;
+    written = down.written;
+    alone = record {
+      empty = down.alone.empty;
+      input = down.alone.input;
+      notes = down.alone.notes;
+      doors = down.alone.doors;
+      trips = down.alone.trips;
+    };
+  }
 
   -- around a run the files are left alone
-  again : (text : List ℕ) (ended : Ended) (faults faults_now : ℕ) (before now : Lines) (trips trips_now : List (Option (List Made)))
-      → Runs c text ended (outside faults before trips) (outside faults now trips_now)
-      → Runs c text ended (outside faults before trips) (outside faults_now now trips_now)
-  again text ended faults faults_now before now trips trips_now (headline.ran parts checked lined travelled) =
-      headline.ran parts checked lined travelled
-  again text ended faults faults_now before now trips trips_now (headline.refused line why status written alone) =
-      headline.refused line why status written
-      (record { empty = alone.empty; input = alone.input; notes = alone.notes; trips = alone.trips })
+  again : (text : List ℕ) (ended : Ended) (n faults faults_now : ℕ) (before now : Lines) (doors doors_now : DoorsTold)
+      (trips trips_now : List (Option (List Made)))
+      → Runs c text ended (around (outside n before doors trips) (outside n now doors_now trips_now))
+      → Runs c text ended (around (outside faults before doors trips) (outside faults_now now doors_now trips_now))
+  again text ended n faults faults_now before now doors doors_now trips trips_now (headline.ran parts checked lined same travelled) =
+      headline.ran parts checked lined same travelled
+  again text ended n faults faults_now before now doors doors_now trips trips_now (headline.refused down) =
+      headline.refused (still_down text ended n faults faults_now before now doors doors_now trips trips_now down)
 
-  pub obeys_run : (shown : List ℕ) (faults faults_now : ℕ) (before now : Lines) (trips trips_now : List (Option (List Made)))
-      (r : Result Ended AllocError) → c.action ≡ action.Run → faults_now ≡ faults → shown ≡ text
-      → ((n : ℕ) → IfOk r (λ ended. Runs c shown ended (outside n before trips) (outside n now trips_now)))
-      → IfOk r (λ ended. Obeys c (held c.file) ended (outside faults before trips) (outside faults_now now trips_now))
-  obeys_run shown faults faults_now before now trips trips_now (Ok ended) is calm same runs =
-      obeys action.Run ended (outside faults before trips) (outside faults_now now trips_now) is calm
-      (subst (λ t. Runs c t ended (outside faults before trips) (outside faults_now now trips_now)) same
-      (again shown ended faults faults_now before now trips trips_now (runs faults)))
-  obeys_run shown faults faults_now before now trips trips_now (Err e) is calm same runs = tt
+  pub obeys_run : (shown : List ℕ) (faults faults_now : ℕ) (before now : Lines) (doors : DoorsTold)
+      (trips trips_now : List (Option (List Made))) (r : Result Ended AllocError) → c.action ≡ action.Run → faults_now ≡ faults
+      → shown ≡ text
+      → ((n : ℕ) (doors : DoorsTold) → IfOk r (λ ended. Runs c shown ended
+      (around (outside n before doors trips) (outside n now doors trips_now))))
+      → IfOk r (λ ended. Obeys IsMade c (held c.file) ended
+      (around (outside faults before doors trips) (outside faults_now now doors trips_now)))
+  obeys_run shown faults faults_now before now doors trips trips_now (Ok ended) is calm same runs =
+      let a = around (outside faults before doors trips) (outside faults_now now doors trips_now) in
+      obeys action.Run ended a is calm
+      (subst (λ t. Runs c t ended a) same
+      (again shown ended faults faults faults_now before now doors doors trips trips_now (runs faults doors)))
+  obeys_run shown faults faults_now before now doors trips trips_now (Err e) is calm same runs = tt
+
+  -- and so around what is served
+  once_more : (text : List ℕ) (ended : Ended) (n faults faults_now : ℕ) (before now : Lines) (doors doors_now : DoorsTold)
+      (trips trips_now : List (Option (List Made)))
+      → Serves IsMade c text ended (around (outside n before doors trips) (outside n now doors_now trips_now))
+      → Serves IsMade c text ended (around (outside faults before doors trips) (outside faults_now now doors_now trips_now))
+  once_more text ended n faults faults_now before now doors doors_now trips trips_now (headline.served parts checked doored source output travelled) =
+      headline.served parts checked doored source output travelled
+  once_more text ended n faults faults_now before now doors doors_now trips trips_now (headline.refused down) =
+      headline.refused (still_down text ended n faults faults_now before now doors doors_now trips trips_now down)
+
+  pub obeys_serve : (shown : List ℕ) (faults faults_now : ℕ) (source : Giving) (output output_now notes notes_now : Taking)
+      (doors doors_now : DoorsTold) (trips trips_now : List (Option (List Made))) (r : Result Ended AllocError)
+      → c.action ≡ action.Serve → faults_now ≡ faults → shown ≡ text
+      → ((n : ℕ) (source : Giving) → IfOk r (λ ended. Serves IsMade c shown ended
+      (around (outside n (lines source output notes) doors trips) (outside n (lines source output_now notes_now) doors_now trips_now))))
+      → IfOk r (λ ended. Obeys IsMade c (held c.file) ended
+      (around (outside faults (lines source output notes) doors trips)
+      (outside faults_now (lines source output_now notes_now) doors_now trips_now)))
+  obeys_serve shown faults faults_now source output output_now notes notes_now doors doors_now trips trips_now (Ok ended) is calm same serves =
+      let a = around (outside faults (lines source output notes) doors trips)
+      (outside faults_now (lines source output_now notes_now) doors_now trips_now) in
+      obeys action.Serve ended a is calm
+      (subst (λ t. Serves IsMade c t ended a) same
+      (once_more shown ended faults faults faults_now (lines source output notes) (lines source output_now notes_now) doors doors_now
+      trips trips_now (serves faults source)))
+  obeys_serve shown faults faults_now source output output_now notes notes_now doors doors_now trips trips_now (Err e) is calm same serves = tt
 
 -- ---- a file that can't be read
 
 -- what each action writes of it
 abbrev TellsBy : Command → (Taking × Taking) → Action → Type 0
-TellsBy c around act = elim act [
-  | action.Check ↦ around.1 ≡ around.0
-  | action.Explain ↦ IsWritten (unreadable_line c.file) around.0 around.1
-  | action.Print ↦ around.1 ≡ around.0
-  | action.Run ↦ around.1 ≡ around.0
+TellsBy c output act = elim act [
+  | action.Check ↦ output.1 ≡ output.0
+  | action.Explain ↦ IsWritten (unreadable_line c.file) output.0 output.1
+  | action.Print ↦ output.1 ≡ output.0
+  | action.Run ↦ output.1 ≡ output.0
+  | action.Serve ↦ output.1 ≡ output.0
 ]
 
 -- an action that writes nothing of it, or its line
@@ -220,52 +309,52 @@ tells_line c called (Ok ended) before now is by written =
 tells_line c called (Err e) before now is by written = tt
 
 -- the command is done
-pub obeys_failed : (c : Command) (told : Option (List ℕ)) (faults faults_now : ℕ) (source : Giving)
-    (output output_now notes : Taking) (trips : List (Option (List Made))) (r : Result Ended AllocError)
+pub obeys_failed : (IsMade : Line → Type 0) (c : Command) (told : Option (List ℕ)) (faults faults_now : ℕ) (source : Giving)
+    (output output_now notes : Taking) (doors : DoorsTold) (trips : List (Option (List Made))) (r : Result Ended AllocError)
     → Rose faults faults_now → IfOk r (λ ended. ended.status ≡ 2) → IfOk r (λ ended. TellsOfFile c output output_now)
     → IfOk r (λ ended. IsEmptyRecord ended.report)
-    → IfOk r (λ ended. Obeys c told ended
-    (outside faults (lines source output notes) trips) (outside faults_now (lines source output_now notes) trips))
-obeys_failed c told faults faults_now source output output_now notes trips (Ok ended) rose status tells empty =
-    headline.failed status rose tells (record { empty = empty; input = refl; notes = refl; trips = refl })
-obeys_failed c told faults faults_now source output output_now notes trips (Err e) rose status tells empty = tt
+    → IfOk r (λ ended. Obeys IsMade c told ended
+    (around (outside faults (lines source output notes) doors trips) (outside faults_now (lines source output_now notes) doors trips)))
+obeys_failed IsMade c told faults faults_now source output output_now notes doors trips (Ok ended) rose status tells empty =
+    headline.failed status rose tells (record { empty = empty; input = refl; notes = refl; doors = refl; trips = refl })
+obeys_failed IsMade c told faults faults_now source output output_now notes doors trips (Err e) rose status tells empty = tt
 
 -- ---- the words
 
 -- words that are a command
-pub promised : (line : List (List ℕ)) (said : Words) (c : Command) (held : List ℕ → Option (List ℕ)) (before now : Outside)
-    (r : Result Ended AllocError) → IsUnderstood line said → said ≡ words.Command c
-    → IfOk r (λ ended. Obeys c (held c.file) ended before now)
-    → IfOk r (λ ended. (w : Words) × IsUnderstood line w × Promises w held ended before now)
-promised line said c held before now (Ok ended) right is obeyed =
+pub promised : (IsMade : Line → Type 0) (line : List (List ℕ)) (said : Words) (c : Command) (held : List ℕ → Option (List ℕ))
+    (a : Around) (r : Result Ended AllocError) → IsUnderstood line said → said ≡ words.Command c
+    → IfOk r (λ ended. Obeys IsMade c (held c.file) ended a)
+    → IfOk r (λ ended. (w : Words) × IsUnderstood line w × Promises IsMade w held ended a)
+promised IsMade line said c held a (Ok ended) right is obeyed =
     (words.Command c, subst (λ w. IsUnderstood line w) is right, obeyed)
-promised line said c held before now (Err e) right is obeyed = tt
+promised IsMade line said c held a (Err e) right is obeyed = tt
 
 -- words that ask for help
-pub helped : (line : List (List ℕ)) (said : Words) (text shown : List ℕ) (held : List ℕ → Option (List ℕ)) (ended : Ended)
-    (faults : ℕ) (source : Giving) (output output_now notes : Taking) (trips : List (Option (List Made)))
+pub helped : (IsMade : Line → Type 0) (line : List (List ℕ)) (said : Words) (text shown : List ℕ) (held : List ℕ → Option (List ℕ)) (ended : Ended)
+    (faults : ℕ) (source : Giving) (output output_now notes : Taking) (doors : DoorsTold) (trips : List (Option (List Made)))
     → IsUnderstood line said → said ≡ words.Help text → shown ≡ text → Says shown ended.status output output_now
     → IsEmptyRecord ended.report
-    → (w : Words) × IsUnderstood line w × Promises w held ended
-    (outside faults (lines source output notes) trips) (outside faults (lines source output_now notes) trips)
-helped line said text shown held ended faults source output output_now notes trips right is same says empty = (
+    → (w : Words) × IsUnderstood line w × Promises IsMade w held ended
+    (around (outside faults (lines source output notes) doors trips) (outside faults (lines source output_now notes) doors trips))
+helped IsMade line said text shown held ended faults source output output_now notes doors trips right is same says empty = (
   words.Help text,
   subst (λ w. IsUnderstood line w) is right,
   record {
     said = subst (λ t. Says t ended.status output output_now) same says;
     files = refl;
-    alone = record { empty = empty; input = refl; notes = refl; trips = refl };
+    alone = record { empty = empty; input = refl; notes = refl; doors = refl; trips = refl };
   },
 )
 
 -- words that are wrong
-pub mistaken : (line : List (List ℕ)) (said : Words) (text shown : List ℕ) (held : List ℕ → Option (List ℕ)) (ended : Ended)
-    (faults : ℕ) (source : Giving) (output notes notes_now : Taking) (trips : List (Option (List Made)))
+pub mistaken : (IsMade : Line → Type 0) (line : List (List ℕ)) (said : Words) (text shown : List ℕ) (held : List ℕ → Option (List ℕ)) (ended : Ended)
+    (faults : ℕ) (source : Giving) (output notes notes_now : Taking) (doors : DoorsTold) (trips : List (Option (List Made)))
     → IsUnderstood line said → said ≡ words.UsageError text → shown ≡ text → ended.status ≡ 1
     → IsWritten shown notes notes_now → IsEmptyRecord ended.report
-    → (w : Words) × IsUnderstood line w × Promises w held ended
-    (outside faults (lines source output notes) trips) (outside faults (lines source output notes_now) trips)
-mistaken line said text shown held ended faults source output notes notes_now trips right is same status written empty = (
+    → (w : Words) × IsUnderstood line w × Promises IsMade w held ended
+    (around (outside faults (lines source output notes) doors trips) (outside faults (lines source output notes_now) doors trips))
+mistaken IsMade line said text shown held ended faults source output notes notes_now doors trips right is same status written empty = (
   words.UsageError text,
   subst (λ w. IsUnderstood line w) is right,
   record {
@@ -275,6 +364,7 @@ mistaken line said text shown held ended faults source output notes notes_now tr
     files = refl;
     input = refl;
     output = refl;
+    doors = refl;
     trips = refl;
   },
 )

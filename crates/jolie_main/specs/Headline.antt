@@ -9,6 +9,8 @@ use Rattle.run_record.specs.declared.record.Record.{Record}
 use Rattle.line_front.specs.Writing.{Taking}
 use Rattle.line_run.specs.declared.run.Ended.{Ended}
 use Rattle.line_run.specs.Lined.{task, IsLined}
+use Rattle.http_connection.specs.Seen.{Line}
+use Rattle.door_run.specs.Doored.{task as doors_task, IsDoored}
 use Rattle.command_words.specs.declared.table.Action.{Action}
 use Rattle.command_words.specs.declared.table.Action.TheVariants as action
 use Rattle.command_words.specs.declared.words.Command.{Command}
@@ -19,7 +21,7 @@ use Rattle.file_verdicts.specs.Programs.{IsChecked, IsUncheckedBy}
 use Rattle.file_verdicts.specs.declared.refusal.Refusal.{Refusal}
 use Rattle.file_verdicts.specs.RefusalLines.{refusal_line}
 use Rattle.explain_text.specs.Explained.{unreadable_line, IsExplained}
-use Rattle.jolie_main.specs.Outside.{Outside, FirstTravelled, IsReadOf, IsWhole, IsCut, IsWritten}
+use Rattle.jolie_main.specs.Outside.{Around, at_doors, FirstTravelled, IsReadOf, IsWhole, IsCut, IsWritten}
 
 -- nothing was recorded
 pub record IsEmptyRecord (run : Record) : Type 0 where
@@ -56,35 +58,57 @@ pub data Prints (text : List ℕ) (status : ℕ) (before now : Taking) : Type 0 
   refused : (line : List ℕ) → IsRefusedBy text line → status ≡ 3 → IsWritten line before now
       → Prints text status before now
 
--- Nothing is recorded, read of the input, noted or sent.
-pub record ShowsAlone (ended : Ended) (before now : Outside) : Type 0 where
+-- Nothing is recorded, read of the input, noted or sent, and no door is opened.
+pub record ShowsAlone (ended : Ended) (a : Around) : Type 0 where
   pub empty : IsEmptyRecord ended.report
-  pub input : now.lines.source ≡ before.lines.source
-  pub notes : now.lines.notes ≡ before.lines.notes
-  pub trips : now.trips ≡ before.trips
+  pub input : a.now.lines.source ≡ a.before.lines.source
+  pub notes : a.now.lines.notes ≡ a.before.lines.notes
+  pub doors : a.now.doors ≡ a.before.doors
+  pub trips : a.now.trips ≡ a.before.trips
+
+-- the first link made the trips of a run of this program, and the others made none
+abbrev pub HasTravelled : ProgramParts → Ended → Around → Type 0
+HasTravelled parts ended a =
+    FirstTravelled (run_of parts) ended.report.history.entries.items a.before.trips a.now.trips
+
+-- The text is refused by its line at status 3, and nothing else is done.
+pub record IsTurnedDown (text : List ℕ) (ended : Ended) (a : Around) : Type 0 where
+  pub line : List ℕ
+  pub why : IsUncheckedBy text line
+  pub status : ended.status ≡ 3
+  pub written : IsWritten line a.before.lines.output a.now.lines.output
+  pub alone : ShowsAlone ended a
 
 -- What `run` does with a text: it runs the program that it is over the lines of the input, by the budget and the picks
--- of the command, and its calls to services elsewhere go by the first link; or it refuses the text by its line at
--- status 3, and then it does nothing else.
-pub data Runs (c : Command) (text : List ℕ) (ended : Ended) (before now : Outside) : Type 0 where
+-- of the command, and its calls to services elsewhere go by the first link; or it turns the text down.
+pub data Runs (c : Command) (text : List ℕ) (ended : Ended) (a : Around) : Type 0 where
   ran : (parts : ProgramParts) → IsChecked text parts
-      → IsLined (task parts text c.budget c.picks) before.lines now.lines ended
-      → FirstTravelled (run_of parts) ended.report.history.entries.items before.trips now.trips
-      → Runs c text ended before now
-  refused : (line : List ℕ) → IsUncheckedBy text line → ended.status ≡ 3
-      → IsWritten line before.lines.output now.lines.output → ShowsAlone ended before now
-      → Runs c text ended before now
+      → IsLined (task parts text c.budget c.picks) a.before.lines a.now.lines ended
+      → a.now.doors ≡ a.before.doors → HasTravelled parts ended a → Runs c text ended a
+  refused : IsTurnedDown text ended a → Runs c text ended a
+
+-- What `serve` does with a text: it runs the program that it is over its doors, the wires of which are made so, by the
+-- budget and the number of connections of the command, and its calls to services elsewhere go by the first link; or it
+-- turns the text down.
+pub data Serves (IsMade : Line → Type 0) (c : Command) (text : List ℕ) (ended : Ended) (a : Around) : Type 0 where
+  served : (parts : ProgramParts) → IsChecked text parts
+      → IsDoored IsMade (doors_task parts text c.budget c.connections) (at_doors a.before) (at_doors a.now) ended
+      → a.now.lines.source ≡ a.before.lines.source → a.now.lines.output ≡ a.before.lines.output
+      → HasTravelled parts ended a → Serves IsMade c text ended a
+  refused : IsTurnedDown text ended a → Serves IsMade c text ended a
 
 -- ---- a command
 
 -- what a command does with the text of its file
-abbrev pub Does : Command → List ℕ → Ended → Outside → Outside → Type 0
-Does c text ended before now = elim c.action [
-  | action.Check ↦ Checks text ended.status before.lines.output now.lines.output × ShowsAlone ended before now
+abbrev pub Does : (Line → Type 0) → Command → List ℕ → Ended → Around → Type 0
+Does IsMade c text ended a = elim c.action [
+  | action.Check ↦
+      Checks text ended.status a.before.lines.output a.now.lines.output × ShowsAlone ended a
   | action.Explain ↦
-      Explains c.file text ended.status before.lines.output now.lines.output × ShowsAlone ended before now
-  | action.Print ↦ Prints text ended.status before.lines.output now.lines.output × ShowsAlone ended before now
-  | action.Run ↦ Runs c text ended before now
+      Explains c.file text ended.status a.before.lines.output a.now.lines.output × ShowsAlone ended a
+  | action.Print ↦ Prints text ended.status a.before.lines.output a.now.lines.output × ShowsAlone ended a
+  | action.Run ↦ Runs c text ended a
+  | action.Serve ↦ Serves IsMade c text ended a
 ]
 
 -- what a command writes of a file that can't be read: `explain` says so, and the others write nothing
@@ -94,37 +118,40 @@ TellsOfFile c before now = elim c.action [
   | action.Explain ↦ IsWritten (unreadable_line c.file) before now
   | action.Print ↦ now ≡ before
   | action.Run ↦ now ≡ before
+  | action.Serve ↦ now ≡ before
 ]
 
 -- A command over a file: it does so with the text that is read of it, or the file failed, and then the status is 2,
 -- nothing is read, noted, sent or recorded, and what is said of the file is all that is written.
-pub data Obeys (c : Command) (told : Option (List ℕ)) (ended : Ended) (before now : Outside) : Type 0 where
-  read : (text : List ℕ) → IsReadOf told text → now.file_faults ≡ before.file_faults → Does c text ended before now
-      → Obeys c told ended before now
-  failed : ended.status ≡ 2 → Rose before.file_faults now.file_faults
-      → TellsOfFile c before.lines.output now.lines.output → ShowsAlone ended before now → Obeys c told ended before now
+pub data Obeys (IsMade : Line → Type 0) (c : Command) (told : Option (List ℕ)) (ended : Ended) (a : Around)
+    : Type 0 where
+  read : (text : List ℕ) → IsReadOf told text → a.now.file_faults ≡ a.before.file_faults → Does IsMade c text ended a
+      → Obeys IsMade c told ended a
+  failed : ended.status ≡ 2 → Rose a.before.file_faults a.now.file_faults
+      → TellsOfFile c a.before.lines.output a.now.lines.output → ShowsAlone ended a → Obeys IsMade c told ended a
 
 -- ---- the words
 
 -- A text of help or of the version goes to the output, and that is all.
-pub record ShowsHelp (text : List ℕ) (ended : Ended) (before now : Outside) : Type 0 where
-  pub said : Says text ended.status before.lines.output now.lines.output
-  pub files : now.file_faults ≡ before.file_faults
-  pub alone : ShowsAlone ended before now
+pub record ShowsHelp (text : List ℕ) (ended : Ended) (a : Around) : Type 0 where
+  pub said : Says text ended.status a.before.lines.output a.now.lines.output
+  pub files : a.now.file_faults ≡ a.before.file_faults
+  pub alone : ShowsAlone ended a
 
 -- A usage error has status 1: its text goes to the standard error, which the notes are, and that is all.
-pub record ShowsUsageError (text : List ℕ) (ended : Ended) (before now : Outside) : Type 0 where
+pub record ShowsUsageError (text : List ℕ) (ended : Ended) (a : Around) : Type 0 where
   pub status : ended.status ≡ 1
-  pub noted : IsWritten text before.lines.notes now.lines.notes
+  pub noted : IsWritten text a.before.lines.notes a.now.lines.notes
   pub empty : IsEmptyRecord ended.report
-  pub files : now.file_faults ≡ before.file_faults
-  pub input : now.lines.source ≡ before.lines.source
-  pub output : now.lines.output ≡ before.lines.output
-  pub trips : now.trips ≡ before.trips
+  pub files : a.now.file_faults ≡ a.before.file_faults
+  pub input : a.now.lines.source ≡ a.before.lines.source
+  pub output : a.now.lines.output ≡ a.before.lines.output
+  pub doors : a.now.doors ≡ a.before.doors
+  pub trips : a.now.trips ≡ a.before.trips
 
 -- What was understood of the words decides what is promised; `held` is what the files hold, as far as the outside
--- tells.
-abbrev pub Promises : Words → (List ℕ → Option (List ℕ)) → Ended → Outside → Outside → Type 0
-Promises (words.Command c) held ended before now = Obeys c (held c.file) ended before now
-Promises (words.Help text) held ended before now = ShowsHelp text ended before now
-Promises (words.UsageError text) held ended before now = ShowsUsageError text ended before now
+-- tells, and the wires of its doors are made so.
+abbrev pub Promises : (Line → Type 0) → Words → (List ℕ → Option (List ℕ)) → Ended → Around → Type 0
+Promises IsMade (words.Command c) held ended a = Obeys IsMade c (held c.file) ended a
+Promises IsMade (words.Help text) held ended a = ShowsHelp text ended a
+Promises IsMade (words.UsageError text) held ended a = ShowsUsageError text ended a

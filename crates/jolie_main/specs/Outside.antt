@@ -9,17 +9,35 @@ use Rattle.branch_workers.specs.Lines.{IsProperFront}
 use Rattle.line_front.specs.Writing.{Taking}
 use Rattle.line_run.specs.Lined.{Outside as Lines}
 use Rattle.run_alone.specs.Ran.{Travelled}
+use Rattle.door_front.specs.Dealt.{taking as sink}
+use Rattle.door_run.specs.Used.{DoorsTold}
+use Rattle.door_run.specs.Doored.{Outside as Served, outside as served}
 
--- what the outside tells at a moment: how often the files failed; the input, the output and the notes; and the trips of
--- each link, where they are told
+-- what the outside tells at a moment: how often the files failed; the input, the output and the notes; the doors; and
+-- the trips of each link, where they are told
 pub record Outside : Type 0 where
   pub file_faults : ℕ
   pub lines : Lines
+  pub doors : DoorsTold
   pub trips : List (Option (List Made))
 
 -- the outside from its parts
-abbrev pub outside : ℕ → Lines → List (Option (List Made)) → Outside
-outside file_faults lines trips = record { file_faults = file_faults; lines = lines; trips = trips }
+abbrev pub outside : ℕ → Lines → DoorsTold → List (Option (List Made)) → Outside
+outside file_faults lines doors trips =
+    record { file_faults = file_faults; lines = lines; doors = doors; trips = trips }
+
+-- the outside before a call and after it
+pub record Around : Type 0 where
+  pub before : Outside
+  pub now : Outside
+
+-- the same by its parts
+abbrev pub around : Outside → Outside → Around
+around before now = record { before = before; now = now }
+
+-- the part of it that a run over doors has to do with
+abbrev pub at_doors : Outside → Served
+at_doors o = served o.doors (sink o.lines.notes.taken o.lines.notes.faults)
 
 -- ---- files
 

@@ -48,6 +48,7 @@ pub fn file_failed<K: Sink>(
         Action::Explain => explain_failed(alloc, command.file.as_str(), output),
         Action::Print => Ok(without_record(alloc, FILE_FAILED)),
         Action::Run => Ok(without_record(alloc, FILE_FAILED)),
+        Action::Serve => Ok(without_record(alloc, FILE_FAILED)),
     }
 }
 

@@ -6,17 +6,23 @@ ghost use Rattle.command_words.specs.Usage.{IsUnderstood, spelled};
 ghost use Rattle.behaviour_tree.specs.PartsView.{parts_of};
 ghost use Rattle.office_core.specs.Limits.{run_of};
 ghost use Rattle.line_front.specs.Writing.{taking};
-ghost use Rattle.line_run.specs.Lined.{giving, outside as lines, task, IsLined};
-ghost use Rattle.jolie_main.specs.Outside.{outside, FirstTravelled};
-ghost use Rattle.jolie_main.specs.Headline.{Obeys, Promises, Runs};
+ghost use Rattle.line_run.specs.Lined.{Giving, giving, outside as lines, task, IsLined};
+ghost use Rattle.http_connection.specs.Seen.{Line, line_of};
+ghost use Rattle.door_front.specs.Dealt.{taking as sink};
+ghost use Rattle.door_run.specs.Used.{DoorsTold, doors_told};
+ghost use Rattle.door_run.specs.Doored.{outside as served, task as doors_task, IsDoored};
+ghost use Rattle.jolie_main.specs.Outside.{around, outside, FirstTravelled};
+ghost use Rattle.jolie_main.specs.Headline.{Obeys, Promises, Runs, Serves};
 
 use crate::explain::{explain_text, file_failed};
 use crate::say::{refuse, show_usage_error, tell};
 use crate::show::{check_text, print_text};
 use behaviour_tree::Program;
 use command_words::{Action, Command, Words, understood};
+use door_run::run_doors;
 use file_verdicts::program_in;
 use line_run::{Ended, run_lines};
+use outside_doors::Doors;
 use outside_links::Link;
 use outside_traits::{CallError, Files, Sink, Source};
 use std::alloc::{AllocError, Global};
@@ -26,49 +32,54 @@ use term_turn::Seated;
 const MOST: u64 = 1_048_577;
 
 /// Does what the words of the command line say: `check FILE` says whether the file is a program, `explain FILE` says in
-/// words why it is none, `print FILE` prints its definitions, and `run FILE` runs its services over the lines of the
-/// input. Calls to services elsewhere go by the first link, and console output goes to the notes.
+/// words why it is none, `print FILE` prints its definitions, `run FILE` runs its services over the lines of the input, and
+/// `serve FILE` runs them over the connections that come in at the doors of their ports. Calls to services elsewhere go by
+/// the first link, and console output goes to the notes.
 ///
 /// The status is 0 where all that was asked for was done, 1 for a usage error, 2 where the file can't be read, 3 for a
-/// file that is refused, 4 where the input failed, 5 where the output or the notes failed, and 6 where none of these
-/// failed and a session used its whole budget of events and could act all the same.
-pub fn run<F: Files, S: Source, K: Sink, N: Sink, L: Link>(
+/// file that is refused, 4 where the input failed, 5 where the output or the notes failed, 7 where a door could not be
+/// opened or failed, and 6 where none of these failed and a session used its whole budget of events and could act all the
+/// same.
+pub fn run<F: Files, S: Source, K: Sink, N: Sink, D: Doors, L: Link>(
     alloc: Global,
     words: &[String],
     files: &mut F,
     input: &mut S,
     output: &mut K,
     notes: &mut N,
+    doors: &mut D,
     links: &mut Vec<L>,
 ) -> Result<Ended, AllocError>
     requires link { 0 < length links.old.items }
     // The headline.
-    ensures promises { let before = outside (F.faults files.old) (lines (giving (S.left input.old) (S.faults input.old)) (taking (K.taken output.old) (K.faults output.old)) (taking (N.taken notes.old) (N.faults notes.old))) (map L.trips links.old.items) in
-        let now = outside (F.faults files.new) (lines (giving (S.left input.new) (S.faults input.new)) (taking (K.taken output.new) (K.faults output.new)) (taking (N.taken notes.new) (N.faults notes.new))) (map L.trips links.new.items) in
-        IfOk result (λ ended. (said : Said) × IsUnderstood (spelled words.now) said × Promises said (F.held files.old) ended before now) }
+    ensures promises { let before = outside (F.faults files.old) (lines (giving (S.left input.old) (S.faults input.old)) (taking (K.taken output.old) (K.faults output.old)) (taking (N.taken notes.old) (N.faults notes.old))) (doors_told (D.faults doors.old) (D.tally doors.old) (D.locations doors.old) (D.returned doors.old)) (map L.trips links.old.items) in
+        let now = outside (F.faults files.new) (lines (giving (S.left input.new) (S.faults input.new)) (taking (K.taken output.new) (K.faults output.new)) (taking (N.taken notes.new) (N.faults notes.new))) (doors_told (D.faults doors.new) (D.tally doors.new) (D.locations doors.new) (D.returned doors.new)) (map L.trips links.new.items) in
+        let made : Line → Type 0 = (λ line. (wire : D.D.W) × (line ≡ line_of (D.D.W.given wire) (D.D.W.left wire) (D.D.W.taken wire) (D.D.W.faults wire) (D.D.W.closed wire))) in
+        IfOk result (λ ended. (said : Said) × IsUnderstood (spelled words.now) said × Promises made said (F.held files.old) ended (around before now)) }
     ensures others { drop 1 links.new.items ≡ drop 1 links.old.items }
 {
     match understood(alloc, words)? {
-        Words::Command(command) => obey(alloc, &command, files, input, output, notes, links),
+        Words::Command(command) => obey(alloc, &command, files, input, output, notes, doors, links),
         Words::Help(text) => Ok(tell(alloc, text.as_str().as_bytes(), output)),
         Words::UsageError(text) => Ok(show_usage_error(alloc, text.as_str().as_bytes(), notes)),
     }
 }
 
 /// Does a command over its file.
-fn obey<F: Files, S: Source, K: Sink, N: Sink, L: Link>(
+fn obey<F: Files, S: Source, K: Sink, N: Sink, D: Doors, L: Link>(
     alloc: Global,
     command: &Command,
     files: &mut F,
     input: &mut S,
     output: &mut K,
     notes: &mut N,
+    doors: &mut D,
     links: &mut Vec<L>,
 ) -> Result<Ended, AllocError>
     requires link { 0 < length links.old.items }
-    ensures obeyed { IfOk result (λ ended. Obeys command.now (F.held files.old command.now.file) ended
-        (outside (F.faults files.old) (lines (giving (S.left input.old) (S.faults input.old)) (taking (K.taken output.old) (K.faults output.old)) (taking (N.taken notes.old) (N.faults notes.old))) (map L.trips links.old.items))
-        (outside (F.faults files.new) (lines (giving (S.left input.new) (S.faults input.new)) (taking (K.taken output.new) (K.faults output.new)) (taking (N.taken notes.new) (N.faults notes.new))) (map L.trips links.new.items))) }
+    ensures obeyed { IfOk result (λ ended. Obeys (λ line. (wire : D.D.W) × (line ≡ line_of (D.D.W.given wire) (D.D.W.left wire) (D.D.W.taken wire) (D.D.W.faults wire) (D.D.W.closed wire))) command.now (F.held files.old command.now.file) ended (around
+        (outside (F.faults files.old) (lines (giving (S.left input.old) (S.faults input.old)) (taking (K.taken output.old) (K.faults output.old)) (taking (N.taken notes.old) (N.faults notes.old))) (doors_told (D.faults doors.old) (D.tally doors.old) (D.locations doors.old) (D.returned doors.old)) (map L.trips links.old.items))
+        (outside (F.faults files.new) (lines (giving (S.left input.new) (S.faults input.new)) (taking (K.taken output.new) (K.faults output.new)) (taking (N.taken notes.new) (N.faults notes.new))) (doors_told (D.faults doors.new) (D.tally doors.new) (D.locations doors.new) (D.returned doors.new)) (map L.trips links.new.items)))) }
     ensures others { drop 1 links.new.items ≡ drop 1 links.old.items }
 {
     let text = match files.read(command.file.as_str(), MOST) {
@@ -81,6 +92,7 @@ fn obey<F: Files, S: Source, K: Sink, N: Sink, L: Link>(
         Action::Explain => explain_text(alloc, command.file.as_str(), &text, output),
         Action::Print => print_text(alloc, &text, output),
         Action::Run => run_text(alloc, &text, command, input, output, notes, links),
+        Action::Serve => serve_text(alloc, &text, command, output, notes, doors, links),
     }
 }
 
@@ -95,9 +107,9 @@ fn run_text<S: Source, K: Sink, N: Sink, L: Link>(
     links: &mut Vec<L>,
 ) -> Result<Ended, AllocError>
     requires link { 0 < length links.old.items }
-    ensures runs { (file_faults : ℕ) → IfOk result (λ ended. Runs command.now text.now ended
-        (outside file_faults (lines (giving (S.left input.old) (S.faults input.old)) (taking (K.taken output.old) (K.faults output.old)) (taking (N.taken notes.old) (N.faults notes.old))) (map L.trips links.old.items))
-        (outside file_faults (lines (giving (S.left input.new) (S.faults input.new)) (taking (K.taken output.new) (K.faults output.new)) (taking (N.taken notes.new) (N.faults notes.new))) (map L.trips links.new.items))) }
+    ensures runs { (file_faults : ℕ) (doors : DoorsTold) → IfOk result (λ ended. Runs command.now text.now ended (around
+        (outside file_faults (lines (giving (S.left input.old) (S.faults input.old)) (taking (K.taken output.old) (K.faults output.old)) (taking (N.taken notes.old) (N.faults notes.old))) doors (map L.trips links.old.items))
+        (outside file_faults (lines (giving (S.left input.new) (S.faults input.new)) (taking (K.taken output.new) (K.faults output.new)) (taking (N.taken notes.new) (N.faults notes.new))) doors (map L.trips links.new.items)))) }
     ensures others { drop 1 links.new.items ≡ drop 1 links.old.items }
 {
     let program = match program_in(alloc, text)? {
@@ -136,5 +148,58 @@ fn run_program<S: Source, K: Sink, N: Sink, L: Link>(
         &mut links[0],
         command.budget,
         command.picks.as_slice(),
+    )
+}
+
+/// Runs the program that a text is over the doors of its ports, by the first link.
+fn serve_text<K: Sink, N: Sink, D: Doors, L: Link>(
+    alloc: Global,
+    text: &[u8],
+    command: &Command,
+    output: &mut K,
+    notes: &mut N,
+    doors: &mut D,
+    links: &mut Vec<L>,
+) -> Result<Ended, AllocError>
+    requires link { 0 < length links.old.items }
+    ensures serves { (file_faults : ℕ) (source : Giving) → IfOk result (λ ended. Serves (λ line. (wire : D.D.W) × (line ≡ line_of (D.D.W.given wire) (D.D.W.left wire) (D.D.W.taken wire) (D.D.W.faults wire) (D.D.W.closed wire))) command.now text.now ended (around
+        (outside file_faults (lines source (taking (K.taken output.old) (K.faults output.old)) (taking (N.taken notes.old) (N.faults notes.old))) (doors_told (D.faults doors.old) (D.tally doors.old) (D.locations doors.old) (D.returned doors.old)) (map L.trips links.old.items))
+        (outside file_faults (lines source (taking (K.taken output.new) (K.faults output.new)) (taking (N.taken notes.new) (N.faults notes.new))) (doors_told (D.faults doors.new) (D.tally doors.new) (D.locations doors.new) (D.returned doors.new)) (map L.trips links.new.items)))) }
+    ensures others { drop 1 links.new.items ≡ drop 1 links.old.items }
+{
+    let program = match program_in(alloc, text)? {
+        Ok(program) => program,
+        Err(refusal) => return refuse(alloc, &refusal, output),
+    };
+    serve_program(alloc, program, text, command, notes, doors, links)
+}
+
+/// Runs a program, whose text this is, over the doors of its ports, by the first link.
+fn serve_program<N: Sink, D: Doors, L: Link>(
+    alloc: Global,
+    program: Program,
+    text: &[u8],
+    command: &Command,
+    notes: &mut N,
+    doors: &mut D,
+    links: &mut Vec<L>,
+) -> Result<Ended, AllocError>
+    requires some { 0 < length (parts_of program).services }
+    requires link { 0 < length links.old.items }
+    ensures doored { IfOk result (IsDoored (λ line. (wire : D.D.W) × (line ≡ line_of (D.D.W.given wire) (D.D.W.left wire) (D.D.W.taken wire) (D.D.W.faults wire) (D.D.W.closed wire))) (doors_task (parts_of program) text.now command.now.budget command.now.connections)
+        (served (doors_told (D.faults doors.old) (D.tally doors.old) (D.locations doors.old) (D.returned doors.old)) (sink (N.taken notes.old) (N.faults notes.old)))
+        (served (doors_told (D.faults doors.new) (D.tally doors.new) (D.locations doors.new) (D.returned doors.new)) (sink (N.taken notes.new) (N.faults notes.new)))) }
+    ensures travelled { IfOk result (λ ended. FirstTravelled (run_of (parts_of program)) ended.report.history.entries.items (map L.trips links.old.items) (map L.trips links.new.items)) }
+    ensures others { drop 1 links.new.items ≡ drop 1 links.old.items }
+{
+    run_doors::<Seated, D, N, L>(
+        alloc,
+        program,
+        text,
+        doors,
+        notes,
+        &mut links[0],
+        command.budget,
+        command.connections,
     )
 }

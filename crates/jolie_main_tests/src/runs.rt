@@ -3,6 +3,7 @@
 ghost use Rattle.std.specs.Prelude.{◌<◌, length};
 
 use crate::objects::{files, links, notes, output, source, words};
+use doors_in_memory::CalmDoors;
 use jolie_main::run;
 use outside_links::{ScriptedLink, Trip};
 use outside_traits::{ScriptedFiles, ScriptedSink, ScriptedSource};
@@ -84,7 +85,10 @@ fn status_of(
     requires link { 0 < length links.old.items }
 {
     let words = words(alloc, row)?;
-    let ended = run(alloc, &words, files, source, output, notes, links)?;
+    let mut doors = CalmDoors::new(alloc);
+    let ended = run(
+        alloc, &words, files, source, output, notes, &mut doors, links,
+    )?;
     Ok(u32::from(ended.status))
 }
 

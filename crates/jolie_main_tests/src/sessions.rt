@@ -2,6 +2,7 @@
 
 use crate::objects::{files, links, notes, output, source, words};
 use behaviour_tree::{Event, Events};
+use doors_in_memory::CalmDoors;
 use jolie_main::{Ended, run};
 use outside_traits::{ScriptedFiles, ScriptedSink, ScriptedSource};
 use std::alloc::{AllocError, Global};
@@ -55,7 +56,10 @@ fn ended_by(
 ) -> anyhow::Result<Ended> {
     let words = words(alloc, row)?;
     let mut links = links(alloc, row)?;
-    Ok(run(alloc, &words, files, source, output, notes, &mut links)?)
+    let mut doors = CalmDoors::new(alloc);
+    Ok(run(
+        alloc, &words, files, source, output, notes, &mut doors, &mut links,
+    )?)
 }
 
 fn record_words(alloc: Global, ended: &Ended) -> Result<String, AllocError> {

@@ -40,16 +40,29 @@ fn said_words(alloc: Global, said: &Words) -> Result<String, AllocError> {
 fn shown_command(alloc: Global, command: &Command) -> Result<String, AllocError> {
     let action = command.action;
     let mut shown = format!(in alloc; "{action:?} {}", command.file.as_str())?;
-    if action == Action::Run {
-        let budget = command.budget;
-        let run = format!(in alloc; ", {budget} events, picks:")?;
-        shown.push_str(run.as_str())?;
-    }
+    let options = match action {
+        Action::Run => shown_run(alloc, command)?,
+        Action::Serve => shown_served(alloc, command)?,
+        Action::Check | Action::Explain | Action::Print => String::new(alloc),
+    };
+    shown.push_str(options.as_str())?;
+    Ok(shown)
+}
+
+fn shown_run(alloc: Global, command: &Command) -> Result<String, AllocError> {
+    let budget = command.budget;
+    let mut shown = format!(in alloc; ", {budget} events, picks:")?;
     for pick in command.picks.as_slice() {
         let pick = format!(in alloc; " {pick}")?;
         shown.push_str(pick.as_str())?;
     }
     Ok(shown)
+}
+
+fn shown_served(alloc: Global, command: &Command) -> Result<String, AllocError> {
+    let budget = command.budget;
+    let connections = command.connections;
+    format!(in alloc; ", {budget} events, {connections} connections")
 }
 
 fn refusal_words(alloc: Global, said: &Words) -> Result<String, AllocError> {

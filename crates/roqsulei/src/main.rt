@@ -8,6 +8,7 @@ use http_link::HttpLink;
 use jolie_main::run;
 use outside_sockets::SocketDial;
 use outside_traits::{Inputs, Outputs, Storage};
+use socket_doors::{Patience, SocketDoors};
 use std::alloc::{AllocError, Global};
 use std::net::Net;
 use std::process::ExitCode;
@@ -33,6 +34,7 @@ fn main(rt: HostRuntime) -> ExitCode {
     let mut input = Inputs::new(rt.stdin());
     let mut output = Outputs::new(rt.stdout());
     let mut notes = Outputs::new(rt.stderr());
+    let mut doors = SocketDoors::new(&rt, patience());
     let mut links = match links(alloc, &rt) {
         Ok(links) => links,
         Err(_) => return ExitCode::from(OUT_OF_MEMORY),
@@ -44,10 +46,22 @@ fn main(rt: HostRuntime) -> ExitCode {
         &mut input,
         &mut output,
         &mut notes,
+        &mut doors,
         &mut links,
     ) {
         Ok(ended) => ExitCode::from(ended.status),
         Err(_) => ExitCode::from(OUT_OF_MEMORY),
+    }
+}
+
+/// How long those who come in at a door are waited for: each is read in its turn, so that one who says nothing holds up
+/// the others for that long.
+fn patience() -> Patience {
+    Patience {
+        idle: Duration::from_secs(2),
+        request: Duration::from_secs(5),
+        answer: Duration::from_secs(5),
+        rest: Duration::from_secs(1),
     }
 }
 

@@ -1,5 +1,5 @@
 -- The list is read byte by byte.
-use Rattle.std.proofs.Common.{◌∙◌, rules, ap, List, ℕ, Option, None}
+use Rattle.std.proofs.Common.{◌∙◌, rules, ap, List, ℕ, None}
 use Rattle.command_words.proofs.Picks.{list_after, list_begins, over_comma, over_digit}
 use Rattle.command_words.proofs.numbers.picks_of.Goals.{then-byte-eq44+in-Some+in_ok-push, else-byte-eq44+in-Some-longer}
 use Rattle.command_words.proofs.numbers.picks_of.Goals as goal

@@ -17,3 +17,6 @@ returns-in-Print-clause-told g c = tells c.args.command.now action.Print _ _ c.i
 
 pub returns-in-Run-clause-told : goal.returns-in-Run-clause-told
 returns-in-Run-clause-told g c = tells c.args.command.now action.Run _ _ c.in-Run.is refl
+
+pub returns-in-Serve-clause-told : goal.returns-in-Serve-clause-told
+returns-in-Serve-clause-told g c = tells c.args.command.now action.Serve _ _ c.in-Serve.is refl

@@ -1,0 +1,40 @@
+//! What a run left, in words.
+
+use doors_in_memory::ScriptedDoors;
+use outside_doors::Return;
+use outside_traits::ScriptedWire;
+use std::alloc::{AllocError, Global};
+
+/// The status and the notes, what the doors count, and a line for each connection with what was written on it.
+pub fn told(
+    alloc: Global,
+    status: u8,
+    notes: &[u8],
+    doors: &ScriptedDoors,
+) -> Result<String, AllocError> {
+    let noted = text_of(notes);
+    let mut said = format!(in alloc; "status {status}, notes {noted:?}\n")?;
+    let counts = doors.counts();
+    let opened = counts.opened();
+    let back = counts.doors_back();
+    let wires = counts.wires_back();
+    let failed = counts.wires_failed();
+    let counted = format!(in alloc; "doors {opened} back {back}, wires {wires} failed {failed}")?;
+    said.push_str(counted.as_str())?;
+    for wire in doors.returned() {
+        tell_wire(wire, &mut said)?;
+    }
+    Ok(said)
+}
+
+fn tell_wire(wire: &Return<ScriptedWire>, said: &mut String) -> Result<(), AllocError> {
+    said.push_str("\n")?;
+    said.push_str(text_of(wire.wire().taken()))
+}
+
+fn text_of(bytes: &[u8]) -> &str {
+    match str::from_utf8(bytes) {
+        Ok(text) => text,
+        Err(_) => "no text",
+    }
+}
