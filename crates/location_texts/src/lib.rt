@@ -1,6 +1,6 @@
-//! Which texts are locations of a socket.
+//! Which texts are locations: of a service of the same run, of a socket.
 #![tactic(auto)]
 
 mod locations;
 
-pub use locations::is_socket;
+pub use locations::{begins_local, is_local, is_socket};

@@ -4,11 +4,31 @@ ghost use Rattle.std.specs.Option.{option_copied};
 ghost use Rattle.std.specs.Str.Parse.{digits_value};
 ghost use Rattle.behaviour_tree.specs.Locations as spec;
 
+/// What a local location begins with.
+const LOCAL: &str = "local://";
+
 /// What a location of a socket begins with.
 const SOCKET: &str = "socket://";
 
 /// The largest number of a port.
 const LARGEST_PORT: u32 = 65_535;
+
+/// A text that begins as a local location.
+pub fn begins_local(text: &str) -> bool
+    ensures { result ≡ spec.begins_local text.now }
+{
+    behind(LOCAL, text).is_some()
+}
+
+/// A location of a local service.
+pub fn is_local(text: &str) -> bool
+    ensures { result ≡ spec.is_local text.now }
+{
+    match behind(LOCAL, text) {
+        Some(name) => is_local_name(name.as_bytes()),
+        None => false,
+    }
+}
 
 /// A location of a socket.
 pub fn is_socket(text: &str) -> bool
@@ -26,6 +46,12 @@ fn behind<'a>(beginning: &str, text: &'a str) -> Option<&'a str>
     ensures { option_copied result ≡ spec.behind beginning.now text.now }
 {
     text.strip_prefix(beginning)
+}
+
+fn is_local_name(text: &[u8]) -> bool
+    ensures { result ≡ spec.is_local_name text.now }
+{
+    !text.is_empty() && is_all_visible(text)
 }
 
 /// A host, a port number and a path.

@@ -3,5 +3,4 @@ pub mod Paths
 pub mod Sent
 pub mod SetsDiffer
 pub mod SetsInTurn
-pub mod Stripped
 pub mod Variables

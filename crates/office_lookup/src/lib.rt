@@ -4,7 +4,6 @@
 mod aliases;
 mod asked;
 mod beginnings;
-mod locations;
 mod named;
 mod numbers;
 mod services;

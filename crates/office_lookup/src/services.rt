@@ -9,9 +9,9 @@ ghost use Rattle.behaviour_tree.specs.PartsView.{interface_view, operation_view,
 ghost use Rattle.behaviour_tree.specs.PartsView.{service_view};
 ghost use Rattle.office_core.specs.Accepted as spec;
 
-use crate::locations::is_local;
 use crate::numbers::numbered;
 use behaviour_tree::{Interface, Operation, Parts, Port, Program, Service};
+use location_texts::is_local;
 use std::alloc::AllocError;
 
 pub fn services_of(program: &Program) -> &[Service]

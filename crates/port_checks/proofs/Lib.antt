@@ -1,4 +1,3 @@
-pub mod Addresses
 pub mod Behind
 pub mod BroughtGroups
 pub mod BroughtIn

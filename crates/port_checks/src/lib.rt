@@ -3,7 +3,6 @@
 
 mod aliases;
 mod brought;
-mod locations;
 mod port_rules;
 mod set_rules;
 

@@ -6,12 +6,12 @@ ghost use Rattle.check_base.specs.Least.{joined};
 ghost use Rattle.port_checks.specs.PortRules.{input_locations, operations_repeated, port_name, port_refused, ports_refused, sided_refused, unknown_interface, unmet, wrong_local_protocol, wrong_location, wrong_protocol, wrong_socket_protocol};
 
 use crate::brought::{input_ports_refused, operations_repeated};
-use crate::locations::{begins_local, is_local, is_socket};
 use check_base::{
     CONSOLE, CheckName, Interfaces, Least, Mention, Names, input_port_in, output_port_in, port_in,
     repeated_refused, service_in,
 };
 use jolie_ast::{Clause, Definition, Name, Port, Service};
+use location_texts::{begins_local, is_local, is_socket};
 use std::alloc::{AllocError, Global};
 
 /// What is refused of the ports of a service.
