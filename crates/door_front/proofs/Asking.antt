@@ -18,7 +18,8 @@ use Rattle.branch_workers.specs.Texts.{Came as Incoming, call_in, posting_of}
 use Rattle.connection_runs.specs.Visits.{Visit, came_with}
 use Rattle.http_connection.specs.Seen.{Line}
 use Rattle.door_front.specs.Keeping.{PortTold, LinkTold, Keeping, services_of, no_more}
-use Rattle.door_front.specs.Dealt.{most_open, Taking, Sides, sides_of, HadNone, GaveNone, HaveWaited, HasSaid, HasDealt, MayHaveDealt}
+use Rattle.sink_writing.specs.Sinks.{Taking}
+use Rattle.door_front.specs.Dealt.{most_open, Sides, sides_of, HadNone, GaveNone, HaveWaited, HasSaid, HasDealt, MayHaveDealt}
 use Rattle.door_front.specs.NextSteps.{service_of, wires_of, is_open, has_room, closed_off, AreTried, listing, Hands, going_of, Goes, Rests, Posts, Looks}
 use Rattle.door_front.proofs.Entries.{length_set, nat_eq_is}
 use Rattle.door_front.proofs.Doors.{services-same}

@@ -9,8 +9,8 @@ use Rattle.office_front.specs.Dealings.{Told, Said}
 use Rattle.office_front.specs.Calls.{Halts}
 use Rattle.branch_workers.specs.Lines.{IsProperFront}
 use Rattle.door_front.specs.Keeping.{Keeping}
-use Rattle.door_front.specs.Dealt.{Taking, Sides, sides_of, HasNoted, entire, in_part, HasSaid}
-use Rattle.door_front.specs.AnswerSteps.{Takes}
+use Rattle.sink_writing.specs.Sinks.{Taking, Takes}
+use Rattle.door_front.specs.Dealt.{Sides, sides_of, HasNoted, entire, in_part, HasSaid}
 
 -- ---- fronts of longer lists
 

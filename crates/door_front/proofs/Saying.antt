@@ -26,8 +26,9 @@ use Rattle.http_connection.specs.Stages.{stage_of, IsBehindTelling, IsOver}
 use Rattle.http_connection.specs.Seen.{Line}
 use Rattle.door_front.specs.declared.link.Owed.{Owed}
 use Rattle.door_front.specs.Keeping.{PortTold, LinkTold, Keeping, AreNew, IsEmpty, services_of, no_more}
-use Rattle.door_front.specs.Dealt.{Taking, Sides, sides_of, OwesAt, IsLink, AreLinks, IsHeard, IsOwed, AreHeard, HadNoAnswer, WasBusy, WereBusy, HaveWaited, HadNone, most_open, entire, HasDealt, HasRunOut, MayHaveDealt}
-use Rattle.door_front.specs.AnswerSteps.{told_of, HasTold, HasAnswered, Takes}
+use Rattle.sink_writing.specs.Sinks.{Taking, Takes}
+use Rattle.door_front.specs.Dealt.{Sides, sides_of, OwesAt, IsLink, AreLinks, IsHeard, IsOwed, AreHeard, HadNoAnswer, WasBusy, WereBusy, HaveWaited, HadNone, most_open, entire, HasDealt, HasRunOut, MayHaveDealt}
+use Rattle.door_front.specs.AnswerSteps.{told_of, HasTold, HasAnswered}
 use Rattle.door_front.proofs.Changing.{eq_true, eq_false, not_eq, same_of, none_not_some, set_here, set_other, set_cases, list_all-set, slice_get-front, slice_get-last, map_alike, slice_get-mapped}
 use Rattle.door_front.proofs.Notes.{halts_still, halts_unknown, NotesSo, said_told, said_cut, said_noted}
 

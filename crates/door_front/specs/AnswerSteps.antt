@@ -1,9 +1,7 @@
 -- These definitions serve the proofs alone: no promise speaks of them.
 -- What a front over doors does where an answer is told to it or a text is noted.
-use Rattle.std.specs.Prelude.{◌≡◌, ◌<◌, ◌≤◌, ℕ, false, List, ◌∷◌, [], ◌++◌, length, take}
+use Rattle.std.specs.Prelude.{◌≡◌, ℕ, false, List, ◌∷◌, [], ◌++◌}
 use Rattle.std.specs.Prelude.{Option, None, Some, slice_get, slice_set}
-use Rattle.std.specs.Io.KnownBytes.{Appends}
-use Rattle.outside_traits.specs.Causes.{Rose}
 use Rattle.behaviour_tree.specs.Data.{ProgramParts}
 use Rattle.behaviour_tree.specs.declared.words.Outcome.{Outcome}
 use Rattle.jsonrpc_text.specs.declared.message.Read.{Read}
@@ -14,7 +12,6 @@ use Rattle.http_connection.specs.Stages.{stage_of, IsBehindTelling}
 use Rattle.http_connection.specs.Seen.{Line, Seen}
 use Rattle.http_connection.specs.Talking.{IsTalking}
 use Rattle.door_front.specs.Keeping.{LinkTold, Keeping}
-use Rattle.door_front.specs.Dealt.{Taking}
 
 -- what was told of a place
 abbrev pub told_of : ℕ → List Outcome → Told
@@ -55,11 +52,3 @@ pub record HasAnswered (parts : ProgramParts) (told : Told) (before now : Keepin
   pub most : now.most ≡ before.most
   pub halted : now.halted ≡ before.halted
   pub spent : now.spent ≡ false
-
--- A sink took so many bytes of a text: fewer than all only where it failed.
-pub record Takes (text : List ℕ) (count : ℕ) (before now : Taking) : Type 0 where
-  pub within : count ≤ length text
-  pub taken : Appends before.taken now.taken (take count text)
-  pub calm : count ≡ length text → now.faults ≡ before.faults
-  pub cause : count < length text → Rose before.faults now.faults
-  pub later : before.faults ≤ now.faults

@@ -5,6 +5,7 @@ use Rattle.std.specs.List.{list_all, list_any, sum_by}
 use Rattle.std.specs.Io.KnownBytes.{Appends}
 use Rattle.outside_traits.specs.Causes.{Rose}
 use Rattle.outside_doors.specs.Counts.{has_ended}
+use Rattle.sink_writing.specs.Sinks.{Taking}
 use Rattle.behaviour_tree.specs.Data.{ProgramParts}
 use Rattle.office_front.specs.Dealings.{Asked, Told, Said, Dealings}
 use Rattle.office_front.specs.Calls.{most_postings}
@@ -24,15 +25,6 @@ use Rattle.door_front.specs.Keeping.{PortTold, LinkTold, Keeping, services_of, n
 -- the most connections that are open at once
 abbrev pub most_open : ℕ
 most_open = 1024
-
--- a sink: what it took, where that is told, and how often it failed
-pub record Taking : Type 0 where
-  pub taken : Option (List ℕ)
-  pub faults : ℕ
-
--- the same by its parts
-abbrev pub taking : Option (List ℕ) → ℕ → Taking
-taking taken faults = record { taken = taken; faults = faults }
 
 -- the two sides of a front over doors: what it keeps, and the sink of its notes
 pub record Sides : Type 0 where

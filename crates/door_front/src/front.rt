@@ -4,14 +4,15 @@ ghost use Rattle.behaviour_tree.specs.Data.{ProgramParts};
 ghost use Rattle.office_front.specs.Dealings.{Dealings, IsNew};
 ghost use Rattle.http_connection.specs.Seen.{line_of};
 ghost use Rattle.door_front.specs.Keeping.{IsEmpty, services_of};
-ghost use Rattle.door_front.specs.Dealt.{sides_of, taking, MayHaveDealt};
+ghost use Rattle.sink_writing.specs.Sinks.{taking};
+ghost use Rattle.door_front.specs.Dealt.{sides_of, MayHaveDealt};
 
 use crate::kept::Kept;
-use crate::noting::write_cut;
 use behaviour_tree::{Outcome, Program};
 use office_front::{Front, Next};
 use outside_doors::Door;
 use outside_traits::Sink;
+use sink_writing::write_cut;
 use std::alloc::{AllocError, Global};
 
 /// A front over doors. Answers go out on the connections, and the notes have a sink of their own. What it keeps is lent

@@ -7,7 +7,6 @@ mod front;
 mod kept;
 mod link;
 mod next;
-mod noting;
 mod port;
 mod reading;
 

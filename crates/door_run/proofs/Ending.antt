@@ -17,7 +17,8 @@ use Rattle.connection_runs.specs.Visits.{Visit}
 use Rattle.http_connection.specs.Seen.{Line}
 use Rattle.http_connection.specs.Stages.{IsOver as IsOverAt}
 use Rattle.door_front.specs.Keeping.{PortTold, LinkTold, Keeping, no_more as no_more_kept}
-use Rattle.door_front.specs.Dealt.{Taking, Sides, AreLinks, HasDealt, HasNoted, entire, in_part, HadNone, most_open}
+use Rattle.sink_writing.specs.Sinks.{Taking}
+use Rattle.door_front.specs.Dealt.{Sides, AreLinks, HasDealt, HasNoted, entire, in_part, HadNone, most_open}
 use Rattle.door_front.specs.Dealt.{HadNoAnswer as HadNoneYet, WereBusy as WereBusyThen, HaveWaited}
 use Rattle.door_run.specs.Steps.{door_of}
 use Rattle.door_run.specs.Through.{HadNoAnswer, WereBusy, no_more, AllWaitedLong, IsThrough}

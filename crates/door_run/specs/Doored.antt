@@ -16,7 +16,7 @@ use Rattle.run_alone.specs.Picks.{TookPicks}
 use Rattle.connection_runs.specs.Ports.{doors_of}
 use Rattle.connection_runs.specs.Served.{IsServed}
 use Rattle.http_connection.specs.Seen.{Line}
-use Rattle.door_front.specs.Dealt.{Taking}
+use Rattle.sink_writing.specs.Sinks.{Taking}
 use Rattle.line_run.specs.declared.run.Ended.{Ended}
 use Rattle.door_run.specs.Used.{DoorsTold, Used, marked, came_at_door, IsUsed, AreWires}
 use Rattle.door_run.specs.Through.{HadNoAnswer, IsThrough}

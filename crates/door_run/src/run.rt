@@ -2,7 +2,7 @@ ghost use Rattle.std.specs.Prelude.{◌≡◌, ◌<◌, length, IfOk};
 ghost use Rattle.behaviour_tree.specs.PartsView.{parts_of};
 ghost use Rattle.http_connection.specs.Seen.{line_of};
 ghost use Rattle.office_core.specs.Limits.{run_of};
-ghost use Rattle.door_front.specs.Dealt.{taking};
+ghost use Rattle.sink_writing.specs.Sinks.{taking};
 ghost use Rattle.run_alone.specs.Ran.{Travelled};
 ghost use Rattle.door_run.specs.Used.{doors_told};
 ghost use Rattle.door_run.specs.Doored.{outside, task, IsDoored};

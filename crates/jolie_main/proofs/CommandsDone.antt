@@ -8,7 +8,7 @@ use Rattle.behaviour_tree.specs.Data.{ProgramParts}
 use Rattle.behaviour_tree.specs.PartsView.{parts_of}
 use Rattle.behaviour_tree.specs.declared.program.Program.{Program}
 use Rattle.outside_links.specs.Trips.{Made}
-use Rattle.line_front.specs.Writing.{Taking}
+use Rattle.sink_writing.specs.Sinks.{Taking}
 use Rattle.line_run.specs.declared.run.Ended.{Ended}
 use Rattle.http_connection.specs.Seen.{Line}
 use Rattle.door_run.specs.Used.{DoorsTold}

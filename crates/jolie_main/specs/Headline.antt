@@ -6,7 +6,7 @@ use Rattle.jolie_ast.specs.Printed.{printed_text}
 use Rattle.behaviour_tree.specs.Data.{ProgramParts}
 use Rattle.office_core.specs.Limits.{run_of}
 use Rattle.run_record.specs.declared.record.Record.{Record}
-use Rattle.line_front.specs.Writing.{Taking}
+use Rattle.sink_writing.specs.Sinks.{Taking}
 use Rattle.line_run.specs.declared.run.Ended.{Ended}
 use Rattle.line_run.specs.Lined.{task, IsLined}
 use Rattle.http_connection.specs.Seen.{Line}

@@ -6,10 +6,9 @@ use Rattle.outside_links.specs.Trips.{Made}
 use Rattle.office_core.specs.declared.history.Entry.{Entry}
 use Rattle.office_core.specs.Limits.{Setting}
 use Rattle.branch_workers.specs.Lines.{IsProperFront}
-use Rattle.line_front.specs.Writing.{Taking}
+use Rattle.sink_writing.specs.Sinks.{Taking}
 use Rattle.line_run.specs.Lined.{Outside as Lines}
 use Rattle.run_alone.specs.Ran.{Travelled}
-use Rattle.door_front.specs.Dealt.{taking as sink}
 use Rattle.door_run.specs.Used.{DoorsTold}
 use Rattle.door_run.specs.Doored.{Outside as Served, outside as served}
 
@@ -37,7 +36,7 @@ around before now = record { before = before; now = now }
 
 -- the part of it that a run over doors has to do with
 abbrev pub at_doors : Outside → Served
-at_doors o = served o.doors (sink o.lines.notes.taken o.lines.notes.faults)
+at_doors o = served o.doors o.lines.notes
 
 -- ---- files
 

@@ -1,7 +1,7 @@
 //! What is wrong with a text, in words.
 
 ghost use Rattle.std.specs.Prelude.{◌≡◌, IfOk};
-ghost use Rattle.line_front.specs.Writing.{taking};
+ghost use Rattle.sink_writing.specs.Sinks.{taking};
 ghost use Rattle.explain_text.specs.Explained.{unreadable_line};
 ghost use Rattle.jolie_main.specs.Headline.{Explains, IsEmptyRecord, TellsOfFile};
 ghost use Rattle.jolie_main.specs.Outside.{IsWritten};

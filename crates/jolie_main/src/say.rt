@@ -1,7 +1,7 @@
 //! What goes out, apart from the answers of services.
 
 ghost use Rattle.std.specs.Prelude.{◌≡◌, IfOk};
-ghost use Rattle.line_front.specs.Writing.{taking};
+ghost use Rattle.sink_writing.specs.Sinks.{taking};
 ghost use Rattle.jolie_main.specs.Headline.{Says, IsEmptyRecord};
 ghost use Rattle.jolie_main.specs.Outside.{IsSaid, IsWritten};
 ghost use Rattle.file_verdicts.specs.RefusalLines.{refusal_line};

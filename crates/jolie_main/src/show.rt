@@ -2,7 +2,7 @@
 
 ghost use Rattle.std.specs.Prelude.{IfOk};
 ghost use Rattle.jolie_main.specs.Headline.{Checks, Prints, IsEmptyRecord};
-ghost use Rattle.line_front.specs.Writing.{taking};
+ghost use Rattle.sink_writing.specs.Sinks.{taking};
 
 use crate::say::{refuse, tell};
 use file_verdicts::{Verdict, program_in, verdict_of};

@@ -5,10 +5,9 @@ ghost use Rattle.command_words.specs.declared.words.Words.{Words as Said};
 ghost use Rattle.command_words.specs.Usage.{IsUnderstood, spelled};
 ghost use Rattle.behaviour_tree.specs.PartsView.{parts_of};
 ghost use Rattle.office_core.specs.Limits.{run_of};
-ghost use Rattle.line_front.specs.Writing.{taking};
+ghost use Rattle.sink_writing.specs.Sinks.{taking};
 ghost use Rattle.line_run.specs.Lined.{Giving, giving, outside as lines, task, IsLined};
 ghost use Rattle.http_connection.specs.Seen.{Line, line_of};
-ghost use Rattle.door_front.specs.Dealt.{taking as sink};
 ghost use Rattle.door_run.specs.Used.{DoorsTold, doors_told};
 ghost use Rattle.door_run.specs.Doored.{outside as served, task as doors_task, IsDoored};
 ghost use Rattle.jolie_main.specs.Outside.{around, outside, FirstTravelled};
@@ -187,8 +186,8 @@ fn serve_program<N: Sink, D: Doors, L: Link>(
     requires some { 0 < length (parts_of program).services }
     requires link { 0 < length links.old.items }
     ensures doored { IfOk result (IsDoored (λ line. (wire : D.D.W) × (line ≡ line_of (D.D.W.given wire) (D.D.W.left wire) (D.D.W.taken wire) (D.D.W.faults wire) (D.D.W.closed wire))) (doors_task (parts_of program) text.now command.now.budget command.now.connections)
-        (served (doors_told (D.faults doors.old) (D.tally doors.old) (D.locations doors.old) (D.returned doors.old)) (sink (N.taken notes.old) (N.faults notes.old)))
-        (served (doors_told (D.faults doors.new) (D.tally doors.new) (D.locations doors.new) (D.returned doors.new)) (sink (N.taken notes.new) (N.faults notes.new)))) }
+        (served (doors_told (D.faults doors.old) (D.tally doors.old) (D.locations doors.old) (D.returned doors.old)) (taking (N.taken notes.old) (N.faults notes.old)))
+        (served (doors_told (D.faults doors.new) (D.tally doors.new) (D.locations doors.new) (D.returned doors.new)) (taking (N.taken notes.new) (N.faults notes.new)))) }
     ensures travelled { IfOk result (λ ended. FirstTravelled (run_of (parts_of program)) ended.report.history.entries.items (map L.trips links.old.items) (map L.trips links.new.items)) }
     ensures others { drop 1 links.new.items ≡ drop 1 links.old.items }
 {

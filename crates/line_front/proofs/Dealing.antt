@@ -21,7 +21,8 @@ use Rattle.branch_workers.specs.Lines.{come_in}
 use Rattle.branch_workers.specs.Texts.{Came as Incoming, posting_of}
 use Rattle.line_front.specs.Passing.{nothing_read}
 use Rattle.line_front.specs.Reading.{Input, input_of, came_by, came_in, some, HasBrought}
-use Rattle.line_front.specs.Writing.{Taking, Output, output_of, faults_of, HasWritten, entire, HasSaid}
+use Rattle.sink_writing.specs.Sinks.{Taking}
+use Rattle.line_front.specs.Writing.{Output, output_of, faults_of, HasWritten, entire, HasSaid}
 use Rattle.line_front.specs.Told.{line_to, line_told, lines_told}
 use Rattle.line_front.specs.Dealt.{Sides, sides_of, HasDealt}
 

@@ -13,8 +13,8 @@ use Rattle.office_front.specs.Calls.{Halts}
 use Rattle.branch_workers.specs.Texts.{Came}
 use Rattle.branch_workers.specs.Lines.{IsFront, IsProperFront}
 use Rattle.line_front.specs.Told.{line_told, lines_told}
-use Rattle.line_front.specs.Writing.{Taking, Output, faults_of, Due, HasWritten, entire, in_part, HasSaid}
-use Rattle.line_front.specs.Steps.{Takes}
+use Rattle.sink_writing.specs.Sinks.{Taking, Takes}
+use Rattle.line_front.specs.Writing.{Output, faults_of, Due, HasWritten, entire, in_part, HasSaid}
 
 -- ---- fronts of longer lists
 

@@ -3,7 +3,8 @@ use Rattle.std.specs.Prelude.{◌≡◌, ℕ, false, List, [], Option}
 use Rattle.line_front.specs.declared.kept.Kept.{Kept}
 use Rattle.line_front.specs.Passing.{nothing_read}
 use Rattle.line_front.specs.Reading.{input_of}
-use Rattle.line_front.specs.Writing.{Taking, output_of}
+use Rattle.sink_writing.specs.Sinks.{Taking}
+use Rattle.line_front.specs.Writing.{output_of}
 use Rattle.line_front.specs.Dealt.{Sides, sides_of}
 
 -- Nothing was read or written, and nothing failed.

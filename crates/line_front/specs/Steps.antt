@@ -1,8 +1,8 @@
 -- These definitions serve the proofs alone: no promise speaks of them.
 -- How a front over lines comes to its next line, and what a sink takes.
-use Rattle.std.specs.Prelude.{◌≡◌, ◌<◌, ◌≤◌, ℕ, List, [], ◌∷◌, ◌++◌, length, take, if◌then◌else◌, Option, None, Some}
+use Rattle.std.specs.Prelude.{◌≡◌, ◌≤◌, ℕ, List, [], ◌∷◌, ◌++◌, take, Option, None, Some}
 use Rattle.std.specs.Prelude.{true, false}
-use Rattle.std.specs.Io.KnownBytes.{Appends, Consumes, IsAtEnd}
+use Rattle.std.specs.Io.KnownBytes.{Consumes, IsAtEnd}
 use Rattle.outside_traits.specs.Causes.{Rose}
 use Rattle.jsonrpc_text.specs.Posted.{posted}
 use Rattle.jsonrpc_text.specs.declared.message.Read.{Read}
@@ -12,7 +12,6 @@ use Rattle.branch_workers.specs.Texts.{posting_of}
 use Rattle.branch_workers.specs.Lines.{line_in}
 use Rattle.branch_workers.specs.Split.{IsOpen, split, whole_lines, is_blank, said_lines}
 use Rattle.line_front.specs.Passing.{Passing, read_in, IsLine}
-use Rattle.line_front.specs.Writing.{Taking}
 use Rattle.line_front.specs.declared.piece.Piece.{Piece}
 use Rattle.line_front.specs.declared.piece.Piece.TheVariants as piece
 use Rattle.line_front.specs.declared.next_line.Step.{Step}
@@ -91,11 +90,3 @@ step_after piece.Failed rest = Some step.Cut
 pub record GivesLine (line : List ℕ) (which : Next) (before now : List Read) : Type 0 where
   pub given : which ≡ next.Posting (posting_of (line_in line))
   pub kept : now ≡ before ++ posted line ∷ []
-
--- A sink took so many bytes of a text: fewer than all only where it failed.
-pub record Takes (text : List ℕ) (count : ℕ) (before now : Taking) : Type 0 where
-  pub within : count ≤ length text
-  pub taken : Appends before.taken now.taken (take count text)
-  pub calm : count ≡ length text → now.faults ≡ before.faults
-  pub cause : count < length text → Rose before.faults now.faults
-  pub later : before.faults ≤ now.faults

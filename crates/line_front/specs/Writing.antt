@@ -1,21 +1,13 @@
 -- What a front over lines wrote, by what it was told and what was noted.
-use Rattle.std.specs.Prelude.{◌≡◌, ◌⊎◌, ℕ, ◌+◌, ◌-◌, ◌^◌, min, Bool, true, false, List, Option}
+use Rattle.std.specs.Prelude.{◌≡◌, ◌⊎◌, ℕ, ◌+◌, ◌-◌, ◌^◌, min, Bool, true, false, List}
 use Rattle.std.specs.Io.KnownBytes.{Appends}
 use Rattle.outside_traits.specs.Causes.{Rose}
+use Rattle.sink_writing.specs.Sinks.{Taking}
 use Rattle.behaviour_tree.specs.Data.{ProgramParts}
 use Rattle.office_front.specs.Dealings.{Said}
 use Rattle.branch_workers.specs.Texts.{Came}
 use Rattle.branch_workers.specs.Lines.{IsFront, IsProperFront}
 use Rattle.line_front.specs.Told.{lines_told}
-
--- a sink: what it took, where that is told, and how often it failed
-pub record Taking : Type 0 where
-  pub taken : Option (List ℕ)
-  pub faults : ℕ
-
--- the same by its parts
-abbrev pub taking : Option (List ℕ) → ℕ → Taking
-taking taken faults = record { taken = taken; faults = faults }
 
 -- The output of a front: its two sinks; what was written to the first of them; and whether nothing more is written.
 pub record Output : Type 0 where

@@ -3,18 +3,19 @@ ghost use Rattle.behaviour_tree.specs.Data.{ProgramParts};
 ghost use Rattle.behaviour_tree.specs.PartsView.{parts_of};
 ghost use Rattle.office_front.specs.Dealings.{Dealings, IsNew};
 ghost use Rattle.line_front.specs.Reading.{came_by, Fails};
-ghost use Rattle.line_front.specs.Writing.{taking};
+ghost use Rattle.sink_writing.specs.Sinks.{taking};
 ghost use Rattle.line_front.specs.Told.{line_told};
 ghost use Rattle.line_front.specs.Dealt.{HasDealt};
 ghost use Rattle.line_front.specs.Keeping.{sides_in, IsEmpty};
 
 use crate::kept::Kept;
 use crate::response::line_to;
-use crate::writing::{write_cut, write_kept};
+use crate::writing::write_kept;
 use behaviour_tree::{Outcome, Program};
 use jsonrpc_text::Read;
 use office_front::{Front, Next};
 use outside_traits::{Sink, Source};
+use sink_writing::write_cut;
 use sqlite_items::Items;
 use std::alloc::{AllocError, Global};
 

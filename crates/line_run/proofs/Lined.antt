@@ -23,7 +23,8 @@ use Rattle.branch_workers.specs.Headline.{whole as all_answered, cut as ended_an
 use Rattle.office_front.specs.Dealings.{Told, Dealings}
 use Rattle.line_front.specs.Passing.{read_in}
 use Rattle.line_front.specs.Reading.{Input, came_by, came_in, Fails, HasPassed, some, last, whole, full, cut}
-use Rattle.line_front.specs.Writing.{taking, Output as Written, Due, HasWritten, entire, in_part}
+use Rattle.sink_writing.specs.Sinks.{taking}
+use Rattle.line_front.specs.Writing.{Output as Written, Due, HasWritten, entire, in_part}
 use Rattle.line_front.specs.Told.{lines_told}
 use Rattle.line_front.specs.Dealt.{Sides, HasDealt}
 use Rattle.run_alone.specs.declared.worker.Finished.{Finished}

@@ -7,7 +7,7 @@ use Rattle.office_core.specs.Accepted.{past_of}
 use Rattle.run_record.specs.Run.{alone}
 use Rattle.branch_workers.specs.Statuses.{Faults}
 use Rattle.branch_workers.specs.Headline.{Ending, IsLineRun}
-use Rattle.line_front.specs.Writing.{Taking}
+use Rattle.sink_writing.specs.Sinks.{Taking}
 use Rattle.run_alone.specs.Ran.{AreVoid, Rules}
 use Rattle.run_alone.specs.Picks.{TookPicks}
 use Rattle.line_run.specs.declared.run.Ended.{Ended}

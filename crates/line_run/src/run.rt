@@ -1,7 +1,7 @@
 ghost use Rattle.std.specs.Prelude.{◌≡◌, ◌<◌, length, IfOk};
 ghost use Rattle.behaviour_tree.specs.PartsView.{parts_of};
 ghost use Rattle.office_core.specs.Limits.{run_of};
-ghost use Rattle.line_front.specs.Writing.{taking};
+ghost use Rattle.sink_writing.specs.Sinks.{taking};
 ghost use Rattle.run_alone.specs.Ran.{Travelled};
 ghost use Rattle.line_run.specs.Lined.{giving, outside, task, IsLined};
 ghost use Rattle.line_run.specs.Steps as steps;

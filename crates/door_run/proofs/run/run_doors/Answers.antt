@@ -3,7 +3,8 @@ use Rattle.std.proofs.Common.{◌≡◌, refl, sym, ap, subst, ◌∙◌}
 use Rattle.behaviour_tree.specs.PartsView.{parts_of}
 use Rattle.http_connection.specs.Seen.{line_of}
 use Rattle.connection_runs.specs.Ports.{doors_of}
-use Rattle.door_front.specs.Dealt.{sides_of, taking}
+use Rattle.sink_writing.specs.Sinks.{taking}
+use Rattle.door_front.specs.Dealt.{sides_of}
 use Rattle.line_run.specs.declared.run.Ended.{Ended}
 use Rattle.door_run.specs.Used.{doors_told, marked}
 use Rattle.door_run.specs.Doored.{outside, task}

@@ -1,7 +1,7 @@
 -- What a run over lines leaves, by its front and by what that kept.
 use Rattle.std.proofs.Common.{refl, sym, ap, ◌∙◌}
 use Rattle.behaviour_tree.specs.PartsView.{parts_of}
-use Rattle.line_front.specs.Writing.{taking}
+use Rattle.sink_writing.specs.Sinks.{taking}
 use Rattle.line_front.specs.Passing.{read_in}
 use Rattle.line_front.specs.Keeping.{sides_in}
 use Rattle.line_run.specs.Lined.{task}

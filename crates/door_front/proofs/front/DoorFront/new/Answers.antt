@@ -1,5 +1,5 @@
 -- Nothing passed yet.
-use Rattle.door_front.specs.Dealt.{taking}
+use Rattle.sink_writing.specs.Sinks.{taking}
 use Rattle.door_front.proofs.Saying.{nothing_dealt}
 use Rattle.door_front.proofs.front.DoorFront.new.Goals as goal
 

@@ -1,7 +1,7 @@
 -- The connection of a place is told its answer, or memory ran out.
 use Rattle.std.proofs.Common.{sym, ◌∙◌}
 use Rattle.behaviour_tree.specs.PartsView.{parts_of}
-use Rattle.door_front.specs.Dealt.{taking}
+use Rattle.sink_writing.specs.Sinks.{taking}
 use Rattle.door_front.proofs.Saying.{told_cut-so, told-so}
 use Rattle.door_front.proofs.front.DoorFrontFront.answer.Goals as goal
 

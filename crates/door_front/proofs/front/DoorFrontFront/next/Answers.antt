@@ -1,6 +1,6 @@
 -- What is asked of a front is what its call on what it keeps came to.
 use Rattle.behaviour_tree.specs.PartsView.{parts_of}
-use Rattle.door_front.specs.Dealt.{taking}
+use Rattle.sink_writing.specs.Sinks.{taking}
 use Rattle.door_front.proofs.Asking.{next-so}
 use Rattle.door_front.proofs.front.DoorFrontFront.next.Goals as goal
 

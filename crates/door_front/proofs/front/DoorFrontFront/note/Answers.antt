@@ -1,6 +1,6 @@
 -- A note is written, as far as its sink takes it.
 use Rattle.std.proofs.Common.{sym, ◌∙◌}
-use Rattle.door_front.specs.Dealt.{taking}
+use Rattle.sink_writing.specs.Sinks.{taking}
 use Rattle.door_front.proofs.Saying.{noted_cut-so, noted_whole-so, noted_part-so}
 use Rattle.door_front.proofs.front.DoorFrontFront.note.Goals as goal
 

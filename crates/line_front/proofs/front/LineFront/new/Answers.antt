@@ -1,5 +1,5 @@
 -- Nothing passed yet.
-use Rattle.line_front.specs.Writing.{taking}
+use Rattle.sink_writing.specs.Sinks.{taking}
 use Rattle.line_front.proofs.Dealing.{nothing_dealt}
 use Rattle.line_front.proofs.front.LineFront.new.Goals as goal
 

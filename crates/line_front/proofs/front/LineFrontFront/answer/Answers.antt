@@ -3,7 +3,8 @@ use Rattle.std.proofs.Common.{refl, ap₂, ◌∙◌}
 use Rattle.std.proofs.lemmas.Result.{err_from_is_err_and}
 use Rattle.behaviour_tree.specs.PartsView.{parts_of}
 use Rattle.line_front.specs.Reading.{input_of}
-use Rattle.line_front.specs.Writing.{taking, output_of}
+use Rattle.sink_writing.specs.Sinks.{taking}
+use Rattle.line_front.specs.Writing.{output_of}
 use Rattle.line_front.specs.Dealt.{sides_of}
 use Rattle.line_front.specs.Keeping.{sides_in}
 use Rattle.line_front.proofs.Saying.{told-halted, told-written}

@@ -2,7 +2,7 @@
 use Rattle.std.proofs.Common.{◌≡◌, refl, false}
 use Rattle.behaviour_tree.specs.PartsView.{parts_of}
 use Rattle.line_front.specs.Reading.{Fails}
-use Rattle.line_front.specs.Writing.{taking}
+use Rattle.sink_writing.specs.Sinks.{taking}
 use Rattle.line_front.specs.Keeping.{sides_in}
 use Rattle.line_front.proofs.Dealing.{asked-so}
 use Rattle.line_front.proofs.front.LineFrontFront.next.Goals as goal

@@ -1,6 +1,7 @@
 -- A note is written, as far as its sink takes it.
 use Rattle.std.proofs.Common.{refl}
-use Rattle.line_front.specs.Writing.{taking, output_of}
+use Rattle.sink_writing.specs.Sinks.{taking}
+use Rattle.line_front.specs.Writing.{output_of}
 use Rattle.line_front.specs.Keeping.{sides_in}
 use Rattle.line_front.proofs.Saying.{noted-halted, noted-written}
 use Rattle.line_front.proofs.Dealing.{noted-so}

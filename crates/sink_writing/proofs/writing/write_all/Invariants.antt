@@ -1,12 +1,12 @@
 use Rattle.std.proofs.Common.{◌≡◌, ◌-◌, ◌≤◌, length, take}
 use Rattle.std.specs.Io.KnownBytes.{Appends}
-use Rattle.door_front.proofs.noting.write_all.Given as goal
+use Rattle.sink_writing.proofs.writing.write_all.Given as goal
 
 abbrev pub invariant-loop-done : goal.invariant-loop-done
 invariant-loop-done g l = record {
   within : l.done ≤ length l.bytes;
-  written : Appends (g.N.Sink.taken l.fn.sink) (g.N.Sink.taken l.sink) (take l.done l.bytes);
-  faults : g.N.Sink.faults l.sink ≡ g.N.Sink.faults l.fn.sink;
+  written : Appends (g.K.Sink.taken l.fn.sink) (g.K.Sink.taken l.sink) (take l.done l.bytes);
+  faults : g.K.Sink.faults l.sink ≡ g.K.Sink.faults l.fn.sink;
 }
 
 abbrev pub decreases-loop-done : goal.decreases-loop-done

@@ -1,13 +1,13 @@
 -- Piece by piece, until all was taken or the sink failed.
-use Rattle.std.proofs.Common.{◌≡◌, ◌-◌, ◌<◌, ◌≤◌, arith, refl, sym, ap, subst, ◌∙◌, length, take, drop, length-drop, take-add}
+use Rattle.std.proofs.Common.{◌≡◌, ◌-◌, ◌+◌, ◌<◌, ◌≤◌, arith, refl, sym, ap, subst, ◌∙◌, [], length, take, drop, length-drop, length-take-le, take-add, take_all}
 use Rattle.std.proofs.lemmas.List.{take_rest}
 use Rattle.std.specs.Io.KnownBytes.{Appends}
 use Rattle.std.proofs.KnownBytes.{Appends-nil, Appends-trans, Appends-kept}
 use Rattle.outside_traits.specs.Causes.{Rose}
-use Rattle.door_front.proofs.noting.write_all.Goals as goal
+use Rattle.sink_writing.proofs.writing.write_all.Goals as goal
 
 pub loop-done-init : goal.loop-done-init
-loop-done-init g c = record { within = omega arith; written = Appends-nil (g.N.Sink.taken c.args.sink.now); faults = refl }
+loop-done-init g c = record { within = omega arith; written = Appends-nil (g.K.Sink.taken c.args.sink.now); faults = refl }
 
 pub loop-done-preserved : goal.loop-done-preserved
 loop-done-preserved g c =
@@ -16,11 +16,11 @@ loop-done-preserved g c =
     let count = c.in-Ok.count in
     let rest = take_rest bytes done in
     let fits : count ≤ length bytes - done = subst (λ k. count ≤ k) (ap length rest ∙ length-drop done bytes) c.in-Ok.ensures.bound in
-    let more = subst (λ l. Appends (g.N.Sink.taken c.loop-done.sink) (g.N.Sink.taken c.write.new.self) (take count l)) rest c.in-Ok.ensures.bytes in
+    let more = subst (λ l. Appends (g.K.Sink.taken c.loop-done.sink) (g.K.Sink.taken c.write.new.self) (take count l)) rest c.in-Ok.ensures.bytes in
     record {
       within = omega arith;
-      written = subst (Appends (g.N.Sink.taken c.args.sink.now) (g.N.Sink.taken c.write.new.self)) (sym (take-add done count bytes))
-          (Appends-trans (g.N.Sink.taken c.args.sink.now) (g.N.Sink.taken c.loop-done.sink) (g.N.Sink.taken c.write.new.self) (take done bytes) (take count (drop done bytes)) c.loop-done.invariant.written more);
+      written = subst (Appends (g.K.Sink.taken c.args.sink.now) (g.K.Sink.taken c.write.new.self)) (sym (take-add done count bytes))
+          (Appends-trans (g.K.Sink.taken c.args.sink.now) (g.K.Sink.taken c.loop-done.sink) (g.K.Sink.taken c.write.new.self) (take done bytes) (take count (drop done bytes)) c.loop-done.invariant.written more);
       faults = c.in-Ok.ensures.cause.calm ∙ c.loop-done.invariant.faults;
     }
 
@@ -34,10 +34,10 @@ returns-in-Err g c =
     let later = c.in-Err.ensures.cause.later in
     record {
       within = omega arith;
-      taken = Appends-kept (g.N.Sink.taken c.args.sink.now) (g.N.Sink.taken c.loop-done.sink) (g.N.Sink.taken c.write.new.self) (take done bytes) c.loop-done.invariant.written c.in-Err.ensures.bytes;
-      calm = λ e. absurd {A = g.N.Sink.faults c.write.new.self ≡ g.N.Sink.faults c.args.sink.now} (omega arith);
-      cause = λ _. subst (λ n. Rose n (g.N.Sink.faults c.write.new.self)) calm rose;
-      later = subst (λ n. n ≤ g.N.Sink.faults c.write.new.self) calm later;
+      taken = Appends-kept (g.K.Sink.taken c.args.sink.now) (g.K.Sink.taken c.loop-done.sink) (g.K.Sink.taken c.write.new.self) (take done bytes) c.loop-done.invariant.written c.in-Err.ensures.bytes;
+      calm = λ e. absurd (omega arith);
+      cause = λ _. subst (λ n. Rose n (g.K.Sink.faults c.write.new.self)) calm rose;
+      later = subst (λ n. n ≤ g.K.Sink.faults c.write.new.self) calm later;
     }
 
 pub returns : goal.returns
@@ -48,6 +48,6 @@ returns g c =
       within = within;
       taken = c.loop-done.invariant.written;
       calm = λ _. calm;
-      cause = λ lt. absurd {A = Rose (g.N.Sink.faults c.args.sink.now) (g.N.Sink.faults c.loop-done.sink)} (omega arith);
+      cause = λ lt. absurd (omega arith);
       later = omega (arith, calm);
     }

@@ -1,14 +1,13 @@
-//! What is noted, and how much of it the sink took.
+//! All bytes go out, or those that the sink took before it failed.
 
 ghost use Rattle.std.specs.Prelude.{◌≡◌, ℕ, nat_lt, length};
-ghost use Rattle.door_front.specs.Dealt.{taking};
-ghost use Rattle.door_front.specs.AnswerSteps.{Takes};
+ghost use Rattle.sink_writing.specs.Sinks.{taking, Takes};
 
 use outside_traits::{Failed, Sink};
 
 /// Writes the bytes, as far as the sink takes them, and says how many it took.
-fn write_all<N: Sink>(sink: &mut N, bytes: &[u8]) -> usize
-    ensures { Takes bytes.now result (taking (N.taken sink.old) (N.faults sink.old)) (taking (N.taken sink.new) (N.faults sink.new)) }
+pub fn write_all<K: Sink>(sink: &mut K, bytes: &[u8]) -> usize
+    ensures { Takes bytes.now result (taking (K.taken sink.old) (K.faults sink.old)) (taking (K.taken sink.new) (K.faults sink.new)) }
 {
     let mut done = 0;
     while done < bytes.len() {
@@ -21,8 +20,8 @@ fn write_all<N: Sink>(sink: &mut N, bytes: &[u8]) -> usize
 }
 
 /// Writes the bytes, as far as the sink takes them. It says whether the sink failed.
-pub(crate) fn write_cut<N: Sink>(sink: &mut N, bytes: &[u8]) -> bool
-    ensures { (count : ℕ) × Takes bytes.now count (taking (N.taken sink.old) (N.faults sink.old)) (taking (N.taken sink.new) (N.faults sink.new))
+pub fn write_cut<K: Sink>(sink: &mut K, bytes: &[u8]) -> bool
+    ensures { (count : ℕ) × Takes bytes.now count (taking (K.taken sink.old) (K.faults sink.old)) (taking (K.taken sink.new) (K.faults sink.new))
         × (result ≡ nat_lt count (length bytes.now)) }
 {
     let count = write_all(sink, bytes);
