@@ -5,10 +5,10 @@ use std::alloc::Global;
 use test_rows::{Row, TableError};
 
 /// For how many bytes a wire has room.
-const ROOM: usize = 100_000;
+pub const ROOM: usize = 100_000;
 
 /// No call has this number.
-const NEVER: u64 = 1 << 60;
+pub const NEVER: u64 = 1 << 60;
 
 /// A door for each line: each word is what a try at it comes to. A door fails to open where its line is `!`.
 pub fn doors(alloc: Global, row: &Row<'_>) -> Result<ScriptedDoors, TableError> {
@@ -64,7 +64,12 @@ fn guest(
 }
 
 /// A number of the row, or another where it lacks it.
-fn number(alloc: Global, row: &Row<'_>, key: &'static str, other: u64) -> Result<u64, TableError> {
+pub fn number(
+    alloc: Global,
+    row: &Row<'_>,
+    key: &'static str,
+    other: u64,
+) -> Result<u64, TableError> {
     if row.has(key) {
         return Ok(u64::from(row.number(alloc, key)?));
     }

@@ -1,7 +1,9 @@
-//! Runs of the program over doors in memory: what is written on each connection, what comes back to the doors, and how the run ends.
+//! Runs of the program over doors and peers in memory: what is written on each connection and to each peer, what comes back
+//! to the doors, and how the run ends.
 #![tactic(auto)]
 
 mod guests;
+mod peers;
 mod served;
 mod told;
 

@@ -1,25 +1,37 @@
 //! How the run of a row ends.
 
-ghost use Rattle.std.specs.Prelude.{◌<◌, IfOk, length};
+ghost use Rattle.std.specs.Prelude.{◌<◌, length};
 
-use crate::guests::doors;
+use crate::guests::{ROOM, doors};
+use crate::peers::{Calling, links};
 use crate::told::told;
 use doors_in_memory::ScriptedDoors;
 use jolie_main::run;
-use outside_links::ScriptedLink;
 use outside_traits::{Script, ScriptedFiles, ScriptedSink, ScriptedSource};
 use std::alloc::Global;
 use test_rows::Row;
 
-/// For how many bytes the notes have room.
-const ROOM: usize = 100_000;
+/// What takes what a run says.
+#[derive(Drop)]
+struct Sinks {
+    output: ScriptedSink,
+    notes: ScriptedSink,
+}
 
-/// The end of the run of a row: its status and its notes, what the doors count, and what was written on each connection.
+/// The end of the run of a row: its status and its notes, what the doors count, and what was written on each connection;
+/// then its lines and what its last peer was asked, where there is any.
 pub fn served(alloc: Global, row: &Row<'_>) -> anyhow::Result<String> {
-    let mut doors = doors(alloc, row)?;
-    let mut notes = ScriptedSink::new(alloc, ROOM, ROOM, script(alloc, row)?)?;
-    let status = status_of(alloc, row, &mut notes, &mut doors)?;
-    Ok(told(alloc, status, notes.bytes(), &doors)?)
+    let mut doors = Box::new(alloc, doors(alloc, row)?)?;
+    let mut sinks = sinks(alloc, row)?;
+    let mut links = links(alloc, row)?;
+    let status = status_of(alloc, row, &mut sinks, &mut doors, &mut links)?;
+    Ok(told(alloc, status, &sinks.output, &sinks.notes, &doors, &links)?)
+}
+
+fn sinks(alloc: Global, row: &Row<'_>) -> anyhow::Result<Box<Sinks>> {
+    let notes = ScriptedSink::new(alloc, ROOM, ROOM, script(alloc, row)?)?;
+    let output = ScriptedSink::new(alloc, ROOM, ROOM, Script::new(alloc, &[])?)?;
+    Ok(Box::new(alloc, Sinks { output, notes })?)
 }
 
 /// Which write of the notes fails.
@@ -35,38 +47,36 @@ fn script(alloc: Global, row: &Row<'_>) -> anyhow::Result<Script> {
 fn status_of(
     alloc: Global,
     row: &Row<'_>,
-    notes: &mut ScriptedSink,
+    sinks: &mut Sinks,
     doors: &mut ScriptedDoors,
-) -> anyhow::Result<u8> {
-    let mut files = files(alloc, row)?;
-    let mut links = links(alloc)?;
-    status_over(alloc, row, &mut files, notes, doors, &mut links)
-}
-
-fn status_over(
-    alloc: Global,
-    row: &Row<'_>,
-    files: &mut ScriptedFiles,
-    notes: &mut ScriptedSink,
-    doors: &mut ScriptedDoors,
-    links: &mut Vec<ScriptedLink>,
+    links: &mut Vec<Calling>,
 ) -> anyhow::Result<u8>
     requires link { 0 < length links.old.items }
 {
-    let mut input = ScriptedSource::new(alloc, b"", 1, Script::new(alloc, &[])?)?;
-    let mut output = ScriptedSink::new(alloc, ROOM, ROOM, Script::new(alloc, &[])?)?;
     let words = words(alloc, row)?;
+    let mut files = files(alloc, row)?;
+    let mut input = input(alloc, row)?;
     let ended = run(
         alloc,
         &words,
-        files,
+        &mut files,
         &mut input,
-        &mut output,
-        notes,
+        &mut sinks.output,
+        &mut sinks.notes,
         doors,
         links,
     )?;
     Ok(ended.status)
+}
+
+/// The lines of the row, where it has any.
+fn input(alloc: Global, row: &Row<'_>) -> anyhow::Result<ScriptedSource> {
+    let script = Script::new(alloc, &[])?;
+    if !row.has("lines") {
+        return Ok(ScriptedSource::new(alloc, b"", 1, script)?);
+    }
+    let lines = row.bytes(alloc, "lines")?;
+    Ok(ScriptedSource::new(alloc, lines.as_slice(), ROOM, script)?)
 }
 
 fn files(alloc: Global, row: &Row<'_>) -> anyhow::Result<ScriptedFiles> {
@@ -74,19 +84,11 @@ fn files(alloc: Global, row: &Row<'_>) -> anyhow::Result<ScriptedFiles> {
     Ok(ScriptedFiles::new(alloc, content.as_slice(), Script::new(alloc, &[])?)?)
 }
 
-/// One link, whose trips fail.
-fn links(alloc: Global) -> anyhow::Result<Vec<ScriptedLink>>
-    ensures { IfOk result (λ links. 0 < length links.items) }
-{
-    let mut links = Vec::new(alloc);
-    links.push(ScriptedLink::new(alloc, Vec::new(alloc)))?;
-    Ok(links)
-}
-
-/// `serve` over the file, with the options of the row.
+/// `serve` over the file, or `run` where the row has lines, with the options of the row.
 fn words(alloc: Global, row: &Row<'_>) -> anyhow::Result<Vec<String>> {
     let mut words = Vec::new(alloc);
-    words.push(String::from_str(alloc, "serve")?)?;
+    let command = if row.has("lines") { "run" } else { "serve" };
+    words.push(String::from_str(alloc, command)?)?;
     words.push(String::from_str(alloc, "served.ol")?)?;
     if row.has("options") {
         for word in row.text(alloc, "options")?.as_str().split(' ') {

@@ -1,18 +1,22 @@
 //! What a run left, in words.
 
+use crate::peers::Calling;
 use doors_in_memory::ScriptedDoors;
 use outside_doors::Return;
-use outside_traits::ScriptedWire;
+use outside_traits::{ScriptedSink, ScriptedWire};
 use std::alloc::{AllocError, Global};
 
-/// The status and the notes, what the doors count, and a line for each connection with what was written on it.
+/// The status and the notes, what the doors count, and a line for each connection with what was written on it. Then the
+/// lines that were written, and what was written to the last peer.
 pub fn told(
     alloc: Global,
     status: u8,
-    notes: &[u8],
+    output: &ScriptedSink,
+    notes: &ScriptedSink,
     doors: &ScriptedDoors,
+    links: &[Calling],
 ) -> Result<String, AllocError> {
-    let noted = text_of(notes);
+    let noted = text_of(notes.bytes());
     let mut said = format!(in alloc; "status {status}, notes {noted:?}\n")?;
     let counts = doors.counts();
     let opened = counts.opened();
@@ -24,7 +28,27 @@ pub fn told(
     for wire in doors.returned() {
         tell_wire(wire, &mut said)?;
     }
+    tell_more(output.bytes(), &mut said)?;
+    for link in links {
+        tell_peer(link, &mut said)?;
+    }
     Ok(said)
+}
+
+fn tell_peer(link: &Calling, said: &mut String) -> Result<(), AllocError> {
+    match link.dialler().last() {
+        Some(peer) => tell_more(peer.wire().taken(), said),
+        None => Ok(()),
+    }
+}
+
+/// A line for the bytes, where there are any.
+fn tell_more(bytes: &[u8], said: &mut String) -> Result<(), AllocError> {
+    if bytes.is_empty() {
+        return Ok(());
+    }
+    said.push_str("\n")?;
+    said.push_str(text_of(bytes))
 }
 
 fn tell_wire(wire: &Return<ScriptedWire>, said: &mut String) -> Result<(), AllocError> {
