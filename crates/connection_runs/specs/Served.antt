@@ -28,10 +28,11 @@ AreResponses w h visits all = (j : ℕ) (a : Asked) (c : Came) (visit : Visit) (
 abbrev pub is_told : Visit → Bool
 is_told visit = nat_eq (length visit.texts) (length visit.bodies)
 
--- The requests of the connections of this traffic were posted to the services of their doors, each once and those of
--- one connection in their order, by the worker that has the connections. What was written on each is what is to be
--- written where the responses to its postings are told, or a front of that where its wire failed. Unless the front
--- halted, each posting's response was told.
+-- The requests that were taken from the connections of this traffic were posted to the services of their doors, each
+-- once and those of one connection in their order, by the worker that has the connections. What was written on each is
+-- what is to be written where the responses to its postings are told, or a front of that where it stands as failed.
+-- Unless the front halted, each posting's response was told. Whether a connection that stands so has failed its wire
+-- tells, when it comes back.
 pub record IsServed (w : Setting) (h : List Entry) (halted : Bool) (traffic : List Traffic) : Type 0 where
   pub visits : List Visit
   pub all : Requests

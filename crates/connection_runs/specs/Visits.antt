@@ -41,7 +41,7 @@ pub record AreTaken (visits : List Visit) (asked : List Asked) : Type 0 where
       → count_by (is_of k) asked ≡ length visit.bodies
 
 -- The bytes of a connection that stands so: the bodies are those of the first requests that were read, and what was
--- written is what is to be written where these texts are told; or a front of that, where its wire failed.
+-- written is what is to be written where these texts are told; or a front of that, where it stands as failed.
 pub record HasPassed (visit : Visit) (traffic : Traffic) : Type 0 where
   pub stage : visit.stage ≢ Stages.Spent
   pub keeps : (reading : Reading traffic.read)

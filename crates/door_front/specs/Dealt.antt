@@ -20,7 +20,7 @@ use Rattle.http_connection.specs.Stages.{stage_of, IsOver}
 use Rattle.http_connection.specs.Seen.{Line}
 use Rattle.http_connection.specs.Talking.{IsTalking}
 use Rattle.door_front.specs.declared.link.Owed.{Owed}
-use Rattle.door_front.specs.Keeping.{PortTold, LinkTold, Keeping, services_of, no_more}
+use Rattle.door_front.specs.Keeping.{PortTold, LinkTold, Keeping, services_of, no_more, AreLed}
 
 -- the most connections that are open at once
 abbrev pub most_open : ℕ
@@ -164,6 +164,7 @@ pub record HasDealt (IsMade : Line → Type 0) (parts : ProgramParts) (first now
   pub visits : List Visit
   pub links : AreLinks IsMade now.kept.links visits
   pub came_in : sum_by (λ (p : PortTold). p.door.wires) now.kept.ports ≡ length now.kept.links
+  pub led : AreLed now.kept.ports now.kept.links
   pub doors : list_all (λ (v : Visit). list_any (nat_eq v.service) (services_of now.kept)) visits ≡ true
   pub accepted : length now.kept.links ≤ now.kept.most
   pub all : Requests

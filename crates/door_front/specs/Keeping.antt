@@ -1,6 +1,7 @@
 -- What a front over doors keeps.
-use Rattle.std.specs.Prelude.{◌≡◌, ℕ, Bool, false, ◌||◌, List, [], ◌∷◌, length, map, nat_le, Option}
-use Rattle.std.specs.List.{list_all}
+use Rattle.std.specs.Prelude.{◌≡◌, ℕ, Bool, false, ◌||◌, if◌then◌else◌, List, [], ◌∷◌, length, map, nat_eq, nat_le}
+use Rattle.std.specs.Prelude.{count_by, Option}
+use Rattle.std.specs.List.{list_all, sum_by}
 use Rattle.outside_doors.specs.Counts.{DoorTold, untried, has_ended}
 use Rattle.http_connection.specs.Seen.{Seen}
 use Rattle.door_front.specs.declared.link.Owed.{Owed}
@@ -55,3 +56,15 @@ services_of k = map (λ (p : PortTold). p.service) k.ports
 -- no connection can come any more: as many were accepted as may be, or each door has ended
 abbrev pub no_more : Keeping → Bool
 no_more k = nat_le k.most (length k.links) || list_all (λ (p : PortTold). has_ended p.door) k.ports
+
+-- how many wires a door gave, if it leads to service n
+abbrev pub wires_to : ℕ → PortTold → ℕ
+wires_to n port = if nat_eq n port.service then port.door.wires else 0
+
+-- a connection leads to service n
+abbrev pub leads_to : ℕ → LinkTold → Bool
+leads_to n link = nat_eq n link.service
+
+-- To each service lead as many connections as the doors gave wires that lead to it.
+abbrev pub AreLed : List PortTold → List LinkTold → Type 0
+AreLed ports links = (n : ℕ) → sum_by (wires_to n) ports ≡ count_by (leads_to n) links

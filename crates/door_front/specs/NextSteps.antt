@@ -20,7 +20,7 @@ use Rattle.http_connection.specs.Talking.{IsTalking, handed}
 use Rattle.door_front.specs.declared.link.Owed.{Owed}
 use Rattle.door_front.specs.declared.reading.Turn.{Turn}
 use Rattle.door_front.specs.declared.reading.Turn.TheVariants as turn
-use Rattle.door_front.specs.Keeping.{PortTold, LinkTold, Keeping}
+use Rattle.door_front.specs.Keeping.{PortTold, LinkTold, Keeping, wires_to, leads_to, AreLed}
 use Rattle.door_front.specs.Dealt.{IsNewLine, most_open}
 
 -- ---- doors
@@ -151,6 +151,8 @@ pub record TakesIn (IsMade : Line → Type 0) (most : ℕ) (before now : Doorway
   pub within : length before.links ≤ most → length now.links ≤ most
   pub wires : sum_by wires_of before.ports ≤ length before.links
       → sum_by wires_of now.ports ≡ sum_by wires_of before.ports + length more
+  pub led : sum_by wires_of before.ports ≤ length before.links → (n : ℕ)
+      → sum_by (wires_to n) now.ports ≡ sum_by (wires_to n) before.ports + count_by (leads_to n) more
 
 -- They came until nobody comes or there is no more room.
 pub record Accepts (IsMade : Line → Type 0) (most : ℕ) (before now : Doorway) : Type 0 where
@@ -244,6 +246,8 @@ pub record Goes (IsMade : Line → Type 0) (most : ℕ) (before now : Going) : T
   pub traffics : now.traffics ≡ before.traffics
   pub within : length before.links ≤ most → length now.links ≤ most
   pub wires : sum_by wires_of before.ports ≡ length before.links → sum_by wires_of now.ports ≡ length now.links
+  pub led : sum_by wires_of before.ports ≡ length before.links
+      → AreLed before.ports before.links → AreLed now.ports now.links
 
 -- They went on until no connection reads and nobody comes, or there is no more room.
 pub record Rests (IsMade : Line → Type 0) (most : ℕ) (before now : Going) : Type 0 where

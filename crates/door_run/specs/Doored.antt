@@ -1,5 +1,5 @@
 -- What a run of a program over doors leaves, by what its doors and its notes tell.
-use Rattle.std.specs.Prelude.{◌≡◌, ℕ, ◌<◌, ◌≤◌, Bool, true, false, List, [], length}
+use Rattle.std.specs.Prelude.{◌≡◌, ℕ, ◌<◌, ◌≤◌, Bool, true, false, List, [], length, count_by}
 use Rattle.std.specs.List.{list_all}
 use Rattle.std.specs.Io.KnownBytes.{Appends}
 use Rattle.outside_traits.specs.Causes.{Rose}
@@ -18,7 +18,7 @@ use Rattle.connection_runs.specs.Served.{IsServed}
 use Rattle.http_connection.specs.Seen.{Line}
 use Rattle.sink_writing.specs.Sinks.{Taking}
 use Rattle.line_run.specs.declared.run.Ended.{Ended}
-use Rattle.door_run.specs.Used.{DoorsTold, Used, marked, came_at_door, IsUsed, AreWires}
+use Rattle.door_run.specs.Used.{DoorsTold, Used, marked, came_at_door, leads_to, wires_to, IsUsed, AreWires}
 use Rattle.door_run.specs.Through.{HadNoAnswer, IsThrough}
 
 -- the outside of a run over doors: the doors, and the sink of its notes
@@ -65,8 +65,8 @@ pub record AreNoted (w : Setting) (h : List Entry) (halted : Bool) (before now :
 -- A task was run over doors by one worker: its record is that of such a run and of this text, with the bytes of each
 -- connection that was accepted as its traffic; what came on these was served; its notes were written; each turn took
 -- the pick 0; and its calls to the console came to void. Doors were opened where the program has them, and all that was
--- opened and accepted came back. Unless the front halted or there were the most postings, it went on until none could
--- come any more, or none came for too long.
+-- opened and accepted came back; to each service lead as many connections as its doors gave. Unless the front halted or
+-- there were the most postings, it went on until none could come any more, or none came for too long.
 pub record IsDoored (IsMade : Line → Type 0) (t : Task) (before now : Outside) (ended : Ended) : Type 0 where
   pub halted : Bool
   pub run : IsRun (run_of t.parts) t.budget alone halted ended.report
@@ -81,6 +81,7 @@ pub record IsDoored (IsMade : Line → Type 0) (t : Task) (before now : Outside)
   pub uses : IsUsed (doors_of t.parts) before.doors now.doors used
   pub wires : AreWires IsMade served.visits ended.report.traffic used.wires
   pub doors : list_all (came_at_door (marked used.opened (doors_of t.parts))) served.visits ≡ true
+  pub led : (n : ℕ) → wires_to n (marked used.opened (doors_of t.parts)) used.doors ≡ count_by (leads_to n) served.visits
   pub through : halted ≡ false → length served.all.asked < most_postings
       → IsThrough (HadNoAnswer (run_of t.parts) (history_of ended) served.all.asked)
       t.connections served.visits used.doors

@@ -1,5 +1,5 @@
 -- What a run did with doors: where it opened them, and what came back to them.
-use Rattle.std.specs.Prelude.{◌≡◌, ◌↔◌, ℕ, ◌<◌, ◌==◌, Bool, true, false, not, ◌||◌, if◌then◌else◌}
+use Rattle.std.specs.Prelude.{◌≡◌, ◌↔◌, ℕ, ◌+◌, ◌<◌, ◌==◌, Bool, true, false, not, ◌||◌, if◌then◌else◌}
 use Rattle.std.specs.Prelude.{List, [], ◌∷◌, length, map, sum_by, Option, nat_eq}
 use Rattle.std.specs.List.{list_any}
 use Rattle.std.specs.Io.KnownBytes.{Appends}
@@ -47,6 +47,16 @@ location_of door = door.location
 -- a connection came at one of the doors: it leads to its service
 abbrev pub came_at_door : List DoorAt → Visit → Bool
 came_at_door doors visit = list_any (λ (door : DoorAt). nat_eq visit.service door.service) doors
+
+-- a connection leads to service n
+abbrev pub leads_to : ℕ → Visit → Bool
+leads_to n visit = nat_eq n visit.service
+
+-- how many wires the doors gave that were opened at these places and lead to service n, by what they told
+abbrev pub wires_to : ℕ → List DoorAt → List DoorTold → ℕ
+wires_to n [] ds = 0
+wires_to n (p ∷ ps) [] = 0
+wires_to n (p ∷ ps) (d ∷ ds) = (if nat_eq n p.service then d.wires else 0) + wires_to n ps ds
 
 -- ---- what doors count
 
