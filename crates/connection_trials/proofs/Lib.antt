@@ -1,2 +1,9 @@
 pub mod Requests
+pub mod Sent
+pub mod First
+pub mod Parts
 pub mod Stopped
+pub mod StoppedSpoilt
+pub mod TwoCalls
+pub mod TwoGuests
+pub mod Pipelined

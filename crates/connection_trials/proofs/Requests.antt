@@ -81,21 +81,29 @@ nothing_given : (left : List ℕ) → left ≡ [] → (s : Reading left) → giv
 nothing_given left is =
     subst (λ (l : List ℕ). (s : Reading l) → given l s ≡ []) (sym is) (λ s. pending_given [] refl s)
 
--- what is given of bytes that are one request, with which the connection goes on, and nothing else
-pub one_request : (bytes : List ℕ) (h : Head) (n : ℕ) → (admission h n).interim ≡ false → (admission h n).close ≡ false
-    → h.length + n ≤ length bytes → drop (h.length + n) bytes ≡ [] → (r : Reading bytes) → HasTail bytes r h n
-    → given bytes r ≡ Request (body_of bytes (admission h n)) false ∷ []
-one_request bytes h n plain stays whole all r has =
+-- what is given of bytes that begin with a request, with which the connection goes on
+pub more_requests : (bytes : List ℕ) (h : Head) (n : ℕ) (fs : List Fed) → (admission h n).interim ≡ false
+    → (admission h n).close ≡ false → h.length + n ≤ length bytes
+    → ((s : Reading (drop (h.length + n) bytes)) → given (drop (h.length + n) bytes) s ≡ fs)
+    → (r : Reading bytes) → HasTail bytes r h n
+    → given bytes r ≡ Request (body_of bytes (admission h n)) false ∷ fs
+more_requests bytes h n fs plain stays whole rest r has =
     has.1 ∙ ap (λ (i : Bool). (if i then Interim ∷ [] else []) ++ has.0) plain ∙ by_tail has.0 has.2
   where
-    by_tail : (tail : List Fed) → Tail bytes (admission h n) tail → tail ≡ Request (body_of bytes (admission h n)) false ∷ []
+    by_tail : (tail : List Fed) → Tail bytes (admission h n) tail → tail ≡ Request (body_of bytes (admission h n)) false ∷ fs
     by_tail tail (inl short) = let too = short.0 in absurd (omega arith)
     by_tail tail (inr (inl closes)) = absurd (true≢false (sym closes.1 ∙ stays))
     by_tail tail (inr (inr goes)) =
         goes.2.1
         ∙ ap (λ (c : Bool). Request (body_of bytes (admission h n)) c ∷ given (drop (h.length + n) bytes) goes.2.0) stays
-        ∙ ap (λ (l : List Fed). Request (body_of bytes (admission h n)) false ∷ l)
-        (nothing_given (drop (h.length + n) bytes) all goes.2.0)
+        ∙ ap (λ (l : List Fed). Request (body_of bytes (admission h n)) false ∷ l) (rest goes.2.0)
+
+-- what is given of bytes that are one request, with which the connection goes on, and nothing else
+pub one_request : (bytes : List ℕ) (h : Head) (n : ℕ) → (admission h n).interim ≡ false → (admission h n).close ≡ false
+    → h.length + n ≤ length bytes → drop (h.length + n) bytes ≡ [] → (r : Reading bytes) → HasTail bytes r h n
+    → given bytes r ≡ Request (body_of bytes (admission h n)) false ∷ []
+one_request bytes h n plain stays whole all r has =
+    more_requests bytes h n [] plain stays whole (nothing_given (drop (h.length + n) bytes) all) r has
 
 -- the bodies of bytes of which this is given, and what is to be written on them
 pub bodies_by : (bytes : List ℕ) (r : Reading bytes) (fs : List Fed) → given bytes r ≡ fs → bodies_of (holding bytes r).queue ≡ bodies_in fs

@@ -1,0 +1,377 @@
+-- What a run posted first, on which connection it came, and what is written there.
+use Rattle.std.proofs.Common.{◌≡◌, ◌<◌, ℕ, zero, suc, Bool, true, false, ◌||◌, List, [], ◌∷◌, ◌++◌, length, take, map, Option, Some, None, sym, refl, ap, ◌∙◌, subst, true≢false, arith}
+use Rattle.std.specs.Prelude.{◌≢◌, bytes_eq, slice_get, option_map, option_and_then, nat_eq, count_by}
+use Rattle.std.specs.List.{list_all}
+use Rattle.std.specs.Io.{StartsWith}
+use Rattle.std.proofs.Math.Logic.{∥∥₁_elim}
+use Rattle.std.proofs.Math.Seq.{take-length}
+use Rattle.std.proofs.lemmas.Bool.{and_parts, eqb-true}
+use Rattle.std.proofs.lemmas.Option.{none-some, same_Some, slice_get_within}
+use lib.Utf8.{encode}
+use Rattle.office_core.specs.declared.history.Entry.{Entry}
+use Rattle.office_core.specs.Limits.{Setting, first_worker}
+use Rattle.office_core.specs.Accepted.{past_of}
+use Rattle.office_front.specs.Dealings.{Asked}
+use Rattle.office_front.specs.Calls.{is_of}
+use Rattle.run_record.specs.declared.record.Traffic.{Traffic}
+use Rattle.run_record.specs.Postings.{Post, posts_by, posts_of}
+use Rattle.branch_workers.specs.Texts.{Came, posting_of, response}
+use Rattle.http_port.specs.declared.head_reader.Fed.{Fed}
+use Rattle.http_port.specs.declared.head_reader.Fed.TheVariants.{Request}
+use Rattle.http_port.specs.Connections.{Reading, given}
+use Rattle.http_port.specs.Serving.{bodies_in}
+use Rattle.http_port.specs.Talk.{answer}
+use Rattle.http_port.proofs.TalkLemmas.{spoken}
+use Rattle.http_connection.specs.declared.stage.Stage.{Stage}
+use Rattle.http_connection.specs.declared.stage.Stage.TheVariants as Stages
+use Rattle.http_connection.specs.Talking.{log}
+use Rattle.http_connection.specs.Law.{holding, bodies_of, talk_of, Keeps}
+use Rattle.connection_runs.specs.Ports.{has_door}
+use Rattle.connection_runs.specs.Visits.{Visit, came_with, came_of, came_at, AreTaken, HasPassed, HavePassed}
+use Rattle.connection_runs.specs.Served.{Requests, AreResponses, is_told, IsServed}
+use Rattle.connection_trials.proofs.Requests.{bodies_by, talk_by, cons_nil, head_same}
+
+-- ---- lists and bytes
+
+-- bytes that a test tells apart are not the same
+pub differ : (a b : List ℕ) → bytes_eq a b ≡ false → bytes_eq b b ≡ true → a ≡ b → ⊥
+differ a b apart same e = true≢false (sym same ∙ ap (λ (l : List ℕ). bytes_eq l b) (sym e) ∙ apart)
+
+take_none : {A : Type 0} (n : ℕ) → take n ([] {A}) ≡ []
+take_none zero = refl
+take_none (suc n) = refl
+
+-- what holds of all holds of each
+all_at : {A : Type 0} (p : A → Bool) (xs : List A) (k : ℕ) (x : A) → list_all p xs ≡ true → slice_get xs k ≡ Some x → p x ≡ true
+all_at p [] k x all there = absurd (none-some x there)
+all_at p (y ∷ ys) zero x all there =
+    ap p (sym (same_Some y x there)) ∙ (and_parts (p y) (list_all p ys) all).0
+all_at p (y ∷ ys) (suc k) x all there = all_at p ys k x (and_parts (p y) (list_all p ys) all).1 there
+
+-- one thing has one place
+alone_at : {A : Type 0} (x y : A) (k : ℕ) → slice_get (x ∷ []) k ≡ Some y → (k ≡ 0) × (x ≡ y)
+alone_at x y zero there = (refl, same_Some x y there)
+alone_at x y (suc k) there = absurd (none-some y there)
+
+-- the first of some is the first of all
+first_same : {A : Type 0} (n : ℕ) (x y : A) (xs some : List A) → some ≡ take n (x ∷ xs) → slice_get some 0 ≡ Some y → y ≡ x
+first_same zero x y xs some e f = absurd (none-some y (ap (λ l. slice_get l 0) (sym e) ∙ f))
+first_same (suc n) x y xs some e f = same_Some y x (sym f ∙ ap (λ l. slice_get l 0) e)
+
+-- of one alone there is no second
+no_second : {A : Type 0} (n : ℕ) (x y : A) (some : List A) → some ≡ take n (x ∷ []) → slice_get some 1 ≡ Some y → ⊥
+no_second zero x y some e f = none-some y (ap (λ l. slice_get l 1) (sym e) ∙ f)
+no_second (suc zero) x y some e f = none-some y (ap (λ l. slice_get l 1) (sym e) ∙ f)
+no_second (suc (suc n)) x y some e f = none-some y (ap (λ l. slice_get l 1) (sym e) ∙ f)
+
+-- a test that holds of one thing
+pub holds_alone : (b : Bool) → (b || false) ≡ true → b ≡ true
+holds_alone true e = refl
+holds_alone false e = e
+
+-- ---- what was posted first
+
+-- A request that came in is one that was taken from its connection.
+record IsTaken (visits : List Visit) (a : Asked) (c : Came) : Type 0 where
+  visit : Visit
+  there : slice_get visits a.traffic ≡ Some visit
+  body : List ℕ
+  asked : slice_get visit.bodies a.request ≡ Some body
+  brings : c ≡ came_with visit.service body
+
+is_taken : (visits : List Visit) (a : Asked) (c : Came) → came_at visits a ≡ Some c → IsTaken visits a c
+is_taken visits a c = by_visit (slice_get visits a.traffic) refl
+  where
+    by_body : (v : Visit) (o : Option (List ℕ)) → slice_get visits a.traffic ≡ Some v → slice_get v.bodies a.request ≡ o
+        → option_map (came_with v.service) o ≡ Some c → IsTaken visits a c
+    by_body v None there e f = absurd (none-some c f)
+    by_body v (Some b) there e f =
+        record { visit = v; there = there; body = b; asked = e; brings = sym (same_Some (came_with v.service b) c f) }
+
+    by_visit : (o : Option Visit) → slice_get visits a.traffic ≡ o → option_and_then (came_of a.request) o ≡ Some c
+        → IsTaken visits a c
+    by_visit None e f = absurd (none-some c f)
+    by_visit (Some v) e f = by_body v (slice_get v.bodies a.request) e refl f
+
+-- The first posting: the connection whose first request it is, and what that is answered.
+pub record IsFirst (w : Setting) (h : List Entry) (visits : List Visit) (came : List Came) : Type 0 where
+  pub number : ℕ
+  pub visit : Visit
+  pub there : slice_get visits number ≡ Some visit
+  pub body : List ℕ
+  pub asked : slice_get visit.bodies 0 ≡ Some body
+  pub others : List Came
+  pub first : came ≡ came_with visit.service body ∷ others
+  pub answered : (text : Option (List ℕ)) → slice_get visit.texts 0 ≡ Some text
+      → text ≡ response w (past_of w h) first_worker 0 (came_with visit.service body)
+
+module _ (w : Setting) (h : List Entry) (visits : List Visit) where
+  first_asked : (a : Asked) (asked : List Asked) (c : Came) (came : List Came) → AreTaken visits (a ∷ asked)
+      → AreResponses w h visits (record { asked = a ∷ asked; came = c ∷ came }) → came_at visits a ≡ Some c
+      → IsFirst w h visits (c ∷ came)
+  first_asked a asked c came taken responses is =
+      let t = is_taken visits a c is in
+      let request : a.request ≡ 0 = taken.in_order 0 a refl in
+      record {
+        number = a.traffic;
+        visit = t.visit;
+        there = t.there;
+        body = t.body;
+        asked = subst (λ (n : ℕ). slice_get t.visit.bodies n ≡ Some t.body) request t.asked;
+        others = came;
+        first = ap (λ (d : Came). d ∷ came) t.brings;
+        answered = λ text e.
+            responses 0 a c t.visit text refl refl t.there (subst (λ (n : ℕ). slice_get t.visit.texts n ≡ Some text) (sym request) e)
+            ∙ ap (response w (past_of w h) first_worker 0) t.brings;
+      }
+
+  first_of : (asked : List Asked) (came : List Came) → AreTaken visits asked → map (came_at visits) asked ≡ map Some came
+      → AreResponses w h visits (record { asked = asked; came = came }) → posts_of 0 (map posting_of came) ≢ []
+      → IsFirst w h visits came
+  first_of [] [] taken is responses some = absurd (some refl)
+  first_of [] (c ∷ came) taken is responses some = absurd (cons_nil (Some c) (map Some came) (sym is))
+  first_of (a ∷ asked) [] taken is responses some = absurd (cons_nil (came_at visits a) (map (came_at visits) asked) is)
+  first_of (a ∷ asked) (c ∷ came) taken is responses some =
+      first_asked a asked c came taken responses
+      (head_same (came_at visits a) (Some c) (map (came_at visits) asked) (map Some came) is)
+
+-- a run that posted something posted something first
+pub is_first : (w : Setting) (h : List Entry) (halted : Bool) (traffic : List Traffic) (s : IsServed w h halted traffic)
+    → posts_by first_worker h ≢ [] → IsFirst w h s.visits s.all.came
+is_first w h halted traffic s some =
+    first_of w h s.visits s.all.asked s.all.came (record { in_order = s.taken.in_order; all = s.taken.all }) s.came
+    s.responses (λ e. some (s.posted ∙ e))
+
+-- ---- how a connection stands
+
+-- The reader of a connection gives this of its bytes: the bodies that were taken are the first of it, and what was
+-- written is a front of what is to be written; and all of that where the connection has not failed.
+pub record Stands (fs : List Fed) (v : Visit) (written : List ℕ) : Type 0 where
+  pub bodies : v.bodies ≡ take (length v.bodies) (bodies_in fs)
+  pub front : StartsWith (spoken fs v.texts) written
+  pub whole : v.stage ≢ Stages.Faulted → written ≡ spoken fs v.texts
+
+module _ (t : Traffic) (r : Reading t.read) (fs : List Fed) (gives : given t.read r ≡ fs) where
+  first_bodies : (bodies : List (List ℕ)) → bodies ≡ take (length bodies) (bodies_of (holding t.read r).queue)
+      → bodies ≡ take (length bodies) (bodies_in fs)
+  first_bodies bodies e = e ∙ ap (take (length bodies)) (bodies_by t.read r fs gives)
+
+  all_bodies : (bodies : List (List ℕ)) → bodies ≡ bodies_of (holding t.read r).queue
+      → bodies ≡ take (length bodies) (bodies_in fs)
+  all_bodies bodies e = sym (take-length bodies) ∙ ap (take (length bodies)) (e ∙ bodies_by t.read r fs gives)
+
+  well : (v : Visit) → v.bodies ≡ take (length v.bodies) (bodies_in fs) → t.written ≡ talk_of (holding t.read r) v.texts
+      → Stands fs v t.written
+  well v bodies e =
+      let whole : t.written ≡ spoken fs v.texts = e ∙ talk_by t.read r fs v.texts gives in
+      record {
+        bodies = bodies;
+        front = subst (λ (l : List ℕ). StartsWith l t.written) whole (take-length t.written);
+        whole = λ _. whole;
+      }
+
+  stands_at : (service : ℕ) (stage : Stage) (bodies : List (List ℕ)) (texts : List (Option (List ℕ))) → stage ≢ Stages.Spent
+      → Keeps stage (holding t.read r) (log t.read t.written bodies texts)
+      → Stands fs (record { service = service; stage = stage; bodies = bodies; texts = texts }) t.written
+  stands_at service Stages.Reads bodies texts memory k =
+      well (record { service = service; stage = Stages.Reads; bodies = bodies; texts = texts }) (first_bodies bodies k.0.bodies) k.1
+  stands_at service Stages.Owes bodies texts memory k =
+      well (record { service = service; stage = Stages.Owes; bodies = bodies; texts = texts }) (first_bodies bodies k.0.bodies) k.1
+  stands_at service Stages.Ended bodies texts memory k =
+      well (record { service = service; stage = Stages.Ended; bodies = bodies; texts = texts }) (all_bodies bodies k.0.bodies) k.1
+  stands_at service Stages.Closed bodies texts memory k =
+      well (record { service = service; stage = Stages.Closed; bodies = bodies; texts = texts }) (all_bodies bodies k.0.bodies) k.1
+  stands_at service Stages.Faulted bodies texts memory k = record {
+    bodies = first_bodies bodies k.0.bodies;
+    front = subst (λ (l : List ℕ). StartsWith l t.written) (talk_by t.read r fs texts gives) k.1;
+    whole = λ other. absurd (other refl);
+  }
+  stands_at service Stages.Spent bodies texts memory k = absurd (memory refl)
+
+  -- what is false of a connection however it stands
+  stands_so : (v : Visit) → HasPassed v t → (Stands fs v t.written → ⊥) → ⊥
+  stands_so v passed wrong =
+      ∥∥₁_elim (passed.keeps r) (λ x y. absurd x) (λ k. wrong (stands_at v.service v.stage v.bodies v.texts passed.stage k))
+
+-- each visit has its bytes
+passed_at : (vs : List Visit) (ts : List Traffic) → HavePassed vs ts → (k : ℕ) (v : Visit) → slice_get vs k ≡ Some v
+    → (t : Traffic) × (slice_get ts k ≡ Some t) × HasPassed v t
+passed_at [] ts passed k v there = absurd (none-some v there)
+passed_at (u ∷ vs) [] passed k v there = absurd passed
+passed_at (u ∷ vs) (t ∷ ts) passed zero v there = (t, refl, subst (λ (x : Visit). HasPassed x t) (same_Some u v there) passed.0)
+passed_at (u ∷ vs) (t ∷ ts) passed (suc k) v there = passed_at vs ts passed.1 k v there
+
+-- ---- another answer
+
+-- What was written on this connection begins with another answer than its first request has, were that posted first.
+pub record IsOther (w : Setting) (h : List Entry) (t : Traffic) : Type 0 where
+  pub reading : Reading t.read
+  pub body : List ℕ
+  pub later : List Fed
+  pub gives : given t.read reading ≡ Request body false ∷ later
+  pub some : t.written ≢ []
+  pub text : Option (List ℕ)
+  pub is_text : response w (past_of w h) first_worker 0 (came_with 0 body) ≡ text
+  pub apart : (texts : List (Option (List ℕ))) → StartsWith (answer text false ++ spoken later texts) t.written → ⊥
+
+-- the same of each connection
+abbrev pub AreOther : Setting → List Entry → List Traffic → Type 0
+AreOther w h [] = Unit {0}
+AreOther w h (t ∷ ts) = IsOther w h t × AreOther w h ts
+
+-- all doors lead to the service 0
+abbrev pub LeadToOne : Setting → Type 0
+LeadToOne w = (n : ℕ) → has_door w.parts n ≡ true → n ≡ 0
+
+module _ (w : Setting) (h : List Entry) where
+  other_at : (ts : List Traffic) → AreOther w h ts → (k : ℕ) (t : Traffic) → slice_get ts k ≡ Some t → IsOther w h t
+  other_at [] others k t there = absurd (none-some t there)
+  other_at (u ∷ ts) others zero t there = subst (IsOther w h) (same_Some u t there) others.0
+  other_at (u ∷ ts) others (suc k) t there = other_at ts others.1 k t there
+
+  not_answered : (t : Traffic) (o : IsOther w h t) (texts : List (Option (List ℕ)))
+      → StartsWith (spoken (Request o.body false ∷ o.later) texts) t.written
+      → ((text : Option (List ℕ)) → slice_get texts 0 ≡ Some text → text ≡ o.text) → ⊥
+  not_answered t o [] front answered = o.some (sym front ∙ take_none (length t.written))
+  not_answered t o (x ∷ texts) front answered =
+      o.apart texts
+      (subst (λ (y : Option (List ℕ)). StartsWith (answer y false ++ spoken o.later texts) t.written) (answered x refl) front)
+
+  -- Where another answer was written on each connection, the run is refused.
+  pub refused : (halted : Bool) (traffic : List Traffic) → posts_by first_worker h ≢ [] → LeadToOne w → AreOther w h traffic
+      → IsServed w h halted traffic → ⊥
+  refused halted traffic some one others s =
+      let f = is_first w h halted traffic s some in
+      let at = passed_at s.visits traffic s.passed f.number f.visit f.there in
+      let o = other_at traffic others f.number at.0 at.1 in
+      let service : f.visit.service ≡ 0 =
+      one f.visit.service (all_at (λ (v : Visit). has_door w.parts v.service) s.visits f.number f.visit s.doors f.there) in
+      stands_so at.0 o.reading (Request o.body false ∷ o.later) o.gives f.visit at.2
+      (λ k. not_answered at.0 o f.visit.texts k.front
+      (λ text e.
+          f.answered text e
+          ∙ ap (λ (n : ℕ). response w (past_of w h) first_worker 0 (came_with n f.body)) service
+          ∙ ap (λ (b : List ℕ). response w (past_of w h) first_worker 0 (came_with 0 b))
+          (first_same (length f.visit.bodies) o.body f.body (bodies_in o.later) f.visit.bodies k.bodies f.asked)
+          ∙ o.is_text))
+
+-- ---- one connection
+
+alone : (visits : List Visit) (t : Traffic) → HavePassed visits (t ∷ []) → (v : Visit) × (visits ≡ v ∷ [])
+alone [] t passed = absurd passed
+alone (v ∷ []) t passed = (v, refl)
+alone (u ∷ v ∷ visits) t passed = absurd passed.1
+
+count_one : (m n r : ℕ) → m ≡ 0 → n ≡ 0 → count_by (is_of m) (record { traffic = n; request = r } ∷ []) ≡ 1
+count_one m n r e f =
+    ap (λ (k : ℕ). count_by (is_of k) (record { traffic = n; request = r } ∷ [])) e
+    ∙ ap (λ (k : ℕ). count_by (is_of 0) (record { traffic = k; request = r } ∷ [])) f
+
+-- what came in second was taken second from the only connection
+second_taken : (v : Visit) (a b : Asked) (asked : List Asked) (c d : Came) → AreTaken (v ∷ []) (a ∷ b ∷ asked)
+    → came_at (v ∷ []) a ≡ Some c → came_at (v ∷ []) b ≡ Some d → (body : List ℕ) × (slice_get v.bodies 1 ≡ Some body)
+second_taken v a b asked c d taken is also =
+    let s = is_taken (v ∷ []) a c is in
+    let t = is_taken (v ∷ []) b d also in
+    let first : a.traffic ≡ 0 = (alone_at v s.visit a.traffic s.there).0 in
+    let second = alone_at v t.visit b.traffic t.there in
+    let request : b.request ≡ 1 = taken.in_order 1 b refl ∙ count_one b.traffic a.traffic a.request second.0 first in (
+      t.body,
+      subst (λ (u : Visit). slice_get u.bodies 1 ≡ Some t.body) (sym second.1)
+      (subst (λ (n : ℕ). slice_get t.visit.bodies n ≡ Some t.body) request t.asked),
+    )
+
+abbrev pub behind_first : {A : Type 0} → List A → List A
+behind_first [] = []
+behind_first (x ∷ xs) = xs
+
+-- where one request was taken, no more came in
+no_others : (v : Visit) (n : ℕ) (body : List ℕ) → v.bodies ≡ take n (body ∷ []) → (asked : List Asked) (c : Came) (others : List Came)
+    → AreTaken (v ∷ []) asked → map (came_at (v ∷ [])) asked ≡ map Some (c ∷ others) → others ≡ []
+no_others v n body one asked c [] taken is = refl
+no_others v n body one [] c (d ∷ others) taken is = absurd (cons_nil (Some c) (map Some (d ∷ others)) (sym is))
+no_others v n body one (a ∷ []) c (d ∷ others) taken is =
+    absurd (cons_nil (Some d) (map Some others) (sym (ap behind_first is)))
+no_others v n body one (a ∷ b ∷ asked) c (d ∷ others) taken is =
+    let second = second_taken v a b asked c d taken
+        (head_same (came_at (v ∷ []) a) (Some c) (map (came_at (v ∷ [])) (b ∷ asked)) (map Some (d ∷ others)) is)
+        (head_same (came_at (v ∷ []) b) (Some d) (map (came_at (v ∷ [])) asked) (map Some others) (ap behind_first is)) in
+    absurd (no_second n body second.0 v.bodies one second.1)
+
+-- something is written for each text
+answer_some : (x : Option (List ℕ)) (rest : List ℕ) → answer x false ++ rest ≡ [] → ⊥
+unfolding encode
+answer_some None rest e = cons_nil _ _ e
+answer_some (Some text) rest e = cons_nil _ _ e
+
+none_told : (length_of : ℕ) → 0 ≡ length_of → 0 < length_of → ⊥
+none_told n e some = omega (arith, e, some)
+
+module _ (w : Setting) (h : List Entry) (halted : Bool) (t : Traffic) (reading : Reading t.read) (body : List ℕ)
+    (later : List Fed) (gives : given t.read reading ≡ Request body false ∷ later) where
+  -- its first posting, and how its connection stands
+  module _ (s : IsServed w h halted (t ∷ [])) where
+    with_first : posts_by first_worker h ≢ []
+        → ((f : IsFirst w h s.visits s.all.came) → f.number ≡ 0 → Stands (Request body false ∷ later) f.visit t.written → ⊥) → ⊥
+    with_first some wrong =
+        let f = is_first w h halted (t ∷ []) s some in
+        let at = passed_at s.visits (t ∷ []) s.passed f.number f.visit f.there in
+        let only = alone_at t at.0 f.number at.1 in
+        stands_so t reading (Request body false ∷ later) gives f.visit
+        (subst (λ (u : Traffic). HasPassed f.visit u) (sym only.1) at.2) (wrong f only.0)
+
+    first_posted : LeadToOne w → (f : IsFirst w h s.visits s.all.came) → Stands (Request body false ∷ later) f.visit t.written
+        → posts_by first_worker h ≡ posts_of 0 (map posting_of (came_with 0 body ∷ f.others))
+    first_posted one f k =
+        let service : f.visit.service ≡ 0 =
+        one f.visit.service (all_at (λ (v : Visit). has_door w.parts v.service) s.visits f.number f.visit s.doors f.there) in
+        s.posted
+        ∙ ap (λ (came : List Came). posts_of 0 (map posting_of came)) f.first
+        ∙ ap (λ (n : ℕ). posts_of 0 (map posting_of (came_with n f.body ∷ f.others))) service
+        ∙ ap (λ (b : List ℕ). posts_of 0 (map posting_of (came_with 0 b ∷ f.others)))
+        (first_same (length f.visit.bodies) body f.body (bodies_in later) f.visit.bodies k.bodies f.asked)
+
+    one_alone : later ≡ [] → (f : IsFirst w h s.visits s.all.came) → Stands (Request body false ∷ later) f.visit t.written → f.others ≡ []
+    one_alone last f k =
+        let v = alone s.visits t s.passed in
+        let same : v.0 ≡ f.visit = (alone_at v.0 f.visit f.number (ap (λ (l : List Visit). slice_get l f.number) (sym v.1) ∙ f.there)).1 in
+        no_others v.0 (length f.visit.bodies) body
+        (ap (λ (u : Visit). u.bodies) same ∙ k.bodies ∙ ap (λ (l : List Fed). take (length f.visit.bodies) (body ∷ bodies_in l)) last)
+        s.all.asked (came_with f.visit.service f.body) f.others
+        (subst (λ (l : List Visit). AreTaken l s.all.asked) v.1 (record { in_order = s.taken.in_order; all = s.taken.all }))
+        (subst (λ (l : List Visit). map (came_at l) s.all.asked ≡ map Some (came_with f.visit.service f.body ∷ f.others)) v.1
+        (s.came ∙ ap (map Some) f.first))
+
+  -- A run over one connection is refused unless what it posts first is the first request.
+  pub refused_first : posts_by first_worker h ≢ [] → LeadToOne w
+      → ((others : List Came) → posts_by first_worker h ≡ posts_of 0 (map posting_of (came_with 0 body ∷ others)) → ⊥)
+      → IsServed w h halted (t ∷ []) → ⊥
+  refused_first some one wrong s = with_first s some (λ f number k. wrong f.others (first_posted s one f k))
+
+  -- It is refused where there is one request alone, and more is posted.
+  pub refused_once : later ≡ [] → posts_by first_worker h ≢ [] → LeadToOne w
+      → (posts_by first_worker h ≡ posts_of 0 (map posting_of (came_with 0 body ∷ [])) → ⊥) → IsServed w h halted (t ∷ []) → ⊥
+  refused_once last some one wrong s =
+      with_first s some
+      (λ f number k. wrong (first_posted s one f k
+      ∙ ap (λ (others : List Came). posts_of 0 (map posting_of (came_with 0 body ∷ others))) (one_alone s last f k)))
+
+  unwritten : (v : Visit) → length v.texts ≡ length v.bodies → 0 < length v.bodies
+      → spoken (Request body false ∷ later) v.texts ≡ [] → ⊥
+  unwritten v = by_texts v.texts
+    where
+      by_texts : (texts : List (Option (List ℕ))) → length texts ≡ length v.bodies → 0 < length v.bodies
+          → spoken (Request body false ∷ later) texts ≡ [] → ⊥
+      by_texts [] told some e = none_told (length v.bodies) told some
+      by_texts (x ∷ texts) told some e = answer_some x (spoken later texts) e
+
+  -- It is refused where nothing was written, unless it halted or its connection has failed.
+  pub refused_unwritten : halted ≡ false → t.written ≡ [] → posts_by first_worker h ≢ []
+      → (s : IsServed w h halted (t ∷ [])) → ((v : Visit) → slice_get s.visits 0 ≡ Some v → v.stage ≢ Stages.Faulted) → ⊥
+  refused_unwritten goes none some s calm =
+      with_first s some
+      (λ f number k.
+          unwritten f.visit
+          (eqb-true (length f.visit.texts) (length f.visit.bodies) (all_at is_told s.visits f.number f.visit (s.told goes) f.there))
+          (slice_get_within f.visit.bodies 0 f.body f.asked)
+          (sym (k.whole (calm f.visit (subst (λ (n : ℕ). slice_get s.visits n ≡ Some f.visit) number f.there))) ∙ none))

@@ -1,0 +1,78 @@
+-- What makes a run served, by lists that are written out.
+use Rattle.std.proofs.Common.{◌≡◌, ℕ, zero, suc, ◌+◌, List, [], ◌∷◌, length, take, Option, Some, sym, refl, ap, ◌∙◌, subst, arith}
+use Rattle.std.specs.Prelude.{slice_get}
+use Rattle.std.proofs.Math.Seq.{take-length}
+use Rattle.std.proofs.lemmas.Option.{none-some, same_Some}
+use Rattle.office_core.specs.declared.history.Entry.{Entry}
+use Rattle.office_core.specs.Limits.{Setting, first_worker}
+use Rattle.office_core.specs.Accepted.{past_of}
+use Rattle.office_front.specs.Dealings.{Asked}
+use Rattle.run_record.specs.declared.record.Traffic.{Traffic}
+use Rattle.branch_workers.specs.Texts.{Came, response}
+use Rattle.http_port.specs.declared.head_reader.Fed.{Fed}
+use Rattle.http_port.specs.Connections.{Reading, given}
+use Rattle.http_port.specs.Serving.{bodies_in}
+use Rattle.http_port.proofs.TalkLemmas.{spoken}
+use Rattle.http_connection.specs.declared.stage.Stage.TheVariants as Stages
+use Rattle.connection_runs.specs.Visits.{Visit, HasPassed}
+use Rattle.connection_runs.specs.Served.{AreResponses}
+use Rattle.connection_trials.proofs.Requests.{bodies_by, talk_by}
+
+-- a connection that reads on, whose requests were all taken and told these texts
+abbrev pub read_on : List Fed → List (Option (List ℕ)) → Visit
+read_on fs texts = record { service = 0; stage = Stages.Reads; bodies = bodies_in fs; texts = texts }
+
+-- it has passed, where what is to be written was written
+pub passed_on : (t : Traffic) (fs : List Fed) (texts : List (Option (List ℕ))) → ((r : Reading t.read) → given t.read r ≡ fs)
+    → length (bodies_in fs) ≡ length texts + 0 → t.written ≡ spoken fs texts → HasPassed (read_on fs texts) t
+passed_on t fs texts gives even written = record {
+  stage = λ e. let clash : Stages.Reads ≡ Stages.Spent = e in cc;
+  keeps = λ r. ∣ (
+    record {
+      bodies = sym (take-length (bodies_in fs)) ∙ ap (take (length (bodies_in fs))) (sym (bodies_by t.read r fs (gives r)));
+      texts = even;
+    },
+    written ∙ sym (talk_by t.read r fs texts (gives r)),
+  ) ∣₁;
+}
+
+-- a text that is told to a request is this
+abbrev pub IsTextAt : List Visit → Asked → Option (List ℕ) → Type 0
+IsTextAt visits a text = (v : Visit) (t : Option (List ℕ)) → slice_get visits a.traffic ≡ Some v
+    → slice_get v.texts a.request ≡ Some t → t ≡ text
+
+-- it is, where this one is told to it
+pub text_at : (visits : List Visit) (a : Asked) (visit : Visit) (text : Option (List ℕ)) → slice_get visits a.traffic ≡ Some visit
+    → slice_get visit.texts a.request ≡ Some text → IsTextAt visits a text
+text_at visits a visit text there told v t e f =
+    sym
+    (same_Some text t
+    (sym told ∙ ap (λ (u : Visit). slice_get u.texts a.request) (same_Some visit v (sym there ∙ e)) ∙ f))
+
+module _ (w : Setting) (h : List Entry) (visits : List Visit) where
+  -- what is told to requests is the responses of postings, the first of which has this number
+  abbrev pub AreTold : ℕ → List Asked → List Came → Type 0
+  AreTold j [] came = Unit {0}
+  AreTold j (a ∷ asked) [] = Unit {0}
+  AreTold j (a ∷ asked) (c ∷ came) = IsTextAt visits a (response w (past_of w h) first_worker j c) × AreTold (suc j) asked came
+
+  told_at : (j : ℕ) (asked : List Asked) (came : List Came) → AreTold j asked came → (i : ℕ) (a : Asked) (c : Came)
+      → slice_get asked i ≡ Some a → slice_get came i ≡ Some c → IsTextAt visits a (response w (past_of w h) first_worker (j + i) c)
+  told_at j [] came told i a c e f = absurd (none-some a e)
+  told_at j (b ∷ asked) [] told i a c e f = absurd (none-some c f)
+  told_at j (b ∷ asked) (d ∷ came) told zero a c e f =
+      let same : j ≡ j + 0 = omega arith in
+      subst (λ (x : Asked). IsTextAt visits x (response w (past_of w h) first_worker (j + 0) c)) (same_Some b a e)
+      (subst (λ (y : Came). IsTextAt visits b (response w (past_of w h) first_worker (j + 0) y)) (same_Some d c f)
+      (subst (λ (n : ℕ). IsTextAt visits b (response w (past_of w h) first_worker n d)) same told.0))
+  told_at j (b ∷ asked) (d ∷ came) told (suc i) a c e f =
+      let same : suc j + i ≡ j + suc i = omega arith in
+      subst (λ (n : ℕ). IsTextAt visits a (response w (past_of w h) first_worker n c)) same
+      (told_at (suc j) asked came told.1 i a c e f)
+
+  pub told_responses : (asked : List Asked) (came : List Came) → AreTold 0 asked came
+      → AreResponses w h visits (record { asked = asked; came = came })
+  told_responses asked came told j a c v t e f there at =
+      let same : 0 + j ≡ j = omega arith in
+      told_at 0 asked came told j a c e f v t there at
+      ∙ ap (λ (n : ℕ). response w (past_of w h) first_worker n c) same

@@ -1,0 +1,190 @@
+-- Copies of the run Stopped that are refused; and what becomes of it where its wire failed, or its front halted.
+use Rattle.std.specs.Prelude.{◌≡◌, ◌≢◌, ℕ, zero, suc, true, false, List, [], ◌∷◌, ◌++◌, take, length, count_by, codes}
+use Rattle.std.specs.Prelude.{None, Some, slice_get}
+use Rattle.std.proofs.Common.{refl, sym, ap, subst, ◌∙◌, true≢false}
+use Rattle.std.proofs.lemmas.Bool.{eqb-true}
+use Rattle.std.proofs.lemmas.Option.{none-some, same_Some}
+use lib.Utf8.{encode}
+use Rattle.std.specs.Fmt.{digits}
+use Rattle.jolie_trees.specs.declared.root.Root.TheVariants as root
+use Rattle.jolie_trees.specs.Data.{node, no_fields}
+use Rattle.behaviour_tree.specs.declared.words.Outcome.TheVariants as outcome
+use Rattle.behaviour_tree.specs.declared.words.Reason.TheVariants as reason
+use Rattle.office_core.specs.declared.post.PostReply.TheVariants as answer
+use Rattle.office_core.specs.declared.history.Act.TheVariants as act
+use Rattle.office_core.specs.declared.history.Entry.{Entry}
+use Rattle.office_core.specs.Limits.{first_worker}
+use Rattle.office_core.specs.Accepted.{past_of}
+use Rattle.office_front.specs.Calls.{is_of}
+use Rattle.run_record.specs.declared.record.Traffic.{Traffic}
+use Rattle.run_record.specs.Postings.{posts_by}
+use Rattle.branch_workers.specs.Texts.{response}
+use Rattle.http_port.specs.Talk.{answer as answer_bytes}
+use Rattle.http_connection.specs.declared.stage.Stage.TheVariants as Stages
+use Rattle.connection_runs.specs.Visits.{Visit, HasPassed}
+use Rattle.connection_runs.specs.Served.{IsServed}
+use Rattle.connection_trials.proofs.Requests.{bodies_by, talk_by, cons_nil}
+use Rattle.connection_trials.proofs.Sent.{go, read_go, reading_go, gives_go}
+use Rattle.connection_trials.proofs.First.{differ, behind_first, holds_alone, IsOther, LeadToOne, refused, refused_once, refused_unwritten}
+use Rattle.connection_trials.proofs.Parts.{IsTextAt, told_responses}
+use Rattle.connection_trials.proofs.Stopped.{setting, history, text, written, gives, asked, came, one_taken, is_response, responses, is_posted}
+
+one_door : LeadToOne setting
+unfolding encode
+one_door n e = eqb-true n 0 (holds_alone _ e)
+
+some_posted : posts_by first_worker history ≢ []
+some_posted e = cons_nil _ _ e
+
+-- the connection, on which this was written
+abbrev wrote : List ℕ → Traffic
+wrote bytes = record { read = read_go; written = bytes }
+
+-- a run without a connection posted nothing
+pub spoilt_request_of_nobody : IsServed setting history false [] → ⊥
+spoilt_request_of_nobody = refused setting history false [] some_posted one_door tt
+
+-- ---- another answer
+
+-- bytes that are no front of the answer are another answer
+other : (bytes : List ℕ) → bytes ≢ [] → (take (length bytes) (answer_bytes (Some text) false) ≡ bytes → ⊥)
+    → IsOther setting history (wrote bytes)
+unfolding digits
+other bytes some apart = record {
+  reading = reading_go;
+  body = go;
+  later = [];
+  gives = gives_go reading_go;
+  some = some;
+  text = Some text;
+  is_text = sym is_response;
+  apart = λ texts front. apart front;
+}
+
+-- with another code
+abbrev another_code : List ℕ
+another_code = codes "HTTP/1.1 200 OK\r\nContent-Type: application/json\r\nContent-Length: 68\r\n\r\n{\"error\":{\"code\":-32003,\"message\":\"stopped\"},\"id\":1,\"jsonrpc\":\"2.0\"}"
+
+pub spoilt_code : IsServed setting history false (wrote another_code ∷ []) → ⊥
+unfolding digits
+spoilt_code =
+    refused setting history false (wrote another_code ∷ []) some_posted one_door
+    (other another_code (λ e. cons_nil _ _ e) (differ (take (length another_code) (answer_bytes (Some text) false)) another_code refl refl), tt)
+
+-- the answer twice
+abbrev twice : List ℕ
+twice = written ++ written
+
+pub spoilt_answered_twice : IsServed setting history false (wrote twice ∷ []) → ⊥
+unfolding digits
+spoilt_answered_twice =
+    refused setting history false (wrote twice ∷ []) some_posted one_door
+    (other twice (λ e. cons_nil _ _ e) (differ (take (length twice) (answer_bytes (Some text) false)) twice refl refl), tt)
+
+-- ---- posted twice
+
+abbrev posted_twice : List Entry
+posted_twice = (
+    record { actor = 4096; act = act.Post 0 0 (record { service = 0; op = (103 ∷ 111 ∷ []); value = (node root.Void no_fields) }) (answer.Accepted 0) } ∷
+    record { actor = 0; act = act.Adopt 0 } ∷
+    record { actor = 0; act = act.Take 0 } ∷
+    record { actor = 4096; act = act.Post 1 0 (record { service = 0; op = (103 ∷ 111 ∷ []); value = (node root.Void no_fields) }) (answer.Accepted 1) } ∷
+    record { actor = 4096; act = act.Close } ∷
+    record { actor = 4096; act = act.Stop } ∷
+    record { actor = 4096; act = act.Collect 0 (outcome.Refused reason.Stopped) } ∷
+    record { actor = 4096; act = act.Collect 1 (outcome.Refused reason.Stopped) } ∷ [])
+
+pub spoilt_posted_twice : IsServed setting posted_twice false (wrote written ∷ []) → ⊥
+spoilt_posted_twice =
+    refused_once setting posted_twice false (wrote written) reading_go go [] (gives_go reading_go) refl (λ e. cons_nil _ _ e) one_door
+    (λ e. cons_nil _ _ (ap behind_first (e ∙ sym is_posted)))
+
+-- ---- nothing written
+
+-- It is refused where no connection has failed and nothing halted.
+pub spoilt_unwritten : (s : IsServed setting history false (wrote [] ∷ []))
+    → ((v : Visit) → slice_get s.visits 0 ≡ Some v → v.stage ≢ Stages.Faulted) → ⊥
+spoilt_unwritten =
+    refused_unwritten setting history false (wrote []) reading_go go [] (gives_go reading_go) refl refl some_posted
+
+-- The connection may have failed while it wrote; whether its wire has is not said here.
+abbrev failed : Visit
+failed = record { service = 0; stage = Stages.Faulted; bodies = go ∷ []; texts = Some text ∷ [] }
+
+failed_passed : HasPassed failed (wrote [])
+failed_passed = record {
+  stage = λ e. let clash : Stages.Faulted ≡ Stages.Spent = e in cc;
+  keeps = λ r. ∣ (record { bodies = sym (ap (take 1) (bodies_by read_go r gives (gives_go r))); texts = refl }, refl) ∣₁;
+}
+
+pub served_where_it_failed : IsServed setting history false (wrote [] ∷ [])
+unfolding encode
+served_where_it_failed = record {
+  visits = failed ∷ [];
+  all = record { asked = asked ∷ []; came = came ∷ [] };
+  doors = refl;
+  passed = (failed_passed, tt);
+  taken = one_taken failed refl;
+  came = refl;
+  posted = is_posted;
+  responses = responses failed refl;
+  told = λ _. refl;
+}
+
+-- Or the front halted, and nothing was told any more.
+abbrev owing : Visit
+owing = record { service = 0; stage = Stages.Owes; bodies = go ∷ []; texts = [] }
+
+owing_passed : HasPassed owing (wrote [])
+owing_passed = record {
+  stage = λ e. let clash : Stages.Owes ≡ Stages.Spent = e in cc;
+  keeps = λ r. ∣ (
+    record { bodies = sym (ap (take 1) (bodies_by read_go r gives (gives_go r))); texts = refl },
+    sym (talk_by read_go r gives [] (gives_go r)),
+  ) ∣₁;
+}
+
+owing_told : IsTextAt (owing ∷ []) asked (response setting (past_of setting history) first_worker 0 came)
+owing_told v t e f = absurd (none-some t (ap (λ (u : Visit). slice_get u.texts 0) (same_Some owing v e) ∙ f))
+
+pub served_where_it_halted : IsServed setting history true (wrote [] ∷ [])
+unfolding encode
+served_where_it_halted = record {
+  visits = owing ∷ [];
+  all = record { asked = asked ∷ []; came = came ∷ [] };
+  doors = refl;
+  passed = (owing_passed, tt);
+  taken = one_taken owing refl;
+  came = refl;
+  posted = is_posted;
+  responses = told_responses setting history (owing ∷ []) (asked ∷ []) (came ∷ []) (owing_told, tt);
+  told = λ e. absurd (true≢false e);
+}
+
+-- A request that was not taken is not posted, also where nothing halted: whether it waits is not said here.
+abbrev untaken : Visit
+untaken = record { service = 0; stage = Stages.Reads; bodies = []; texts = [] }
+
+none_asked : (k : ℕ) (v : Visit) → slice_get (untaken ∷ []) k ≡ Some v → count_by (is_of k) [] ≡ length v.bodies
+none_asked zero v e = subst (λ (v : Visit). 0 ≡ length v.bodies) (same_Some untaken v e) refl
+none_asked (suc k) v e = absurd (none-some v e)
+
+pub served_before_it_is_taken : IsServed setting [] false (wrote [] ∷ [])
+unfolding encode
+served_before_it_is_taken = record {
+  visits = untaken ∷ [];
+  all = record { asked = []; came = [] };
+  doors = refl;
+  passed = (
+    record {
+      stage = λ e. let clash : Stages.Reads ≡ Stages.Spent = e in cc;
+      keeps = λ r. ∣ (record { bodies = refl; texts = refl }, sym (talk_by read_go r gives [] (gives_go r))) ∣₁;
+    },
+    tt,
+  );
+  taken = record { in_order = λ j a e. absurd (none-some a e); all = none_asked };
+  came = refl;
+  posted = refl;
+  responses = λ j a c v t ea ec ev et. absurd (none-some a ea);
+  told = λ _. refl;
+}
