@@ -37,7 +37,7 @@ use Rattle.connection_trials.proofs.Requests.{bodies_by, talk_by, cons_nil, head
 pub differ : (a b : List ℕ) → bytes_eq a b ≡ false → bytes_eq b b ≡ true → a ≡ b → ⊥
 differ a b apart same e = true≢false (sym same ∙ ap (λ (l : List ℕ). bytes_eq l b) (sym e) ∙ apart)
 
-take_none : {A : Type 0} (n : ℕ) → take n ([] {A}) ≡ []
+take_none : (n : ℕ) → take {A = ℕ} n [] ≡ []
 take_none zero = refl
 take_none (suc n) = refl
 
@@ -55,14 +55,14 @@ alone_at x y (suc k) there = absurd (none-some y there)
 
 -- the first of some is the first of all
 first_same : {A : Type 0} (n : ℕ) (x y : A) (xs some : List A) → some ≡ take n (x ∷ xs) → slice_get some 0 ≡ Some y → y ≡ x
-first_same zero x y xs some e f = absurd (none-some y (ap (λ l. slice_get l 0) (sym e) ∙ f))
-first_same (suc n) x y xs some e f = same_Some y x (sym f ∙ ap (λ l. slice_get l 0) e)
+first_same {A = A} zero x y xs some e f = absurd (none-some y (ap (λ (l : List A). slice_get l 0) (sym e) ∙ f))
+first_same {A = A} (suc n) x y xs some e f = same_Some y x (sym f ∙ ap (λ (l : List A). slice_get l 0) e)
 
 -- of one alone there is no second
 no_second : {A : Type 0} (n : ℕ) (x y : A) (some : List A) → some ≡ take n (x ∷ []) → slice_get some 1 ≡ Some y → ⊥
-no_second zero x y some e f = none-some y (ap (λ l. slice_get l 1) (sym e) ∙ f)
-no_second (suc zero) x y some e f = none-some y (ap (λ l. slice_get l 1) (sym e) ∙ f)
-no_second (suc (suc n)) x y some e f = none-some y (ap (λ l. slice_get l 1) (sym e) ∙ f)
+no_second {A = A} zero x y some e f = none-some y (ap (λ (l : List A). slice_get l 1) (sym e) ∙ f)
+no_second {A = A} (suc zero) x y some e f = none-some y (ap (λ (l : List A). slice_get l 1) (sym e) ∙ f)
+no_second {A = A} (suc (suc n)) x y some e f = none-some y (ap (λ (l : List A). slice_get l 1) (sym e) ∙ f)
 
 -- a test that holds of one thing
 pub holds_alone : (b : Bool) → (b || false) ≡ true → b ≡ true

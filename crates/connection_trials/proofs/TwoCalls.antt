@@ -1,5 +1,5 @@
 -- A run of two calls, each of which has a session of its own and is answered by it.
-use Rattle.std.specs.Prelude.{◌≡◌, ℕ, ℤ, pos, List, [], ◌∷◌, map, codes}
+use Rattle.std.specs.Prelude.{◌≡◌, ℕ, ℤ, pos, true, List, [], ◌∷◌, map, codes}
 use Rattle.std.specs.Prelude.{Option, None, Some}
 use Rattle.std.proofs.Common.{refl}
 use lib.Utf8.{encode}
