@@ -7,7 +7,6 @@ use Rattle.std.proofs.Math.Logic.{∥∥₁_elim}
 use Rattle.std.proofs.Math.Seq.{take-length}
 use Rattle.std.proofs.lemmas.Bool.{and_parts, eqb-true}
 use Rattle.std.proofs.lemmas.Option.{none-some, same_Some, slice_get_within}
-use lib.Utf8.{encode}
 use Rattle.office_core.specs.declared.history.Entry.{Entry}
 use Rattle.office_core.specs.Limits.{Setting, first_worker}
 use Rattle.office_core.specs.Accepted.{past_of}
@@ -281,6 +280,11 @@ second_taken v a b asked c d taken is also =
       (subst (λ (n : ℕ). slice_get t.visit.bodies n ≡ Some t.body) request t.asked),
     )
 
+-- the operation that is posted first
+abbrev pub first_op : List Post → List ℕ
+first_op [] = []
+first_op (p ∷ ps) = p.posted.op
+
 abbrev pub behind_first : {A : Type 0} → List A → List A
 behind_first [] = []
 behind_first (x ∷ xs) = xs
@@ -298,12 +302,6 @@ no_others v n body one (a ∷ b ∷ asked) c (d ∷ others) taken is =
         (head_same (came_at (v ∷ []) b) (Some d) (map (came_at (v ∷ [])) asked) (map Some others) (ap behind_first is)) in
     absurd (no_second n body second.0 v.bodies one second.1)
 
--- something is written for each text
-answer_some : (x : Option (List ℕ)) (rest : List ℕ) → answer x false ++ rest ≡ [] → ⊥
-unfolding encode
-answer_some None rest e = cons_nil _ _ e
-answer_some (Some text) rest e = cons_nil _ _ e
-
 none_told : (length_of : ℕ) → 0 ≡ length_of → 0 < length_of → ⊥
 none_told n e some = omega (arith, e, some)
 
@@ -320,16 +318,24 @@ module _ (w : Setting) (h : List Entry) (halted : Bool) (t : Traffic) (reading :
         stands_so t reading (Request body false ∷ later) gives f.visit
         (subst (λ (u : Traffic). HasPassed f.visit u) (sym only.1) at.2) (wrong f only.0)
 
+    first_came : LeadToOne w → (f : IsFirst w h s.visits s.all.came) → Stands (Request body false ∷ later) f.visit t.written
+        → came_with f.visit.service f.body ≡ came_with 0 body
+    first_came one f k =
+        ap (λ (n : ℕ). came_with n f.body)
+        (one f.visit.service (all_at (λ (v : Visit). has_door w.parts v.service) s.visits f.number f.visit s.doors f.there))
+        ∙ ap (came_with 0) (first_same (length f.visit.bodies) body f.body (bodies_in later) f.visit.bodies k.bodies f.asked)
+
+    first_response : LeadToOne w → (f : IsFirst w h s.visits s.all.came) → Stands (Request body false ∷ later) f.visit t.written
+        → response w (past_of w h) first_worker 0 (came_with f.visit.service f.body)
+        ≡ response w (past_of w h) first_worker 0 (came_with 0 body)
+    first_response one f k = ap (response w (past_of w h) first_worker 0) (first_came one f k)
+
     first_posted : LeadToOne w → (f : IsFirst w h s.visits s.all.came) → Stands (Request body false ∷ later) f.visit t.written
         → posts_by first_worker h ≡ posts_of 0 (map posting_of (came_with 0 body ∷ f.others))
     first_posted one f k =
-        let service : f.visit.service ≡ 0 =
-        one f.visit.service (all_at (λ (v : Visit). has_door w.parts v.service) s.visits f.number f.visit s.doors f.there) in
         s.posted
-        ∙ ap (λ (came : List Came). posts_of 0 (map posting_of came)) f.first
-        ∙ ap (λ (n : ℕ). posts_of 0 (map posting_of (came_with n f.body ∷ f.others))) service
-        ∙ ap (λ (b : List ℕ). posts_of 0 (map posting_of (came_with 0 b ∷ f.others)))
-        (first_same (length f.visit.bodies) body f.body (bodies_in later) f.visit.bodies k.bodies f.asked)
+        ∙ ap (λ (came : List Came). posts_of 0 (map posting_of came))
+        (f.first ∙ ap (λ (c : Came). c ∷ f.others) (first_came one f k))
 
     one_alone : later ≡ [] → (f : IsFirst w h s.visits s.all.came) → Stands (Request body false ∷ later) f.visit t.written → f.others ≡ []
     one_alone last f k =
@@ -356,22 +362,26 @@ module _ (w : Setting) (h : List Entry) (halted : Bool) (t : Traffic) (reading :
       (λ f number k. wrong (first_posted s one f k
       ∙ ap (λ (others : List Came). posts_of 0 (map posting_of (came_with 0 body ∷ others))) (one_alone s last f k)))
 
-  unwritten : (v : Visit) → length v.texts ≡ length v.bodies → 0 < length v.bodies
-      → spoken (Request body false ∷ later) v.texts ≡ [] → ⊥
-  unwritten v = by_texts v.texts
-    where
-      by_texts : (texts : List (Option (List ℕ))) → length texts ≡ length v.bodies → 0 < length v.bodies
-          → spoken (Request body false ∷ later) texts ≡ [] → ⊥
-      by_texts [] told some e = none_told (length v.bodies) told some
-      by_texts (x ∷ texts) told some e = answer_some x (spoken later texts) e
+  -- what was written begins with the first answer, where each request was told its own
+  answer_first : (bodies : List (List ℕ)) (texts : List (Option (List ℕ))) (text : Option (List ℕ))
+      → length texts ≡ length bodies → 0 < length bodies → ((x : Option (List ℕ)) → slice_get texts 0 ≡ Some x → x ≡ text)
+      → t.written ≡ spoken (Request body false ∷ later) texts
+      → (others : List (Option (List ℕ))) × (t.written ≡ answer text false ++ spoken later others)
+  answer_first bodies [] text told some answered e = absurd (none_told (length bodies) told some)
+  answer_first bodies (x ∷ texts) text told some answered e =
+      (texts, e ∙ ap (λ (y : Option (List ℕ)). answer y false ++ spoken later texts) (answered x refl))
 
-  -- It is refused where nothing was written, unless it halted or its connection has failed.
-  pub refused_unwritten : halted ≡ false → t.written ≡ [] → posts_by first_worker h ≢ []
+  -- It is refused where this is not what was written first, unless it halted or the connection has failed.
+  pub refused_cut : halted ≡ false → posts_by first_worker h ≢ [] → LeadToOne w → (text : Option (List ℕ))
+      → response w (past_of w h) first_worker 0 (came_with 0 body) ≡ text
+      → ((texts : List (Option (List ℕ))) → t.written ≡ answer text false ++ spoken later texts → ⊥)
       → (s : IsServed w h halted (t ∷ [])) → ((v : Visit) → slice_get s.visits 0 ≡ Some v → v.stage ≢ Stages.Faulted) → ⊥
-  refused_unwritten goes none some s calm =
+  refused_cut goes some one text is_text apart s calm =
       with_first s some
       (λ f number k.
-          unwritten f.visit
-          (eqb-true (length f.visit.texts) (length f.visit.bodies) (all_at is_told s.visits f.number f.visit (s.told goes) f.there))
-          (slice_get_within f.visit.bodies 0 f.body f.asked)
-          (sym (k.whole (calm f.visit (subst (λ (n : ℕ). slice_get s.visits n ≡ Some f.visit) number f.there))) ∙ none))
+          let whole = k.whole (calm f.visit (subst (λ (n : ℕ). slice_get s.visits n ≡ Some f.visit) number f.there)) in
+          let first = answer_first f.visit.bodies f.visit.texts text
+              (eqb-true (length f.visit.texts) (length f.visit.bodies) (all_at is_told s.visits f.number f.visit (s.told goes) f.there))
+              (slice_get_within f.visit.bodies 0 f.body f.asked)
+              (λ x e. f.answered x e ∙ first_response s one f k ∙ is_text) whole in
+          apart first.0 first.1)

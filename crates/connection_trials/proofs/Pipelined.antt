@@ -37,8 +37,8 @@ use Rattle.connection_runs.specs.Served.{AreResponses, IsServed}
 use Rattle.connection_trials.proofs.Requests.{judged, more_requests, cons_nil}
 use Rattle.connection_trials.proofs.Sent.{go, more, read_go, read_more, head_go, gives_more, reading_more}
 use Rattle.connection_trials.proofs.Parts.{read_on, passed_on, IsTextAt, text_at, told_responses}
-use Rattle.connection_trials.proofs.First.{differ, holds_alone, IsOther, LeadToOne, refused, refused_first}
-use Rattle.connection_trials.proofs.TwoCalls.{setting, history, history_of, call_go, call_more, text_go, text_more, written_go, written_more, came_go, came_more, is_posted, response_go, response_more}
+use Rattle.connection_trials.proofs.First.{differ, first_op, holds_alone, IsOther, LeadToOne, refused, refused_first}
+use Rattle.connection_trials.proofs.TwoCalls.{setting, history, another_order, call_go, call_more, text_go, text_more, written_go, written_more, came_go, came_more, is_posted, response_go, response_more}
 
 -- what was read
 abbrev read : List ℕ
@@ -127,20 +127,15 @@ one_door : LeadToOne setting
 unfolding encode
 one_door n e = eqb-true n 0 (holds_alone _ e)
 
--- the operation that is posted first
-abbrev first_op : List Post → List ℕ
-first_op [] = []
-first_op (p ∷ ps) = p.posted.op
-
 other_first : (others : List Came)
-    → posts_by first_worker (history_of call_more call_go) ≡ posts_of 0 (map posting_of (came_go ∷ others)) → ⊥
+    → posts_by first_worker another_order ≡ posts_of 0 (map posting_of (came_go ∷ others)) → ⊥
 unfolding digits escape_byte is_utf8 chars encode scan_numeral value punctuate lex content word after_number number_of root_name posted answer batch early_answer
 other_first others e = differ call_more.op call_go.op refl refl (ap first_op e)
 
 -- what was sent behind the other was posted before it
-pub spoilt_posted_in_another_order : IsServed setting (history_of call_more call_go) false (wrote written ∷ []) → ⊥
+pub spoilt_posted_in_another_order : IsServed setting another_order false (wrote written ∷ []) → ⊥
 spoilt_posted_in_another_order =
-    refused_first setting (history_of call_more call_go) false (wrote written) reading go (Request more false ∷ []) (gives_read reading)
+    refused_first setting another_order false (wrote written) reading go (Request more false ∷ []) (gives_read reading)
     (λ e. cons_nil _ _ e) one_door other_first
 
 -- the answers were written in another order

@@ -1,6 +1,7 @@
 -- Copies of the run Stopped that are refused; and what becomes of it where its wire failed, or its front halted.
 use Rattle.std.specs.Prelude.{◌≡◌, ◌≢◌, ℕ, zero, suc, true, false, List, [], ◌∷◌, ◌++◌, take, length, count_by, codes}
 use Rattle.std.specs.Prelude.{None, Some, slice_get}
+use Rattle.std.specs.Io.{StartsWith}
 use Rattle.std.proofs.Common.{refl, sym, ap, subst, ◌∙◌, true≢false}
 use Rattle.std.proofs.lemmas.Bool.{eqb-true}
 use Rattle.std.proofs.lemmas.Option.{none-some, same_Some}
@@ -25,7 +26,7 @@ use Rattle.connection_runs.specs.Visits.{Visit, HasPassed}
 use Rattle.connection_runs.specs.Served.{IsServed}
 use Rattle.connection_trials.proofs.Requests.{bodies_by, talk_by, cons_nil}
 use Rattle.connection_trials.proofs.Sent.{go, read_go, reading_go, gives_go}
-use Rattle.connection_trials.proofs.First.{differ, behind_first, holds_alone, IsOther, LeadToOne, refused, refused_once, refused_unwritten}
+use Rattle.connection_trials.proofs.First.{differ, behind_first, first_op, holds_alone, IsOther, LeadToOne, refused, refused_once, refused_cut}
 use Rattle.connection_trials.proofs.Parts.{IsTextAt, told_responses}
 use Rattle.connection_trials.proofs.Stopped.{setting, history, text, written, gives, asked, came, one_taken, is_response, responses, is_posted}
 
@@ -81,7 +82,17 @@ spoilt_answered_twice =
     refused setting history false (wrote twice ∷ []) some_posted one_door
     (other twice (λ e. cons_nil _ _ e) (differ (take (length twice) (answer_bytes (Some text) false)) twice refl refl), tt)
 
--- ---- posted twice
+-- nothing to say
+abbrev nothing_said : List ℕ
+nothing_said = codes "HTTP/1.1 204 No Content\r\n\r\n"
+
+pub spoilt_nothing_said : IsServed setting history false (wrote nothing_said ∷ []) → ⊥
+unfolding digits
+spoilt_nothing_said =
+    refused setting history false (wrote nothing_said ∷ []) some_posted one_door
+    (other nothing_said (λ e. cons_nil _ _ e) (differ (take (length nothing_said) (answer_bytes (Some text) false)) nothing_said refl refl), tt)
+
+-- ---- posted otherwise
 
 abbrev posted_twice : List Entry
 posted_twice = (
@@ -99,31 +110,72 @@ spoilt_posted_twice =
     refused_once setting posted_twice false (wrote written) reading_go go [] (gives_go reading_go) refl (λ e. cons_nil _ _ e) one_door
     (λ e. cons_nil _ _ (ap behind_first (e ∙ sym is_posted)))
 
--- ---- nothing written
+-- another operation was posted
+abbrev posted_pause : List Entry
+posted_pause = (
+    record { actor = 4096; act = act.Post 0 0 (record { service = 0; op = (112 ∷ 97 ∷ 117 ∷ 115 ∷ 101 ∷ []); value = (node root.Void no_fields) }) (answer.Accepted 0) } ∷
+    record { actor = 0; act = act.Adopt 0 } ∷
+    record { actor = 4096; act = act.Close } ∷
+    record { actor = 4096; act = act.Stop } ∷
+    record { actor = 4096; act = act.Collect 0 (outcome.Refused reason.Stopped) } ∷ [])
 
--- It is refused where no connection has failed and nothing halted.
+pub spoilt_posted_as_another : IsServed setting posted_pause false (wrote written ∷ []) → ⊥
+spoilt_posted_as_another =
+    refused_once setting posted_pause false (wrote written) reading_go go [] (gives_go reading_go) refl (λ e. cons_nil _ _ e) one_door
+    (λ e. differ (codes "pause") (codes "go") refl refl (ap first_op (e ∙ sym is_posted)))
+
+-- ---- an answer that is cut
+
+-- the answer without its end
+abbrev cut : List ℕ
+cut = take 100 written
+
+not_whole : (bytes : List ℕ) → (answer_bytes (Some text) false ≡ bytes → ⊥) → (s : IsServed setting history false (wrote bytes ∷ []))
+    → ((v : Visit) → slice_get s.visits 0 ≡ Some v → v.stage ≢ Stages.Faulted) → ⊥
+unfolding digits
+not_whole bytes apart =
+    refused_cut setting history false (wrote bytes) reading_go go [] (gives_go reading_go) refl some_posted one_door (Some text)
+    (sym is_response) (λ texts e. apart (sym e))
+
+-- It is refused where no connection has failed and nothing halted,
+pub spoilt_cut : (s : IsServed setting history false (wrote cut ∷ []))
+    → ((v : Visit) → slice_get s.visits 0 ≡ Some v → v.stage ≢ Stages.Faulted) → ⊥
+unfolding digits
+spoilt_cut = not_whole cut (differ (answer_bytes (Some text) false) cut refl refl)
+
+-- and so is none.
 pub spoilt_unwritten : (s : IsServed setting history false (wrote [] ∷ []))
     → ((v : Visit) → slice_get s.visits 0 ≡ Some v → v.stage ≢ Stages.Faulted) → ⊥
-spoilt_unwritten =
-    refused_unwritten setting history false (wrote []) reading_go go [] (gives_go reading_go) refl refl some_posted
+unfolding digits
+spoilt_unwritten = not_whole [] (differ (answer_bytes (Some text) false) [] refl refl)
 
--- The connection may have failed while it wrote; whether its wire has is not said here.
+-- Each front of it is served where the connection may have failed; whether its wire has is not said here.
 abbrev failed : Visit
 failed = record { service = 0; stage = Stages.Faulted; bodies = go ∷ []; texts = Some text ∷ [] }
 
-failed_passed : HasPassed failed (wrote [])
-failed_passed = record {
+front_of : (n : ℕ) (bytes : List ℕ) → StartsWith bytes (take n bytes)
+front_of zero bytes = refl
+front_of (suc n) [] = refl
+front_of (suc n) (b ∷ bytes) = ap (λ (l : List ℕ). b ∷ l) (front_of n bytes)
+
+failed_passed : (n : ℕ) → HasPassed failed (wrote (take n written))
+unfolding digits
+failed_passed n = record {
   stage = λ e. let clash : Stages.Faulted ≡ Stages.Spent = e in cc;
-  keeps = λ r. ∣ (record { bodies = sym (ap (take 1) (bodies_by read_go r gives (gives_go r))); texts = refl }, refl) ∣₁;
+  keeps = λ r. ∣ (
+    record { bodies = sym (ap (take 1) (bodies_by read_go r gives (gives_go r))); texts = refl },
+    subst (λ (l : List ℕ). StartsWith l (take n written)) (sym (talk_by read_go r gives (Some text ∷ []) (gives_go r)))
+        (front_of n written),
+  ) ∣₁;
 }
 
-pub served_where_it_failed : IsServed setting history false (wrote [] ∷ [])
+pub served_where_it_failed : (n : ℕ) → IsServed setting history false (wrote (take n written) ∷ [])
 unfolding encode
-served_where_it_failed = record {
+served_where_it_failed n = record {
   visits = failed ∷ [];
   all = record { asked = asked ∷ []; came = came ∷ [] };
   doors = refl;
-  passed = (failed_passed, tt);
+  passed = (failed_passed n, tt);
   taken = one_taken failed refl;
   came = refl;
   posted = is_posted;

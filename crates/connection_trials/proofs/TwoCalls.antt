@@ -78,6 +78,10 @@ history_of first second = (
 abbrev pub history : List Entry
 history = history_of call_go call_more
 
+-- more and then go
+abbrev pub another_order : List Entry
+another_order = history_of call_more call_go
+
 pub legal : IsLegal setting history
 unfolding encode
 legal = (record { allowed = refl; reply = refl }, (record { allowed = refl; reply = refl }, (record { allowed = refl; reply = refl }, (record { allowed = refl; reply = refl }, (record { allowed = refl; reply = refl }, (record { allowed = refl; reply = refl }, (record { allowed = refl; reply = refl }, (record { allowed = refl; reply = refl }, (record { allowed = refl; reply = refl }, (record { allowed = refl; reply = refl }, (record { allowed = refl; reply = refl }, (record { allowed = refl; reply = refl }, (record { allowed = refl; reply = refl }, (record { allowed = refl; reply = refl }, tt))))))))))))))
@@ -114,3 +118,16 @@ response_go = refl
 pub response_more : Some text_more ≡ response setting (past_of setting history) first_worker 1 came_more
 unfolding digits escape_byte is_utf8 chars encode scan_numeral value punctuate lex content word after_number number_of root_name posted answer batch early_answer
 response_more = refl
+
+-- the same where more was posted first
+pub is_posted_so : posts_by first_worker another_order ≡ posts_of 0 (map posting_of (came_more ∷ came_go ∷ []))
+unfolding digits escape_byte is_utf8 chars encode scan_numeral value punctuate lex content word after_number number_of root_name posted answer batch early_answer
+is_posted_so = refl
+
+pub response_more_first : Some text_more ≡ response setting (past_of setting another_order) first_worker 0 came_more
+unfolding digits escape_byte is_utf8 chars encode scan_numeral value punctuate lex content word after_number number_of root_name posted answer batch early_answer
+response_more_first = refl
+
+pub response_go_second : Some text_go ≡ response setting (past_of setting another_order) first_worker 1 came_go
+unfolding digits escape_byte is_utf8 chars encode scan_numeral value punctuate lex content word after_number number_of root_name posted answer batch early_answer
+response_go_second = refl

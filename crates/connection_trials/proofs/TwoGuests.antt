@@ -33,7 +33,7 @@ use Rattle.connection_trials.proofs.Requests.{cons_nil}
 use Rattle.connection_trials.proofs.Sent.{go, more, read_go, read_more, gives_go, gives_more, reading_go, reading_more}
 use Rattle.connection_trials.proofs.Parts.{read_on, passed_on, IsTextAt, text_at, told_responses}
 use Rattle.connection_trials.proofs.First.{differ, holds_alone, IsOther, LeadToOne, refused}
-use Rattle.connection_trials.proofs.TwoCalls.{setting, history, text_go, text_more, written_go, written_more, came_go, came_more, is_posted, response_go, response_more}
+use Rattle.connection_trials.proofs.TwoCalls.{setting, history, another_order, text_go, text_more, written_go, written_more, came_go, came_more, is_posted, response_go, response_more, is_posted_so, response_more_first, response_go_second}
 
 -- the connections, on which these were written
 abbrev traffic : List ℕ → List ℕ → List Traffic
@@ -96,6 +96,44 @@ served = record {
   came = refl;
   posted = is_posted;
   responses = responses;
+  told = λ _. refl;
+}
+
+-- ---- posted in another order
+
+-- The guests are none of each other's: either may be first.
+abbrev asked_so : List Asked
+asked_so = asked_more ∷ asked_go ∷ []
+
+in_order_so : (j : ℕ) (a : Asked) → slice_get asked_so j ≡ Some a → a.request ≡ count_by (is_of a.traffic) (take j asked_so)
+in_order_so zero a e = subst (λ (a : Asked). a.request ≡ count_by (is_of a.traffic) []) (same_Some asked_more a e) refl
+in_order_so (suc zero) a e = subst (λ (a : Asked). a.request ≡ count_by (is_of a.traffic) (asked_more ∷ [])) (same_Some asked_go a e) refl
+in_order_so (suc (suc j)) a e = absurd (none-some a e)
+
+all_taken_so : (k : ℕ) (v : Visit) → slice_get visits k ≡ Some v → count_by (is_of k) asked_so ≡ length v.bodies
+all_taken_so zero v e = subst (λ (v : Visit). 1 ≡ length v.bodies) (same_Some visit_go v e) refl
+all_taken_so (suc zero) v e = subst (λ (v : Visit). 1 ≡ length v.bodies) (same_Some visit_more v e) refl
+all_taken_so (suc (suc k)) v e = absurd (none-some v e)
+
+responses_so : AreResponses setting another_order visits (record { asked = asked_so; came = came_more ∷ came_go ∷ [] })
+responses_so =
+    told_responses setting another_order visits asked_so (came_more ∷ came_go ∷ [])
+    (
+      subst (IsTextAt visits asked_more) response_more_first (text_at visits asked_more visit_more (Some text_more) refl refl),
+      (subst (IsTextAt visits asked_go) response_go_second (text_at visits asked_go visit_go (Some text_go) refl refl), tt),
+    )
+
+pub served_in_another_order : IsServed setting another_order false (traffic written_go written_more)
+unfolding encode
+served_in_another_order = record {
+  visits = visits;
+  all = record { asked = asked_so; came = came_more ∷ came_go ∷ [] };
+  doors = refl;
+  passed = (passed_go, (passed_more, tt));
+  taken = record { in_order = in_order_so; all = all_taken_so };
+  came = refl;
+  posted = is_posted_so;
+  responses = responses_so;
   told = λ _. refl;
 }
 
