@@ -123,11 +123,13 @@ function definition_line(line,    bare, words, count, i, indent, start) {
     count = split(bare, words, " ")
     if (line ~ /(data|record) /) count = 1
     for (i = 1; i <= count; i++) if (words[i] ~ /[(){}=]/) return
+    # A field is no name of its own: a parameter may have the same.
+    in_record = !is_definition && text_of[block] ~ /^ *(pub )?record /
     for (i = 1; i <= count; i++) {
-        if (is_definition && (!indent || line ~ /pub /) || line ~ /^ +(abbrev |unfoldable )?pub [^ ]+ : / && line !~ /^    /) {
+        if (is_definition && (!indent || line ~ /pub /) || !in_record && line ~ /^ +(abbrev |unfoldable )?pub [^ ]+ : / && line !~ /^    /) {
             if (!((place, words[i]) in defined)) defined[place, words[i]] = block
             if (name_of[block] == "") name_of[block] = words[i]
-        } else if (!((place, words[i]) in part)) part[place, words[i]] = block
+        } else if (!in_record && !((place, words[i]) in part)) part[place, words[i]] = block
     }
 }
 

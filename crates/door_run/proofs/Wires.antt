@@ -53,6 +53,7 @@ module _ (IsMade : Line → Type 0) where
       record {
         first = k.first;
         came = k.made;
+        fresh = k.fresh;
         read = word.given;
         written = word.taken;
         failed = subst (λ s. (s ≡ Stages.Faulted) ↔ (0 < l.seen.line.faults)) (sym k.stage)

@@ -11,6 +11,7 @@ use Rattle.connection_runs.specs.Ports.{DoorAt}
 use Rattle.connection_runs.specs.Visits.{Visit}
 use Rattle.http_connection.specs.declared.stage.Stage.TheVariants as Stages
 use Rattle.http_connection.specs.Seen.{Line}
+use Rattle.door_front.specs.Dealt.{IsNewLine}
 
 -- What doors tell of themselves: how often a door failed to open or came back that had failed, their counts, and, where
 -- they are told, the locations that were opened and the wires that came back.
@@ -102,11 +103,12 @@ pub record IsUsed (places : List DoorAt) (before now : DoorsTold) (used : Used) 
 
 -- ---- wires
 
--- A wire that came back from a connection which has these bytes: it was made so, what it told since is
--- these bytes; and it has failed exactly where its connection ended with a failure.
+-- A wire that came back from a connection which has these bytes: it was made so, and nothing was read or written on it
+-- then; what it told since is these bytes; and it has failed exactly where its connection ended with a failure.
 pub record IsWireOf (IsMade : Line → Type 0) (visit : Visit) (traffic : Traffic) (wire : WireTold) : Type 0 where
   pub first : Line
   pub came : IsMade first
+  pub fresh : IsNewLine first
   pub read : Appends first.given wire.read traffic.read
   pub written : Appends first.taken wire.written traffic.written
   pub failed : (visit.stage ≡ Stages.Faulted) ↔ (0 < wire.faults)
