@@ -1,6 +1,8 @@
 #!/usr/bin/env python3
 """Hands random lines to the proved program over each example: calls, batches, notifications, broken, nested and long
-texts. It counts the answers of each id: as many as calls have it, and no other. Outside the gate, where `rt ci` passed:
+texts. It counts the answers by their ids, and those of a batch by all of its ids in order: each call with an id has to
+be answered once, in its place, and nothing else. The service elsewhere that one example calls need not be there: then
+its calls fail. Outside the gate, where `rt ci` passed:
 
     bench/random_lines.py [LINES [SEED]]
 """
@@ -20,7 +22,8 @@ NO_IDS = [1.5, [], {}, True]
 
 
 class Lines:
-    """Random lines made of the calls of an example, and how often an answer is due to each id."""
+    """Random lines made of the calls of an example, and how often each answer is due: by its id, that of a batch by the
+    list of its ids."""
 
     def __init__(self, calls, seed):
         self.calls = calls
@@ -41,7 +44,7 @@ class Lines:
         return {self.random.choice(names): self.value(depth + 1) for _ in range(self.random.randrange(4))}
 
     def call(self):
-        """A call, changed in one place at the most, and the ids that are due to it."""
+        """A call, changed in one place at the most, and the ids to which it is due an answer."""
         self.count += 1
         call = json.loads(json.dumps(self.random.choice(self.calls)))
         call["id"] = self.random.choice([self.count, f"s{self.count}"])
@@ -67,25 +70,34 @@ class Lines:
         return call, [call["id"]]
 
     def line(self):
-        """A line, whose answers become due."""
+        """A line, whose answer becomes due."""
         kind = self.random.randrange(12)
         if kind == 0:
             return self.random.choice(BLANK)
         if kind == 1:
-            self.due["null"] += 1
-            return self.random.choice(BROKEN)
+            return self.owing(self.random.choice(BROKEN), None)
         if kind == 2:
             depth = self.random.choice([70, 200, 3000])
-            self.due["null"] += 1
-            return "[" * depth + "]" * depth
+            # What can be read is a batch of one that is no request.
+            return self.owing("[" * depth + "]" * depth, [None] if depth < 128 else None)
         if kind == 3:
-            self.due["null"] += 1
-            return json.dumps({"jsonrpc": "2.0", "method": "x" * 70000, "id": 5})
-        made = [self.call() for _ in range(self.random.randrange(1, 6) if kind == 4 else 1)]
-        for _, ids in made:
-            self.due.update(json.dumps(it) for it in ids)
-        calls = [it for it, _ in made]
-        return json.dumps(calls if kind == 4 else calls[0], ensure_ascii=False)
+            return self.owing(json.dumps({"jsonrpc": "2.0", "method": "x" * 70000, "id": 5}), None)
+        if kind == 4:
+            return self.batch()
+        call, ids = self.call()
+        line = json.dumps(call, ensure_ascii=False)
+        return self.owing(line, ids[0]) if ids else line
+
+    def batch(self):
+        made = [self.call() for _ in range(self.random.randrange(1, 6))]
+        ids = [it for _, its in made for it in its]
+        line = json.dumps([call for call, _ in made], ensure_ascii=False)
+        return self.owing(line, ids) if ids else line
+
+    def owing(self, line, ids):
+        """The line, once its answer has become due."""
+        self.due[json.dumps(ids)] += 1
+        return line
 
 
 def is_call(said):
@@ -106,14 +118,15 @@ def calls_of(example):
 
 
 def answers_in(output):
-    """How often each id is answered."""
+    """How often each id is answered, and those of each batch together."""
     given = collections.Counter()
     for line in output.splitlines():
         said = json.loads(line)
         for answer in said if isinstance(said, list) else [said]:
             if set(answer) not in ({"id", "jsonrpc", "result"}, {"id", "jsonrpc", "error"}):
                 raise ValueError(f"no answer: {line}")
-            given[json.dumps(answer["id"])] += 1
+        ids = [answer["id"] for answer in said] if isinstance(said, list) else said["id"]
+        given[json.dumps(ids)] += 1
     return given
 
 
@@ -123,14 +136,14 @@ def main():
     if not PROGRAM.exists():
         sys.exit("no proved program: run rt ci first")
     wrong = 0
-    for example in sorted((TOP / "examples").glob("*.ol")):
+    for example in sorted((TOP / "examples").rglob("*.ol")):
         lines = Lines(calls_of(example), seed)
         text = "".join(lines.line() + "\n" for _ in range(count))
         ran = subprocess.run([PROGRAM, "run", example], input=text.encode(), capture_output=True)
         given = answers_in(ran.stdout.decode())
         missing, more = lines.due - given, given - lines.due
         wrong += bool(missing or more)
-        print(f"{example.stem}: {count} lines, {sum(given.values())} answers, status {ran.returncode},"
+        print(f"{example.stem}: {count} lines, {sum(given.values())} lines of answers, status {ran.returncode},"
               f" {sum(missing.values())} missing, {sum(more.values())} too many")
     sys.exit(1 if wrong else 0)
 
