@@ -7,6 +7,7 @@ ghost use Rattle.run_alone.specs.Ran.{Travelled};
 ghost use Rattle.door_run.specs.Used.{doors_told};
 ghost use Rattle.door_run.specs.Doored.{outside, task, IsDoored};
 ghost use Rattle.door_run.specs.Steps as steps;
+ghost use Rattle.trip_laws.specs.Trips.{trips_told};
 
 use crate::giving_back::give_back;
 use crate::opening::{Opening, open_doors};
@@ -43,7 +44,7 @@ pub fn run_doors<S: Seating, D: Doors, N: Sink, L: Link>(
         (task (parts_of program) text.now budget connections)
         (outside (doors_told (D.faults doors.old) (D.tally doors.old) (D.locations doors.old) (D.returned doors.old)) (taking (N.taken notes.old) (N.faults notes.old)))
         (outside (doors_told (D.faults doors.new) (D.tally doors.new) (D.locations doors.new) (D.returned doors.new)) (taking (N.taken notes.new) (N.faults notes.new)))) }
-    ensures travelled { IfOk result (λ ended. Travelled (run_of (parts_of program)) ended.report.history.entries.items (L.trips link.old) (L.trips link.new)) }
+    ensures travelled { IfOk result (λ ended. Travelled (run_of (parts_of program)) ended.report.history.entries.items (trips_told (L.trips link.old) (L.faults link.old)) (trips_told (L.trips link.new) (L.faults link.new))) }
 {
     let Opening { ports, failed } = open_doors(alloc, &program, doors)?;
     let mut kept = Kept::new(alloc, ports, connections);

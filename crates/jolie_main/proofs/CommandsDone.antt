@@ -30,6 +30,7 @@ use Rattle.outside_traits.specs.Causes.{Rose}
 use Rattle.explain_text.specs.Explained.{unreadable_line, IsExplained}
 use Rattle.jolie_main.specs.Headline.{Says, Checks, Explains, Prints, Runs, Serves, HasTravelled, IsTurnedDown, ShowsAlone, IsEmptyRecord, Obeys, Promises, TellsOfFile}
 use Rattle.jolie_main.specs.Headline as headline
+use Rattle.trip_laws.specs.Trips.{TripsTold}
 
 -- ---- a text
 
@@ -120,7 +121,7 @@ ran c text found program (Err e) a right is lined doors travelled = tt
 
 -- and another text is refused
 pub not_run : (c : Command) (text : List ℕ) (found : Result Program Refusal) (refusal : Refusal) (r : Result Ended AllocError)
-    (file_faults : ℕ) (source : Giving) (output output_now notes : Taking) (doors : DoorsTold) (trips : List (Option (List Made)))
+    (file_faults : ℕ) (source : Giving) (output output_now notes : Taking) (doors : DoorsTold) (trips : List TripsTold)
     → IsFound text found → found ≡ Err refusal → IfOk r (λ ended. ended.status ≡ 3)
     → IfOk r (λ ended. IsWritten (refusal_line refusal) output output_now) → IfOk r (λ ended. IsEmptyRecord ended.report)
     → IfOk r (λ ended. Runs c text ended
@@ -144,7 +145,7 @@ served IsMade c text found program (Err e) a right is doored source output trave
 -- and another text is refused
 pub not_served : (IsMade : Line → Type 0) (c : Command) (text : List ℕ) (found : Result Program Refusal) (refusal : Refusal)
     (r : Result Ended AllocError) (file_faults : ℕ) (source : Giving) (output output_now notes : Taking) (doors : DoorsTold)
-    (trips : List (Option (List Made))) → IsFound text found → found ≡ Err refusal → IfOk r (λ ended. ended.status ≡ 3)
+    (trips : List TripsTold) → IsFound text found → found ≡ Err refusal → IfOk r (λ ended. ended.status ≡ 3)
     → IfOk r (λ ended. IsWritten (refusal_line refusal) output output_now) → IfOk r (λ ended. IsEmptyRecord ended.report)
     → IfOk r (λ ended. Serves IsMade c text ended
     (around (outside file_faults (lines source output notes) doors trips) (outside file_faults (lines source output_now notes) doors trips)))
@@ -176,7 +177,7 @@ module _ (IsMade : Line → Type 0) (c : Command) (held : List ℕ → Option (L
       (subst (λ x. DoesBy IsMade c text (ended, a) x) (sym is) does)
 
   pub obeys_check : (shown : List ℕ) (faults faults_now : ℕ) (source : Giving) (output output_now notes : Taking)
-      (doors : DoorsTold) (trips : List (Option (List Made))) (r : Result Ended AllocError) → c.action ≡ action.Check → faults_now ≡ faults
+      (doors : DoorsTold) (trips : List TripsTold) (r : Result Ended AllocError) → c.action ≡ action.Check → faults_now ≡ faults
       → shown ≡ text → IfOk r (λ ended. Checks shown ended.status output output_now) → IfOk r (λ ended. IsEmptyRecord ended.report)
       → IfOk r (λ ended. Obeys IsMade c (held c.file) ended
       (around (outside faults (lines source output notes) doors trips) (outside faults_now (lines source output_now notes) doors trips)))
@@ -189,7 +190,7 @@ module _ (IsMade : Line → Type 0) (c : Command) (held : List ℕ → Option (L
   obeys_check shown faults faults_now source output output_now notes doors trips (Err e) is calm same shows empty = tt
 
   pub obeys_explain : (shown : List ℕ) (faults faults_now : ℕ) (source : Giving) (output output_now notes : Taking)
-      (doors : DoorsTold) (trips : List (Option (List Made))) (r : Result Ended AllocError) → c.action ≡ action.Explain → faults_now ≡ faults
+      (doors : DoorsTold) (trips : List TripsTold) (r : Result Ended AllocError) → c.action ≡ action.Explain → faults_now ≡ faults
       → shown ≡ text → (called : List ℕ) → called ≡ c.file
       → IfOk r (λ ended. Explains called shown ended.status output output_now) → IfOk r (λ ended. IsEmptyRecord ended.report)
       → IfOk r (λ ended. Obeys IsMade c (held c.file) ended
@@ -203,7 +204,7 @@ module _ (IsMade : Line → Type 0) (c : Command) (held : List ℕ → Option (L
   obeys_explain shown faults faults_now source output output_now notes doors trips (Err e) is calm same called by shows empty = tt
 
   pub obeys_print : (shown : List ℕ) (faults faults_now : ℕ) (source : Giving) (output output_now notes : Taking)
-      (doors : DoorsTold) (trips : List (Option (List Made))) (r : Result Ended AllocError) → c.action ≡ action.Print → faults_now ≡ faults
+      (doors : DoorsTold) (trips : List TripsTold) (r : Result Ended AllocError) → c.action ≡ action.Print → faults_now ≡ faults
       → shown ≡ text → IfOk r (λ ended. Prints shown ended.status output output_now) → IfOk r (λ ended. IsEmptyRecord ended.report)
       → IfOk r (λ ended. Obeys IsMade c (held c.file) ended
       (around (outside faults (lines source output notes) doors trips) (outside faults_now (lines source output_now notes) doors trips)))
@@ -217,7 +218,7 @@ module _ (IsMade : Line → Type 0) (c : Command) (held : List ℕ → Option (L
 
   -- what is done with a text does not hang on how often the files failed
   still_down : (text : List ℕ) (ended : Ended) (n faults faults_now : ℕ) (before now : Lines) (doors doors_now : DoorsTold)
-      (trips trips_now : List (Option (List Made)))
+      (trips trips_now : List TripsTold)
       → IsTurnedDown text ended (around (outside n before doors trips) (outside n now doors_now trips_now))
       → IsTurnedDown text ended (around (outside faults before doors trips) (outside faults_now now doors_now trips_now))
   still_down text ended n faults faults_now before now doors doors_now trips trips_now down = record {
@@ -236,7 +237,7 @@ module _ (IsMade : Line → Type 0) (c : Command) (held : List ℕ → Option (L
 
   -- around a run the files are left alone
   again : (text : List ℕ) (ended : Ended) (n faults faults_now : ℕ) (before now : Lines) (doors doors_now : DoorsTold)
-      (trips trips_now : List (Option (List Made)))
+      (trips trips_now : List TripsTold)
       → Runs c text ended (around (outside n before doors trips) (outside n now doors_now trips_now))
       → Runs c text ended (around (outside faults before doors trips) (outside faults_now now doors_now trips_now))
   again text ended n faults faults_now before now doors doors_now trips trips_now (headline.ran parts checked lined same travelled) =
@@ -245,7 +246,7 @@ module _ (IsMade : Line → Type 0) (c : Command) (held : List ℕ → Option (L
       headline.refused (still_down text ended n faults faults_now before now doors doors_now trips trips_now down)
 
   pub obeys_run : (shown : List ℕ) (faults faults_now : ℕ) (before now : Lines) (doors : DoorsTold)
-      (trips trips_now : List (Option (List Made))) (r : Result Ended AllocError) → c.action ≡ action.Run → faults_now ≡ faults
+      (trips trips_now : List TripsTold) (r : Result Ended AllocError) → c.action ≡ action.Run → faults_now ≡ faults
       → shown ≡ text
       → ((n : ℕ) (doors : DoorsTold) → IfOk r (λ ended. Runs c shown ended
       (around (outside n before doors trips) (outside n now doors trips_now))))
@@ -260,7 +261,7 @@ module _ (IsMade : Line → Type 0) (c : Command) (held : List ℕ → Option (L
 
   -- and so around what is served
   once_more : (text : List ℕ) (ended : Ended) (n faults faults_now : ℕ) (before now : Lines) (doors doors_now : DoorsTold)
-      (trips trips_now : List (Option (List Made)))
+      (trips trips_now : List TripsTold)
       → Serves IsMade c text ended (around (outside n before doors trips) (outside n now doors_now trips_now))
       → Serves IsMade c text ended (around (outside faults before doors trips) (outside faults_now now doors_now trips_now))
   once_more text ended n faults faults_now before now doors doors_now trips trips_now (headline.served parts checked doored source output travelled) =
@@ -269,7 +270,7 @@ module _ (IsMade : Line → Type 0) (c : Command) (held : List ℕ → Option (L
       headline.refused (still_down text ended n faults faults_now before now doors doors_now trips trips_now down)
 
   pub obeys_serve : (shown : List ℕ) (faults faults_now : ℕ) (source : Giving) (output output_now notes notes_now : Taking)
-      (doors doors_now : DoorsTold) (trips trips_now : List (Option (List Made))) (r : Result Ended AllocError)
+      (doors doors_now : DoorsTold) (trips trips_now : List TripsTold) (r : Result Ended AllocError)
       → c.action ≡ action.Serve → faults_now ≡ faults → shown ≡ text
       → ((n : ℕ) (source : Giving) → IfOk r (λ ended. Serves IsMade c shown ended
       (around (outside n (lines source output notes) doors trips) (outside n (lines source output_now notes_now) doors_now trips_now))))
@@ -310,7 +311,7 @@ tells_line c called (Err e) before now is by written = tt
 
 -- the command is done
 pub obeys_failed : (IsMade : Line → Type 0) (c : Command) (told : Option (List ℕ)) (faults faults_now : ℕ) (source : Giving)
-    (output output_now notes : Taking) (doors : DoorsTold) (trips : List (Option (List Made))) (r : Result Ended AllocError)
+    (output output_now notes : Taking) (doors : DoorsTold) (trips : List TripsTold) (r : Result Ended AllocError)
     → Rose faults faults_now → IfOk r (λ ended. ended.status ≡ 2) → IfOk r (λ ended. TellsOfFile c output output_now)
     → IfOk r (λ ended. IsEmptyRecord ended.report)
     → IfOk r (λ ended. Obeys IsMade c told ended
@@ -332,7 +333,7 @@ promised IsMade line said c held a (Err e) right is obeyed = tt
 
 -- words that ask for help
 pub helped : (IsMade : Line → Type 0) (line : List (List ℕ)) (said : Words) (text shown : List ℕ) (held : List ℕ → Option (List ℕ)) (ended : Ended)
-    (faults : ℕ) (source : Giving) (output output_now notes : Taking) (doors : DoorsTold) (trips : List (Option (List Made)))
+    (faults : ℕ) (source : Giving) (output output_now notes : Taking) (doors : DoorsTold) (trips : List TripsTold)
     → IsUnderstood line said → said ≡ words.Help text → shown ≡ text → Says shown ended.status output output_now
     → IsEmptyRecord ended.report
     → (w : Words) × IsUnderstood line w × Promises IsMade w held ended
@@ -349,7 +350,7 @@ helped IsMade line said text shown held ended faults source output output_now no
 
 -- words that are wrong
 pub mistaken : (IsMade : Line → Type 0) (line : List (List ℕ)) (said : Words) (text shown : List ℕ) (held : List ℕ → Option (List ℕ)) (ended : Ended)
-    (faults : ℕ) (source : Giving) (output notes notes_now : Taking) (doors : DoorsTold) (trips : List (Option (List Made)))
+    (faults : ℕ) (source : Giving) (output notes notes_now : Taking) (doors : DoorsTold) (trips : List TripsTold)
     → IsUnderstood line said → said ≡ words.UsageError text → shown ≡ text → ended.status ≡ 1
     → IsWritten shown notes notes_now → IsEmptyRecord ended.report
     → (w : Words) × IsUnderstood line w × Promises IsMade w held ended

@@ -11,6 +11,7 @@ use Rattle.line_run.specs.Lined.{Outside as Lines}
 use Rattle.run_alone.specs.Ran.{Travelled}
 use Rattle.door_run.specs.Used.{DoorsTold}
 use Rattle.door_run.specs.Doored.{Outside as Served, outside as served}
+use Rattle.trip_laws.specs.Trips.{TripsTold}
 
 -- what the outside tells at a moment: how often the files failed; the input, the output and the notes; the doors; and
 -- the trips of each link, where they are told
@@ -18,10 +19,10 @@ pub record Outside : Type 0 where
   pub file_faults : ℕ
   pub lines : Lines
   pub doors : DoorsTold
-  pub trips : List (Option (List Made))
+  pub trips : List TripsTold
 
 -- the outside from its parts
-abbrev pub outside : ℕ → Lines → DoorsTold → List (Option (List Made)) → Outside
+abbrev pub outside : ℕ → Lines → DoorsTold → List TripsTold → Outside
 outside file_faults lines doors trips =
     record { file_faults = file_faults; lines = lines; doors = doors; trips = trips }
 
@@ -73,6 +74,6 @@ IsSaid all text before now = MatchBool all (IsWhole text before now) (IsCut text
 -- ---- links
 
 -- the first link made the trips that a run of this history asks for, and the others made none
-abbrev pub FirstTravelled : Setting → List Entry → List (Option (List Made)) → List (Option (List Made)) → Type 0
+abbrev pub FirstTravelled : Setting → List Entry → List TripsTold → List TripsTold → Type 0
 FirstTravelled w h (before ∷ others) (now ∷ same) = Travelled w h before now × (same ≡ others)
 FirstTravelled w h before now = ⊥

@@ -12,6 +12,7 @@ ghost use Rattle.door_run.specs.Used.{DoorsTold, doors_told};
 ghost use Rattle.door_run.specs.Doored.{outside as served, task as doors_task, IsDoored};
 ghost use Rattle.jolie_main.specs.Outside.{around, outside, FirstTravelled};
 ghost use Rattle.jolie_main.specs.Headline.{Obeys, Promises, Runs, Serves};
+ghost use Rattle.trip_laws.specs.Trips.{trips_told};
 
 use crate::explain::{explain_text, file_failed};
 use crate::say::{refuse, show_usage_error, tell};
@@ -51,8 +52,8 @@ pub fn run<F: Files, S: Source, K: Sink, N: Sink, D: Doors, L: Link>(
 ) -> Result<Ended, AllocError>
     requires link { 0 < length links.old.items }
     // The headline.
-    ensures promises { let before = outside (F.faults files.old) (lines (giving (S.left input.old) (S.faults input.old)) (taking (K.taken output.old) (K.faults output.old)) (taking (N.taken notes.old) (N.faults notes.old))) (doors_told (D.faults doors.old) (D.tally doors.old) (D.locations doors.old) (D.returned doors.old)) (map L.trips links.old.items) in
-        let now = outside (F.faults files.new) (lines (giving (S.left input.new) (S.faults input.new)) (taking (K.taken output.new) (K.faults output.new)) (taking (N.taken notes.new) (N.faults notes.new))) (doors_told (D.faults doors.new) (D.tally doors.new) (D.locations doors.new) (D.returned doors.new)) (map L.trips links.new.items) in
+    ensures promises { let before = outside (F.faults files.old) (lines (giving (S.left input.old) (S.faults input.old)) (taking (K.taken output.old) (K.faults output.old)) (taking (N.taken notes.old) (N.faults notes.old))) (doors_told (D.faults doors.old) (D.tally doors.old) (D.locations doors.old) (D.returned doors.old)) (map (λ l. trips_told (L.trips l) (L.faults l)) links.old.items) in
+        let now = outside (F.faults files.new) (lines (giving (S.left input.new) (S.faults input.new)) (taking (K.taken output.new) (K.faults output.new)) (taking (N.taken notes.new) (N.faults notes.new))) (doors_told (D.faults doors.new) (D.tally doors.new) (D.locations doors.new) (D.returned doors.new)) (map (λ l. trips_told (L.trips l) (L.faults l)) links.new.items) in
         let made : Line → Type 0 = (λ line. (wire : D.D.W) × (line ≡ line_of (D.D.W.given wire) (D.D.W.left wire) (D.D.W.taken wire) (D.D.W.faults wire) (D.D.W.closed wire))) in
         IfOk result (λ ended. (said : Said) × IsUnderstood (spelled words.now) said × Promises made said (F.held files.old) ended (around before now)) }
     ensures others { drop 1 links.new.items ≡ drop 1 links.old.items }
@@ -77,8 +78,8 @@ fn obey<F: Files, S: Source, K: Sink, N: Sink, D: Doors, L: Link>(
 ) -> Result<Ended, AllocError>
     requires link { 0 < length links.old.items }
     ensures obeyed { IfOk result (λ ended. Obeys (λ line. (wire : D.D.W) × (line ≡ line_of (D.D.W.given wire) (D.D.W.left wire) (D.D.W.taken wire) (D.D.W.faults wire) (D.D.W.closed wire))) command.now (F.held files.old command.now.file) ended (around
-        (outside (F.faults files.old) (lines (giving (S.left input.old) (S.faults input.old)) (taking (K.taken output.old) (K.faults output.old)) (taking (N.taken notes.old) (N.faults notes.old))) (doors_told (D.faults doors.old) (D.tally doors.old) (D.locations doors.old) (D.returned doors.old)) (map L.trips links.old.items))
-        (outside (F.faults files.new) (lines (giving (S.left input.new) (S.faults input.new)) (taking (K.taken output.new) (K.faults output.new)) (taking (N.taken notes.new) (N.faults notes.new))) (doors_told (D.faults doors.new) (D.tally doors.new) (D.locations doors.new) (D.returned doors.new)) (map L.trips links.new.items)))) }
+        (outside (F.faults files.old) (lines (giving (S.left input.old) (S.faults input.old)) (taking (K.taken output.old) (K.faults output.old)) (taking (N.taken notes.old) (N.faults notes.old))) (doors_told (D.faults doors.old) (D.tally doors.old) (D.locations doors.old) (D.returned doors.old)) (map (λ l. trips_told (L.trips l) (L.faults l)) links.old.items))
+        (outside (F.faults files.new) (lines (giving (S.left input.new) (S.faults input.new)) (taking (K.taken output.new) (K.faults output.new)) (taking (N.taken notes.new) (N.faults notes.new))) (doors_told (D.faults doors.new) (D.tally doors.new) (D.locations doors.new) (D.returned doors.new)) (map (λ l. trips_told (L.trips l) (L.faults l)) links.new.items)))) }
     ensures others { drop 1 links.new.items ≡ drop 1 links.old.items }
 {
     let text = match files.read(command.file.as_str(), MOST) {
@@ -107,8 +108,8 @@ fn run_text<S: Source, K: Sink, N: Sink, L: Link>(
 ) -> Result<Ended, AllocError>
     requires link { 0 < length links.old.items }
     ensures runs { (file_faults : ℕ) (doors : DoorsTold) → IfOk result (λ ended. Runs command.now text.now ended (around
-        (outside file_faults (lines (giving (S.left input.old) (S.faults input.old)) (taking (K.taken output.old) (K.faults output.old)) (taking (N.taken notes.old) (N.faults notes.old))) doors (map L.trips links.old.items))
-        (outside file_faults (lines (giving (S.left input.new) (S.faults input.new)) (taking (K.taken output.new) (K.faults output.new)) (taking (N.taken notes.new) (N.faults notes.new))) doors (map L.trips links.new.items)))) }
+        (outside file_faults (lines (giving (S.left input.old) (S.faults input.old)) (taking (K.taken output.old) (K.faults output.old)) (taking (N.taken notes.old) (N.faults notes.old))) doors (map (λ l. trips_told (L.trips l) (L.faults l)) links.old.items))
+        (outside file_faults (lines (giving (S.left input.new) (S.faults input.new)) (taking (K.taken output.new) (K.faults output.new)) (taking (N.taken notes.new) (N.faults notes.new))) doors (map (λ l. trips_told (L.trips l) (L.faults l)) links.new.items)))) }
     ensures others { drop 1 links.new.items ≡ drop 1 links.old.items }
 {
     let program = match program_in(alloc, text)? {
@@ -134,7 +135,7 @@ fn run_program<S: Source, K: Sink, N: Sink, L: Link>(
     ensures lined { IfOk result (IsLined (task (parts_of program) text.now command.now.budget command.now.picks)
         (lines (giving (S.left input.old) (S.faults input.old)) (taking (K.taken output.old) (K.faults output.old)) (taking (N.taken notes.old) (N.faults notes.old)))
         (lines (giving (S.left input.new) (S.faults input.new)) (taking (K.taken output.new) (K.faults output.new)) (taking (N.taken notes.new) (N.faults notes.new)))) }
-    ensures travelled { IfOk result (λ ended. FirstTravelled (run_of (parts_of program)) ended.report.history.entries.items (map L.trips links.old.items) (map L.trips links.new.items)) }
+    ensures travelled { IfOk result (λ ended. FirstTravelled (run_of (parts_of program)) ended.report.history.entries.items (map (λ l. trips_told (L.trips l) (L.faults l)) links.old.items) (map (λ l. trips_told (L.trips l) (L.faults l)) links.new.items)) }
     ensures others { drop 1 links.new.items ≡ drop 1 links.old.items }
 {
     run_lines::<Seated, S, K, N, L>(
@@ -162,8 +163,8 @@ fn serve_text<K: Sink, N: Sink, D: Doors, L: Link>(
 ) -> Result<Ended, AllocError>
     requires link { 0 < length links.old.items }
     ensures serves { (file_faults : ℕ) (source : Giving) → IfOk result (λ ended. Serves (λ line. (wire : D.D.W) × (line ≡ line_of (D.D.W.given wire) (D.D.W.left wire) (D.D.W.taken wire) (D.D.W.faults wire) (D.D.W.closed wire))) command.now text.now ended (around
-        (outside file_faults (lines source (taking (K.taken output.old) (K.faults output.old)) (taking (N.taken notes.old) (N.faults notes.old))) (doors_told (D.faults doors.old) (D.tally doors.old) (D.locations doors.old) (D.returned doors.old)) (map L.trips links.old.items))
-        (outside file_faults (lines source (taking (K.taken output.new) (K.faults output.new)) (taking (N.taken notes.new) (N.faults notes.new))) (doors_told (D.faults doors.new) (D.tally doors.new) (D.locations doors.new) (D.returned doors.new)) (map L.trips links.new.items)))) }
+        (outside file_faults (lines source (taking (K.taken output.old) (K.faults output.old)) (taking (N.taken notes.old) (N.faults notes.old))) (doors_told (D.faults doors.old) (D.tally doors.old) (D.locations doors.old) (D.returned doors.old)) (map (λ l. trips_told (L.trips l) (L.faults l)) links.old.items))
+        (outside file_faults (lines source (taking (K.taken output.new) (K.faults output.new)) (taking (N.taken notes.new) (N.faults notes.new))) (doors_told (D.faults doors.new) (D.tally doors.new) (D.locations doors.new) (D.returned doors.new)) (map (λ l. trips_told (L.trips l) (L.faults l)) links.new.items)))) }
     ensures others { drop 1 links.new.items ≡ drop 1 links.old.items }
 {
     let program = match program_in(alloc, text)? {
@@ -188,7 +189,7 @@ fn serve_program<N: Sink, D: Doors, L: Link>(
     ensures doored { IfOk result (IsDoored (λ line. (wire : D.D.W) × (line ≡ line_of (D.D.W.given wire) (D.D.W.left wire) (D.D.W.taken wire) (D.D.W.faults wire) (D.D.W.closed wire))) (doors_task (parts_of program) text.now command.now.budget command.now.connections)
         (served (doors_told (D.faults doors.old) (D.tally doors.old) (D.locations doors.old) (D.returned doors.old)) (taking (N.taken notes.old) (N.faults notes.old)))
         (served (doors_told (D.faults doors.new) (D.tally doors.new) (D.locations doors.new) (D.returned doors.new)) (taking (N.taken notes.new) (N.faults notes.new)))) }
-    ensures travelled { IfOk result (λ ended. FirstTravelled (run_of (parts_of program)) ended.report.history.entries.items (map L.trips links.old.items) (map L.trips links.new.items)) }
+    ensures travelled { IfOk result (λ ended. FirstTravelled (run_of (parts_of program)) ended.report.history.entries.items (map (λ l. trips_told (L.trips l) (L.faults l)) links.old.items) (map (λ l. trips_told (L.trips l) (L.faults l)) links.new.items)) }
     ensures others { drop 1 links.new.items ≡ drop 1 links.old.items }
 {
     run_doors::<Seated, D, N, L>(

@@ -5,6 +5,7 @@ ghost use Rattle.sink_writing.specs.Sinks.{taking};
 ghost use Rattle.run_alone.specs.Ran.{Travelled};
 ghost use Rattle.line_run.specs.Lined.{giving, outside, task, IsLined};
 ghost use Rattle.line_run.specs.Steps as steps;
+ghost use Rattle.trip_laws.specs.Trips.{trips_told};
 
 use crate::status::status_of;
 use behaviour_tree::Program;
@@ -42,7 +43,7 @@ pub fn run_lines<S: Seating, I: Source, K: Sink, N: Sink, L: Link>(
     ensures lined { IfOk result (IsLined (task (parts_of program) text.now budget picks.now)
         (outside (giving (I.left input.old) (I.faults input.old)) (taking (K.taken output.old) (K.faults output.old)) (taking (N.taken notes.old) (N.faults notes.old)))
         (outside (giving (I.left input.new) (I.faults input.new)) (taking (K.taken output.new) (K.faults output.new)) (taking (N.taken notes.new) (N.faults notes.new)))) }
-    ensures travelled { IfOk result (λ ended. Travelled (run_of (parts_of program)) ended.report.history.entries.items (L.trips link.old) (L.trips link.new)) }
+    ensures travelled { IfOk result (λ ended. Travelled (run_of (parts_of program)) ended.report.history.entries.items (trips_told (L.trips link.old) (L.faults link.old)) (trips_told (L.trips link.new) (L.faults link.new))) }
 {
     let mut kept = Kept::new(alloc);
     let mut front = LineFront::new(alloc, input, output, notes, &mut kept);

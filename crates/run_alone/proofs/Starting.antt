@@ -17,7 +17,7 @@ use Rattle.run_posts.specs.Open.{IsOpen, StandsInOrder}
 use Rattle.run_posts.proofs.Opening.{nothing_open}
 use Rattle.run_sweep.specs.Swept.{ToursBy}
 use Rattle.trip_laws.specs.Going.{AreSettled, NotedSoFar}
-use Rattle.trip_laws.specs.Trips.{Travelled}
+use Rattle.trip_laws.specs.Trips.{TripsTold, Travelled}
 use Rattle.trip_laws.proofs.Settling.{noted_first, settled_first}
 use Rattle.run_alone.specs.Between.{Between, Passed}
 use Rattle.run_alone.specs.Ran.{Ran}
@@ -67,7 +67,7 @@ pub ran_as : {F : Type 0} (dealt : ProgramParts → F → F → Dealings → Typ
 ran_as dealt first front text finished e f x =
     coe 0 1 (i. After (dealt (e i) first front) (λ d. Ran (record { setting = run_of (e i); budget = f i }) text d finished)) x
 
-pub travelled_as : {p q r : ProgramParts} {g h k : List Entry} {before mid now : Option (List Made)} → r ≡ q → q ≡ p → g ≡ []
+pub travelled_as : {p q r : ProgramParts} {g h k : List Entry} {before mid now : TripsTold} → r ≡ q → q ≡ p → g ≡ []
     → ToursBy (run_of q) g h before mid → ToursBy (run_of r) h k mid now → Travelled (run_of p) k before now
 travelled_as {p} {q} {r} {g} {h} {k} {before} {mid} {now} e f none one two =
     coe 0 1 (i. Travelled (run_of (f i)) k before now)

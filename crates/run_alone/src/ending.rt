@@ -11,6 +11,7 @@ ghost use Rattle.run_sweep.specs.Swept.{ToursBy};
 ghost use Rattle.run_alone.specs.Between.{Between, Closed, LeftQuiet, Rested};
 ghost use Rattle.run_alone.specs.Picks.{GoesTo};
 ghost use Rattle.run_alone.specs.Ran.{Ran};
+ghost use Rattle.trip_laws.specs.Trips.{trips_told};
 
 use crate::alone::Alone;
 use crate::worker::Finished;
@@ -40,7 +41,7 @@ impl<S: Seating> Alone<'_, S> {
             → After (F.dealt (parts_of self.entry.cells.program) first front.new)
             (λ d. Ran (record { setting = (state_of (⟦<Cells<'static, S> as Crewed>⟧.crew self.entry.cells)).setting; budget = (state_of (⟦<Cells<'static, S> as Crewed>⟧.crew self.entry.cells)).budget }) text.now d finished)) }
         ensures goes { IfOk result (λ finished. GoesTo (state_of (⟦<Cells<'static, S> as Crewed>⟧.crew self.entry.cells)) finished.report) }
-        ensures toured { IfOk result (λ finished. ToursBy (state_of (⟦<Cells<'static, S> as Crewed>⟧.crew self.entry.cells)).setting (state_of (⟦<Cells<'static, S> as Crewed>⟧.crew self.entry.cells)).history finished.report.history.entries.items (L.trips link.old) (L.trips link.new)) }
+        ensures toured { IfOk result (λ finished. ToursBy (state_of (⟦<Cells<'static, S> as Crewed>⟧.crew self.entry.cells)).setting (state_of (⟦<Cells<'static, S> as Crewed>⟧.crew self.entry.cells)).history finished.report.history.entries.items (trips_told (L.trips link.old) (L.faults link.old)) (trips_told (L.trips link.new) (L.faults link.new))) }
     {
         self.rest(front, link, calm)?;
         let mut cells = self.cells;
@@ -67,7 +68,7 @@ impl<S: Seating> Alone<'_, S> {
         ensures pendings { self.new.pendings ≡ self.old.pendings }
         ensures work { OnOk result (AtWork (⟦<Cells<'static, S> as Crewed>⟧.crew self.new.cells)) }
         ensures rested { OnOk result (Rested calm (state_of (⟦<Cells<'static, S> as Crewed>⟧.crew self.old.cells)) (state_of (⟦<Cells<'static, S> as Crewed>⟧.crew self.new.cells))) }
-        ensures toured { OnOk result (ToursBy (state_of (⟦<Cells<'static, S> as Crewed>⟧.crew self.old.cells)).setting (state_of (⟦<Cells<'static, S> as Crewed>⟧.crew self.old.cells)).history (state_of (⟦<Cells<'static, S> as Crewed>⟧.crew self.new.cells)).history (L.trips link.old) (L.trips link.new)) }
+        ensures toured { OnOk result (ToursBy (state_of (⟦<Cells<'static, S> as Crewed>⟧.crew self.old.cells)).setting (state_of (⟦<Cells<'static, S> as Crewed>⟧.crew self.old.cells)).history (state_of (⟦<Cells<'static, S> as Crewed>⟧.crew self.new.cells)).history (trips_told (L.trips link.old) (L.faults link.old)) (trips_told (L.trips link.new) (L.faults link.new))) }
         ensures noted { OnOk result ((parts : ProgramParts) (first : F) (before : Dealings) → F.dealt parts first front.old before
             → (calm ≡ false → before.said.halted ≡ true)
             → After (F.dealt parts first front.new)

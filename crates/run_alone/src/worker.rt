@@ -6,6 +6,7 @@ ghost use Rattle.office_front.specs.Calls.{After};
 ghost use Rattle.office_front.specs.Dealings.{Dealings, IsNew};
 ghost use Rattle.run_alone.specs.Picks.{TookPicks};
 ghost use Rattle.run_alone.specs.Ran.{Ran, Travelled};
+ghost use Rattle.trip_laws.specs.Trips.{trips_told};
 
 use crate::alone::Alone;
 use behaviour_tree::Program;
@@ -48,7 +49,7 @@ pub fn run_over<S: Seating, F: Front, L: Link>(
         → IsNew before → After (F.dealt (parts_of program) first front.new)
         (λ d. Ran (record { setting = run_of (parts_of program); budget = budget }) text.now d finished)) }
     ensures picks { IfOk result (λ finished. TookPicks (record { setting = run_of (parts_of program); budget = budget }) picks.now finished.report) }
-    ensures trips { IfOk result (λ finished. Travelled (run_of (parts_of program)) finished.report.history.entries.items (L.trips link.old) (L.trips link.new)) }
+    ensures trips { IfOk result (λ finished. Travelled (run_of (parts_of program)) finished.report.history.entries.items (trips_told (L.trips link.old) (L.faults link.old)) (trips_told (L.trips link.new) (L.faults link.new))) }
 {
     let cells: Cells<'_, S> = Cells::new(alloc, program, budget, picks)?;
     let pendings = Pendings::new(alloc);
@@ -76,7 +77,7 @@ pub fn run_alone<S: Seating, F: Front, L: Link>(
         → IsNew before → After (F.dealt (parts_of program) first worker.new.front)
         (λ d. Ran (record { setting = run_of (parts_of program); budget = budget }) text.now d finished)) }
     ensures picks { IfOk result (λ finished. TookPicks (record { setting = run_of (parts_of program); budget = budget }) picks.now finished.report) }
-    ensures trips { IfOk result (λ finished. Travelled (run_of (parts_of program)) finished.report.history.entries.items (L.trips worker.old.link) (L.trips worker.new.link)) }
+    ensures trips { IfOk result (λ finished. Travelled (run_of (parts_of program)) finished.report.history.entries.items (trips_told (L.trips worker.old.link) (L.faults worker.old.link)) (trips_told (L.trips worker.new.link) (L.faults worker.new.link))) }
 {
     run_over::<S, F, L>(
         alloc,

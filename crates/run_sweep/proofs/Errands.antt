@@ -27,6 +27,7 @@ use Rattle.trip_laws.proofs.Settling.{noted_remote, none_waits, none_next}
 use Rattle.trip_laws.proofs.Touring.{toured_console, toured_remote}
 use Rattle.run_sweep.specs.Swept.{is_errand, NotesBy, ToursBy, Errands, Cleared}
 use Rattle.run_sweep.proofs.Notes.{notes_one, notes_on}
+use Rattle.trip_laws.specs.Trips.{TripsTold, HasCounted}
 
 -- none went out yet
 pub errands_none : (w : Setting) (k : OutKind) (s : State) → AreSettled w s.history → Errands w k s s false
@@ -162,7 +163,7 @@ noted_same w mid new out noted x so =
     (noted_remote w mid.history first_worker out x.answer noted (was_legal x) x.next so)
 
 -- no trip is made for a call to the console
-pub toured_same : (w : Setting) (old : List Entry) (mid new : State) (out : Outgoing) (before now : Option (List Made))
+pub toured_same : (w : Setting) (old : List Entry) (mid new : State) (out : Outgoing) (before now : TripsTold)
     → Errand w kind.Console mid new out → ToursBy w old mid.history before now → ToursBy w old new.history before now
 toured_same w old mid new out before now x so first t =
     subst (λ h. Toured w h first now) (sym (went x))
@@ -170,13 +171,14 @@ toured_same w old mid new out before now x so first t =
 
 -- the trip of a call to a service elsewhere is made
 pub toured_more : (w : Setting) (old : List Entry) (mid new : State) (out : Outgoing) (m : Made)
-    (before now later : Option (List Made))
+    (before now later : TripsTold)
     → (x : Errand w kind.Remote mid new out) → AreSettled w mid.history → IsHeard w.parts out m x.answer
-    → Travels now later (m ∷ []) → ToursBy w old mid.history before now → ToursBy w old new.history before later
-toured_more w old mid new out m before now later x settled heard travels so first t =
+    → Travels now.trips later.trips (m ∷ []) → HasCounted now.faults later.faults (m ∷ [])
+    → ToursBy w old mid.history before now → ToursBy w old new.history before later
+toured_more w old mid new out m before now later x settled heard travels counts so first t =
     subst (λ h. Toured w h first later) (sym (went x))
     (toured_remote w first now later mid.history out x.answer m
-    (subst (IsLegal w) (went x) x.legal) settled x.next heard travels
+    (subst (IsLegal w) (went x) x.legal) settled x.next heard travels counts
     (so first t))
 
 -- ---- as the calls of sessions tell it
@@ -290,13 +292,14 @@ less_of k old mid new out m n x =
 
 -- the trip of a call that was fetched is made
 pub toured_of : (old mid one new : State) (out : Outgoing) (o : Outcome) (moved : Bool) (m : Made)
-    (before now later : Option (List Made)) → Errands old.setting kind.Remote old mid moved
+    (before now later : TripsTold) → Errands old.setting kind.Remote old mid moved
     → IsFetched kind.Remote mid one out → Stays one new (answer_of first_worker out o ∷ []) → Team new
-    → IsHeard old.setting.parts out m o → Travels now later (m ∷ [])
+    → IsHeard old.setting.parts out m o
+    → Travels now.trips later.trips (m ∷ []) → HasCounted now.faults later.faults (m ∷ [])
     → ToursBy old.setting old.history mid.history before now
     → ToursBy old.setting old.history new.history before later
 unfolding errand_of
-toured_of old mid one new out o moved m before now later e f brought team heard travels so =
+toured_of old mid one new out o moved m before now later e f brought team heard travels counts so =
     toured_more old.setting old.history mid new out m before now later
     (errand_of kind.Remote old mid one new out o moved e f.next f.stays brought (λ h. absurd (true≢false (sym h))) team)
-    e.settled heard travels so
+    e.settled heard travels counts so

@@ -1,19 +1,33 @@
 -- The trip of a call that goes out.
-use Rattle.std.proofs.Common.{◌≡◌, List, [], ◌∷◌, Option, Result, Ok, Err, IfOk}
+use Rattle.std.proofs.Common.{◌≡◌, ℕ, List, [], ◌∷◌, Result, Ok, Err, IfOk, arith}
+use Rattle.outside_traits.specs.Causes.{Rose}
 use Rattle.behaviour_tree.specs.Data.{ProgramParts}
 use Rattle.behaviour_tree.specs.declared.words.Outcome.{Outcome}
 use Rattle.office_core.specs.declared.outgoing.Outgoing.{Outgoing}
-use Rattle.outside_links.specs.Trips.{Made, Travels}
+use Rattle.outside_links.specs.Trips.{Made, Travels, there_alone, there_and_back}
 use Rattle.jsonrpc_calls.specs.CallTexts.{location_called, call as call_text}
 use Rattle.jsonrpc_calls.specs.Heard.{heard}
 use Rattle.trip_laws.specs.Going.{IsHeard}
+use Rattle.trip_laws.specs.Trips.{TripsTold, HasCounted}
+
+-- a trip from which bytes came back leaves the count of failures as it was
+pub counted_back : (before now : ℕ) (location text bytes : List ℕ) → now ≡ before
+    → HasCounted before now (there_and_back location text bytes ∷ [])
+counted_back before now location text bytes same = record { counted = omega arith; calm = λ _. same }
+
+-- a trip that failed makes it rise
+pub counted_alone : (before now : ℕ) (location text : List ℕ) → Rose before now
+    → HasCounted before now (there_alone location text ∷ [])
+counted_alone before now location text rose = record { counted = rose; calm = λ none. cc }
 
 -- what was heard of a trip that was made
-pub heard_of : {E : Type 0} (parts : ProgramParts) (out : Outgoing) (before now : Option (List Made)) (m : Made)
+pub heard_of : {E : Type 0} (parts : ProgramParts) (out : Outgoing) (before now : TripsTold) (m : Made)
     (r : Result Outcome E)
-    → m.location ≡ location_called parts out → m.text ≡ call_text parts out → Travels before now (m ∷ [])
+    → m.location ≡ location_called parts out → m.text ≡ call_text parts out
+    → Travels before.trips now.trips (m ∷ []) → HasCounted before.faults now.faults (m ∷ [])
     → IfOk r (λ o. o ≡ heard out m.came)
-    → IfOk r (λ o. (n : Made) × (IsHeard parts out n o) × (Travels before now (n ∷ [])))
-heard_of parts out before now m (Ok o) location text travels said =
-    (m, record { location = location; text = text; outcome = said }, travels)
-heard_of parts out before now m (Err e) location text travels said = tt
+    → IfOk r (λ o. (n : Made) × (IsHeard parts out n o) × (Travels before.trips now.trips (n ∷ []))
+    × (HasCounted before.faults now.faults (n ∷ [])))
+heard_of parts out before now m (Ok o) location text travels counts said =
+    (m, record { location = location; text = text; outcome = said }, travels, counts)
+heard_of parts out before now m (Err e) location text travels counts said = tt

@@ -31,6 +31,7 @@ use Rattle.run_sweep.specs.declared.sweeping.Round.{Round}
 use Rattle.run_sweep.specs.declared.sweeping.Round.TheVariants as end
 use Rattle.run_sweep.specs.Swept.{is_errand, is_swept, NotesBy, ToursBy, Errands, Cleared, Swept, StaysQuiet}
 use Rattle.run_sweep.proofs.Notes.{notes_on}
+use Rattle.trip_laws.specs.Trips.{TripsTold}
 
 -- ---- entries
 
@@ -169,7 +170,7 @@ noted_then {old} {one} {turned} x noted so =
     (noted_over old.setting noted old.history x.went.more (legal_more x) x.went.sessions so)
 
 -- and make no trip
-pub toured_then : {old one : State} {turned : Bool} (x : Turns old one turned) (now : Option (List Made))
+pub toured_then : {old one : State} {turned : Bool} (x : Turns old one turned) (now : TripsTold)
     → ToursBy old.setting old.history one.history now now
 toured_then {old} {one} {turned} x now first t =
     subst (λ h. Toured old.setting h first now) (sym x.went.history)
@@ -400,7 +401,7 @@ round_notes {old} {one} {two} {three} r trips a b n = (
     here = r.consoles.errands.stays.setting ∙ r.turns.went.setting
 
 -- the trips of the first half: none
-pub half_tours : {old one : State} {turned : Bool} (h : List Entry) (now : Option (List Made)) → Went old one turned
+pub half_tours : {old one : State} {turned : Bool} (h : List Entry) (now : TripsTold) → Went old one turned
     → Team one
     → AreSettled old.setting old.history → unbrought (past_in old) ≡ []
     → ToursBy one.setting one.history h now now → ToursBy old.setting old.history h now now
@@ -409,7 +410,7 @@ half_tours {old} {one} {turned} h now went team settled start t first x =
     (t first (subst (λ w. Toured w one.history first now) (sym went.setting)
     (toured_then (turns_of went team settled start) now first x)))
 
-pub round_tours : {old one two three : State} {turned noted travelled : Bool} (now later : Option (List Made))
+pub round_tours : {old one two three : State} {turned noted travelled : Bool} (now later : TripsTold)
     → WholeRound old one two three turned noted travelled
     → ToursBy old.setting old.history two.history now now → ToursBy two.setting two.history three.history now later
     → ToursBy old.setting old.history three.history now later
@@ -432,7 +433,7 @@ notes_then old mid new here a b c x y = (
       (y.1 (subst (λ w. NotedSoFar w mid.history b.said.noted) (sym here) (x.1 so))),
 )
 
-pub tours_then : (old mid new : State) (a b c : Option (List Made)) → mid.setting ≡ old.setting
+pub tours_then : (old mid new : State) (a b c : TripsTold) → mid.setting ≡ old.setting
     → ToursBy old.setting old.history mid.history a b → ToursBy mid.setting mid.history new.history b c
     → ToursBy old.setting old.history new.history a c
 tours_then old mid new a b c here f g first x =

@@ -14,6 +14,7 @@ use Rattle.run_cells.specs.Crews.{State, Stays}
 use Rattle.run_cells.specs.Rounds.{is_by_session, IsQuietAt, IsStillAt}
 use Rattle.trip_laws.specs.Going.{is_inward, AreSettled, NotedSoFar, Toured}
 use Rattle.run_sweep.specs.Courses.{Goes}
+use Rattle.trip_laws.specs.Trips.{TripsTold}
 
 -- ---- entries
 
@@ -50,8 +51,8 @@ NotesBy w old new before now =
     NotesMore before now × (NotedSoFar w old before.said.noted → NotedSoFar w new now.said.noted)
 
 -- the trips that a link made are those of the history now, where they were those of the history before
-abbrev pub ToursBy : Setting → List Entry → List Entry → Option (List Made) → Option (List Made) → Type 0
-ToursBy w old new before now = (first : Option (List Made)) → Toured w old first before → Toured w new first now
+abbrev pub ToursBy : Setting → List Entry → List Entry → TripsTold → TripsTold → Type 0
+ToursBy w old new before now = (first : TripsTold) → Toured w old first before → Toured w new first now
 
 -- ---- the run
 

@@ -12,6 +12,7 @@ ghost use Rattle.run_cells.specs.Crews.{AtWork, Stays, past_in, state_of};
 ghost use Rattle.trip_laws.specs.Going.{AreSettled, answer_of};
 ghost use Rattle.outside_links.specs.Trips.{Made};
 ghost use Rattle.run_sweep.specs.Swept.{Cleared, NotesBy, NotesMore, PassedOn, ToursBy};
+ghost use Rattle.trip_laws.specs.Trips.{TripsTold};
 
 use crate::sessions::Sessions;
 use behaviour_tree::Outcome;
@@ -35,7 +36,7 @@ pub(crate) fn note_all<C: Sessions, F: Front>(
         (λ moved. Cleared (state_of (C.crew cells.old)).setting kind.Console (state_of (C.crew cells.old))
         (state_of (C.crew cells.new)) moved) }
     ensures toured { OnOk result
-        ((now : Option (List Made))
+        ((now : TripsTold)
         → ToursBy (state_of (C.crew cells.old)).setting (state_of (C.crew cells.old)).history
         (state_of (C.crew cells.new)).history now now) }
     ensures noted { MatchResult result

@@ -7,6 +7,7 @@ ghost use Rattle.outside_links.specs.Trips.{Made, Travels};
 ghost use Rattle.run_cells.specs.Crews.{AtWork, state_of};
 ghost use Rattle.trip_laws.specs.Going.{AreSettled, IsHeard, NotedSoFar};
 ghost use Rattle.run_sweep.specs.Swept.{Cleared, ToursBy};
+ghost use Rattle.trip_laws.specs.Trips.{HasCounted, trips_told};
 
 use crate::sessions::Sessions;
 use behaviour_tree::{Outcome, Program};
@@ -31,7 +32,7 @@ pub(crate) fn trip_all<C: Sessions, L: Link>(
         (state_of (C.crew cells.new)) moved) }
     ensures toured { OnOk result
         (ToursBy (state_of (C.crew cells.old)).setting (state_of (C.crew cells.old)).history
-        (state_of (C.crew cells.new)).history (L.trips link.old) (L.trips link.new)) }
+        (state_of (C.crew cells.new)).history (trips_told (L.trips link.old) (L.faults link.old)) (trips_told (L.trips link.new) (L.faults link.new))) }
     ensures noted { OnOk result
         ((noted : List ℕ) → NotedSoFar (state_of (C.crew cells.old)).setting
         (state_of (C.crew cells.old)).history noted
@@ -55,7 +56,8 @@ fn trip<L: Link>(
 ) -> Result<Outcome, AllocError>
     ensures { IfOk result
         (λ o. (m : Made) × (IsHeard (parts_of program.now) out.now m o)
-        × (Travels (L.trips link.old) (L.trips link.new) (m ∷ []))) }
+        × (Travels (L.trips link.old) (L.trips link.new) (m ∷ []))
+        × (HasCounted (L.faults link.old) (L.faults link.new) (m ∷ []))) }
 {
     let text = call_text(alloc, out, program)?;
     let location = location_called(program, out);

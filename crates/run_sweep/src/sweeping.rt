@@ -5,6 +5,7 @@ ghost use Rattle.run_cells.specs.Crews.{AtWork, past_in, state_of};
 ghost use Rattle.run_cells.specs.Rounds.{IsQuietAt, left};
 ghost use Rattle.trip_laws.specs.Going.{AreSettled};
 ghost use Rattle.run_sweep.specs.Swept.{NotesBy, NotesMore, PassedOn, StaysQuiet, Swept, ToursBy, HasHalted};
+ghost use Rattle.trip_laws.specs.Trips.{trips_told};
 
 use crate::console::note_all;
 use crate::elsewhere::trip_all;
@@ -36,7 +37,7 @@ pub fn sweep<C: Sessions, F: Front, L: Link>(
     ensures swept { OnOk result (Swept (state_of (C.crew cells.old)) (state_of (C.crew cells.new))) }
     ensures toured { OnOk result
         (ToursBy (state_of (C.crew cells.old)).setting (state_of (C.crew cells.old)).history
-        (state_of (C.crew cells.new)).history (L.trips link.old) (L.trips link.new)) }
+        (state_of (C.crew cells.new)).history (trips_told (L.trips link.old) (L.faults link.old)) (trips_told (L.trips link.new) (L.faults link.new))) }
     ensures noted { MatchResult result
         (λ _. PassedOn F.dealt front.old front.new
         (NotesBy (state_of (C.crew cells.old)).setting (state_of (C.crew cells.old)).history
@@ -70,7 +71,7 @@ fn go_round<C: Sessions, F: Front, L: Link>(
     ensures swept { OnOk result (Swept (state_of (C.crew cells.old)) (state_of (C.crew cells.new))) }
     ensures toured { OnOk result
         (ToursBy (state_of (C.crew cells.old)).setting (state_of (C.crew cells.old)).history
-        (state_of (C.crew cells.new)).history (L.trips link.old) (L.trips link.new)) }
+        (state_of (C.crew cells.new)).history (trips_told (L.trips link.old) (L.faults link.old)) (trips_told (L.trips link.new) (L.faults link.new))) }
     ensures noted { MatchResult result
         (λ _. PassedOn F.dealt front.old front.new
         (NotesBy (state_of (C.crew cells.old)).setting (state_of (C.crew cells.old)).history

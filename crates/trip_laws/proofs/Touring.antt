@@ -1,9 +1,11 @@
 -- The trips of the calls to services elsewhere, as a history grows.
 use Rattle.std.proofs.Common.{◌≡◌, ℕ, Bool, true, false, cond, ◌&&◌, ◌||◌, List, [], ◌∷◌, ◌++◌, refl}
+use Rattle.std.proofs.Common.{◌+◌, ◌-◌, ◌^◌, ◌≤◌, min, count_by, arith}
 use Rattle.std.proofs.Common.{sym, ap, subst, ◌∙◌, Option, None, Some, option_map, true≢false, slice_get, filter}
 use Rattle.std.proofs.Common.{filter_map, is_some, nat_eq, option_and_then, append_assoc, unwrap_or, if◌then◌else◌}
 use Rattle.std.specs.List.{list_any, list_all, cons_option}
 use Rattle.std.proofs.lemmas.List.{append-nil}
+use Rattle.std.proofs.lemmas.List.Sums.{sum_by-cons}
 use Rattle.std.proofs.lemmas.Option.{slice_get-get_or}
 use Rattle.std.proofs.lemmas.List.Elements.{filter-append, filter_map-append}
 use Rattle.jolie_trees.specs.Trees.{void_tree}
@@ -35,7 +37,7 @@ use Rattle.plain_office.proofs.Sending.{speaks_of, was_sent, calls_known}
 use Rattle.session_turn.proofs.Histories.{past_on, some_of, service_stays}
 use Rattle.run_record.specs.Outside.{Trip, trips, fetched_in, trip_of, console_calls}
 use Rattle.outside_links.specs.Trips.{Made, Travels}
-use Rattle.trip_laws.specs.Trips.{IsTrip, AreTrips, Travelled, AreVoid}
+use Rattle.trip_laws.specs.Trips.{TripsTold, has_failed, HasCounted, IsTrip, AreTrips, Travelled, AreVoid}
 use Rattle.trip_laws.specs.Going.{is_inward, is_of_session, fetch_of, answer_of, went_out, goes_to, AreSettled}
 use Rattle.trip_laws.specs.Going.{IsTour, AreTours, Toured, IsHeard}
 use Rattle.trip_laws.proofs.Places.{filter_map_same, any_at, at_front}
@@ -171,7 +173,7 @@ trips_on w h e legal =
 
 -- ---- an entry that makes no trip
 
-toured_by : (w : Setting) (before now : Option (List Made)) (h : List Entry) (e : Entry) → IsLegal w h
+toured_by : (w : Setting) (before now : TripsTold) (h : List Entry) (e : Entry) → IsLegal w h
     → trip_in w (past_of w (h ++ e ∷ [])) e ≡ None → Toured w h before now → Toured w (h ++ e ∷ []) before now
 toured_by w before now h e legal none t =
     record {
@@ -179,6 +181,7 @@ toured_by w before now h e legal none t =
       are = subst (λ ts. AreTours w (past_of w (h ++ e ∷ [])) ts t.made) (sym same)
           (tours_stay w h e (trips w h first_worker) t.made t.are);
       told = t.told;
+      counts = t.counts;
     }
   where
     same : trips w (h ++ e ∷ []) first_worker ≡ trips w h first_worker
@@ -192,13 +195,13 @@ untripped w past actor (act.Fetch s k) off = absurd (true≢false (sym off))
 untripped w past actor a off = refl
 
 -- an entry that fetches nothing makes no trip
-pub toured_on : (w : Setting) (before now : Option (List Made)) (h : List Entry) (e : Entry) → is_inward e ≡ true
+pub toured_on : (w : Setting) (before now : TripsTold) (h : List Entry) (e : Entry) → is_inward e ≡ true
     → IsLegal w (h ++ e ∷ []) → Toured w h before now → Toured w (h ++ e ∷ []) before now
 toured_on w before now h e off legal t =
     toured_by w before now h e (legal_parts w h e legal).0 (untripped w (past_of w (h ++ e ∷ [])) e.actor e.act off) t
 
 -- sessions make no trip
-pub toured_over : (w : Setting) (before now : Option (List Made)) (h more : List Entry) → IsLegal w (h ++ more)
+pub toured_over : (w : Setting) (before now : TripsTold) (h more : List Entry) → IsLegal w (h ++ more)
     → list_all is_of_session more ≡ true → Toured w h before now → Toured w (h ++ more) before now
 toured_over w before now h more legal below t =
     over_all w is_inward (λ g. Toured w g before now) (toured_on w before now) h more
@@ -209,8 +212,36 @@ nothing_made : (now : Option (List Made)) → Travels now now []
 nothing_made None = tt
 nothing_made (Some ms) = sym (append-nil ms)
 
-pub toured_first : (w : Setting) (now : Option (List Made)) → Toured w [] now now
-toured_first w now = record { made = []; are = tt; told = nothing_made now }
+-- no trip leaves the count of failures as it was
+counted_none : (now : ℕ) → HasCounted now now []
+counted_none now = record { counted = omega arith; calm = λ _. refl }
+
+-- how many of trips and further ones failed
+failed_append : (some more : List Made)
+    → count_by has_failed (some ++ more) ≡ count_by has_failed some + count_by has_failed more
+failed_append [] more = let none : count_by has_failed [] ≡ 0 = refl in omega arith
+failed_append (m ∷ some) more =
+    let rest = failed_append some more in
+    let one = sum_by-cons (λ y. cond (has_failed y) 1 0) m (some ++ more) in
+    let two = sum_by-cons (λ y. cond (has_failed y) 1 0) m some in
+    omega arith
+
+-- trips and further ones are counted one after the other
+counted_on : (before now later : ℕ) (some more : List Made) → HasCounted before now some → HasCounted now later more
+    → HasCounted before later (some ++ more)
+counted_on before now later some more a b =
+    let both : count_by has_failed (some ++ more) ≡ count_by has_failed some + count_by has_failed more =
+        failed_append some more in
+    let first = a.counted in
+    let second = b.counted in
+    record {
+      counted = omega arith;
+      calm = λ none. b.calm (omega arith) ∙ a.calm (omega arith);
+    }
+
+pub toured_first : (w : Setting) (now : TripsTold) → Toured w [] now now
+toured_first w now =
+    record { made = []; are = tt; told = nothing_made now.trips; counts = counted_none now.faults }
 
 -- ---- a call that goes out
 
@@ -253,7 +284,7 @@ trip_now w h k c d old born =
     (port_stays w h (fetching first_worker c) c.session c.port d born)
 
 -- no trip is made for a call to the console
-pub toured_console : (w : Setting) (before now : Option (List Made)) (h : List Entry) (out : Outgoing) (o : Outcome)
+pub toured_console : (w : Setting) (before now : TripsTold) (h : List Entry) (out : Outgoing) (o : Outcome)
     → IsLegal w (went_out h first_worker out o) → next_outgoing w (past_of w h) kind.Console ≡ Some out
     → Toured w h before now → Toured w (went_out h first_worker out o) before now
 toured_console w before now h out o legal next t =
@@ -300,13 +331,14 @@ tour_now w h c d p o m s old born ported x =
     a : Entry
     a = bringing first_worker c o
 
-toured_next : (w : Setting) (before now later : Option (List Made)) (h : List Entry) (c : Call) (d : ℕ) (p : PortPart)
+toured_next : (w : Setting) (before now later : TripsTold) (h : List Entry) (c : Call) (d : ℕ) (p : PortPart)
     (o : Outcome) (m : Made)
     → IsLegal w (went_out h first_worker (going c d) o) → AreSettled w h
     → IsOldest w (past_of w h) kind.Remote c → service_of w (past_of w h) c.session ≡ Some d
-    → port_of w (past_of w h) c.session c.port ≡ Some p → IsHeard w.parts (going c d) m o → Travels now later (m ∷ [])
+    → port_of w (past_of w h) c.session c.port ≡ Some p → IsHeard w.parts (going c d) m o
+    → Travels now.trips later.trips (m ∷ []) → HasCounted now.faults later.faults (m ∷ [])
     → Toured w h before now → Toured w (went_out h first_worker (going c d) o) before later
-toured_next w before now later h c d p o m legal s old born ported x travels t =
+toured_next w before now later h c d p o m legal s old born ported x travels counts t =
     record {
       made = t.made ++ m ∷ [];
       are = subst (λ ts. AreTours w (past_of w (went_out h first_worker (going c d) o)) ts (t.made ++ m ∷ []))
@@ -315,7 +347,8 @@ toured_next w before now later h c d p o m legal s old born ported x travels t =
           (tours_stay w (h ++ f ∷ []) a (trips w h first_worker) t.made
           (tours_stay w h f (trips w h first_worker) t.made t.are))
           (tour_now w h c d p o m s old born ported x));
-      told = travels_on before now later t.made (m ∷ []) t.told travels;
+      told = travels_on before.trips now.trips later.trips t.made (m ∷ []) t.told travels;
+      counts = counted_on before.faults now.faults later.faults t.made (m ∷ []) t.counts counts;
     }
   where
     f : Entry
@@ -340,19 +373,19 @@ toured_next w before now later h c d p o m legal s old born ported x travels t =
         ∙ ap (option_map (λ (z : PortPart). record { location = z.location; made = c })) ported)
 
 -- the trip of a call to a service elsewhere was made
-pub toured_remote : (w : Setting) (before now later : Option (List Made)) (h : List Entry) (out : Outgoing)
+pub toured_remote : (w : Setting) (before now later : TripsTold) (h : List Entry) (out : Outgoing)
     (o : Outcome) (m : Made)
     → IsLegal w (went_out h first_worker out o) → AreSettled w h → next_outgoing w (past_of w h) kind.Remote ≡ Some out
-    → IsHeard w.parts out m o → Travels now later (m ∷ []) → Toured w h before now
-    → Toured w (went_out h first_worker out o) before later
-toured_remote w before now later h out o m legal s next x travels t =
+    → IsHeard w.parts out m o → Travels now.trips later.trips (m ∷ []) → HasCounted now.faults later.faults (m ∷ [])
+    → Toured w h before now → Toured w (went_out h first_worker out o) before later
+toured_remote w before now later h out o m legal s next x travels counts t =
     of_next w h kind.Remote out
     (λ y. IsLegal w (went_out h first_worker y o) → IsHeard w.parts y m o
     → Toured w (went_out h first_worker y o) before later)
     start next
     (λ c d old born all heard_is.
     let p = remote_port (port_of w (past_of w h) c.session c.port) old.kind_is in
-    toured_next w before now later h c d p.0 o m all s old born p.1 heard_is travels t)
+    toured_next w before now later h c d p.0 o m all s old born p.1 heard_is travels counts t)
     legal x
   where
     start : IsLegal w h
@@ -381,10 +414,15 @@ trips_are w past (t ∷ ts) [] x = x
 trips_are w past (t ∷ ts) (m ∷ ms) x = (trip_is w past t m x.0, trips_are w past ts ms x.1)
 
 -- the link travelled as the history says
-pub travelled : (w : Setting) (h : List Entry) (before now : Option (List Made)) → Toured w h before now
+pub travelled : (w : Setting) (h : List Entry) (before now : TripsTold) → Toured w h before now
     → Travelled w h before now
 travelled w h before now t =
-    record { made = t.made; are = trips_are w (past_of w h) (trips w h first_worker) t.made t.are; told = t.told }
+    record {
+      made = t.made;
+      are = trips_are w (past_of w h) (trips w h first_worker) t.made t.are;
+      told = t.told;
+      counts = t.counts;
+    }
 
 -- what calls to the console came to is void
 pub void_is : (w : Setting) (h : List Entry) → IsLegal w h → AreSettled w h → AreVoid w (past_of w h)

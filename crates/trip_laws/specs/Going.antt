@@ -25,7 +25,7 @@ use Rattle.run_record.specs.Outside.{note_of, console_calls, Trip, trips}
 use Rattle.outside_links.specs.Trips.{Made, Travels}
 use Rattle.jsonrpc_calls.specs.CallTexts.{location_called, call as call_text}
 use Rattle.jsonrpc_calls.specs.Heard.{heard}
-use Rattle.trip_laws.specs.Trips.{outgoing as out_of}
+use Rattle.trip_laws.specs.Trips.{outgoing as out_of, TripsTold, HasCounted}
 
 -- ---- entries
 
@@ -105,11 +105,12 @@ AreTours w past [] [] = Unit {0}
 AreTours w past (t ∷ ts) (m ∷ ms) = IsTour w past t m × AreTours w past ts ms
 AreTours w past ts ms = ⊥
 
--- The link made the trips of the calls that were fetched, each once.
-pub record Toured (w : Setting) (h : List Entry) (before now : Option (List Made)) : Type 0 where
+-- The link made the trips of the calls that were fetched, each once, and counted those that failed.
+pub record Toured (w : Setting) (h : List Entry) (before now : TripsTold) : Type 0 where
   pub made : List Made
   pub are : AreTours w (past_of w h) (trips w h first_worker) made
-  pub told : Travels before now made
+  pub told : Travels before.trips now.trips made
+  pub counts : HasCounted before.faults now.faults made
 
 -- The trip of a call was made, and this outcome was heard of it.
 pub record IsHeard (parts : ProgramParts) (out : Outgoing) (m : Made) (o : Outcome) : Type 0 where

@@ -14,7 +14,7 @@ use Rattle.office_core.specs.Legal.{IsLegal}
 use Rattle.office_kept.specs.Replies.{next_outgoing}
 use Rattle.outside_links.specs.Trips.{Made, Travels}
 use Rattle.jsonrpc_calls.specs.Console.{console_line}
-use Rattle.trip_laws.specs.Trips.{Travelled, AreVoid}
+use Rattle.trip_laws.specs.Trips.{TripsTold, HasCounted, Travelled, AreVoid}
 use Rattle.trip_laws.specs.Going.{went_out, AreSettled, NotedSoFar, IsHeard, Toured}
 
 -- Once a call that was next has its outcome, the calls that were fetched have theirs again.
@@ -35,15 +35,16 @@ NotesLine =
 -- A call to a service elsewhere is one trip more.
 abbrev pub MakesTrip : Type 0
 MakesTrip =
-    (w : Setting) (before now later : Option (List Made)) (h : List Entry) (out : Outgoing) (o : Outcome) (m : Made)
+    (w : Setting) (before now later : TripsTold) (h : List Entry) (out : Outgoing) (o : Outcome) (m : Made)
     → IsLegal w (went_out h first_worker out o) → AreSettled w h
-    → next_outgoing w (past_of w h) kind.Remote ≡ Some out → IsHeard w.parts out m o → Travels now later (m ∷ [])
+    → next_outgoing w (past_of w h) kind.Remote ≡ Some out → IsHeard w.parts out m o
+    → Travels now.trips later.trips (m ∷ []) → HasCounted now.faults later.faults (m ∷ [])
     → Toured w h before now → Toured w (went_out h first_worker out o) before later
 
 -- So the trips that were made are those that the calls ask for.
 abbrev pub TravelsSo : Type 0
 TravelsSo =
-    (w : Setting) (h : List Entry) (before now : Option (List Made)) → Toured w h before now → Travelled w h before now
+    (w : Setting) (h : List Entry) (before now : TripsTold) → Toured w h before now → Travelled w h before now
 
 -- And the calls to the console came to void.
 abbrev pub ComesToVoid : Type 0

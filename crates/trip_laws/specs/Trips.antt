@@ -1,5 +1,6 @@
 -- What calls that went out came to: the trips of a link, and the calls to the console.
-use Rattle.std.specs.Prelude.{◌≡◌, ℕ, List, [], ◌∷◌, Option, Some, Contains}
+use Rattle.std.specs.Prelude.{◌≡◌, ℕ, ◌+◌, ◌-◌, ◌^◌, ◌≤◌, min, Bool, List, [], ◌∷◌, count_by, Option, Some, Contains}
+use Rattle.std.specs.Option.{is_none}
 use Rattle.jolie_trees.specs.Trees.{void_tree}
 use Rattle.behaviour_tree.specs.declared.words.Outcome.{Outcome}
 use Rattle.behaviour_tree.specs.declared.words.Outcome.TheVariants as outcome
@@ -15,6 +16,27 @@ use Rattle.run_record.specs.Outside.{console_calls, Trip, trips}
 use Rattle.outside_links.specs.Trips.{Made, Travels}
 use Rattle.jsonrpc_calls.specs.CallTexts.{call as call_text}
 use Rattle.jsonrpc_calls.specs.Heard.{heard}
+
+-- ---- what a link tells
+
+-- what a link tells of its trips: those that it made, where they are told, and how often one has failed
+pub record TripsTold : Type 0 where
+  pub trips : Option (List Made)
+  pub faults : ℕ
+
+-- the same by its parts
+abbrev pub trips_told : Option (List Made) → ℕ → TripsTold
+trips_told trips faults = record { trips = trips; faults = faults }
+
+-- a trip from which nothing came back
+abbrev pub has_failed : Made → Bool
+has_failed m = is_none m.came
+
+-- These trips were made between two counts of failures: it rose by one at least for each that failed, as far as numbers
+-- of 64 bits go, and it stands where none did.
+pub record HasCounted (before now : ℕ) (made : List Made) : Type 0 where
+  pub counted : min (before + count_by has_failed made) (2 ^ 64 - 1) ≤ now
+  pub calm : count_by has_failed made ≡ 0 → now ≡ before
 
 -- ---- trips
 
@@ -45,11 +67,13 @@ AreTrips w past [] [] = Unit {0}
 AreTrips w past (t ∷ ts) (m ∷ ms) = IsTrip w past t m × AreTrips w past ts ms
 AreTrips w past ts ms = ⊥
 
--- The link of a run of this history made the trips that its calls to services elsewhere ask for, each once.
-pub record Travelled (w : Setting) (h : List Entry) (before now : Option (List Made)) : Type 0 where
+-- The link of a run of this history made the trips that its calls to services elsewhere ask for, each once; and it
+-- counted those that failed.
+pub record Travelled (w : Setting) (h : List Entry) (before now : TripsTold) : Type 0 where
   pub made : List Made
   pub are : AreTrips w (past_of w h) (trips w h first_worker) made
-  pub told : Travels before now made
+  pub told : Travels before.trips now.trips made
+  pub counts : HasCounted before.faults now.faults made
 
 -- ---- the console
 

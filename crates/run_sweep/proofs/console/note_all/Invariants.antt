@@ -6,6 +6,7 @@ use Rattle.outside_links.specs.Trips.{Made}
 use Rattle.run_cells.specs.Crews.{AtWork, past_in, state_of}
 use Rattle.run_sweep.specs.Swept.{Errands, NotesBy, PassedOn, ToursBy}
 use Rattle.run_sweep.proofs.console.note_all.Given as goal
+use Rattle.trip_laws.specs.Trips.{TripsTold}
 
 abbrev pub invariant-loop-out : goal.invariant-loop-out
 invariant-loop-out g l = record {
@@ -13,7 +14,7 @@ invariant-loop-out g l = record {
   work : AtWork (g.C.Sessions.crew l.cells);
   errands : Errands (state_of (g.C.Sessions.crew l.initial.cells)).setting kind.Console
       (state_of (g.C.Sessions.crew l.initial.cells)) (state_of (g.C.Sessions.crew l.cells)) l.moved;
-  toured : (now : Option (List Made))
+  toured : (now : TripsTold)
       → ToursBy (state_of (g.C.Sessions.crew l.initial.cells)).setting
       (state_of (g.C.Sessions.crew l.initial.cells)).history (state_of (g.C.Sessions.crew l.cells)).history now now;
   noted : PassedOn g.F.Front.dealt l.initial.front l.front

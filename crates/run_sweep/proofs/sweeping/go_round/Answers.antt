@@ -7,6 +7,7 @@ use Rattle.run_sweep.proofs.Rounds.{settled_one, settled_two, half_swept, half_t
 use Rattle.run_sweep.proofs.Rounds.{round_swept, round_tours, round_notes, round_brought, round_less, round_quiet}
 use Rattle.run_sweep.proofs.Rounds.{round_still, again_by, calm_by, not_halted, halted_only}
 use Rattle.run_sweep.proofs.sweeping.go_round.Goals as goal
+use Rattle.trip_laws.specs.Trips.{trips_told}
 
 pub note_all-requires-clause-settled : goal.note_all-requires-clause-settled
 note_all-requires-clause-settled g c =
@@ -64,7 +65,7 @@ returns-clause-toured g c =
     let now = g.L.Link.trips c.args.link.now in
     let went = c.in_ok-turned.ensures.went in
     let team = c.in_ok-turned.ensures.work.team in
-    round_tours now (g.L.Link.trips c.trip_all.new.link)
+    round_tours now (trips_told (g.L.Link.trips c.trip_all.new.link) (g.L.Link.faults c.trip_all.new.link))
     (round_of went team c.requires.settled c.requires.brought c.in_ok-noted.ensures.cleared
     c.in_ok-travelled.ensures.cleared)
     (half_tours two.history now went team c.requires.settled c.requires.brought (c.in_ok-noted.ensures.toured now))

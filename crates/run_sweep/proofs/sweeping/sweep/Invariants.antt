@@ -5,6 +5,7 @@ use Rattle.run_cells.specs.Crews.{AtWork, past_in, state_of}
 use Rattle.run_cells.specs.Rounds.{left}
 use Rattle.run_sweep.specs.Swept.{NotesBy, PassedOn, StaysQuiet, Swept, ToursBy}
 use Rattle.run_sweep.proofs.sweeping.sweep.Given as goal
+use Rattle.trip_laws.specs.Trips.{trips_told}
 
 abbrev pub invariant-loop : goal.invariant-loop
 invariant-loop g l = record {
@@ -14,7 +15,7 @@ invariant-loop g l = record {
   brought : unbrought (past_in (state_of (g.C.Sessions.crew l.cells))) ≡ [];
   toured : ToursBy (state_of (g.C.Sessions.crew l.initial.cells)).setting
       (state_of (g.C.Sessions.crew l.initial.cells)).history (state_of (g.C.Sessions.crew l.cells)).history
-      (g.L.Link.trips l.initial.link) (g.L.Link.trips l.link);
+      (trips_told (g.L.Link.trips l.initial.link) (g.L.Link.faults l.initial.link)) (trips_told (g.L.Link.trips l.link) (g.L.Link.faults l.link));
   noted : PassedOn g.F.Front.dealt l.initial.front l.front
       (NotesBy (state_of (g.C.Sessions.crew l.initial.cells)).setting
       (state_of (g.C.Sessions.crew l.initial.cells)).history (state_of (g.C.Sessions.crew l.cells)).history);
