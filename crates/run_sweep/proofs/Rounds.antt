@@ -1,7 +1,7 @@
 -- What a round of a sweep does: the sessions have their turns, and then calls go out and come back.
 use Rattle.std.proofs.Common.{if◌then◌else◌, ◌≡◌, ◌<◌, ◌+◌, ◌-◌, ◌*◌, ℕ, Bool, true, false, not, ◌&&◌, ◌||◌}
 use Rattle.std.proofs.Common.{List, [], ◌∷◌}
-use Rattle.std.proofs.Common.{◌++◌, length, refl, sym, ap, subst, ◌∙◌, Option, true≢false, append_assoc}
+use Rattle.std.proofs.Common.{◌++◌, length, refl, sym, ap, subst, ◌∙◌, true≢false, append_assoc}
 use Rattle.std.proofs.Common.{append-nil, nat_eq}
 use Rattle.std.specs.List.{list_all, list_any}
 use Rattle.std.proofs.lemmas.List.Folds.{list_all-append}
@@ -17,7 +17,6 @@ use Rattle.office_core.specs.Legal.{IsLegal}
 use Rattle.office_kept.specs.Entries.{entry}
 use Rattle.office_kept.proofs.Acting.{left as left_of, right as right_of}
 use Rattle.office_front.specs.Dealings.{Dealings}
-use Rattle.outside_links.specs.Trips.{Made}
 use Rattle.run_record.specs.Quiet.{IsQuiet, IsStill, posts, unbrought}
 use Rattle.quiet_laws.proofs.Workers.{still_by_others}
 use Rattle.run_cells.specs.Crews.{State, Stays, Team, events_of, past_in}

@@ -1,5 +1,5 @@
 -- What a sweep does to a run, to its front and to its link.
-use Rattle.std.specs.Prelude.{◌≡◌, ℕ, Bool, true, false, not, ◌&&◌, ◌||◌, List, [], ◌++◌, nat_eq, Option}
+use Rattle.std.specs.Prelude.{◌≡◌, ℕ, Bool, true, false, not, ◌&&◌, ◌||◌, List, [], ◌++◌, nat_eq}
 use Rattle.std.specs.List.{list_all}
 use Rattle.behaviour_tree.specs.Data.{ProgramParts}
 use Rattle.office_core.specs.declared.history.Entry.{Entry}
@@ -9,7 +9,6 @@ use Rattle.office_core.specs.Accepted.{past_of}
 use Rattle.office_core.specs.Calls.{same_kind, outgoing}
 use Rattle.office_front.specs.Dealings.{Dealings}
 use Rattle.office_front.specs.Calls.{After, Notes}
-use Rattle.outside_links.specs.Trips.{Made}
 use Rattle.run_cells.specs.Crews.{State, Stays}
 use Rattle.run_cells.specs.Rounds.{is_by_session, IsQuietAt, IsStillAt}
 use Rattle.trip_laws.specs.Going.{is_inward, AreSettled, NotedSoFar, Toured}

@@ -1,8 +1,7 @@
 -- The calls that were fetched so far were noted; those that wait are fewer each time.
-use Rattle.std.proofs.Common.{◌≡◌, List, length, Option}
+use Rattle.std.proofs.Common.{◌≡◌, length}
 use Rattle.office_core.specs.declared.outgoing.OutKind.TheVariants as kind
 use Rattle.office_core.specs.Calls.{outgoing}
-use Rattle.outside_links.specs.Trips.{Made}
 use Rattle.run_cells.specs.Crews.{AtWork, past_in, state_of}
 use Rattle.run_sweep.specs.Swept.{Errands, NotesBy, PassedOn, ToursBy}
 use Rattle.run_sweep.proofs.console.note_all.Given as goal

@@ -16,7 +16,7 @@ returns-in-Ok g c =
     (c.as_bytes.ensures.value ∙ c.as_str.ensures ∙ c.in_ok-text.ensures)
     c.in-Ok.ensures.back
     (counted_back (g.L.Link.faults c.args.link.now) (g.L.Link.faults c.trip.new.self)
-    c.location_called-location.result.now c.as_bytes.result.now c.in-Ok.bytes.items c.trip.ensures.cause.calm)
+    c.location_called-location.result.now c.as_bytes.result.now c.in-Ok.bytes.items c.in-Ok.ensures.cause.calm)
     (subst (λ b. IfOk c.outcome_heard.result (λ o. o ≡ heard c.args.out.now (Some b))) c.as_slice.ensures.value
     c.outcome_heard.ensures)
 

@@ -26,7 +26,7 @@ returns-then-halted-clause-swept g c =
 pub returns-then-halted-clause-toured : goal.returns-then-halted-clause-toured
 returns-then-halted-clause-toured g c =
     let two = state_of (g.C.Sessions.crew c.note_all.new.cells) in
-    let now = g.L.Link.trips c.args.link.now in
+    let now = trips_told (g.L.Link.trips c.args.link.now) (g.L.Link.faults c.args.link.now) in
     half_tours two.history now c.in_ok-turned.ensures.went c.in_ok-turned.ensures.work.team c.requires.settled
     c.requires.brought (c.in_ok-noted.ensures.toured now)
 
@@ -62,7 +62,7 @@ returns-clause-swept g c =
 pub returns-clause-toured : goal.returns-clause-toured
 returns-clause-toured g c =
     let two = state_of (g.C.Sessions.crew c.note_all.new.cells) in
-    let now = g.L.Link.trips c.args.link.now in
+    let now = trips_told (g.L.Link.trips c.args.link.now) (g.L.Link.faults c.args.link.now) in
     let went = c.in_ok-turned.ensures.went in
     let team = c.in_ok-turned.ensures.work.team in
     round_tours now (trips_told (g.L.Link.trips c.trip_all.new.link) (g.L.Link.faults c.trip_all.new.link))
