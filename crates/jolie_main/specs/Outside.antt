@@ -2,7 +2,6 @@
 use Rattle.std.specs.Prelude.{◌≡◌, ◌⊎◌, ℕ, List, ◌∷◌, take, Option, IfSome, Bool, MatchBool}
 use Rattle.std.specs.Io.KnownBytes.{Appends}
 use Rattle.outside_traits.specs.Causes.{Rose}
-use Rattle.outside_links.specs.Trips.{Made}
 use Rattle.office_core.specs.declared.history.Entry.{Entry}
 use Rattle.office_core.specs.Limits.{Setting}
 use Rattle.branch_workers.specs.Lines.{IsProperFront}
@@ -14,7 +13,7 @@ use Rattle.door_run.specs.Doored.{Outside as Served, outside as served}
 use Rattle.trip_laws.specs.Trips.{TripsTold}
 
 -- what the outside tells at a moment: how often the files failed; the input, the output and the notes; the doors; and
--- the trips of each link, where they are told
+-- of each link its trips, where they are told, and how often one has failed
 pub record Outside : Type 0 where
   pub file_faults : ℕ
   pub lines : Lines
@@ -73,7 +72,8 @@ IsSaid all text before now = MatchBool all (IsWhole text before now) (IsCut text
 
 -- ---- links
 
--- the first link made the trips that a run of this history asks for, and the others made none
+-- the first link made the trips that a run of this history asks for and counted those that failed, and the others made
+-- none
 abbrev pub FirstTravelled : Setting → List Entry → List TripsTold → List TripsTold → Type 0
 FirstTravelled w h (before ∷ others) (now ∷ same) = Travelled w h before now × (same ≡ others)
 FirstTravelled w h before now = ⊥
