@@ -7,7 +7,6 @@ use Rattle.jolie_ast.specs.Printed.{printed_text}
 use Rattle.behaviour_tree.specs.Data.{ProgramParts}
 use Rattle.behaviour_tree.specs.PartsView.{parts_of}
 use Rattle.behaviour_tree.specs.declared.program.Program.{Program}
-use Rattle.outside_links.specs.Trips.{Made}
 use Rattle.sink_writing.specs.Sinks.{Taking}
 use Rattle.line_run.specs.declared.run.Ended.{Ended}
 use Rattle.http_connection.specs.Seen.{Line}

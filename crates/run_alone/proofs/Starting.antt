@@ -6,7 +6,6 @@ use Rattle.office_core.specs.declared.history.Entry.{Entry}
 use Rattle.office_core.specs.Limits.{run_of}
 use Rattle.office_front.specs.Calls.{After}
 use Rattle.office_front.specs.Dealings.{Dealings, IsNew}
-use Rattle.outside_links.specs.Trips.{Made}
 use Rattle.order_laws.proofs.Ordering.{none_told}
 use Rattle.quiet_laws.proofs.Still.{still_first}
 use Rattle.run_record.specs.Quiet.{IsStill}

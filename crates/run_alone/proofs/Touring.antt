@@ -9,7 +9,6 @@ use Rattle.office_core.specs.declared.history.Entry.{Entry}
 use Rattle.office_core.specs.Limits.{Setting, first_worker}
 use Rattle.office_core.specs.Legal.{IsLegal}
 use Rattle.office_core.specs.Past.{closes, some_entry}
-use Rattle.outside_links.specs.Trips.{Made}
 use Rattle.quiet_laws.specs.Ends.{is_adoption, stop_entry}
 use Rattle.run_cells.specs.Crews.{State, Stays, closing, past_in}
 use Rattle.run_cells.specs.Rounds.{Adopted}
