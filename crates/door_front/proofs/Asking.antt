@@ -17,12 +17,13 @@ use Rattle.office_front.specs.Calls.{After, most_postings, names_service, is_of,
 use Rattle.branch_workers.specs.Texts.{Came as Incoming, call_in, posting_of}
 use Rattle.connection_runs.specs.Visits.{Visit, came_with}
 use Rattle.http_connection.specs.Seen.{Line}
-use Rattle.door_front.specs.Keeping.{PortTold, LinkTold, Keeping, services_of, no_more}
+use Rattle.door_front.specs.Keeping.{PortTold, LinkTold, Keeping, services_of, no_more, AreLed}
 use Rattle.sink_writing.specs.Sinks.{Taking}
 use Rattle.door_front.specs.Dealt.{most_open, Sides, sides_of, HadNone, GaveNone, HaveWaited, HasSaid, HasDealt, MayHaveDealt}
 use Rattle.door_front.specs.NextSteps.{service_of, wires_of, is_open, has_room, closed_off, AreTried, listing, Hands, going_of, Goes, Rests, Posts, Looks}
 use Rattle.door_front.proofs.Entries.{length_set, nat_eq_is}
 use Rattle.door_front.proofs.Doors.{services-same}
+use Rattle.door_front.proofs.Leading.{led-asked}
 use Rattle.door_front.proofs.Coming.{goes-none}
 use Rattle.door_front.proofs.Requests.{Serves, serves-on, came_length}
 use Rattle.door_front.proofs.OneMore.{one_more, next_of, serves-more, service_there}
@@ -139,6 +140,7 @@ module _ (IsMade : Line → Type 0) (parts : ProgramParts) (first : Sides) (note
       visits = still_serves.visits;
       links = still_serves.are;
       came_in = g.wires h.came_in;
+      led = g.led h.came_in h.led;
       doors = subst (λ ns. list_all (λ (v : Visit). list_any (nat_eq v.service) ns) still_serves.visits ≡ true) (sym same_services) still_serves.doors;
       accepted = subst (λ n. length now.links ≤ n) (sym most) (g.within h.accepted);
       all = h.all;
@@ -339,6 +341,9 @@ module _ (IsMade : Line → Type 0) (parts : ProgramParts) (first : Sides) (note
       visits = now_serves.visits;
       links = now_serves.are;
       came_in = ap (sum_by wires_of) g.still ∙ g.goes.wires h.came_in ∙ sym links_now;
+      led = subst (λ ps. AreLed ps now.links) (sym g.still)
+          (led-asked g.mid.ports hands.number (Some hands.body) (listing g.mid.links g.mid.traffics) (listing now.links now.traffics) hands.one
+          (g.goes.led h.came_in h.led));
       doors = subst (λ ns. list_all (λ (v : Visit). list_any (nat_eq v.service) ns) now_serves.visits ≡ true) (sym services_now) now_serves.doors;
       accepted = subst (λ n. n ≤ now.most) (sym links_now) (subst (λ n. length g.mid.links ≤ n) (sym most) (g.goes.within h.accepted));
       all = one_more h.all asker coming;

@@ -1,7 +1,7 @@
 -- Doors and connections as they go on in one call.
 use Rattle.std.proofs.Common.{◌≡◌, refl, sym, ap, ◌∙◌, subst, arith, ℕ, ◌+◌, ◌-◌, ◌^◌, ◌<◌, ◌≤◌, Bool, true, false, ◌||◌, ◌⊎◌, inl, inr, List, [], ◌∷◌, ◌++◌, length, map, take, drop, set, get_or, Option, None, Some, nat_eq, nat_lt, nat_le, count_by, IfSome, append_assoc, append-nil, length-append}
 use Rattle.std.proofs.lemmas.List.{map-append, length_push, length-drop, take_more, take_more_set, take_all, drop_more, drop_all, drop-drop, drop-set-lt}
-use Rattle.std.proofs.lemmas.List.Sums.{sum_by-append, sum_by-cons}
+use Rattle.std.proofs.lemmas.List.Sums.{sum_by-append}
 use Rattle.std.proofs.lemmas.Bool.{and_parts, ltb-true, leb-true}
 use Rattle.std.specs.List.{list_all, sum_by}
 use Rattle.outside_traits.specs.declared.calls.WireCall.{WireCall}
@@ -14,10 +14,11 @@ use Rattle.office_front.specs.Calls.{most_postings}
 use Rattle.http_connection.specs.declared.stage.Stage.TheVariants as Stages
 use Rattle.http_connection.specs.Seen.{Line, line_of}
 use Rattle.http_connection.specs.Talking.{IsTalking}
-use Rattle.door_front.specs.Keeping.{PortTold, LinkTold, Keeping}
+use Rattle.door_front.specs.Keeping.{PortTold, LinkTold, Keeping, wires_to}
 use Rattle.door_front.specs.Dealt.{IsNewLine, most_open}
 use Rattle.door_front.specs.NextSteps.{GoesOn, IsTried, service_of, wires_of, stage_at, is_open, has_room, IsNewLink, AreNewLinks, LinksGoOn, doorway, TakesIn, Accepts, Listing, listing, Hands, EndsOne, IsSilent, Going, going, going_of, Goes, Rests, Idles, Looks, closed_off}
 use Rattle.door_front.proofs.Entries.{nat_eq_same, length_set}
+use Rattle.door_front.proofs.Leading.{sum_one, plus_none, led-still, led-push, led-both, led-more, led-asked}
 use Rattle.door_front.proofs.Doors.{goes-same, goes-further, all-same, all-further, all_tried-since, services-same, all-push, tried-push, tried-since}
 use Rattle.door_front.proofs.Links.{no_room-behind, new-append, new-among, any-left, any-right, links-same, links-more, links-ended}
 
@@ -85,10 +86,8 @@ module _ (IsMade : Line → Type 0) (most : ℕ) where
     fresh = tt;
     within = λ h. h;
     wires = λ h. omega arith;
+    led = λ h n. plus_none (sum_by (wires_to n) (p ∷ []));
   }
-
-  one_wires : (p : PortTold) → sum_by wires_of (p ∷ []) ≡ wires_of p
-  one_wires p = let all = sum_by-cons wires_of p [] in let none : sum_by wires_of [] ≡ 0 = refl in omega arith
 
   -- one more came
   pub takes-one : (p q r : PortTold) (links now : List LinkTold) (l : LinkTold) → TakesIn IsMade most (doorway (p ∷ []) links) (doorway (q ∷ []) now)
@@ -103,17 +102,24 @@ module _ (IsMade : Line → Type 0) (most : ℕ) where
     within = λ h. let long = length_push now l in omega arith;
     wires = λ h.
         let before = t.wires h in
-        let p_is = one_wires p in
-        let q_is = one_wires q in
-        let r_is = one_wires r in
+        let q_is = sum_one wires_of q in
+        let r_is = sum_one wires_of r in
         let long = length_push t.more l in
-        let grown = ap length t.grown ∙ length-append links t.more in
-        let stops : added (wires_of q) 1 ≡ wires_of q + 1 = no_stop (wires_of q) (let a = before in omega arith) in
+        let one = one_wire h in
         omega arith;
+    led = λ h n. led-push n p q r t.more l g.service (to ∙ sym t.goes.0.service) (one_wire h) (t.led h n);
   }
     where
       no_stop : (n : ℕ) → n < 2 ^ 32 → added n 1 ≡ n + 1
       no_stop n h = omega arith
+
+      -- the door's count does not stop, since there are fewer connections
+      one_wire : sum_by wires_of (p ∷ []) ≤ length links → wires_of r ≡ wires_of q + 1
+      one_wire h =
+          let before = t.wires h in
+          let q_is = sum_one wires_of q in
+          let grown = ap length t.grown ∙ length-append links t.more in
+          w ∙ no_stop (wires_of q) (omega arith)
 
   pub takes-next : (p q r : PortTold) (links now later : List LinkTold) (l : LinkTold)
       → TakesIn IsMade most (doorway (p ∷ []) links) (doorway (q ∷ []) now) → GoesOn q r → wires_of r ≡ added (wires_of q) 1 → IsNewLink IsMade l
@@ -137,7 +143,8 @@ module _ (IsMade : Line → Type 0) (most : ℕ) where
     grown = t.grown;
     fresh = t.fresh;
     within = t.within;
-    wires = λ h. one_wires r ∙ w ∙ sym (one_wires q) ∙ t.wires h;
+    wires = λ h. sum_one wires_of r ∙ w ∙ sym (sum_one wires_of q) ∙ t.wires h;
+    led = λ h n. led-still n p q r t.more g.service w (t.led h n);
   }) (inr (tried-since p q r t.goes.0 tried))
 
   -- ---- at all doors
@@ -151,6 +158,7 @@ module _ (IsMade : Line → Type 0) (most : ℕ) where
       fresh = tt;
       within = λ h. h;
       wires = λ h. refl;
+      led = λ h n. refl;
     };
     tried = inr tt;
   }
@@ -176,11 +184,11 @@ module _ (IsMade : Line → Type 0) (most : ℕ) where
           wires = λ h.
               let before = sum_by-append wires_of ps (p ∷ []) in
               let after = sum_by-append wires_of qs (q ∷ []) in
-              let grown = ap length a.takes.grown ∙ length-append links a.takes.more in
               let long = length-append a.takes.more b.takes.more in
-              let first = a.takes.wires (part (sum_by wires_of ps) (sum_by wires_of (p ∷ [])) (length links) (subst (λ n. n ≤ length links) before h)) in
-              let second = b.takes.wires (rest (sum_by wires_of ps) (sum_by wires_of (p ∷ [])) (length links) (length a.takes.more) (length mid) grown (subst (λ n. n ≤ length links) before h)) in
+              let first = a.takes.wires (few_first h) in
+              let second = b.takes.wires (few_next h) in
               omega arith;
+          led = λ h n. led-both n ps qs p q a.takes.more b.takes.more (a.takes.led (few_first h) n) (b.takes.led (few_next h) n);
         };
         tried = elim b.tried [
           | inl none ↦ inl none
@@ -196,6 +204,17 @@ module _ (IsMade : Line → Type 0) (most : ℕ) where
 
       rest : (a b n m k : ℕ) → k ≡ n + m → a + b ≤ n → b ≤ k
       rest a b n m k e h = omega arith
+
+      few_all : sum_by wires_of (ps ++ p ∷ []) ≤ length links → sum_by wires_of ps + sum_by wires_of (p ∷ []) ≤ length links
+      few_all h = subst (λ n. n ≤ length links) (sum_by-append wires_of ps (p ∷ [])) h
+
+      few_first : sum_by wires_of (ps ++ p ∷ []) ≤ length links → sum_by wires_of ps ≤ length links
+      few_first h = part (sum_by wires_of ps) (sum_by wires_of (p ∷ [])) (length links) (few_all h)
+
+      few_next : sum_by wires_of (ps ++ p ∷ []) ≤ length links → sum_by wires_of (p ∷ []) ≤ length mid
+      few_next h =
+          rest (sum_by wires_of ps) (sum_by wires_of (p ∷ [])) (length links) (length a.takes.more) (length mid)
+          (ap length a.takes.grown ∙ length-append links a.takes.more) (few_all h)
 
   -- the same by the place of the door
   pub accepts-next : (ps qs : List PortTold) (i : ℕ) (q : PortTold) (d : PortTold) (links mid now : List LinkTold) → i < length ps → length qs ≡ length ps
@@ -246,6 +265,7 @@ module _ (IsMade : Line → Type 0) (most : ℕ) where
     traffics = refl;
     within = λ h. h;
     wires = λ h. h;
+    led = λ h all. all;
   }
 
   -- connections came
@@ -263,7 +283,11 @@ module _ (IsMade : Line → Type 0) (most : ℕ) where
         let after = a.takes.wires (omega arith) in
         let long = ap length a.takes.grown ∙ length-append y.links a.takes.more in
         omega arith;
+    led = λ h all. led-more y.ports ports y.links links a.takes.more a.takes.grown (a.takes.led (no_more _ _ (g.wires h))) (g.led h all);
   }
+    where
+      no_more : (a b : ℕ) → a ≡ b → a ≤ b
+      no_more a b e = omega arith
 
   -- no request of a connection comes any more
   pub goes-ends : (x y : Going) (now : Listing) → Goes IsMade most x y → EndsOne (listing y.links y.traffics) now
@@ -278,6 +302,7 @@ module _ (IsMade : Line → Type 0) (most : ℕ) where
         traffics = e.kept ∙ g.traffics;
         within = λ h. subst (λ n. n ≤ most) (sym long) (g.within h);
         wires = λ h. g.wires h ∙ sym long;
+        led = λ h all. led-asked y.ports e.number None (listing y.links y.traffics) now one (g.led h all);
       }
 
   -- no connection reads

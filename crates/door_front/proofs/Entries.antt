@@ -1,5 +1,5 @@
 -- Entries of lists by their places, and how many there are of a kind.
-use Rattle.std.proofs.Common.{◌≡◌, refl, ap, ◌∙◌, arith, ℕ, zero, suc, ◌+◌, ◌<◌, ◌≤◌, Bool, true, false, cond, ◌⊎◌, inl, inr, List, [], ◌∷◌, ◌++◌, length, take, Some, count_by, slice_get, slice_set, nat_eq}
+use Rattle.std.proofs.Common.{◌≡◌, refl, sym, ap, ◌∙◌, arith, ℕ, zero, suc, ◌+◌, ◌<◌, ◌≤◌, Bool, true, false, cond, ◌⊎◌, inl, inr, List, [], ◌∷◌, ◌++◌, length, take, Some, count_by, slice_get, slice_set, nat_eq}
 use Rattle.std.proofs.lemmas.List.Sums.{sum_by-cons}
 use Rattle.std.proofs.lemmas.Bool.{eq-eqb, eqb-true, eqb-false}
 use Rattle.std.proofs.lemmas.Option.{none-some, same_Some}
@@ -83,6 +83,14 @@ module _ {A : Type 0} where
         let one = count_cons x (xs ++ ys) in
         let two = count_cons x xs in
         omega arith
+
+    -- as many are of a kind where an entry is set to one that is alike
+    pub count_set : (xs : List A) (i : ℕ) (x y : A) → slice_get xs i ≡ Some x → p y ≡ p x → count_by p (slice_set xs i y) ≡ count_by p xs
+    count_set [] i x y e same = absurd (none-some x e)
+    count_set (z ∷ xs) zero x y e same =
+        count_cons y xs ∙ ap (λ (b : Bool). one_if b + count_by p xs) (same ∙ ap p (sym (same_Some z x e))) ∙ sym (count_cons z xs)
+    count_set (z ∷ xs) (suc i) x y e same =
+        count_cons z (slice_set xs i y) ∙ ap (λ n. one_if (p z) + n) (count_set xs i x y e same) ∙ sym (count_cons z xs)
 
     -- where one of a kind stands, with so many of it before
     abbrev pub IsLast : List A → ℕ → Type 0

@@ -3,6 +3,7 @@ pub mod Notes
 pub mod Telling
 pub mod Saying
 pub mod Entries
+pub mod Leading
 pub mod Doors
 pub mod Links
 pub mod Coming

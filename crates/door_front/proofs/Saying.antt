@@ -25,11 +25,12 @@ use Rattle.http_connection.specs.declared.stage.Stage.TheVariants as Stages
 use Rattle.http_connection.specs.Stages.{stage_of, IsBehindTelling, IsOver}
 use Rattle.http_connection.specs.Seen.{Line}
 use Rattle.door_front.specs.declared.link.Owed.{Owed}
-use Rattle.door_front.specs.Keeping.{PortTold, LinkTold, Keeping, AreNew, IsEmpty, services_of, no_more}
+use Rattle.door_front.specs.Keeping.{PortTold, LinkTold, Keeping, AreNew, IsEmpty, services_of, no_more, leads_to, AreLed}
 use Rattle.sink_writing.specs.Sinks.{Taking, Takes}
 use Rattle.door_front.specs.Dealt.{Sides, sides_of, OwesAt, IsLink, AreLinks, IsHeard, IsOwed, AreHeard, HadNoAnswer, WasBusy, WereBusy, HaveWaited, HadNone, most_open, entire, HasDealt, HasRunOut, MayHaveDealt}
 use Rattle.door_front.specs.AnswerSteps.{told_of, HasTold, HasAnswered}
 use Rattle.door_front.proofs.Changing.{eq_true, eq_false, not_eq, same_of, none_not_some, set_here, set_other, set_cases, list_all-set, slice_get-front, slice_get-last, map_alike, slice_get-mapped}
+use Rattle.door_front.proofs.Leading.{led-set, led-new}
 use Rattle.door_front.proofs.Notes.{halts_still, halts_unknown, NotesSo, said_told, said_cut, said_noted}
 
 -- ---- stages
@@ -347,6 +348,8 @@ module _ (IsMade : Line → Type 0) (parts : ProgramParts) (first : Sides) (old 
             (links_set IsMade old.links h.visits a.number a.after now_here h.links
             (link_told IsMade parts (told_of place outcomes) a.link a.after here.visit a.tells here.is));
         came_in = ap (sum_by (λ (p : PortTold). p.door.wires)) a.ports ∙ h.came_in ∙ sym count;
+        led = subst (λ ps. AreLed ps new.links) (sym a.ports)
+            (led-set old.ports old.links new.links a.number a.link a.after a.there a.tells.service a.links h.led);
         doors = subst (λ ps. list_all (λ (v : Visit). list_any (nat_eq v.service) (map (λ (p : PortTold). p.service) ps)) now_all ≡ true) (sym a.ports)
             (list_all-set (λ (v : Visit). list_any (nat_eq v.service) (services_of old)) h.visits a.number here.visit now_here here.there refl ∙ h.doors);
         accepted = omega arith;
@@ -390,6 +393,7 @@ module _ (IsMade : Line → Type 0) (parts : ProgramParts) (first before : Sides
         visits = h.visits;
         links = h.links;
         came_in = h.came_in;
+        led = h.led;
         doors = h.doors;
         accepted = h.accepted;
         all = h.all;
@@ -437,6 +441,7 @@ module _ (IsMade : Line → Type 0) (parts : ProgramParts) (first : Sides) (old 
     visits = h.visits;
     links = h.links;
     came_in = h.came_in;
+    led = h.led;
     doors = h.doors;
     accepted = h.accepted;
     all = h.all;
@@ -595,6 +600,7 @@ nothing_dealt IsMade parts kept notes empty within = (
     visits = [];
     links = subst (λ ls. AreLinks IsMade ls []) (sym empty.links) tt;
     came_in = no_wires kept.ports empty.ports ∙ sym (ap length empty.links);
+    led = λ n. led-new n kept.ports empty.ports ∙ sym (ap (count_by (leads_to n)) empty.links);
     doors = refl;
     accepted = subst (λ (ls : List LinkTold). length ls ≤ kept.most) (sym empty.links) (omega arith);
     all = record { asked = []; came = [] };

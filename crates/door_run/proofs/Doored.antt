@@ -1,6 +1,6 @@
 -- A run over doors by what its front and its worker say, and by what was opened and came back.
 use Rattle.std.proofs.Common.{◌≡◌, ◌≤◌, ◌+◌, refl, sym, ap, subst, ◌∙◌, ℕ, Bool, true, false, not, ◌||◌, List, [], ◌∷◌, length, map, arith}
-use Rattle.std.proofs.Common.{inl, inr, nat_eq, nat_lt, sum_by, true≢false}
+use Rattle.std.proofs.Common.{inl, inr, nat_eq, nat_lt, sum_by, count_by, true≢false}
 use Rattle.std.specs.List.{list_all, list_any}
 use Rattle.std.proofs.lemmas.List.Sums.{sum_by-cons}
 use Rattle.outside_traits.specs.Causes.{Rose}
@@ -22,10 +22,11 @@ use Rattle.http_connection.specs.Seen.{Line}
 use Rattle.door_front.specs.Keeping.{PortTold, Keeping, AreNew, IsEmpty, services_of}
 use Rattle.door_front.specs.Dealt.{Sides, HasDealt, MayHaveDealt}
 use Rattle.line_run.specs.declared.run.Ended.{Ended}
-use Rattle.door_run.specs.Used.{DoorsTold, Used, IsUsed, RoseWhere, marked, came_at_door, some_failed, has_failed, with_wires, with_doors, location_of}
+use Rattle.door_run.specs.Used.{DoorsTold, Used, IsUsed, RoseWhere, marked, came_at_door, leads_to, wires_to, some_failed, has_failed, with_wires, with_doors, location_of}
 use Rattle.door_run.specs.Doored.{Task, Outside, outside, faults_of, rules_of, AreNoted, IsDoored}
 use Rattle.door_run.specs.Steps.{Opens, opened_by, port_at, GivesBack, traffic_of, wire_of, door_of, with_traffic, status_of}
 use Rattle.door_run.proofs.Lists.{length_map, any_map, all_map}
+use Rattle.door_run.proofs.Leading.{service_at, service_in, wires_at, leads_as}
 use Rattle.door_run.proofs.Serving.{served_so, as_many}
 use Rattle.door_run.proofs.Wires.{wires_are}
 use Rattle.door_run.proofs.Ending.{noted_so, through_so}
@@ -60,13 +61,6 @@ module _ (w : Setting) (budget : ℕ) (run : Record) (t : List Traffic) where
   spent_without k = record { session = k.session; events = k.events; there = k.there; used = k.used; more = k.more }
 
 -- ---- services
-
--- the service of a door
-abbrev service_at : DoorAt → ℕ
-service_at door = door.service
-
-abbrev service_in : PortTold → ℕ
-service_in port = port.service
 
 services_at : (places : List DoorAt) → map service_in (map port_at places) ≡ map service_at places
 services_at [] = refl
@@ -155,6 +149,10 @@ module _ (IsMade : Line → Type 0) (t : Task) (before mid after : DoorsTold) (p
       (λ v at. sym (ap (list_any (nat_eq v.service)) services_now ∙ any_map (nat_eq v.service) service_at opened) ∙ at)
       f.visits f.doors
 
+  -- to each service lead as many connections as its doors gave
+  led_so : (n : ℕ) → wires_to n opened used.doors ≡ count_by (leads_to n) f.visits
+  led_so n = wires_at n opened now.kept.ports services_now ∙ f.led n ∙ leads_as IsMade n now.kept.links f.visits f.links
+
   abbrev doors_so : list_all (λ (visit : Visit). has_door t.parts visit.service) f.visits ≡ true
   doors_so =
       all_weaker (came_at_door opened) (λ (visit : Visit). has_door t.parts visit.service)
@@ -217,6 +215,7 @@ module _ (IsMade : Line → Type 0) (t : Task) (before mid after : DoorsTold) (p
     uses = uses_so;
     wires = wires_are IsMade now.kept.links f.visits f.links;
     doors = at_doors;
+    led = led_so;
     through = through_so IsMade t.parts h first now d f ran.dealt t.connections (f.most ∙ most);
     status = status;
   }

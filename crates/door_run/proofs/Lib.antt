@@ -8,4 +8,5 @@ pub mod Ending
 pub mod Statuses
 pub mod Telling
 pub mod Openings
+pub mod Leading
 pub mod Doored
