@@ -248,11 +248,11 @@ module _ (w : Setting) (h : List Entry) where
       stands_so at.0 o.reading (Request o.body false ∷ o.later) o.gives f.visit at.2
       (λ k. not_answered at.0 o f.visit.texts k.front
       (λ text e.
-          f.answered text e
-          ∙ ap (λ (n : ℕ). response w (past_of w h) first_worker 0 (came_with n f.body)) service
-          ∙ ap (λ (b : List ℕ). response w (past_of w h) first_worker 0 (came_with 0 b))
-          (first_same (length f.visit.bodies) o.body f.body (bodies_in o.later) f.visit.bodies k.bodies f.asked)
-          ∙ o.is_text))
+      f.answered text e
+      ∙ ap (λ (n : ℕ). response w (past_of w h) first_worker 0 (came_with n f.body)) service
+      ∙ ap (λ (b : List ℕ). response w (past_of w h) first_worker 0 (came_with 0 b))
+      (first_same (length f.visit.bodies) o.body f.body (bodies_in o.later) f.visit.bodies k.bodies f.asked)
+      ∙ o.is_text))
 
 -- ---- one connection
 
@@ -277,7 +277,7 @@ second_taken v a b asked c d taken is also =
     let request : b.request ≡ 1 = taken.in_order 1 b refl ∙ count_one b.traffic a.traffic a.request second.0 first in (
       t.body,
       subst (λ (u : Visit). slice_get u.bodies 1 ≡ Some t.body) (sym second.1)
-      (subst (λ (n : ℕ). slice_get t.visit.bodies n ≡ Some t.body) request t.asked),
+          (subst (λ (n : ℕ). slice_get t.visit.bodies n ≡ Some t.body) request t.asked),
     )
 
 -- the operation that is posted first
@@ -298,8 +298,8 @@ no_others v n body one (a ∷ []) c (d ∷ others) taken is =
     absurd (cons_nil (Some d) (map Some others) (sym (ap behind_first is)))
 no_others v n body one (a ∷ b ∷ asked) c (d ∷ others) taken is =
     let second = second_taken v a b asked c d taken
-        (head_same (came_at (v ∷ []) a) (Some c) (map (came_at (v ∷ [])) (b ∷ asked)) (map Some (d ∷ others)) is)
-        (head_same (came_at (v ∷ []) b) (Some d) (map (came_at (v ∷ [])) asked) (map Some others) (ap behind_first is)) in
+    (head_same (came_at (v ∷ []) a) (Some c) (map (came_at (v ∷ [])) (b ∷ asked)) (map Some (d ∷ others)) is)
+    (head_same (came_at (v ∷ []) b) (Some d) (map (came_at (v ∷ [])) asked) (map Some others) (ap behind_first is)) in
     absurd (no_second n body second.0 v.bodies one second.1)
 
 none_told : (length_of : ℕ) → 0 ≡ length_of → 0 < length_of → ⊥
@@ -379,9 +379,9 @@ module _ (w : Setting) (h : List Entry) (halted : Bool) (t : Traffic) (reading :
   refused_cut goes some one text is_text apart s calm =
       with_first s some
       (λ f number k.
-          let whole = k.whole (calm f.visit (subst (λ (n : ℕ). slice_get s.visits n ≡ Some f.visit) number f.there)) in
-          let first = answer_first f.visit.bodies f.visit.texts text
-              (eqb-true (length f.visit.texts) (length f.visit.bodies) (all_at is_told s.visits f.number f.visit (s.told goes) f.there))
-              (slice_get_within f.visit.bodies 0 f.body f.asked)
-              (λ x e. f.answered x e ∙ first_response s one f k ∙ is_text) whole in
-          apart first.0 first.1)
+      let whole = k.whole (calm f.visit (subst (λ (n : ℕ). slice_get s.visits n ≡ Some f.visit) number f.there)) in
+      let first = answer_first f.visit.bodies f.visit.texts text
+      (eqb-true (length f.visit.texts) (length f.visit.bodies) (all_at is_told s.visits f.number f.visit (s.told goes) f.there))
+      (slice_get_within f.visit.bodies 0 f.body f.asked)
+      (λ x e. f.answered x e ∙ first_response s one f k ∙ is_text) whole in
+      apart first.0 first.1)

@@ -101,8 +101,7 @@ all_taken (suc k) v e = absurd (none-some v e)
 
 responses : AreResponses setting history (visit ∷ []) (record { asked = asked; came = came_go ∷ came_more ∷ [] })
 responses =
-    told_responses setting history (visit ∷ []) asked (came_go ∷ came_more ∷ [])
-    (
+    told_responses setting history (visit ∷ []) asked (came_go ∷ came_more ∷ []) (
       subst (IsTextAt (visit ∷ []) asked_go) response_go (text_at (visit ∷ []) asked_go visit (Some text_go) refl refl),
       (subst (IsTextAt (visit ∷ []) asked_more) response_more (text_at (visit ∷ []) asked_more visit (Some text_more) refl refl), tt),
     )

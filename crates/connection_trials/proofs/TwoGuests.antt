@@ -79,8 +79,7 @@ all_taken (suc (suc k)) v e = absurd (none-some v e)
 
 responses : AreResponses setting history visits (record { asked = asked; came = came_go ∷ came_more ∷ [] })
 responses =
-    told_responses setting history visits asked (came_go ∷ came_more ∷ [])
-    (
+    told_responses setting history visits asked (came_go ∷ came_more ∷ []) (
       subst (IsTextAt visits asked_go) response_go (text_at visits asked_go visit_go (Some text_go) refl refl),
       (subst (IsTextAt visits asked_more) response_more (text_at visits asked_more visit_more (Some text_more) refl refl), tt),
     )
@@ -117,8 +116,7 @@ all_taken_so (suc (suc k)) v e = absurd (none-some v e)
 
 responses_so : AreResponses setting another_order visits (record { asked = asked_so; came = came_more ∷ came_go ∷ [] })
 responses_so =
-    told_responses setting another_order visits asked_so (came_more ∷ came_go ∷ [])
-    (
+    told_responses setting another_order visits asked_so (came_more ∷ came_go ∷ []) (
       subst (IsTextAt visits asked_more) response_more_first (text_at visits asked_more visit_more (Some text_more) refl refl),
       (subst (IsTextAt visits asked_go) response_go_second (text_at visits asked_go visit_go (Some text_go) refl refl), tt),
     )

@@ -231,7 +231,7 @@ counted_on : (before now later : ℕ) (some more : List Made) → HasCounted bef
     → HasCounted before later (some ++ more)
 counted_on before now later some more a b =
     let both : count_by has_failed (some ++ more) ≡ count_by has_failed some + count_by has_failed more =
-        failed_append some more in
+    failed_append some more in
     let first = a.counted in
     let second = b.counted in
     record {
