@@ -1,7 +1,7 @@
 -- These definitions serve the proofs alone: no promise speaks of them.
 -- How a front over lines comes to its next line, and what a sink takes.
 use Rattle.std.specs.Prelude.{◌≡◌, ◌≤◌, ℕ, List, [], ◌∷◌, ◌++◌, take, Option, None, Some}
-use Rattle.std.specs.Prelude.{true, false}
+use Rattle.std.specs.Prelude.{true, false, if◌then◌else◌}
 use Rattle.std.specs.Io.KnownBytes.{Consumes, IsAtEnd}
 use Rattle.outside_traits.specs.Causes.{Rose}
 use Rattle.jsonrpc_text.specs.Posted.{posted}
