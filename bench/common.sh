@@ -12,6 +12,20 @@ find_program() {
     [ -x "$program" ] || { echo "no proved program: run rt ci first" >&2; exit 2; }
 }
 
+# Puts the system's Python into `python` where that has jsonrpclib-pelix, and else the one on the path.
+find_python() {
+    python=/usr/bin/python3
+    "$python" -c 'import jsonrpclib' 2> /dev/null || python=python3
+}
+
+# Puts the program that a source of bench/ becomes over libjson-rpc-cpp into `compiled`, and nothing where that or a
+# compiler is not installed.
+compile_cpp() {
+    compiled=$work/$1
+    c++ -std=c++11 -O2 -w -o "$compiled" "$top/bench/$1.cpp" "$2" -ljsonrpccpp-common -ljsoncpp 2> /dev/null ||
+        compiled=
+}
+
 # Makes a repository in the scratch folder: copies of the crates that the further words name, and over them a crate with
 # the line of crates.txt that is the first word, and with the input as its main.
 make_crate() {

@@ -1,7 +1,7 @@
 #!/bin/sh
 # Has guests of bench/guests.py come in at doors over the sockets of this machine, well and ill, and compares what is
-# said of each with what docs/http.md says of doors over sockets. Outside the gate, over libraries that `rt ci` has
-# proved: bench/doors.sh
+# said of each with what docs/http.md says of doors over sockets. It needs a C compiler. Outside the gate, over
+# libraries that `rt ci` has proved: bench/doors.sh
 # shellcheck source=bench/common.sh
 . "$(dirname "$0")/common.sh"
 
@@ -166,4 +166,5 @@ impl<H: Net + Clock + Copy + Drop> House<H> {
 }
 EOF
 build_over_proved
-python3 "$top/bench/guests.py" "$work/crates/$name/out/$name"
+cc -shared -fPIC -O1 -o "$work/accept.so" "$top/bench/accept.c" -ldl
+python3 "$top/bench/guests.py" "$work/crates/$name/out/$name" "$work/accept.so"

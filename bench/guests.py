@@ -1,9 +1,12 @@
 #!/usr/bin/env python3
 """Guests who come in at doors over sockets well or ill, for bench/doors.sh.
 
-    bench/guests.py PROGRAM    runs the program, which follows the lines of its input at doors, and compares what it
-                               says of each with what docs/http.md says of doors over sockets
+    bench/guests.py PROGRAM ACCEPT    runs the program, which follows the lines of its input at doors, and compares
+                                      what it says of each with what docs/http.md says of doors over sockets; ACCEPT
+                                      is bench/accept.c as a library to be preloaded, by which accepts fail
 """
+import errno
+import os
 import resource
 import socket
 import struct
@@ -22,13 +25,14 @@ LATE = 0.25
 class House:
     """A run of the program."""
 
-    def __init__(self, program, files=None):
+    def __init__(self, program, files=None, **settings):
         def few_files():
             if files:
                 resource.setrlimit(resource.RLIMIT_NOFILE, (files, files))
 
         self.process = subprocess.Popen(
-            [program], stdin=subprocess.PIPE, stdout=subprocess.PIPE, text=True, preexec_fn=few_files)
+            [program], stdin=subprocess.PIPE, stdout=subprocess.PIPE, text=True, preexec_fn=few_files,
+            env={**os.environ, **settings})
 
     def say(self, line):
         """What the program says of a line."""
@@ -41,6 +45,12 @@ class House:
         before = time.monotonic()
         said = self.say(line)
         return said, time.monotonic() - before
+
+    def processor_seconds(self):
+        """How much of a processor the program has used."""
+        with open(f"/proc/{self.process.pid}/stat") as file:
+            fields = file.read().rsplit(")", 1)[1].split()
+        return (int(fields[11]) + int(fields[12])) / os.sysconf("SC_CLK_TCK")
 
     def end(self):
         self.process.stdin.close()
@@ -214,37 +224,108 @@ def places(rows, house, port):
 
 
 def few_files(rows, program):
-    """Where the system has no file left for a connection, the door has failed."""
+    """Where no file is left for a connection, nobody has come yet: who waits comes in once one is."""
+    # Of eight files three are the streams and one is the listener.
     house = House(program, files=8)
     port = free_port()
     house.say(f"open socket://127.0.0.1:{port}")
     guests = [come(port) for _ in range(10)]
-    said = [house.say("accept") for _ in guests]
-    rows.row("no file is left", set(said), {"came", "failed"})
-    came = said.count("came")
+    rows.row("no file is left", [house.say("accept") for _ in guests], ["came"] * 4 + ["not yet"] * 6)
+    used = house.processor_seconds()
+    for _ in range(3):
+        _, took = house.timed("rest")
+        rows.time("a rest where no file is left", took, REST - 0.01, REST + LATE)
+        rows.row("still none is left", house.say("accept"), "not yet")
+    rows.row("such a rest takes no processor", house.processor_seconds() - used < 0.05, True)
+    house.say("back")
+    rows.row("a file is left again", house.say("accept"), "came")
+    guests[4].sendall(b"fifth")
+    rows.row("who waited is heard", house.say("read"), "read fifth")
+    rows.row("it was the last file", house.say("accept"), "not yet")
     house.say("shut")
-    rows.row("a door that has failed is told", house.say("told"),
-             f"doors 1 1 1 wires {came} 0 0 waits 0 faults 1")
+    rows.row("no door has failed", house.say("told"), "doors 1 1 0 wires 5 1 0 waits 10 faults 0")
     rows.row("it ends", house.end(), 0)
     for guest in guests:
         guest.close()
 
 
-def main(program):
+def rests(rows, house, port):
+    """A rest lasts where who is there is not let in."""
+    guests = [come(port) for _ in range(3)]
+    rows.row("the first of three", house.say("accept"), "came")
+    for _ in range(2):
+        _, took = house.timed("rest")
+        rows.time("a rest beside one who is not let in", took, REST - 0.01, REST + LATE)
+    rows.row("the others", [house.say("accept") for _ in guests], ["came", "came", "not yet"])
+    guests.append(come(port))
+    _, took = house.timed("rest")
+    rows.time("a rest that finds somebody", took, 0, LATE)
+    _, took = house.timed("rest")
+    rows.time("the rest behind it", took, REST - 0.01, REST + LATE)
+    rows.row("who was found", house.say("accept"), "came")
+    for guest in guests:
+        house.say("back")
+        guest.close()
+
+
+# What an accept may meet that says no more than that nobody has come yet: who came is gone, or can't be let in now.
+PASSING = [errno.EAGAIN, errno.ECONNABORTED, errno.ECONNRESET, errno.ENETDOWN, errno.ENETUNREACH, errno.EHOSTUNREACH,
+           errno.ETIMEDOUT, errno.ENONET, errno.EPROTO, errno.ENOPROTOOPT, errno.EOPNOTSUPP, errno.EHOSTDOWN,
+           errno.EPERM, errno.ENOMEM, errno.ENFILE, errno.EMFILE, errno.ENOBUFS]
+
+# Those of them behind which a rest lasts.
+WANTS = [errno.EPERM, errno.ENOMEM, errno.ENFILE, errno.EMFILE, errno.ENOBUFS]
+
+# And what says that the listener is none.
+FAULTS = [errno.EBADF, errno.ENOTSOCK, errno.EINVAL, errno.EFAULT, errno.EACCES, errno.ENOSYS, errno.EIO]
+
+
+def failing_accepts(rows, program, preloaded):
+    """Accepts that fail by each of these numbers."""
+    errors = [number for number in PASSING for _ in range(2)]
+    house = House(program, LD_PRELOAD=preloaded, ERRORS=" ".join(map(str, [errno.EINTR] + errors)))
+    port = free_port()
+    house.say(f"open socket://127.0.0.1:{port}")
+    guest = come(port)
+    for number in PASSING:
+        name = errno.errorcode[number]
+        rows.row(name, house.say("accept"), "not yet")
+        _, took = house.timed("rest")
+        least = REST - 0.01 if number in WANTS else 0
+        rows.time(f"a rest behind {name}", took, least, least + LATE)
+        rows.row(f"{name} again", house.say("accept"), "not yet")
+    rows.row("who waited through all of it", house.say("accept"), "came")
+    house.say("shut")
+    rows.row("none was a failure", house.say("told"), f"doors 1 1 0 wires 1 0 0 waits {len(errors)} faults 0")
+    rows.row("it ends then", house.end(), 0)
+    guest.close()
+    for number in FAULTS:
+        house = House(program, LD_PRELOAD=preloaded, ERRORS=str(number))
+        house.say(f"open socket://127.0.0.1:{free_port()}")
+        rows.row(errno.errorcode[number], house.say("accept"), "failed")
+        house.say("shut")
+        rows.row(f"{errno.errorcode[number]} is told", house.say("told"),
+                 "doors 1 1 1 wires 0 0 0 waits 0 faults 1")
+        house.end()
+
+
+def main(program, preloaded):
     rows = Rows()
     house = House(program)
     port = free_port()
     one_door(rows, house, port)
     ill_guests(rows, house, port)
+    rests(rows, house, port)
     places(rows, house, port)
     rows.row("the first door still stands", house.say("accept"), "not yet")
     house.say("shut")
-    rows.row("what is told", house.say("told"), "doors 5 5 0 wires 58 58 4 waits 4 faults 10")
+    rows.row("what is told", house.say("told"), "doors 5 5 0 wires 62 62 4 waits 5 faults 10")
     rows.row("the program ends", house.end(), 0)
     few_files(rows, program)
+    failing_accepts(rows, program, preloaded)
     print(f"{rows.rows} rows, {rows.wrong} of them wrong")
     return 1 if rows.wrong else 0
 
 
 if __name__ == "__main__":
-    sys.exit(main(sys.argv[1]))
+    sys.exit(main(sys.argv[1], sys.argv[2]))

@@ -2,6 +2,7 @@
 #![tactic(auto)]
 
 mod location;
+mod obstacle;
 mod patience;
 mod patient_stream;
 mod socket_door;

@@ -1,11 +1,11 @@
-ghost use Rattle.std.specs.Prelude.{◌≡◌, ◌/◌, false, min, pos, Ok, None, IsTrue, IsErr, IsOk, IfErr};
+ghost use Rattle.std.specs.Prelude.{◌≡◌, ◌/◌, false, true, min, Ok, None, IsTrue, IsErr, IsOk, IfErr};
 ghost use Rattle.std.specs.Duration.{as_nanos};
-ghost use Rattle.std.specs.IoError.{error_kind};
 ghost use Rattle.outside_traits.specs.Causes.{HasCause};
-ghost use Rattle.outside_doors.specs.Counts.{untried};
 ghost use Rattle.outside_doors.specs.Knocks.{IfCame, IsFresh, waits_after, wires_after};
-ghost use Rattle.socket_doors.specs.Arrivals.{GivesWire, is_nobody};
+ghost use Rattle.socket_doors.specs.declared.obstacle.Obstacle.TheVariants as Obstacles;
+ghost use Rattle.socket_doors.specs.Arrivals.{GivesWire, obstacle_of, unvisited};
 
+use crate::obstacle::{Obstacle, obstacle_of};
 use crate::patience::Patience;
 use crate::patient_stream::PatientStream;
 use libc::net as c;
@@ -13,33 +13,36 @@ use libc::types::pollfd;
 use outside_doors::{Door, DoorCounts, Knock};
 use outside_sockets::SocketWire;
 use outside_traits::Failed;
-use std::io;
-use std::io::ErrorKind;
 use std::marker::Model;
 use std::net::{Net, OpenListener, OpenStream, SocketAddr};
 use std::os::fd::{AsRawFd, RawFd};
 use std::rt::Clock;
 use std::time::Duration;
+use std::{io, thread};
 
 /// The most milliseconds of a rest.
 const LONGEST_REST: u128 = 1_000;
 
 /// A door over a listener of the system, at which somebody may come for as long as it is open: it never answers that nobody comes any more.
+///
+/// A rest ends when somebody comes only where nobody was there at the last look, of a try or of a rest. Else who is there
+/// can't be let in now, or is not to be, and a rest that ended at once would be none.
 #[derive(Drop)]
 pub struct SocketDoor<H: Net + Clock + Copy + Drop> {
     host: H,
     listener: H::Listener,
     patience: Patience,
     counts: DoorCounts,
+    empty: bool,
 }
 
 impl<H: Net + Clock + Copy + Drop> Model for SocketDoor<H> {
     ghost use Rattle.std.specs.Prelude.{◌≡◌, false};
-    ghost use Rattle.outside_doors.specs.Counts.{DoorTold};
+    ghost use Rattle.socket_doors.specs.Arrivals.{ListenerTold};
 
-    ghost Value = { DoorTold };
+    ghost Value = { ListenerTold };
 
-    ghost view = { λ d. d.counts };
+    ghost view = { λ d. record { counts = d.counts; empty = d.empty } };
 
     ghost invariant = { λ d. d.counts.closed ≡ false };
 }
@@ -47,19 +50,20 @@ impl<H: Net + Clock + Copy + Drop> Model for SocketDoor<H> {
 impl<H: Net + Clock + Copy + Drop> SocketDoor<H> {
     /// A door over a listener whose accept does not wait.
     pub(crate) fn new(host: H, listener: H::Listener, patience: Patience) -> SocketDoor<H>
-        ensures { result ≡ untried }
+        ensures { result ≡ unvisited }
     {
         SocketDoor {
             host,
             listener,
             patience,
             counts: DoorCounts::new(),
+            empty: false,
         }
     }
 
     /// What the door counts.
     pub fn counts(&self) -> &DoorCounts
-        ensures counts { result.now ≡ self.now }
+        ensures counts { result.now ≡ self.now.counts }
         ensures closed { result.now.closed ≡ false }
     {
         &self.counts
@@ -71,26 +75,65 @@ impl<H: Net + Clock + Copy + Drop> SocketDoor<H> {
         accepted: io::Result<(H::Stream, SocketAddr)>,
     ) -> Result<Knock<SocketWire<PatientStream<H::Stream, H>>>, Failed>
         ensures came { IsOk accepted → GivesWire result }
-        ensures nobody { IfErr accepted (λ error. IsTrue (is_nobody (error_kind error)) → result ≡ Ok Knock.NotYet) }
-        ensures failed { IfErr accepted (λ error. is_nobody (error_kind error) ≡ false → IsErr result) }
+        ensures nobody { IfErr accepted (λ error. obstacle_of error ≡ Obstacles.Nobody → (result ≡ Ok Knock.NotYet) × (self.new.empty ≡ true)) }
+        ensures want { IfErr accepted (λ error. obstacle_of error ≡ Obstacles.Want → (result ≡ Ok Knock.NotYet) × (self.new.empty ≡ false)) }
+        ensures failed { IfErr accepted (λ error. obstacle_of error ≡ Obstacles.Fault → IsErr result × (self.new.empty ≡ false)) }
+        ensures occupied { IsOk accepted → self.new.empty ≡ false }
         ensures fresh { IfCame result (λ wire. IsFresh None None None wire.faults wire.closed) }
-        ensures wires { self.new.wires ≡ wires_after result self.old.wires }
-        ensures waits { self.new.waits ≡ waits_after result self.old.waits }
-        ensures cause { HasCause self.old.faults self.new.faults result }
+        ensures wires { self.new.counts.wires ≡ wires_after result self.old.counts.wires }
+        ensures waits { self.new.counts.waits ≡ waits_after result self.old.counts.waits }
+        ensures cause { HasCause self.old.counts.faults self.new.counts.faults result }
     {
+        self.empty = false;
         match accepted {
             Ok((stream, _)) => {
                 self.counts.add_wire();
                 Ok(Knock::Came(self.wire(stream)))
             }
-            Err(error) => {
-                if is_nobody(error.kind()) {
-                    self.counts.add_wait();
-                    return Ok(Knock::NotYet);
-                }
+            Err(error) => self.answer_without(obstacle_of(&error)),
+        }
+    }
+
+    /// What a try answers where this stood in the way of the accept. It counts it.
+    fn answer_without(
+        &mut self,
+        obstacle: Obstacle,
+    ) -> Result<Knock<SocketWire<PatientStream<H::Stream, H>>>, Failed>
+        ensures nobody { obstacle ≡ Obstacles.Nobody → (result ≡ Ok Knock.NotYet) × (self.new.empty ≡ true) }
+        ensures want { obstacle ≡ Obstacles.Want → (result ≡ Ok Knock.NotYet) × (self.new.empty ≡ self.old.empty) }
+        ensures failed { obstacle ≡ Obstacles.Fault → IsErr result × (self.new.empty ≡ self.old.empty) }
+        ensures fresh { IfCame result (λ wire. IsFresh None None None wire.faults wire.closed) }
+        ensures wires { self.new.counts.wires ≡ wires_after result self.old.counts.wires }
+        ensures waits { self.new.counts.waits ≡ waits_after result self.old.counts.waits }
+        ensures cause { HasCause self.old.counts.faults self.new.counts.faults result }
+    {
+        match obstacle {
+            Obstacle::Nobody => {
+                self.counts.add_wait();
+                self.empty = true;
+                Ok(Knock::NotYet)
+            }
+            Obstacle::Want => {
+                self.counts.add_wait();
+                Ok(Knock::NotYet)
+            }
+            Obstacle::Fault => {
                 self.counts.add_fault();
                 Err(Failed)
             }
+        }
+    }
+
+    /// Waits for a while: until somebody comes, where nobody was there at the last look.
+    fn wait(&mut self)
+        ensures counts { self.new.counts ≡ self.old.counts }
+        ensures empty { IsTrue self.new.empty → IsTrue self.old.empty }
+    {
+        let time = milliseconds(self.patience.rest);
+        if self.empty {
+            self.empty = stays_empty(self.listener.as_raw_fd(), i32::from(time));
+        } else {
+            thread::sleep(&self.host, Duration::from_millis(u64::from(time)));
         }
     }
 
@@ -108,11 +151,11 @@ impl<H: Net + Clock + Copy + Drop> SocketDoor<H> {
 impl<H: Net + Clock + Copy + Drop> Door for SocketDoor<H> {
     type W = SocketWire<PatientStream<H::Stream, H>>;
 
-    ghost faults = { λ d. d.faults };
+    ghost faults = { λ d. d.counts.faults };
 
-    ghost wires = { λ d. d.wires };
+    ghost wires = { λ d. d.counts.wires };
 
-    ghost waits = { λ d. d.waits };
+    ghost waits = { λ d. d.counts.waits };
 
     ghost closed = { λ _. false };
 
@@ -122,36 +165,23 @@ impl<H: Net + Clock + Copy + Drop> Door for SocketDoor<H> {
     }
 
     fn rest(&mut self) {
-        wait_for_guest(self.listener.as_raw_fd(), milliseconds(self.patience.rest));
+        self.wait();
     }
 }
 
-/// Whether an error of an accept says no more than that nobody has come yet.
-fn is_nobody(kind: ErrorKind) -> bool
-    ensures { result ≡ is_nobody kind }
-{
-    matches!(
-        kind,
-        ErrorKind::WouldBlock
-            | ErrorKind::Interrupted
-            | ErrorKind::ConnectionAborted
-            | ErrorKind::ConnectionReset
-    )
-}
-
 /// The milliseconds of a rest.
-fn milliseconds(rest: Duration) -> i32
-    ensures { result ≡ pos (min (as_nanos rest / 1_000_000) 1_000) }
+fn milliseconds(rest: Duration) -> u16
+    ensures { result ≡ min (as_nanos rest / 1_000_000) 1_000 }
 {
-    rest.as_millis().min(LONGEST_REST) as i32
+    rest.as_millis().min(LONGEST_REST) as u16
 }
 
-/// Waits until somebody has come, for at most so many milliseconds. Whether somebody has, the next try at the door tells.
-fn wait_for_guest(listener: RawFd, milliseconds: i32) {
+/// Waits until somebody comes, for at most so many milliseconds, and says whether nobody did.
+fn stays_empty(listener: RawFd, milliseconds: i32) -> bool {
     let mut asked = [pollfd {
         fd: listener,
         events: c::POLLIN,
         revents: 0,
     }];
-    c::poll(&mut asked, milliseconds);
+    c::poll(&mut asked, milliseconds) == 0
 }

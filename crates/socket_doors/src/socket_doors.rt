@@ -76,10 +76,10 @@ impl<H: Net + Clock + Copy + Drop> Doors for SocketDoors<H> {
     // Only the location of a socket has a door.
     fn open(&mut self, location: &str) -> Result<SocketDoor<H>, Failed>
         ensures form { IfOk result (λ _. IsTrue (is_of_socket location.now)) }
-        ensures faultless { IfOk result (λ door. door.faults ≡ 0) }
-        ensures ungiven { IfOk result (λ door. door.wires ≡ 0) }
-        ensures unwaited { IfOk result (λ door. door.waits ≡ 0) }
-        ensures unclosed { IfOk result (λ door. door.closed ≡ false) }
+        ensures faultless { IfOk result (λ door. door.counts.faults ≡ 0) }
+        ensures ungiven { IfOk result (λ door. door.counts.wires ≡ 0) }
+        ensures unwaited { IfOk result (λ door. door.counts.waits ≡ 0) }
+        ensures unclosed { IfOk result (λ door. door.counts.closed ≡ false) }
         ensures opened { IfOk result (λ _. self.new.tally ≡ with_opened self.old.tally) }
         ensures unopened { OnErr result (self.new.tally ≡ self.old.tally) }
         ensures listed { IfOk result (λ _. Lists self.old.locations self.new.locations (location.now ∷ [])) }
