@@ -1,0 +1,52 @@
+//! Calls of an office line by line, with what each of them answers.
+//!
+//! A row has a program, and lines with a call and its answer each: `0 take 0 => 0 0 void`. How calls are written stands
+//! at `played`, values at `read_value`, outcomes at `read_outcome`, and programs of many services at `program_text`.
+#![tactic(auto)]
+
+mod outcomes;
+mod play;
+mod posts;
+mod program;
+mod sessions;
+mod values;
+mod words;
+mod workers;
+
+use crate::play::played;
+use crate::program::program_text;
+use behaviour_tree::Program;
+use plain_office::Office;
+use std::alloc::Global;
+use std::io;
+use test_programs::with_program;
+use test_rows::{Report, Row, rows, tables};
+
+fn main(rt: HostRuntime) -> anyhow::Result<()> {
+    let text = tables(&rt)?;
+    let mut report = Report::new(io::writer(&rt));
+    for row in &rows(rt.alloc(), text.as_str())? {
+        let want = row.text(rt.alloc(), "does")?;
+        let have = told(rt.alloc(), row, want.as_str())?;
+        report.row(row, have.as_str(), want.as_str())?;
+    }
+    report.end()?;
+    Ok(())
+}
+
+/// What the office of a row's program answers to the lines.
+fn told(alloc: Global, row: &Row<'_>, lines: &str) -> anyhow::Result<String> {
+    let text = program_text(alloc, row)?;
+    with_program(alloc, text.as_slice(), |program| {
+        told_by(alloc, program, lines)
+    })
+}
+
+/// The same of a program. Its history is what is let go of the office: that of the whole office costs the proof more.
+fn told_by(alloc: Global, program: &Program, lines: &str) -> anyhow::Result<String> {
+    let copy = program.again()?;
+    let mut office = Office::new(alloc, copy)?;
+    let told = played(alloc, &mut office, lines);
+    drop(office.into_history());
+    Ok(told?)
+}
