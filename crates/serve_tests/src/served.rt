@@ -22,13 +22,13 @@ struct Sinks {
 /// then its lines and what its last peer was asked, where there is any.
 pub fn served(alloc: Global, row: &Row<'_>) -> anyhow::Result<String> {
     let mut doors = Box::new(alloc, doors(alloc, row)?)?;
-    let mut sinks = sinks(alloc, row)?;
+    let mut sinks = fresh_sinks(alloc, row)?;
     let mut links = links(alloc, row)?;
     let status = status_of(alloc, row, &mut sinks, &mut doors, &mut links)?;
     Ok(told(alloc, status, &sinks.output, &sinks.notes, &doors, &links)?)
 }
 
-fn sinks(alloc: Global, row: &Row<'_>) -> anyhow::Result<Box<Sinks>> {
+fn fresh_sinks(alloc: Global, row: &Row<'_>) -> anyhow::Result<Box<Sinks>> {
     let notes = ScriptedSink::new(alloc, ROOM, ROOM, script(alloc, row)?)?;
     let output = ScriptedSink::new(alloc, ROOM, ROOM, Script::new(alloc, &[])?)?;
     Ok(Box::new(alloc, Sinks { output, notes })?)
