@@ -1,9 +1,11 @@
 -- What an accept says of who has come.
-use Rattle.std.specs.Prelude.{◌≡◌, ℕ, ℤ, Bool, true, false, ◌||◌, ◌==◌, if◌then◌else◌, unsigned_abs, Option, Some, None, Result, Ok, Err}
+use Rattle.std.specs.Prelude.{◌≡◌, ℕ, ℤ, Bool, true, false, ◌||◌, ◌==◌, if◌then◌else◌, unsigned_abs}
+use Rattle.std.specs.Prelude.{Option, Some, None, Result, Ok, Err}
 use Rattle.std.specs.IoError.{error_kind, raw_os_error}
 use Rattle.std.specs.declared.io.Error.{Error}
 use Rattle.std.specs.declared.io.ErrorKind.{ErrorKind}
-use Rattle.std.specs.declared.io.ErrorKind.TheVariants.{WouldBlock, Interrupted, ConnectionAborted, ConnectionReset, NetworkDown, NetworkUnreachable, HostUnreachable, TimedOut}
+use Rattle.std.specs.declared.io.ErrorKind.TheVariants.{WouldBlock, Interrupted, ConnectionAborted, ConnectionReset}
+use Rattle.std.specs.declared.io.ErrorKind.TheVariants.{NetworkDown, NetworkUnreachable, HostUnreachable, TimedOut}
 use Rattle.outside_doors.specs.Counts.{DoorTold, untried}
 use Rattle.outside_doors.specs.declared.traits.Knock.{Knock}
 use Rattle.outside_doors.specs.declared.traits.Knock.TheVariants.{Came, NotYet, Closed}
@@ -27,16 +29,17 @@ abbrev pub number_in : Option ℤ → ℕ
 number_in (Some code) = unsigned_abs code
 number_in None = 0
 
+-- the number of an error
 abbrev pub number_of : Error → ℕ
 number_of error = number_in (raw_os_error error)
 
--- whether an error of this number says that who came is gone, though it is of no such kind: ENONET, EPROTO, ENOPROTOOPT,
--- EOPNOTSUPP and EHOSTDOWN of Linux, which an accept passes on from a connection
+-- whether an error of this number says that who came is gone, though it is of no such kind: ENONET, EPROTO,
+-- ENOPROTOOPT, EOPNOTSUPP and EHOSTDOWN of Linux, which an accept passes on from a connection
 abbrev pub is_lost : ℕ → Bool
 is_lost number = number == 64 || number == 71 || number == 92 || number == 95 || number == 112
 
--- whether an error of this number says that who waits can't be let in now: EPERM, where a rule of the system forbids it,
--- or ENOMEM, ENFILE, EMFILE and ENOBUFS, where there is no memory or no file left
+-- whether an error of this number says that who waits can't be let in now: EPERM, where a rule of the system forbids
+-- it, or ENOMEM, ENFILE, EMFILE and ENOBUFS, where there is no memory or no file left
 abbrev pub is_want : ℕ → Bool
 is_want number = number == 1 || number == 12 || number == 23 || number == 24 || number == 105
 
