@@ -202,7 +202,7 @@ def taken_in(calls):
 def failed_door(calls, fault):
     """The door that could not be opened or has failed by a fault, if one has by now."""
     for place, it in enumerate(calls):
-        if it.is_wrong and it.name in OPENING:
+        if it.is_wrong and (it.name in OPENING or it.option == socket.SO_REUSEADDR):
             return sum(1 for other in calls[: place + 1] if other.name == "socket") - 1
         if it.is_wrong and it.name == "accept4" and fault.how in FAILED:
             return doors_of(calls)[it.file]
