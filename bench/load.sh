@@ -7,7 +7,7 @@
 . "$(dirname "$0")/common.sh"
 find_program
 
-set -- python3 "$top/bench/load.py" "$program" "$top/examples/twice.ol" "$@"
+set -- python3 "$top/bench/load_runs.py" "$program" "$top/examples/twice.ol" "$@"
 if command -v taskset > /dev/null; then
     set -- taskset -c 0 "$@"
 fi

@@ -15,8 +15,8 @@ PIECE = 64
 
 NOTES = 2
 
-# Errors of an accept by which nobody has come yet, and those by which a door has failed.
-NOBODY = [errno.EAGAIN, errno.EINTR, errno.ECONNABORTED, errno.ECONNRESET]
+# Errors of an accept by which nobody has come yet or nobody can be let in now, and those by which a door has failed.
+NOBODY = [errno.EAGAIN, errno.EINTR, errno.ECONNABORTED, errno.EPROTO, errno.EMFILE, errno.ENOBUFS]
 FAILED = [errno.EBADF, errno.EINVAL, errno.ENOTSOCK]
 
 WAYS = {

@@ -1,7 +1,7 @@
 #!/usr/bin/env python3
 """Load on `serve`, for bench/load.sh:
 
-    bench/load.py PROGRAM FILE [SECONDS]
+    bench/load_runs.py PROGRAM FILE [SECONDS]
 
 FILE has a service at port 8000 whose operation `twice` gives 2 * n. Runs of the program follow one another for so many
 seconds, 600 where none are named. In each one clients at the same time keep a connection, pipeline, send batches and
