@@ -35,6 +35,7 @@ printf '\n\n' > "$work/blank"
 printf 'service S { main { comp(q) } }' > "$work/bad.ol"
 printf 'type Req: void { n: int } // x' > "$work/type.ol"
 printf 'service S { main { x = 1 } } \377' > "$work/bytes.ol"
+printf 'service S { main { x = 1 } }' > "$work/set.ol"
 awk 'BEGIN { for (n = 0; n < 1048570; n++) printf " "; printf "type " }' > "$work/long.ol"
 printf 'T: int ' >> "$work/long.ol"
 awk 'BEGIN { for (n = 0; n < 1048570; n++) printf " "; printf "type T" }' > "$work/most.ol"
@@ -46,6 +47,15 @@ over "$work/empty" check "$work/bad.ol"
 row 'a refusal is one line with its place' 3 'refused check CompOutsideHandler 19' ''
 over "$work/empty" explain "$twice"
 row 'a program is explained by ok' 0 ok ''
+for file in "$top"/examples/*.ol "$top"/examples/elsewhere/*.ol; do
+    over "$work/empty" explain "$file"
+    row "nothing is noted of ${file##*/}" 0 ok ''
+done
+over "$work/empty" explain "$work/set.ol"
+row 'a note of a program has its line and a mark' 0 "ok
+$work/set.ol:1:20: note: this variable is set, and nothing reads it
+service S { main { x = 1 } }
+                   ^" ''
 over "$work/empty" explain "$work/bad.ol"
 row 'a refusal is explained by its line, a mark and the rule' 3 "$work/bad.ol:1:20: \`comp\` stands in no handler [check CompOutsideHandler]
 service S { main { comp(q) } }

@@ -1,3 +1,4 @@
 pub mod Words
 pub mod Advised
 pub mod Explained
+pub mod Noted

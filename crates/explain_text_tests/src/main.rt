@@ -3,8 +3,7 @@
 //! A row's text is its `text`, or its `front` and a `part` so many `times` behind it. Each file is called `f.ol`.
 #![tactic(auto)]
 
-use explain_text::{explained, unreadable};
-use file_verdicts::refusal_in;
+use explain_text::{explained, noted, unreadable};
 use std::alloc::{AllocError, Global};
 use std::io;
 use test_rows::{Report, Row, TableError, rows, tables};
@@ -35,9 +34,9 @@ fn given(alloc: Global, row: &Row<'_>) -> Result<String, TableError> {
 }
 
 fn said(alloc: Global, text: &[u8]) -> Result<String, AllocError> {
-    match refusal_in(alloc, text)? {
-        None => String::from_str(alloc, "ok\n"),
-        Some(refusal) => {
+    match noted(alloc, FILE, text)? {
+        Ok(bytes) => shown(alloc, bytes),
+        Err(refusal) => {
             let bytes = explained(alloc, FILE, text, &refusal)?;
             shown(alloc, bytes)
         }

@@ -22,7 +22,7 @@ use Rattle.file_verdicts.specs.declared.verdict.Verdict.{Verdict}
 use Rattle.file_verdicts.specs.declared.verdict.Verdict.TheVariants as verdict
 use Rattle.file_verdicts.specs.Verdicts.{check_line}
 use Rattle.file_verdicts.specs.RefusalLines.{refusal_line, IsVerdict}
-use Rattle.file_verdicts.specs.Programs.{IsChecked, IsProgram, IsUncheckedBy, no_file, no_program}
+use Rattle.file_verdicts.specs.Programs.{IsChecked, IsFileOf, IsProgram, IsUncheckedBy, no_file, no_program}
 
 -- a text that has no definitions is no program
 pub unread : (text : List ℕ) (v : Verdict) (r : Refusal) → IsVerdict text v → v ≡ verdict.Refused r → IsUncheckedBy text (refusal_line r)
@@ -34,6 +34,13 @@ pub passed : (text : List ℕ) (v : Verdict) (file : List Definition) (result : 
 passed text v file result p right is checks ok =
     let facts : Checks file (Ok p) = subst (λ r. Checks file r) ok checks in
     record { file = file; accepted = subst (λ x. IsVerdict text x) is right; passes = facts.0; means = facts.1 }
+
+-- the definitions of one that no check refuses
+pub is_file_of : (text : List ℕ) (v : Verdict) (file : List Definition) (result : Result Program CheckError) (p : Program) → IsVerdict text v → v ≡ verdict.File file
+    → Checks file result → result ≡ Ok p → IsFileOf text file
+is_file_of text v file result p right is checks ok =
+    let facts : Checks file (Ok p) = subst (λ r. Checks file r) ok checks in
+    record { accepted = subst (λ x. IsVerdict text x) is right; passes = facts.0 }
 
 -- one whose definitions a check refuses is none
 pub refused : (text : List ℕ) (v : Verdict) (file : List Definition) (result : Result Program CheckError) (name : CheckName) (at : ℕ) (r : Refusal) → IsVerdict text v → v ≡ verdict.File file

@@ -15,6 +15,11 @@ pub record IsChecked (text : List ℕ) (parts : ProgramParts) : Type 0 where
   pub passes : refusal_of file ≡ None
   pub means : parts ≡ program_of file
 
+-- These are definitions that the text has, and no check refuses any of them.
+pub record IsFileOf (text : List ℕ) (file : List Definition) : Type 0 where
+  pub accepted : IsAccepted text file
+  pub passes : refusal_of file ≡ None
+
 -- The text is a program.
 pub record IsProgram (text : List ℕ) : Type 0 where
   pub parts : ProgramParts

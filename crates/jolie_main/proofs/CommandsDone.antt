@@ -1,6 +1,6 @@
 -- What a command does, from what its parts do.
 use Rattle.std.proofs.Common.{◌≡◌, inl, inr, refl, sym, subst, ℕ, Bool, true, false, List, Option, None, Some, IfSome, Result, Ok, Err, IfOk}
-use Rattle.std.specs.Prelude.{MatchOption, MatchResult, codes}
+use Rattle.std.specs.Prelude.{MatchResult, Vec, codes}
 use Rattle.std.specs.declared.alloc.AllocError.{AllocError}
 use Rattle.jolie_ast.specs.declared.tree.Definition.{Definition}
 use Rattle.jolie_ast.specs.Printed.{printed_text}
@@ -22,11 +22,12 @@ use Rattle.command_words.specs.Usage.{IsUnderstood}
 use Rattle.file_verdicts.specs.declared.refusal.Refusal.{Refusal}
 use Rattle.file_verdicts.specs.declared.verdict.Verdict.{Verdict}
 use Rattle.file_verdicts.specs.declared.verdict.Verdict.TheVariants as verdict
-use Rattle.file_verdicts.specs.Programs.{IsChecked, IsProgram, IsUncheckedBy}
+use Rattle.file_verdicts.specs.Programs.{IsChecked, IsUncheckedBy}
 use Rattle.file_verdicts.specs.RefusalLines.{IsVerdict, refusal_line}
 use Rattle.jolie_main.specs.Outside.{outside, Around, around, at_doors, program_bytes, IsSaid, IsWritten}
 use Rattle.outside_traits.specs.Causes.{Rose}
 use Rattle.explain_text.specs.Explained.{unreadable_line, IsExplained}
+use Rattle.explain_text.specs.Noted.{IsNoted}
 use Rattle.jolie_main.specs.Headline.{Says, Checks, Explains, Prints, Runs, Serves, HasTravelled, IsTurnedDown, ShowsAlone, IsEmptyRecord, Obeys, Promises, TellsOfFile}
 use Rattle.jolie_main.specs.Headline as headline
 use Rattle.trip_laws.specs.Trips.{TripsTold}
@@ -69,16 +70,17 @@ not_passed text found refusal (Ok ended) before now right is status written =
 not_passed text found refusal (Err e) before now right is status written = tt
 
 -- what was found of a text that is to be explained
-abbrev IsFoundRefused : List ℕ → Option Refusal → Type 0
-IsFoundRefused text found = MatchOption found (IsProgram text) (λ why. IsUncheckedBy text (refusal_line why))
+abbrev IsFoundNoted : {Z : Type 0} → List ℕ → List ℕ → Result (Vec ℕ Z) Refusal → Type 0
+IsFoundNoted file text found =
+    MatchResult found (λ lines. IsNoted file text lines.items) (λ why. IsUncheckedBy text (refusal_line why))
 
--- `explain` says `ok` of a program
-pub explained_as_ok : (file text said : List ℕ) (found : Option Refusal) (status : ℕ) (before now : Taking)
-    → IsFoundRefused text found → found ≡ None → said ≡ codes "ok\n" → Says said status before now
-    → Explains file text status before now
-explained_as_ok file text said found status before now right is same says =
-    let program : IsProgram text = subst (λ x. IsFoundRefused text x) is right in
-    headline.passed program.parts program.checked (subst (λ t. Says t status before now) same says)
+-- `explain` says `ok` of a program, with its notes
+pub explained_as_ok : {Z : Type 0} (file text said : List ℕ) (found : Result (Vec ℕ Z) Refusal) (lines : Vec ℕ Z) (status : ℕ)
+    (before now : Taking) → IsFoundNoted file text found → found ≡ Ok lines → said ≡ lines.items
+    → Says said status before now → Explains file text status before now
+explained_as_ok file text said found lines status before now right is same says =
+    headline.passed lines.items (subst (λ x. IsFoundNoted file text x) is right)
+    (subst (λ t. Says t status before now) same says)
 
 -- a text went out, whole or cut
 pub written_of : (all : Bool) (shown text : List ℕ) (before now : Taking) → IsSaid all shown before now → shown ≡ text
@@ -87,11 +89,11 @@ written_of true shown text before now said same = subst (λ t. IsWritten t befor
 written_of false shown text before now said same = subst (λ t. IsWritten t before now) same (inr said)
 
 -- and explains another text
-pub explained_so : (file text lines : List ℕ) (found : Option Refusal) (refusal : Refusal) (status : ℕ) (before now : Taking)
-    → IsFoundRefused text found → found ≡ Some refusal → IsExplained file text refusal lines → status ≡ 3
+pub explained_so : {Z : Type 0} (file text lines : List ℕ) (found : Result (Vec ℕ Z) Refusal) (refusal : Refusal) (status : ℕ)
+    (before now : Taking) → IsFoundNoted file text found → found ≡ Err refusal → IsExplained file text refusal lines → status ≡ 3
     → IsWritten lines before now → Explains file text status before now
 explained_so file text lines found refusal status before now right is told stands written =
-    headline.unchecked refusal lines (subst (λ x. IsFoundRefused text x) is right) told stands written
+    headline.unchecked refusal lines (subst (λ x. IsFoundNoted file text x) is right) told stands written
 
 -- ---- a run, and a service that is served
 

@@ -21,6 +21,7 @@ use Rattle.file_verdicts.specs.Programs.{IsChecked, IsUncheckedBy}
 use Rattle.file_verdicts.specs.declared.refusal.Refusal.{Refusal}
 use Rattle.file_verdicts.specs.RefusalLines.{refusal_line}
 use Rattle.explain_text.specs.Explained.{unreadable_line, IsExplained}
+use Rattle.explain_text.specs.Noted.{IsNoted}
 use Rattle.jolie_main.specs.Outside.{Around, at_doors, FirstTravelled, IsReadOf, IsWhole, IsCut, IsWritten}
 
 -- nothing was recorded
@@ -44,9 +45,10 @@ pub data Checks (text : List ℕ) (status : ℕ) (before now : Taking) : Type 0 
   unchecked : (line : List ℕ) → IsUncheckedBy text line → status ≡ 3 → IsWritten line before now
       → Checks text status before now
 
--- What `explain` does with the text of a file: it says `ok` of a program, or explains why it is refused, at status 3.
+-- What `explain` does with the text of a file: it says `ok` of a program, with the notes of its definitions, or explains
+-- why it is refused, at status 3.
 pub data Explains (file text : List ℕ) (status : ℕ) (before now : Taking) : Type 0 where
-  passed : (parts : ProgramParts) → IsChecked text parts → Says (codes "ok\n") status before now
+  passed : (lines : List ℕ) → IsNoted file text lines → Says lines status before now
       → Explains file text status before now
   unchecked : (r : Refusal) (lines : List ℕ) → IsUncheckedBy text (refusal_line r) → IsExplained file text r lines
       → status ≡ 3 → IsWritten lines before now → Explains file text status before now

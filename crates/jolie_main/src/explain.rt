@@ -9,13 +9,12 @@ ghost use Rattle.jolie_main.specs.Outside.{IsWritten};
 use crate::say::{say, tell, without_record};
 use command_words::status::{FILE_FAILED, REFUSED};
 use command_words::{Action, Command};
-use explain_text::{explained, unreadable};
-use file_verdicts::refusal_in;
+use explain_text::{explained, noted, unreadable};
 use line_run::Ended;
 use outside_traits::Sink;
 use std::alloc::{AllocError, Global};
 
-/// Says `ok` of a text that is a program, or explains why it is none.
+/// Says `ok` of a text that is a program, with its notes, or explains why it is none.
 pub fn explain_text<K: Sink>(
     alloc: Global,
     file: &str,
@@ -25,8 +24,9 @@ pub fn explain_text<K: Sink>(
     ensures explains { IfOk result (λ ended. Explains file.now text.now ended.status (taking (K.taken output.old) (K.faults output.old)) (taking (K.taken output.new) (K.faults output.new))) }
     ensures empty { IfOk result (λ ended. IsEmptyRecord ended.report) }
 {
-    let Some(refusal) = refusal_in(alloc, text)? else {
-        return Ok(tell(alloc, b"ok\n", output));
+    let refusal = match noted(alloc, file, text)? {
+        Ok(lines) => return Ok(tell(alloc, lines.as_slice(), output)),
+        Err(refusal) => refusal,
     };
     let lines = explained(alloc, file, text, &refusal)?;
     say(lines.as_slice(), output);

@@ -1,0 +1,104 @@
+//! A program, with its notes.
+
+ghost use Rattle.std.specs.Prelude.{◌≡◌, ◌++◌, IfOk, MatchResult, OnOk, string_bytes};
+ghost use Rattle.file_notes.specs.Notes.{notes_of};
+ghost use Rattle.file_verdicts.specs.Programs.{IsUncheckedBy};
+ghost use Rattle.file_verdicts.specs.RefusalLines.{refusal_line};
+ghost use Rattle.explain_text.specs.Noted as spec;
+
+use file_notes::{Note, NoteKind, notes_of};
+use file_verdicts::{Refusal, definitions_in};
+use jolie_ast::Ast;
+use std::alloc::{AllocError, Global};
+use text_places::{Place, line_of, mark_of, place_of};
+
+/// What a person reads of a program: `ok` and its notes. Of another text it is why it is none.
+#[tactic(auto, using(crate::proofs::Programs::is_refused))]
+pub fn noted(alloc: Global, file: &str, text: &[u8]) -> Result<Result<Vec<u8>, Refusal>, AllocError>
+    ensures { IfOk result (λ found. MatchResult found (λ bytes. spec.IsNoted file.now text.now bytes.items) (λ refusal. IsUncheckedBy text.now (refusal_line refusal))) }
+{
+    let definitions = match definitions_in(alloc, text)? {
+        Ok(definitions) => definitions,
+        Err(refusal) => return Ok(Err(refusal)),
+    };
+    let bytes = notes_on(alloc, file, text, &definitions)?;
+    Ok(Ok(bytes))
+}
+
+/// `ok`, and the lines of the notes of these definitions.
+fn notes_on(
+    alloc: Global,
+    file: &str,
+    text: &[u8],
+    definitions: &Ast,
+) -> Result<Vec<u8>, AllocError>
+    ensures { IfOk result (λ bytes. bytes.items ≡ spec.noted_text file.now text.now (notes_of definitions.now)) }
+{
+    let notes = notes_of(alloc, definitions.definitions())?;
+    with_notes(alloc, file, text, notes.as_slice())
+}
+
+/// `ok`, and the lines of each note.
+fn with_notes(alloc: Global, file: &str, text: &[u8], notes: &[Note]) -> Result<Vec<u8>, AllocError>
+    ensures { IfOk result (λ bytes. bytes.items ≡ spec.noted_text file.now text.now notes.now) }
+{
+    let mut bytes = Vec::from_slice(alloc, "ok\n".as_bytes())?;
+    for note in notes {
+        add_note(alloc, file, text, note, &mut bytes)?;
+    }
+    Ok(bytes)
+}
+
+/// Adds the lines of a note.
+#[tactic(auto, using(crate::proofs::Programs::five_more))]
+fn add_note(
+    alloc: Global,
+    file: &str,
+    text: &[u8],
+    note: &Note,
+    bytes: &mut Vec<u8>,
+) -> Result<(), AllocError>
+    ensures { OnOk result (bytes.new.items ≡ bytes.old.items ++ spec.note_lines file.now text.now note.now) }
+{
+    let at = note.at() as usize;
+    let head = head(alloc, file, place_of(text, at), note.kind())?;
+    let mark = mark_of(alloc, text, at)?;
+    bytes.extend_from_slice(head.as_bytes())?;
+    bytes.extend_from_slice(line_of(text, at))?;
+    bytes.extend_from_slice("\n".as_bytes())?;
+    bytes.extend_from_slice(mark.as_slice())?;
+    bytes.extend_from_slice("\n".as_bytes())?;
+    Ok(())
+}
+
+/// The line that says where a note is and what it says.
+fn head(alloc: Global, file: &str, place: Place, kind: NoteKind) -> Result<String, AllocError>
+    ensures { IfOk result (λ line. string_bytes line ≡ spec.head_line file.now place.line place.column kind) }
+{
+    let line = place.line;
+    let column = place.column;
+    let words = words(kind);
+    format!(in alloc; "{file}:{line}:{column}: note: {words}\n")
+}
+
+/// What a person reads of a note.
+fn words(kind: NoteKind) -> &'static str
+    ensures { result.now ≡ spec.note_words kind }
+{
+    match kind {
+        NoteKind::Uncaught => "nothing catches this fault, and no `throws` names it",
+        NoteKind::UncaughtInLoop => "nothing catches this fault, and no `throws` names it",
+        NoteKind::EndsService => "nothing catches this fault: it ends the loop and the service",
+        NoteKind::Unthrown => "nothing throws the fault of this handler",
+        NoteKind::NoScope => "no scope of this service has this name",
+        NoteKind::Unsent => "nothing is sent to this port",
+        NoteKind::Unset => "this variable is read, and nothing sets it",
+        NoteKind::Unread => "this variable is set, and nothing reads it",
+        NoteKind::Forgotten => "this variable is set, and nothing reads it",
+        NoteKind::TreeCut => "`=` takes the root alone: `<<` copies what stands below it too",
+        NoteKind::LiteralCut => {
+            "`=` sets the root alone: `<<` copies the members of the literal too"
+        }
+        NoteKind::Unanswered => "this is answered, and nothing sets it",
+    }
+}

@@ -1,0 +1,3 @@
+pub mod ExpressionForms
+pub mod Lists
+pub mod ProcessForms

@@ -1,0 +1,5 @@
+pub mod Expressions
+pub mod Mentions
+pub mod Processes
+pub mod Services
+pub mod Statements
