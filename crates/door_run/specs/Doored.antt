@@ -81,7 +81,8 @@ pub record IsDoored (IsMade : Line → Type 0) (t : Task) (before now : Outside)
   pub uses : IsUsed (doors_of t.parts) before.doors now.doors used
   pub wires : AreWires IsMade served.visits ended.report.traffic used.wires
   pub doors : list_all (came_at_door (marked used.opened (doors_of t.parts))) served.visits ≡ true
-  pub led : (n : ℕ) → wires_to n (marked used.opened (doors_of t.parts)) used.doors ≡ count_by (leads_to n) served.visits
+  pub led : (n : ℕ)
+      → wires_to n (marked used.opened (doors_of t.parts)) used.doors ≡ count_by (leads_to n) served.visits
   pub through : halted ≡ false → length served.all.asked < most_postings
       → IsThrough (HadNoAnswer (run_of t.parts) (history_of ended) served.all.asked)
       t.connections served.visits used.doors
