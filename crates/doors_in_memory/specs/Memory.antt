@@ -38,6 +38,7 @@ calm_line bytes room = record {
   calls = Some [];
   faults = 0;
   closed = false;
+  ended = false;
 }
 
 -- a scripted one: its calls of these numbers fail, and each gives and takes at most so many bytes
@@ -49,6 +50,7 @@ scripted_line failing piece bytes room = record {
   calls = Some [];
   piece = piece;
   closed = false;
+  ended = false;
 }
 
 -- what a calm door answers: its wires in order, then for so many tries that nobody has come yet, then that nobody comes

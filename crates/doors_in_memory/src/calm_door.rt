@@ -91,6 +91,7 @@ impl Door for CalmDoor {
         ensures answer { self.old.told.closed ≡ false → CalmlyAnswers self.old.coming self.old.quiet result }
         ensures coming { self.old.told.closed ≡ false → self.new.coming ≡ drop 1 self.old.coming }
         ensures fresh { IfCame result (λ wire. IsFresh (Some wire.wire.tape.given) (Some wire.wire.shelf.taken) wire.wire.calls wire.faults wire.wire.closed) }
+        ensures unended { IfCame result (λ wire. wire.ended ≡ false) }
         ensures wires { self.new.told.wires ≡ wires_after result self.old.told.wires }
         ensures waits { self.new.told.waits ≡ waits_after result self.old.told.waits }
         ensures closed { self.new.told.closed ≡ closed_after result self.old.told.closed }

@@ -53,6 +53,8 @@ impl<W: Wire> Wire for CountedWire<W> {
 
     ghost closed = { λ w. W.closed w.wire };
 
+    ghost ended = { λ w. W.ended w.wire };
+
     fn read(&mut self, into: &mut [u8]) -> Result<usize, Failed> {
         let answer = self.wire.read(into);
         if answer.is_err() {

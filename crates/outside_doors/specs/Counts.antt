@@ -42,6 +42,8 @@ pub record Tally : Type 0 where
   pub wires_back : ℕ
   -- those of them with a count of faults other than 0
   pub wires_failed : ℕ
+  -- those of them of which a read had told the end of what comes in
+  pub wires_ended : ℕ
   -- the waits of all doors that came back; a wire that blocks has none
   pub waits : ℕ
 
@@ -54,6 +56,7 @@ no_tally = record {
   wires_given = 0;
   wires_back = 0;
   wires_failed = 0;
+  wires_ended = 0;
   waits = 0;
 }
 
@@ -70,9 +73,10 @@ with_door door tally = record tally {
   waits = added tally.waits door.waits;
 }
 
--- a wire came back with this count of faults
-abbrev pub with_wire : ℕ → Tally → Tally
-with_wire faults tally = record tally {
+-- a wire came back with this count of faults, and had ended or not
+abbrev pub with_wire : ℕ → Bool → Tally → Tally
+with_wire faults ended tally = record tally {
   wires_back = added tally.wires_back 1;
   wires_failed = added_if (not (faults == 0)) tally.wires_failed;
+  wires_ended = added_if ended tally.wires_ended;
 }

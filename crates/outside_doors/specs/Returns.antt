@@ -1,17 +1,18 @@
 -- What is told of the locations that were opened and of the wires that came back, and what doors keep of them.
-use Rattle.std.specs.Prelude.{◌≡◌, ℕ, List, [], ◌++◌, Option, None, Some}
+use Rattle.std.specs.Prelude.{◌≡◌, ℕ, Bool, false, List, [], ◌++◌, Option, None, Some}
 use Rattle.outside_doors.specs.Counts.{Tally, no_tally}
 
--- a wire that came back: the bytes that were read and those that were written, each where the wire tells them, and its
--- count of faults
+-- a wire that came back: the bytes that were read and those that were written, each where the wire tells them; its count
+-- of faults; and whether a read had told the end of what comes in
 pub record WireTold : Type 0 where
   pub read : Option (List ℕ)
   pub written : Option (List ℕ)
   pub faults : ℕ
+  pub ended : Bool
 
--- the same of its three parts
-abbrev pub wire_told : Option (List ℕ) → Option (List ℕ) → ℕ → WireTold
-wire_told read written faults = record { read = read; written = written; faults = faults }
+-- the same by its parts
+abbrev pub wire_told : Option (List ℕ) → Option (List ℕ) → ℕ → Bool → WireTold
+wire_told read written faults ended = record { read = read; written = written; faults = faults; ended = ended }
 
 -- What is told grows by these, in their order, as long as it is told. Doors that tell it no more never begin again.
 abbrev pub Lists : {A : Type 0} → Option (List A) → Option (List A) → List A → Type 0
@@ -20,14 +21,15 @@ Lists None (Some now) more = ⊥
 Lists (Some before) None more = Unit {0}
 Lists (Some before) (Some now) more = now ≡ before ++ more
 
--- a wire, and how often a call of it has failed
+-- a wire, how often a call of it has failed, and whether a read has told the end of what comes in
 pub record Counted (W : Type 0) : Type 0 where
   pub wire : W
   pub faults : ℕ
+  pub ended : Bool
 
--- a wire of which no call has failed
+-- a wire that was not called yet
 abbrev pub counted : {W : Type 0} → W → Counted W
-counted wire = record { wire = wire; faults = 0 }
+counted wire = record { wire = wire; faults = 0; ended = false }
 
 -- What doors keep: their counts, how often one of their calls has failed, and, while there is room for them, the
 -- locations opened and the wires that came back.

@@ -70,12 +70,12 @@ impl<W: Wire + Drop> Book<W> {
 
     /// A wire came back.
     pub fn wire_back(&mut self, wire: CountedWire<W>)
-        ensures tally { self.new.tally ≡ with_wire wire.faults self.old.tally }
+        ensures tally { self.new.tally ≡ with_wire wire.faults wire.ended self.old.tally }
         ensures faults { self.new.faults ≡ self.old.faults }
         ensures locations { self.new.locations ≡ self.old.locations }
-        ensures wires { Lists self.old.wires self.new.wires (wire_told (W.given wire.wire) (W.taken wire.wire) wire.faults ∷ []) }
+        ensures wires { Lists self.old.wires self.new.wires (wire_told (W.given wire.wire) (W.taken wire.wire) wire.faults wire.ended ∷ []) }
     {
-        self.counts.add_wire(wire.faults());
+        self.counts.add_wire(wire.faults(), wire.has_ended());
         self.returns.keep(wire);
     }
 

@@ -1,30 +1,41 @@
-ghost use Rattle.std.specs.Prelude.{◌≡◌};
+ghost use Rattle.std.specs.Prelude.{◌≡◌, false};
 ghost use Rattle.outside_doors.specs.Returns.{counted};
 
 use outside_traits::{Failed, Wire};
 use std::marker::Model;
 
-/// A wire that counts its failures in a number that whoever takes it back can read.
+/// A wire that keeps what whoever takes it back wants to know: how often it failed, and whether it ended.
 #[derive(Drop)]
-pub struct CountedWire<W> {
+pub struct CountedWire<W: Wire> {
     wire: W,
     faults: u64,
+    ended: bool,
+    closed: bool,
 }
 
-impl<W> Model for CountedWire<W> {
+impl<W: Wire> Model for CountedWire<W> {
+    ghost use Rattle.std.specs.Prelude.{◌≡◌};
     ghost use Rattle.outside_doors.specs.Returns.{Counted};
 
     ghost Value = { Counted W };
 
-    ghost view = { λ w. record { wire = w.wire; faults = w.faults } };
+    ghost view = { λ w. record { wire = w.wire; faults = w.faults; ended = w.ended } };
+
+    ghost invariant = { λ w. W.closed w.wire ≡ w.closed };
 }
 
-impl<W> CountedWire<W> {
-    /// A wire of which no call has failed.
+impl<W: Wire> CountedWire<W> {
+    /// A wire that was not called yet, and is open.
     pub fn new(wire: W) -> CountedWire<W>
+        requires { W.closed wire ≡ false }
         ensures { result ≡ counted wire }
     {
-        CountedWire { wire, faults: 0 }
+        CountedWire {
+            wire,
+            faults: 0,
+            ended: false,
+            closed: false,
+        }
     }
 
     /// The wire itself.
@@ -39,6 +50,13 @@ impl<W> CountedWire<W> {
         ensures { result ≡ self.now.faults }
     {
         self.faults
+    }
+
+    /// Whether a read has told the end of what comes in.
+    pub fn has_ended(&self) -> bool
+        ensures { result ≡ self.now.ended }
+    {
+        self.ended
     }
 }
 
@@ -55,10 +73,14 @@ impl<W: Wire> Wire for CountedWire<W> {
 
     ghost closed = { λ w. W.closed w.wire };
 
+    ghost ended = { λ w. w.ended };
+
     fn read(&mut self, into: &mut [u8]) -> Result<usize, Failed> {
+        let is_asked = !self.closed && !into.is_empty();
         let answer = self.wire.read(into);
-        if answer.is_err() {
-            self.faults = self.faults.saturating_add(1);
+        match answer {
+            Ok(count) => self.ended |= is_asked && count == 0,
+            Err(Failed) => self.faults = self.faults.saturating_add(1),
         }
         answer
     }
@@ -73,5 +95,6 @@ impl<W: Wire> Wire for CountedWire<W> {
 
     fn close(&mut self) {
         self.wire.close();
+        self.closed = true;
     }
 }

@@ -103,6 +103,7 @@ pub struct Counts {
     wires_given: u64,
     wires_back: u64,
     wires_failed: u64,
+    wires_ended: u64,
     waits: u64,
 }
 
@@ -111,7 +112,7 @@ impl Model for Counts {
 
     ghost Value = { Tally };
 
-    ghost view = { λ c. record { opened = c.opened; doors_back = c.doors_back; doors_ended = c.doors_ended; wires_given = c.wires_given; wires_back = c.wires_back; wires_failed = c.wires_failed; waits = c.waits } };
+    ghost view = { λ c. record { opened = c.opened; doors_back = c.doors_back; doors_ended = c.doors_ended; wires_given = c.wires_given; wires_back = c.wires_back; wires_failed = c.wires_failed; wires_ended = c.wires_ended; waits = c.waits } };
 }
 
 impl Counts {
@@ -126,6 +127,7 @@ impl Counts {
             wires_given: 0,
             wires_back: 0,
             wires_failed: 0,
+            wires_ended: 0,
             waits: 0,
         }
     }
@@ -172,6 +174,13 @@ impl Counts {
         self.wires_failed
     }
 
+    /// Those of the wires that came back of which a read had told the end of what comes in.
+    pub fn wires_ended(&self) -> u64
+        ensures { result ≡ self.now.wires_ended }
+    {
+        self.wires_ended
+    }
+
     /// The waits of the doors that came back.
     pub fn waits(&self) -> u64
         ensures { result ≡ self.now.waits }
@@ -198,13 +207,16 @@ impl Counts {
         self.waits = self.waits.saturating_add(door.waits);
     }
 
-    /// Counts a wire that came back with this count of faults.
-    pub fn add_wire(&mut self, faults: u64)
-        ensures { self.new ≡ with_wire faults self.old }
+    /// Counts a wire that came back with this count of faults, and whether it had ended.
+    pub fn add_wire(&mut self, faults: u64, has_ended: bool)
+        ensures { self.new ≡ with_wire faults has_ended self.old }
     {
         self.wires_back = self.wires_back.saturating_add(1);
         if faults != 0 {
             self.wires_failed = self.wires_failed.saturating_add(1);
+        }
+        if has_ended {
+            self.wires_ended = self.wires_ended.saturating_add(1);
         }
     }
 }

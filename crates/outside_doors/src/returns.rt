@@ -101,7 +101,7 @@ impl<W: Wire + Drop> Model for Return<W> {
 
     ghost Value = { WireTold };
 
-    ghost view = { λ r. record { read = W.given r.wire.wire; written = W.taken r.wire.wire; faults = r.wire.faults } };
+    ghost view = { λ r. record { read = W.given r.wire.wire; written = W.taken r.wire.wire; faults = r.wire.faults; ended = r.wire.ended } };
 
     ghost invariant = { λ r. W.closed r.wire.wire ≡ true };
 }
@@ -109,7 +109,7 @@ impl<W: Wire + Drop> Model for Return<W> {
 impl<W: Wire + Drop> Return<W> {
     /// Closes a wire that comes back.
     fn new(wire: CountedWire<W>) -> Return<W>
-        ensures { result ≡ wire_told (W.given wire.wire) (W.taken wire.wire) wire.faults }
+        ensures { result ≡ wire_told (W.given wire.wire) (W.taken wire.wire) wire.faults wire.ended }
     {
         let mut wire = wire;
         wire.close();
@@ -130,6 +130,13 @@ impl<W: Wire + Drop> Return<W> {
         ensures { result ≡ self.now.faults }
     {
         self.wire.faults()
+    }
+
+    /// Whether a read had told the end of what comes in.
+    pub fn has_ended(&self) -> bool
+        ensures { result ≡ self.now.ended }
+    {
+        self.wire.has_ended()
     }
 }
 
@@ -168,7 +175,7 @@ impl<W: Wire + Drop> Returns<W> {
 
     /// Keeps one more wire.
     pub(crate) fn keep(&mut self, wire: CountedWire<W>)
-        ensures { Lists self.old self.new (wire_told (W.given wire.wire) (W.taken wire.wire) wire.faults ∷ []) }
+        ensures { Lists self.old self.new (wire_told (W.given wire.wire) (W.taken wire.wire) wire.faults wire.ended ∷ []) }
     {
         if self.kept.push(Return::new(wire)).is_err() {
             self.is_whole = false;

@@ -11,6 +11,7 @@ use std::net::{OpenStream, Shutdown};
 pub struct SocketWire<S: Read + Write + OpenStream + Drop> {
     stream: Option<S>,
     faults: u64,
+    ended: bool,
 }
 
 impl<S: Read + Write + OpenStream + Drop> Model for SocketWire<S> {
@@ -19,7 +20,7 @@ impl<S: Read + Write + OpenStream + Drop> Model for SocketWire<S> {
 
     ghost Value = { SocketTold };
 
-    ghost view = { λ w. record { faults = w.faults; closed = is_none w.stream } };
+    ghost view = { λ w. record { faults = w.faults; closed = is_none w.stream; ended = w.ended } };
 }
 
 impl<S: Read + Write + OpenStream + Drop> SocketWire<S> {
@@ -27,10 +28,12 @@ impl<S: Read + Write + OpenStream + Drop> SocketWire<S> {
     pub fn new(stream: S) -> SocketWire<S>
         ensures faults { result.faults ≡ 0 }
         ensures closed { result.closed ≡ false }
+        ensures ended { result.ended ≡ false }
     {
         SocketWire {
             stream: Some(stream),
             faults: 0,
+            ended: false,
         }
     }
 
@@ -39,6 +42,13 @@ impl<S: Read + Write + OpenStream + Drop> SocketWire<S> {
         ensures { result ≡ self.now.faults }
     {
         self.faults
+    }
+
+    /// Whether a read has told the end of what comes in.
+    pub fn has_ended(&self) -> bool
+        ensures { result ≡ self.now.ended }
+    {
+        self.ended
     }
 }
 
@@ -55,13 +65,17 @@ impl<S: Read + Write + OpenStream + Drop> Wire for SocketWire<S> {
 
     ghost closed = { λ w. w.closed };
 
+    ghost ended = { λ w. w.ended };
+
     fn read(&mut self, into: &mut [u8]) -> Result<usize, Failed> {
+        let has_room = !into.is_empty();
         let Some(stream) = &mut self.stream else {
             return Ok(0);
         };
         let answer = read_uninterrupted(stream, into);
-        if answer.is_err() {
-            self.faults = self.faults.saturating_add(1);
+        match answer {
+            Ok(count) => self.ended |= has_room && count == 0,
+            Err(Failed) => self.faults = self.faults.saturating_add(1),
         }
         answer
     }

@@ -8,13 +8,15 @@ pub record Taped : Type 0 where
   pub given : List ℕ
   pub left : List ℕ
 
--- a wire that fails only for want of room, or because it is closed; its calls are told while there is memory for them
+-- a wire that fails only for want of room, or because it is closed; its calls are told while there is memory for them;
+-- and whether a read told the end of what comes in
 pub record CalmLine : Type 0 where
   pub tape : Taped
   pub shelf : Shelved
   pub calls : Option (List WireCall)
   pub faults : ℕ
   pub closed : Bool
+  pub ended : Bool
 
 -- a wire that follows a script, and gives and takes at most so many bytes a call
 pub record ScriptedLine : Type 0 where
@@ -24,6 +26,7 @@ pub record ScriptedLine : Type 0 where
   pub calls : Option (List WireCall)
   pub piece : ℕ
   pub closed : Bool
+  pub ended : Bool
 
 -- the bytes that can be read yet: none where the wire is closed
 abbrev pub readable : Bool → Taped → List ℕ

@@ -1,7 +1,7 @@
-ghost use Rattle.std.specs.Prelude.{◌≡◌, ◌<◌, ◌≤◌, ◌↔◌, ◌⊎◌, [], ◌∷◌, true, false, Ok, Some, IsTrue, IsErr, IfOk, IfSome, length, min};
+ghost use Rattle.std.specs.Prelude.{◌≡◌, ◌<◌, ◌≤◌, ◌||◌, ◌↔◌, ◌⊎◌, [], ◌∷◌, true, false, Ok, Some, IsTrue, IsErr, IfOk, IfSome, length, min};
 ghost use Rattle.std.specs.Io.{ReadsAtMost, WritesAtMost};
 ghost use Rattle.std.specs.Io.KnownBytes.{ReadConsumes, WriteAppends};
-ghost use Rattle.outside_traits.specs.Calls.{Notes, moved};
+ghost use Rattle.outside_traits.specs.Calls.{Notes, moved, tells_end};
 ghost use Rattle.outside_traits.specs.declared.calls.WireCall.TheVariants.{Read, Wrote};
 ghost use Rattle.outside_traits.specs.Causes.{Rose, HasCause};
 ghost use Rattle.outside_traits.specs.Memory.{room_left};
@@ -23,6 +23,7 @@ pub struct CalmWire {
     calls: Calls,
     faults: u64,
     closed: bool,
+    ended: bool,
 }
 
 impl Model for CalmWire {
@@ -30,7 +31,7 @@ impl Model for CalmWire {
 
     ghost Value = { CalmLine };
 
-    ghost view = { λ w. record { tape = w.tape; shelf = w.shelf; calls = w.calls; faults = w.faults; closed = w.closed } };
+    ghost view = { λ w. record { tape = w.tape; shelf = w.shelf; calls = w.calls; faults = w.faults; closed = w.closed; ended = w.ended } };
 }
 
 impl CalmWire {
@@ -43,6 +44,7 @@ impl CalmWire {
         ensures calls { IfOk result (λ wire. wire.calls ≡ Some []) }
         ensures faults { IfOk result (λ wire. wire.faults ≡ 0) }
         ensures closed { IfOk result (λ wire. wire.closed ≡ false) }
+        ensures ended { IfOk result (λ wire. wire.ended ≡ false) }
     {
         let tape = Tape::new(alloc, bytes)?;
         let shelf = Shelf::new(alloc, room)?;
@@ -52,6 +54,7 @@ impl CalmWire {
             calls: Calls::new(alloc),
             faults: 0,
             closed: false,
+            ended: false,
         })
     }
 
@@ -85,6 +88,7 @@ impl CalmWire {
         ensures shelf { self.new.shelf ≡ self.old.shelf }
         ensures calls { Notes self.old.calls self.new.calls (Wrote 0 ∷ []) }
         ensures closed { self.new.closed ≡ self.old.closed }
+        ensures ended { self.new.ended ≡ self.old.ended }
     {
         self.calls.note(WireCall::Wrote(0));
         self.faults = self.faults.saturating_add(1);
@@ -105,6 +109,8 @@ impl Wire for CalmWire {
 
     ghost closed = { λ w. w.closed };
 
+    ghost ended = { λ w. w.ended };
+
     fn read(&mut self, into: &mut [u8]) -> Result<usize, Failed>
         ensures count { result ≡ Ok (min (length (readable self.old.closed self.old.tape)) (length into.old)) }
         ensures shelf { self.new.shelf ≡ self.old.shelf }
@@ -114,6 +120,7 @@ impl Wire for CalmWire {
         ensures taken { Some self.new.shelf.taken ≡ Some self.old.shelf.taken }
         ensures calls { Notes self.old.calls self.new.calls (Read (moved result) ∷ []) }
         ensures closed { self.new.closed ≡ self.old.closed }
+        ensures ended { self.new.ended ≡ (self.old.ended || tells_end self.old.closed (length into.old) result) }
         ensures shut { IsTrue self.old.closed → result ≡ Ok 0 }
         ensures cause { HasCause self.old.faults self.new.faults result }
     {
@@ -123,6 +130,7 @@ impl Wire for CalmWire {
         }
         let count = self.tape.give(into.len(), into);
         self.calls.note(WireCall::Read(count));
+        self.ended |= !into.is_empty() && count == 0;
         Ok(count)
     }
 
@@ -137,6 +145,7 @@ impl Wire for CalmWire {
         ensures left { Some (readable self.new.closed self.new.tape) ≡ Some (readable self.old.closed self.old.tape) }
         ensures calls { Notes self.old.calls self.new.calls (Wrote (moved result) ∷ []) }
         ensures closed { self.new.closed ≡ self.old.closed }
+        ensures ended { self.new.ended ≡ self.old.ended }
         ensures shut { IsTrue self.old.closed → IsErr result }
         ensures cause { HasCause self.old.faults self.new.faults result }
     {

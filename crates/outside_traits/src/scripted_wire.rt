@@ -1,7 +1,7 @@
-ghost use Rattle.std.specs.Prelude.{◌≡◌, ◌<◌, ◌↔◌, ◌⊎◌, [], ◌∷◌, true, false, Ok, Some, IsTrue, IsErr, IfOk, IfSome, Contains, length, min};
+ghost use Rattle.std.specs.Prelude.{◌≡◌, ◌<◌, ◌||◌, ◌↔◌, ◌⊎◌, [], ◌∷◌, true, false, Ok, Some, IsTrue, IsErr, IfOk, IfSome, Contains, length, min};
 ghost use Rattle.std.specs.Io.{ReadsAtMost, WritesAtMost};
 ghost use Rattle.std.specs.Io.KnownBytes.{ReadConsumes, WriteAppends};
-ghost use Rattle.outside_traits.specs.Calls.{Notes, moved};
+ghost use Rattle.outside_traits.specs.Calls.{Notes, moved, tells_end};
 ghost use Rattle.outside_traits.specs.declared.calls.WireCall.TheVariants.{Read, Wrote};
 ghost use Rattle.outside_traits.specs.Causes.{HasCause};
 ghost use Rattle.outside_traits.specs.Memory.{room_left, IsNext};
@@ -25,6 +25,7 @@ pub struct ScriptedWire {
     calls: Calls,
     piece: usize,
     closed: bool,
+    ended: bool,
 }
 
 impl Model for ScriptedWire {
@@ -33,7 +34,7 @@ impl Model for ScriptedWire {
 
     ghost Value = { ScriptedLine };
 
-    ghost view = { λ w. record { script = w.script; tape = w.tape; shelf = w.shelf; calls = w.calls; piece = w.piece; closed = w.closed } };
+    ghost view = { λ w. record { script = w.script; tape = w.tape; shelf = w.shelf; calls = w.calls; piece = w.piece; closed = w.closed; ended = w.ended } };
 
     ghost invariant = { λ w. 0 < w.piece };
 }
@@ -56,6 +57,7 @@ impl ScriptedWire {
         ensures calls { IfOk result (λ wire. wire.calls ≡ Some []) }
         ensures piece { IfOk result (λ wire. wire.piece ≡ piece) }
         ensures closed { IfOk result (λ wire. wire.closed ≡ false) }
+        ensures ended { IfOk result (λ wire. wire.ended ≡ false) }
     {
         let tape = Tape::new(alloc, bytes)?;
         let shelf = Shelf::new(alloc, room)?;
@@ -66,6 +68,7 @@ impl ScriptedWire {
             calls: Calls::new(alloc),
             piece,
             closed: false,
+            ended: false,
         })
     }
 
@@ -104,6 +107,8 @@ impl Wire for ScriptedWire {
 
     ghost closed = { λ w. w.closed };
 
+    ghost ended = { λ w. w.ended };
+
     // A closed wire does nothing with its script.
     fn read(&mut self, into: &mut [u8]) -> Result<usize, Failed>
         ensures scripted { self.old.closed ≡ false → (IsErr result ↔ Contains self.old.script.failing self.old.script.call) }
@@ -118,6 +123,7 @@ impl Wire for ScriptedWire {
         ensures taken { Some self.new.shelf.taken ≡ Some self.old.shelf.taken }
         ensures calls { Notes self.old.calls self.new.calls (Read (moved result) ∷ []) }
         ensures closed { self.new.closed ≡ self.old.closed }
+        ensures ended { self.new.ended ≡ (self.old.ended || tells_end self.old.closed (length into.old) result) }
         ensures shut { IsTrue self.old.closed → result ≡ Ok 0 }
         ensures cause { HasCause self.old.script.faults self.new.script.faults result }
     {
@@ -131,6 +137,7 @@ impl Wire for ScriptedWire {
         }
         let count = self.tape.give(self.piece, into);
         self.calls.note(WireCall::Read(count));
+        self.ended |= !into.is_empty() && count == 0;
         Ok(count)
     }
 
@@ -148,6 +155,7 @@ impl Wire for ScriptedWire {
         ensures left { Some (readable self.new.closed self.new.tape) ≡ Some (readable self.old.closed self.old.tape) }
         ensures calls { Notes self.old.calls self.new.calls (Wrote (moved result) ∷ []) }
         ensures closed { self.new.closed ≡ self.old.closed }
+        ensures ended { self.new.ended ≡ self.old.ended }
         ensures shut { IsTrue self.old.closed → IsErr result }
         ensures cause { HasCause self.old.script.faults self.new.script.faults result }
     {

@@ -1,8 +1,8 @@
-ghost use Rattle.std.specs.Prelude.{◌≡◌, ◌<◌, ◌≤◌, List, [], ◌∷◌, ℕ, Bool, true, length, take, Ok, IsTrue, IsErr, IfOk, IfSome};
+ghost use Rattle.std.specs.Prelude.{◌≡◌, ◌<◌, ◌≤◌, ◌||◌, List, [], ◌∷◌, ℕ, Bool, true, length, take, Ok, IsTrue, IsErr, IfOk, IfSome};
 ghost use Rattle.std.specs.declared.option.Option.{Option};
 ghost use Rattle.std.specs.Io.{ReadsAtMost, WritesAtMost};
 ghost use Rattle.std.specs.Io.KnownBytes.{ReadConsumes, WriteAppends, IsAtEnd};
-ghost use Rattle.outside_traits.specs.Calls.{Notes, moved};
+ghost use Rattle.outside_traits.specs.Calls.{Notes, moved, tells_end};
 ghost use Rattle.outside_traits.specs.declared.calls.WireCall.{WireCall};
 ghost use Rattle.outside_traits.specs.declared.calls.WireCall.TheVariants.{Read, Wrote};
 ghost use Rattle.outside_traits.specs.Causes.{HasCause, HasCallCause};
@@ -76,6 +76,9 @@ pub trait Wire {
     /// Whether the wire is closed.
     ghost closed: { Self → Bool };
 
+    /// Whether a read has told, before the wire was closed, that no more bytes come in.
+    ghost ended: { Self → Bool };
+
     /// The next bytes. With a buffer that is not empty, 0 comes at the end of input and only there.
     fn read(&mut self, into: &mut [u8]) -> Result<usize, Failed>
         ensures bound { ReadsAtMost result into.new }
@@ -85,6 +88,7 @@ pub trait Wire {
         ensures taken { taken self.new ≡ taken self.old }
         ensures calls { Notes (calls self.old) (calls self.new) (Read (moved result) ∷ []) }
         ensures closed { closed self.new ≡ closed self.old }
+        ensures ended { ended self.new ≡ (ended self.old || tells_end (closed self.old) (length into.old) result) }
         ensures shut { IsTrue (closed self.old) → result ≡ Ok 0 }
         ensures cause { HasCause (faults self.old) (faults self.new) result };
 
@@ -97,6 +101,7 @@ pub trait Wire {
         ensures left { left self.new ≡ left self.old }
         ensures calls { Notes (calls self.old) (calls self.new) (Wrote (moved result) ∷ []) }
         ensures closed { closed self.new ≡ closed self.old }
+        ensures ended { ended self.new ≡ ended self.old }
         ensures shut { IsTrue (closed self.old) → IsErr result }
         ensures cause { HasCause (faults self.old) (faults self.new) result };
 
@@ -107,5 +112,6 @@ pub trait Wire {
         ensures given { given self.new ≡ given self.old }
         ensures taken { taken self.new ≡ taken self.old }
         ensures calls { calls self.new ≡ calls self.old }
+        ensures ended { ended self.new ≡ ended self.old }
         ensures faults { faults self.new ≡ faults self.old };
 }

@@ -80,6 +80,7 @@ impl<H: Net + Clock + Copy + Drop> SocketDoor<H> {
         ensures failed { IfErr accepted (λ error. obstacle_of error ≡ Obstacles.Fault → IsErr result × (self.new.empty ≡ false)) }
         ensures occupied { IsOk accepted → self.new.empty ≡ false }
         ensures fresh { IfCame result (λ wire. IsFresh None None None wire.faults wire.closed) }
+        ensures unended { IfCame result (λ wire. wire.ended ≡ false) }
         ensures wires { self.new.counts.wires ≡ wires_after result self.old.counts.wires }
         ensures waits { self.new.counts.waits ≡ waits_after result self.old.counts.waits }
         ensures cause { HasCause self.old.counts.faults self.new.counts.faults result }
@@ -103,6 +104,7 @@ impl<H: Net + Clock + Copy + Drop> SocketDoor<H> {
         ensures want { obstacle ≡ Obstacles.Want → (result ≡ Ok Knock.NotYet) × (self.new.empty ≡ self.old.empty) }
         ensures failed { obstacle ≡ Obstacles.Fault → IsErr result × (self.new.empty ≡ self.old.empty) }
         ensures fresh { IfCame result (λ wire. IsFresh None None None wire.faults wire.closed) }
+        ensures unended { IfCame result (λ wire. wire.ended ≡ false) }
         ensures wires { self.new.counts.wires ≡ wires_after result self.old.counts.wires }
         ensures waits { self.new.counts.waits ≡ waits_after result self.old.counts.waits }
         ensures cause { HasCause self.old.counts.faults self.new.counts.faults result }
