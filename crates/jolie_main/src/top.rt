@@ -32,9 +32,9 @@ use term_turn::Seated;
 const MOST: u64 = 1_048_577;
 
 /// Does what the words of the command line say: `check FILE` says whether the file is a program, `explain FILE` says in
-/// words why it is none, `print FILE` prints its definitions, `run FILE` runs its services over the lines of the input, and
-/// `serve FILE` runs them over the connections that come in at the doors of their ports. Calls to services elsewhere go by
-/// the first link, and console output goes to the notes.
+/// words why it is none, or what is likely not meant in it, `print FILE` prints its definitions, `run FILE` runs its
+/// services over the lines of the input, and `serve FILE` runs them over the connections that come in at the doors of their
+/// ports. Calls to services elsewhere go by the first link, and console output goes to the notes.
 ///
 /// The status is 0 where all that was asked for was done, 1 for a usage error, 2 where the file can't be read, 3 for a
 /// file that is refused, 4 where the input failed, 5 where the output or the notes failed, 7 where a door could not be
