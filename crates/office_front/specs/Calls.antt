@@ -53,6 +53,7 @@ pub record Gives (parts : ProgramParts) (p : Posting) (before now : Brought) : T
   pub waits : now.waits ≡ 0
   pub ended : now.ended ≡ false
   pub faults : before.faults ≤ now.faults
+  pub seens : now.seens ≡ before.seens ++ now.seen ∷ []
 
 -- It gives none.
 pub record GivesNone (before now : Brought) : Type 0 where
@@ -60,6 +61,7 @@ pub record GivesNone (before now : Brought) : Type 0 where
   pub asked : now.asked ≡ before.asked
   pub left : (now.left ≡ before.left) ⊎ NoLongerTold before now
   pub faults : before.faults ≤ now.faults
+  pub seens : now.seens ≡ before.seens
 
 -- It has none yet, once more in a row.
 pub record Waits (before now : Brought) : Type 0 where

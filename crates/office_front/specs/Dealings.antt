@@ -10,8 +10,9 @@ pub record Asked : Type 0 where
   pub request : ℕ
 
 -- The postings that a front gave, each with whose request it is, and those that are left, where they are told; how
--- often in a row it had none yet; whether it ended; how often what it reads failed; and how many postings it had been
--- told of when it was asked last.
+-- often in a row it had none yet; whether it ended; how often what it reads failed; how many postings it had been told
+-- of when it was asked last; and for each posting that it gave, how many postings it had been told of when that was
+-- asked for.
 pub record Brought : Type 0 where
   pub given : List Posting
   pub asked : List Asked
@@ -20,6 +21,7 @@ pub record Brought : Type 0 where
   pub ended : Bool
   pub faults : ℕ
   pub seen : ℕ
+  pub seens : List ℕ
 
 -- what the calls of the posting of a place came to, in order; places are counted from 0
 pub record Told : Type 0 where
@@ -46,6 +48,7 @@ pub record IsNew (d : Dealings) : Type 0 where
   pub waits : d.brought.waits ≡ 0
   pub open_yet : d.brought.ended ≡ false
   pub unseen : d.brought.seen ≡ 0
+  pub unasked : d.brought.seens ≡ []
   pub told : d.said.told ≡ []
   pub noted : d.said.noted ≡ []
   pub writes : d.said.halted ≡ false
