@@ -275,6 +275,34 @@ there_later f g count same =
     new : nat_eq (suc count) (at_by g (suc count) count) ≡ not (g count count)
     new = ap (nat_eq (suc count)) (at_new g count) ∙ which (g count count)
 
+-- those that are finished before one of the postings stay so, one posting more
+pub before_more : (f g : ℕ → ℕ → Bool) (count j : ℕ) → AreAlike count f g → j ≤ count
+    → flat_map (there_by g (suc count)) (numbers_from 0 j) ≡ flat_map (there_by f count) (numbers_from 0 j)
+before_more f g count j same most =
+    flat_map_alike (there_by g (suc count)) (there_by f count) 0 j (λ i less. there_before f g count i same (lower i less))
+  where
+    lower : (i : ℕ) → i < 0 + j → i < count
+    lower i less = omega (arith, less, most)
+
+-- where no posting comes any more the same are finished at each
+there_same : (f g : ℕ → ℕ → Bool) (count i : ℕ) → AreAlike count f g → there_by f count i ≡ there_by g count i
+there_same f g count i same =
+    filter_alike (λ j. nat_eq i (at_by f count j)) (λ j. nat_eq i (at_by g count j)) 0 count
+    (λ j less. ap (nat_eq i) (at_same j (below_zero count j less)))
+  where
+    whole : (j : ℕ) → j < count → j + (count - j) ≡ count
+    whole j below = omega (arith, below)
+
+    at_same : (j : ℕ) → j < count → at_by f count j ≡ at_by g count j
+    at_same j below =
+        least_alike (f j) (g j) j (count - j) (λ k less. same j k below (subst (λ n. k < n) (whole j below) less))
+
+-- and so are those before one of them
+pub before_same : (f g : ℕ → ℕ → Bool) (count j : ℕ) → AreAlike count f g
+    → flat_map (there_by f count) (numbers_from 0 j) ≡ flat_map (there_by g count) (numbers_from 0 j)
+before_same f g count j same =
+    flat_map_alike (there_by f count) (there_by g count) 0 j (λ i less. there_same f g count i same)
+
 -- What is told and what is not yet, by a table: those that are finished at one of so many postings, in order, and the
 -- others.
 pub record InOrderBy (f : ℕ → ℕ → Bool) (count : ℕ) (said open_yet : List ℕ) : Type 0 where
@@ -294,11 +322,12 @@ in_order_next f g count told pending same o = record {
   pending = ap (λ l. filter (λ j. not (g j count)) (l ++ count ∷ [])) o.pending ∙ sym (there_later f g count same);
 }
   where
+    enough : count ≤ count
+    enough = omega arith
+
     before : flat_map (there_by g (suc count)) (numbers_from 0 count)
         ≡ flat_map (there_by f count) (numbers_from 0 count)
-    before =
-        flat_map_alike (there_by g (suc count)) (there_by f count) 0 count
-        (λ i less. there_before f g count i same (below_zero count i less))
+    before = before_more f g count count same enough
 
     number : 0 + count ≡ count
     number = omega arith
@@ -314,20 +343,7 @@ in_order_next f g count told pending same o = record {
 -- at the end those that were told are those that are finished before it
 pub in_order_early : (f g : ℕ → ℕ → Bool) (count : ℕ) (told pending : List ℕ) → AreAlike count f g
     → InOrderBy f count told pending → told ≡ flat_map (there_by g count) (numbers_from 0 count)
-in_order_early f g count told pending same o =
-    o.told ∙ flat_map_alike (there_by f count) (there_by g count) 0 count (λ i less. alike i)
-  where
-    whole : (j : ℕ) → j < count → j + (count - j) ≡ count
-    whole j below = omega (arith, below)
-
-    at_same : (j : ℕ) → j < count → at_by f count j ≡ at_by g count j
-    at_same j below =
-        least_alike (f j) (g j) j (count - j) (λ i less. same j i below (subst (λ n. i < n) (whole j below) less))
-
-    alike : (i : ℕ) → there_by f count i ≡ there_by g count i
-    alike i =
-        filter_alike (λ j. nat_eq i (at_by f count j)) (λ j. nat_eq i (at_by g count j)) 0 count
-        (λ j less. ap (nat_eq i) (at_same j (below_zero count j less)))
+in_order_early f g count told pending same o = o.told ∙ before_same f g count count same
 
 -- at the end the others are told behind them
 pub in_order_ends : (f g : ℕ → ℕ → Bool) (count : ℕ) (told pending : List ℕ) → AreAlike count f g
@@ -335,7 +351,7 @@ pub in_order_ends : (f g : ℕ → ℕ → Bool) (count : ℕ) (told pending : L
     → told ++ pending ≡ flat_map (there_by g count) (numbers_from 0 (suc count))
 in_order_ends f g count told pending same o =
     (λ k. o.told k ++ o.pending k)
-    ∙ (λ k. flat_map_alike (there_by f count) (there_by g count) 0 count (λ i less. alike i) k ++ alike count k)
+    ∙ (λ k. before_same f g count count same k ++ there_same f g count count same k)
     ∙ sym
     (ap (flat_map (there_by g count)) (numbers_more 0 count ∙ ap (λ n. numbers_from 0 count ++ n ∷ []) number)
     ∙ flat_map_append (there_by g count) (numbers_from 0 count) (count ∷ [])
@@ -343,15 +359,3 @@ in_order_ends f g count told pending same o =
   where
     number : 0 + count ≡ count
     number = omega arith
-
-    whole : (j : ℕ) → j < count → j + (count - j) ≡ count
-    whole j below = omega (arith, below)
-
-    at_same : (j : ℕ) → j < count → at_by f count j ≡ at_by g count j
-    at_same j below =
-        least_alike (f j) (g j) j (count - j) (λ i less. same j i below (subst (λ n. i < n) (whole j below) less))
-
-    alike : (i : ℕ) → there_by f count i ≡ there_by g count i
-    alike i =
-        filter_alike (λ j. nat_eq i (at_by f count j)) (λ j. nat_eq i (at_by g count j)) 0 count
-        (λ j less. ap (nat_eq i) (at_same j (below_zero count j less)))

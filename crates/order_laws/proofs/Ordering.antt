@@ -25,7 +25,7 @@ use Rattle.order_laws.proofs.Growing.{past_then, entries_past, message_then, leg
 use Rattle.order_laws.proofs.Staying.{adds_none, answers_same_all, messages_same_all}
 use Rattle.order_laws.proofs.Posting.{posts_under, lt_is, lt_true}
 use Rattle.order_laws.proofs.Accepting.{posted_there}
-use Rattle.order_laws.proofs.Least.{AreAlike, InOrderBy, in_order_next, in_order_early, in_order_ends}
+use Rattle.order_laws.proofs.Least.{AreAlike, InOrderBy, before_more, before_same, in_order_next, in_order_early, in_order_ends}
 
 -- ---- the entries before the first of a kind
 
@@ -318,6 +318,22 @@ pub order_early : (w : Setting) (h more : List Entry) (count : ℕ) (said open_y
 order_early w h more count said open_yet g o =
     in_order_early (is_finished w (past_of w h) first_worker) (is_finished w (past_of w (h ++ more)) first_worker)
     count said open_yet (finished_stays w h more count g) (record { told = o.told; pending = o.pending })
+
+-- Those that are finished before one of the postings stay so, one posting more.
+pub before_goes_on : (w : Setting) (h more : List Entry) (count j : ℕ) → Grows w h more count → j ≤ count
+    → flat_map (finished_there w (past_of w (h ++ more)) first_worker (suc count)) (numbers_from 0 j)
+    ≡ flat_map (finished_there w (past_of w h) first_worker count) (numbers_from 0 j)
+before_goes_on w h more count j g most =
+    before_more (is_finished w (past_of w h) first_worker) (is_finished w (past_of w (h ++ more)) first_worker) count j
+    (finished_stays w h more count g) most
+
+-- And so they do at the end.
+pub before_ends : (w : Setting) (h more : List Entry) (count j : ℕ) → Grows w h more count
+    → flat_map (finished_there w (past_of w h) first_worker count) (numbers_from 0 j)
+    ≡ flat_map (finished_there w (past_of w (h ++ more)) first_worker count) (numbers_from 0 j)
+before_ends w h more count j g =
+    before_same (is_finished w (past_of w h) first_worker) (is_finished w (past_of w (h ++ more)) first_worker) count j
+    (finished_stays w h more count g)
 
 -- ---- what comes with a posting
 
