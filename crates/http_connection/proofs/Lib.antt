@@ -2,3 +2,4 @@ pub mod Histories
 pub mod Passing
 pub mod Words
 pub mod Calls
+pub mod Ends

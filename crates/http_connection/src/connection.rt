@@ -1,5 +1,5 @@
 //! A connection, from its first byte until it is over.
-ghost use Rattle.std.specs.Prelude.{◌≡◌, ◌++◌, ◌∷◌, [], false, List, ℕ, Option, option_copied, IfOk, MatchResult};
+ghost use Rattle.std.specs.Prelude.{◌≡◌, ◌++◌, ◌∷◌, [], true, false, List, ℕ, Option, option_copied, IfOk, MatchResult};
 ghost use Rattle.http_port.specs.Talk.{answer as answer_text};
 ghost use Rattle.http_connection.specs.Stages.{stage_of, is_waiting, MayBeAsked, MayBeTold, IsBehindAsking, IsBehindTelling};
 ghost use Rattle.http_connection.specs.Seen.{Line, line_of, seen};
@@ -63,7 +63,8 @@ impl<W: Wire> Connection<W> {
     }
 
     /// Reads on until the next request is whole, and hands out its body; none where no request comes any more. A request
-    /// that is whole already is handed out without a call of the wire. After want of memory nothing was handed out.
+    /// that is whole already is handed out without a call of the wire. After want of memory nothing was handed out. A
+    /// connection that was made with an open wire stands as ended only where a read told the end of what comes in.
     pub fn next_request(&mut self) -> Result<Option<Bytes>, AllocError>
         requires { MayBeAsked (stage_of self.old.kept.next) }
         ensures talks { (first : Line) (bodies : List (List ℕ)) (texts : List (Option (List ℕ)))
@@ -78,6 +79,9 @@ impl<W: Wire> Connection<W> {
             → IsPrompt (W.calls self.old.wire) (W.calls self.new.wire)
             (log self.old.kept.read.items self.old.kept.written.items bodies texts)
             (log self.new.kept.read.items self.new.kept.written.items bodies texts) }
+        ensures ended { (first : Line) (bodies : List (List ℕ)) (texts : List (Option (List ℕ)))
+            → IsTalking first (seen self.old.kept (line_of (W.given self.old.wire) (W.left self.old.wire) (W.taken self.old.wire) (W.faults self.old.wire) (W.closed self.old.wire))) bodies texts
+            → first.closed ≡ false → stage_of self.new.kept.next ≡ Stages.Ended → W.ended self.new.wire ≡ true }
     {
         if !self.kept.waits() {
             return self.kept.hand_out();

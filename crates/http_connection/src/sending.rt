@@ -48,6 +48,7 @@ pub(crate) fn finish<W: Wire>(wire: &mut W, kept: &mut Kept, ending: Ending)
         (seen kept.old (line_of (W.given wire.old) (W.left wire.old) (W.taken wire.old) (W.faults wire.old) (W.closed wire.old)))
         (seen kept.new (line_of (W.given wire.new) (W.left wire.new) (W.taken wire.new) (W.faults wire.new) (W.closed wire.new))) }
     ensures wrote { OnlyWrites (W.calls wire.old) (W.calls wire.new) kept.old.written.items kept.new.written.items }
+    ensures ended { W.ended wire.new ≡ W.ended wire.old }
 {
     wire.close();
     kept.stand(Standing::Over(ending));

@@ -1,11 +1,12 @@
 //! What a connection does for the bytes that come.
-ghost use Rattle.std.specs.Prelude.{◌≡◌, false, List, ℕ, Option, OnErr, MatchResult};
+ghost use Rattle.std.specs.Prelude.{◌≡◌, true, false, List, ℕ, Option, OnErr, MatchResult};
 ghost use Rattle.http_port.specs.declared.head_reader.Fed.TheVariants as Gives;
 ghost use Rattle.http_connection.specs.Stages.{stage_of, IsBehindTelling};
 ghost use Rattle.http_connection.specs.Seen.{Line, line_of, seen};
 ghost use Rattle.http_connection.specs.Talking.{log, IsTalking};
 ghost use Rattle.http_connection.specs.Prompt.{OnlyWrites};
 ghost use Rattle.http_connection.specs.Steps.{IsGoing, IsFed, is_interim, Called};
+ghost use Rattle.http_connection.specs.declared.stage.Stage.TheVariants as Stages;
 ghost use Rattle.http_connection.specs.declared.stage.Standing.TheVariants as Stands;
 
 use crate::kept::Kept;
@@ -33,6 +34,9 @@ pub(crate) fn settle<W: Wire>(wire: &mut W, kept: &mut Kept) -> Result<(), Alloc
         → Called (W.calls wire.old) (W.calls wire.new)
         (log kept.old.read.items kept.old.written.items bodies texts)
         (log kept.new.read.items kept.new.written.items bodies texts) }
+    ensures ended { (first : Line) (bodies : List (List ℕ)) (texts : List (Option (List ℕ)))
+        → IsTalking first (seen kept.old (line_of (W.given wire.old) (W.left wire.old) (W.taken wire.old) (W.faults wire.old) (W.closed wire.old))) bodies texts
+        → first.closed ≡ false → stage_of kept.new.next ≡ Stages.Ended → W.ended wire.new ≡ true }
 {
     for _ in 0..u64::MAX {
         read_on(wire, kept)?;
@@ -56,6 +60,9 @@ fn read_on<W: Wire>(wire: &mut W, kept: &mut Kept) -> Result<(), AllocError>
         → Called (W.calls wire.old) (W.calls wire.new)
         (log kept.old.read.items kept.old.written.items bodies texts)
         (log kept.new.read.items kept.new.written.items bodies texts) }
+    ensures ended { (first : Line) (bodies : List (List ℕ)) (texts : List (Option (List ℕ)))
+        → IsTalking first (seen kept.old (line_of (W.given wire.old) (W.left wire.old) (W.taken wire.old) (W.faults wire.old) (W.closed wire.old))) bodies texts
+        → first.closed ≡ false → stage_of kept.new.next ≡ Stages.Ended → W.ended wire.new ≡ true }
 {
     kept.stand(Standing::Spent);
     kept.read.reserve(CHUNK)?;

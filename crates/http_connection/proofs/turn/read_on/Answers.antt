@@ -9,6 +9,7 @@ use Rattle.http_connection.specs.declared.stage.Standing.TheVariants as Stands
 use Rattle.http_connection.specs.Seen.{line_of, seen}
 use Rattle.http_connection.proofs.Passing.{waiting_spent, waiting_fed, read_going, read_ended, read_failed, err_only}
 use Rattle.http_connection.proofs.Words.{done_so}
+use Rattle.http_connection.proofs.Ends.{spent_unended, failed_unended, going_unended, read_tells}
 use Rattle.http_connection.proofs.Calls.{called_nothing, called_on, called_read, called_writes}
 use Rattle.http_connection.proofs.turn.read_on.Goals as goal
 
@@ -111,3 +112,19 @@ returns-in-Err-clause-called g c = λ first bodies texts h.
     called_on (calls c.args.wire.now) (calls c.read.new.self) (calls c.finish-in-Err.new.wire) was mid is refl refl
     (called_read (calls c.args.wire.now) (calls c.read.new.self) was mid [] 0 c.in-Err.ensures.calls refl (search rules) c.stand.ensures.written (done_so c.args.kept.now.reader was (waiting_fed first (seen c.args.kept.now (line_of (g.W.Wire.given c.args.wire.now) (g.W.Wire.left c.args.wire.now) (g.W.Wire.taken c.args.wire.now) (g.W.Wire.faults c.args.wire.now) (g.W.Wire.closed c.args.wire.now))) bodies texts h c.requires).given))
     (called_writes (calls c.read.new.self) (calls c.finish-in-Err.new.wire) mid is c.finish-in-Err.ensures.wrote c.finish-in-Err.ensures.finishes.read)
+
+pub returns-in_err-reserve-clause-ended : goal.returns-in_err-reserve-clause-ended
+returns-in_err-reserve-clause-ended g c = λ first bodies texts h o e. absurd (spent_unended c.stand.new.self.next c.stand.ensures.next e)
+
+pub returns-in-Ok-eq0-clause-ended : goal.returns-in-Ok-eq0-clause-ended
+returns-in-Ok-eq0-clause-ended g c = λ first bodies texts h o e.
+    let ended = g.W.Wire.ended in
+    c.finish.ensures.ended
+    ∙ read_tells first (seen c.args.kept.now (line_of (g.W.Wire.given c.args.wire.now) (g.W.Wire.left c.args.wire.now) (g.W.Wire.taken c.args.wire.now) (g.W.Wire.faults c.args.wire.now) (g.W.Wire.closed c.args.wire.now))) bodies texts h c.requires o
+    (ended c.args.wire.now) (ended c.read.new.self) 4096 c.in-Ok-eq0.field-0 c.in-Ok-eq0.ensures.ended refl c.in-Ok-eq0.field-0-test
+
+pub returns-in-Ok-clause-ended : goal.returns-in-Ok-clause-ended
+returns-in-Ok-clause-ended g c = λ first bodies texts h o e. absurd (going_unended c.go_on.result c.go_on.new.kept.next c.go_on.ensures.next e)
+
+pub returns-in-Err-clause-ended : goal.returns-in-Err-clause-ended
+returns-in-Err-clause-ended g c = λ first bodies texts h o e. absurd (failed_unended c.finish-in-Err.new.kept.next c.finish-in-Err.ensures.finishes.next e)

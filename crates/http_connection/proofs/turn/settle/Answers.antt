@@ -4,6 +4,7 @@ use Rattle.http_connection.specs.Seen.{line_of, seen}
 use Rattle.http_connection.specs.Talking.{log}
 use Rattle.http_connection.proofs.Passing.{waiting_spent, waits_where}
 use Rattle.http_connection.proofs.Calls.{called_nothing, called_on}
+use Rattle.http_connection.proofs.Ends.{spent_unended}
 use Rattle.http_connection.proofs.turn.settle.Goals as goal
 
 pub loop-init : goal.loop-init
@@ -54,3 +55,12 @@ returns-clause-called g c = λ first bodies texts h.
     let calls = g.W.Wire.calls in
     called_on (calls c.args.wire.now) (calls c.loop.wire) (calls c.loop.wire) (log c.args.kept.now.read.items c.args.kept.now.written.items bodies texts) (log c.loop.kept.read.items c.loop.kept.written.items bodies texts) (log c.stand.new.self.read.items c.stand.new.self.written.items bodies texts) refl refl (c.loop.invariant.called first bodies texts h)
     (called_nothing (calls c.loop.wire) (calls c.loop.wire) (log c.loop.kept.read.items c.loop.kept.written.items bodies texts) (log c.stand.new.self.read.items c.stand.new.self.written.items bodies texts) refl c.stand.ensures.read c.stand.ensures.written)
+
+pub returns-in_err-read_on-clause-ended : goal.returns-in_err-read_on-clause-ended
+returns-in_err-read_on-clause-ended g c = λ first bodies texts h. c.in_err-read_on.ensures.ended first bodies texts (c.loop.invariant.talks first bodies texts h)
+
+pub returns-then-not-waits-clause-ended : goal.returns-then-not-waits-clause-ended
+returns-then-not-waits-clause-ended g c = λ first bodies texts h. c.in_ok-read_on.ensures.ended first bodies texts (c.loop.invariant.talks first bodies texts h)
+
+pub returns-clause-ended : goal.returns-clause-ended
+returns-clause-ended g c = λ first bodies texts h o e. absurd (spent_unended c.stand.new.self.next c.stand.ensures.next e)

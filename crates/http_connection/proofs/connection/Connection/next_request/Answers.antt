@@ -6,6 +6,8 @@ use Rattle.http_connection.specs.Seen.{line_of, seen}
 use Rattle.http_connection.specs.Talking.{log, IsTalking, handed}
 use Rattle.http_connection.proofs.Passing.{hands_out, stands_then, at_error, waits_where}
 use Rattle.http_connection.proofs.Calls.{called_nothing, called_on, is_prompt}
+use Rattle.http_connection.specs.Stages.{stage_of}
+use Rattle.http_connection.proofs.Ends.{asked_unended, ended_before}
 use Rattle.http_connection.proofs.connection.Connection.next_request.Goals as goal
 
 pub returns-then-not-waits-clause-talks : goal.returns-then-not-waits-clause-talks
@@ -51,3 +53,14 @@ returns-clause-prompt g c = λ first bodies texts h.
     is_prompt (calls c.args.self.now.wire) (calls c.settle.new.wire) (log c.args.self.now.kept.read.items c.args.self.now.kept.written.items bodies texts) (log c.hand_out-2.new.self.read.items c.hand_out-2.new.self.written.items bodies texts)
     (called_on (calls c.args.self.now.wire) (calls c.settle.new.wire) (calls c.settle.new.wire) (log c.args.self.now.kept.read.items c.args.self.now.kept.written.items bodies texts) (log c.settle.new.kept.read.items c.settle.new.kept.written.items bodies texts) (log c.hand_out-2.new.self.read.items c.hand_out-2.new.self.written.items bodies texts) refl refl (c.in_ok-settle.ensures.called first bodies texts h)
     (called_nothing (calls c.settle.new.wire) (calls c.settle.new.wire) (log c.settle.new.kept.read.items c.settle.new.kept.written.items bodies texts) (log c.hand_out-2.new.self.read.items c.hand_out-2.new.self.written.items bodies texts) refl c.hand_out-2.ensures.read c.hand_out-2.ensures.written))
+
+pub returns-then-not-waits-clause-ended : goal.returns-then-not-waits-clause-ended
+returns-then-not-waits-clause-ended g c = λ first bodies texts h o e.
+    absurd (asked_unended (stage_of c.args.self.now.kept.next) c.requires (ended_before c.args.self.now.kept.next c.hand_out.new.self.next c.hand_out.result c.hand_out.ensures.handed e))
+
+pub returns-in_err-settle-clause-ended : goal.returns-in_err-settle-clause-ended
+returns-in_err-settle-clause-ended g c = λ first bodies texts h. c.in_err-settle.ensures.ended first bodies texts h
+
+pub returns-clause-ended : goal.returns-clause-ended
+returns-clause-ended g c = λ first bodies texts h o e.
+    c.in_ok-settle.ensures.ended first bodies texts h o (ended_before c.settle.new.kept.next c.hand_out-2.new.self.next c.hand_out-2.result c.hand_out-2.ensures.handed e)
