@@ -1,2 +1,4 @@
+pub mod Alike
 pub mod Born
+pub mod First
 pub mod Found

@@ -3,4 +3,4 @@
 
 mod laws;
 
-pub use laws::routed_messages_find_room;
+pub use laws::{first_values_are_bound, routed_messages_find_room};
