@@ -1,5 +1,5 @@
 -- What a widened tree has at a path is equal by `==` to what the tree has there.
-use Rattle.std.proofs.Common.{◌≡◌, ℕ, zero, suc, ℤ, Bool, true, false, List, [], ◌∷◌, length, map, refl, Option, None, Some, option_map}
+use Rattle.std.proofs.Common.{◌≡◌, ℕ, ℤ, Bool, true, false, List, [], ◌∷◌, length, map, refl, Option, None, Some, option_map}
 use Rattle.std.specs.Prelude.{bytes_eq, option_and_then, if◌then◌else◌}
 use Rattle.jolie_trees.specs.Data.{Tree, node, Fields, no_fields, field, Trees, no_trees, tree}
 use Rattle.jolie_trees.specs.Trees.{root_of, under, nth, get}
@@ -52,7 +52,8 @@ first_at path ts = option_map root_of (option_and_then (get (map step_to path)) 
 abbrev StaysAlike : List TypeTree → List (List ℕ) → Type 0
 StaysAlike types path = (t : Tree) (ty : TypeTree) → AreAlike (value_at t path) (value_at (wide types t ty) path)
 
-members_alike : (types : List TypeTree) (path : List (List ℕ)) → StaysAlike types path → (ts : Trees) (o : Option TypeTree)
+members_alike : (types : List TypeTree) (path : List (List ℕ)) → StaysAlike types path
+    → (ts : Trees) (o : Option TypeTree)
     → AreAlike (first_at path ts) (first_at path (wide_members types ts o))
 members_alike types path each no_trees o = tt
 members_alike types path each (tree t ts) None = themselves (value_at t path)
@@ -86,7 +87,8 @@ node_alike : (types : List TypeTree) (name : List ℕ) (path : List (List ℕ)) 
     → StaysAlike types (name ∷ path)
 node_alike types name path each (node r fs) ty = by (shape types (length types) ty)
   where
-    by : (o : Option TypeTree) → AreAlike (value_at (node r fs) (name ∷ path)) (value_at (wide_at types r fs o) (name ∷ path))
+    by : (o : Option TypeTree)
+        → AreAlike (value_at (node r fs) (name ∷ path)) (value_at (wide_at types r fs o) (name ∷ path))
     by None = themselves (value_at (node r fs) (name ∷ path))
     by (Some (plain k fields)) = children_alike types name path each fs fields
     by (Some (named i)) = themselves (value_at (node r fs) (name ∷ path))

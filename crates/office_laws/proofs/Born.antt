@@ -1,13 +1,10 @@
 -- Messages go to sessions that were born, so that the box of the next one is empty.
-use Rattle.std.proofs.Common.{◌≡◌, ◌<◌, ◌⊎◌, inl, inr, ℕ, zero, suc, Bool, true, false, not, ◌&&◌, List, [], ◌∷◌, ◌++◌, length, refl, sym, ap, subst, ◌∙◌, Option, None, Some, is_some, true≢false, append_assoc, arith}
+use Rattle.std.proofs.Common.{◌≡◌, ◌<◌, ◌⊎◌, inl, inr, ℕ, zero, suc, true, false, not, ◌&&◌, List, [], ◌∷◌, ◌++◌, length, refl, sym, ap, subst, ◌∙◌, Option, None, Some, is_some, true≢false, append_assoc, arith}
 use Rattle.std.specs.Prelude.{nat_eq, nat_le, slice_get, option_and_then, take, if◌then◌else◌}
 use Rattle.std.specs.List.{list_any, filter_map, cons_option}
 use Rattle.std.proofs.lemmas.Bool.Decides.{nat_tests}
 use Rattle.std.proofs.lemmas.List.Elements.{filter_map-append}
-use Rattle.behaviour_tree.specs.Data.{ProgramParts}
-use Rattle.post_box.specs.declared.mailbox.Waiting.{Waiting}
 use Rattle.post_box.specs.Oldest.{waiting}
-use Rattle.post_box.specs.Refusals.{HasRoom}
 use Rattle.post_box.specs.View.{box_of}
 use Rattle.reqresp_book.specs.declared.origin.Origin.{Origin}
 use Rattle.office_core.specs.declared.history.Entry.{Entry}
@@ -19,10 +16,7 @@ use Rattle.office_core.specs.Sessions.{singles_from, started_by, births, service
 use Rattle.office_core.specs.Boxes.{taken, box}
 use Rattle.office_core.specs.Route.{Way, to_session, to_new, refused_for, Asked, asked_of, route}
 use Rattle.office_core.specs.Accepted.{handed_in, origin_of, message_to, message_on, message_of, accepted_in, with_message, then_one, then_all, past_of}
-use Rattle.office_core.specs.Legal.{IsLegal}
 use Rattle.office_core.proofs.Unborn.{unborn_idle}
-use Rattle.office_kept.specs.declared.kept.Kept.{Kept}
-use Rattle.office_kept.specs.Ties.{Ties}
 use Rattle.office_kept.specs.Waits.{waiting_from, waiting_for}
 use Rattle.office_kept.proofs.Births.{none_at_end}
 use Rattle.office_kept.proofs.Lists.{same_of, none_not_some, not_eq}
@@ -30,7 +24,7 @@ use Rattle.office_kept.proofs.Routed.{goes_to, comes}
 use Rattle.office_kept.proofs.Unseen.{last_there}
 use Rattle.office_kept.proofs.Waiting.{box_count}
 use Rattle.office_laws.specs.Laws.{FindsRoom}
-use Rattle.office_laws.proofs.Found.{Finds, route_finds}
+use Rattle.office_laws.proofs.Found.{route_finds}
 
 -- ---- lists
 

@@ -16,22 +16,20 @@ use Rattle.correlation.specs.declared.bind_reply.BindReply.TheVariants as reply
 use Rattle.correlation.specs.declared.session.Written.{Written}
 use Rattle.correlation.specs.Sessions as rows
 use Rattle.reqresp_book.specs.declared.origin.Origin.{Origin}
-use Rattle.office_core.specs.declared.history.Act.TheVariants as act
 use Rattle.office_core.specs.declared.history.Entry.{Entry}
 use Rattle.office_core.specs.declared.message.Message.{Message}
 use Rattle.office_core.specs.declared.post.Posted.{Posted}
 use Rattle.office_core.specs.Limits.{Setting}
-use Rattle.office_core.specs.Past.{Past, some_entry}
+use Rattle.office_core.specs.Past.{Past}
 use Rattle.office_core.specs.Sessions.{singles_from, started_by, births, service_of, has_ended, ends}
 use Rattle.office_core.specs.Boxes.{box}
-use Rattle.office_core.specs.Keys.{first, all_there, Variable, sets_of, alias_of, value_of, value_at, is_in, named_by, are_equal, brought_by, bound_by, written, key, has_key, session_from, session_of, holder}
-use Rattle.office_core.specs.Route.{Way, to_session, to_new, refused_for, Asked, asked_at, asked_of, is_full, into_box, begins, named_in, named_session, is_starting, to_single, to_named, to_one, admitted, route}
+use Rattle.office_core.specs.Keys.{first, all_there, Variable, sets_of, alias_of, value_of, value_at, is_in, are_equal, brought_by, bound_by, written, key, has_key, session_from, session_of, holder}
+use Rattle.office_core.specs.Route.{Way, to_session, to_new, refused_for, Asked, asked_at, asked_of, is_full, into_box, named_in, named_session, to_single, to_named, to_one, admitted, route}
 use Rattle.office_core.specs.Accepted.{message_to, message_on, message_of, past_of, then_one}
-use Rattle.office_core.specs.Bound.{Binding, sets_with, was_written, written_then, held_in, bind_reply}
+use Rattle.office_core.specs.Bound.{sets_with, was_written, written_then, held_in, bind_reply}
 use Rattle.office_core.specs.Legal.{IsLegal}
 use Rattle.office_core.proofs.Longer.{some_same}
-use Rattle.office_core.proofs.Unborn.{IsIdle, unborn_idle}
-use Rattle.office_kept.specs.Kept.{variables_of, written_in}
+use Rattle.office_core.proofs.Unborn.{unborn_idle}
 use Rattle.office_kept.proofs.Births.{none_at_end}
 use Rattle.office_kept.proofs.Idle.{unborn_writes}
 use Rattle.office_kept.proofs.Keyed.{AreNumbered, bound_values, given_at, given_to, in_all, numbered_all, or_else, value_of-append}
@@ -118,7 +116,8 @@ all_none {B = B} f (y ∷ xs) i x h there = by (f y) refl h i there (λ j. all_n
 -- ---- what variables are given, each once
 
 given_else : (o : Option Root) (number n : ℕ) (ws : List Written) → nat_eq number n ≡ false
-    → rows.value_of (cons_option (option_map (λ x. record { variable = number; value = x }) o) ws) n ≡ rows.value_of ws n
+    → rows.value_of (cons_option (option_map (λ x. record { variable = number; value = x }) o) ws) n
+    ≡ rows.value_of ws n
 given_else None number n ws h = refl
 given_else (Some x) number n ws h = ap (λ b. if b then Some x else rows.value_of ws n) h
 
@@ -159,8 +158,8 @@ stands_behind us x xs none =
     ∙ ap (λ b. if b then Some x.value else rows.value_of xs x.variable) (itself x.variable)
 
 -- a value is of another variable than those before it
-new_to : (f : Variable → Option Root) (base : ℕ) (vs : List Variable) (us : List Written) (x : Written) (xs : List Written)
-    → AreNumbered base vs → filter_map (given_to f) vs ≡ us ++ x ∷ xs → rows.value_of us x.variable ≡ None
+new_to : (f : Variable → Option Root) (base : ℕ) (vs : List Variable) (us : List Written) (x : Written)
+    (xs : List Written) → AreNumbered base vs → filter_map (given_to f) vs ≡ us ++ x ∷ xs → rows.value_of us x.variable ≡ None
 new_to f base vs [] x xs numbered h = refl
 new_to f base [] (u ∷ us) x xs numbered h = absurd (nil_not_cons u (us ++ x ∷ xs) h)
 new_to f base (v ∷ vs) (u ∷ us) x xs numbered h =
@@ -360,13 +359,19 @@ session_from_same d f g s (e ∷ ds) each =
 abbrev is_there : (List Root → Bool) → Option (List Root) → Bool
 is_there is_it o = elim o [ None ↦ false | Some k ↦ is_it k ]
 
+-- values that equal the same keys are the key of the same session
+holder_alike : (w : Setting) (past : Past) (d : ℕ) (set : List Variable) (xs ys : List Root)
+    → ((k : List Root) → are_equal k xs ≡ are_equal k ys) → holder w past d set ys ≡ holder w past d set xs
+holder_alike w past d set xs ys equal =
+    session_from_same d (has_key w past set ys) (has_key w past set xs) 0 (births w past)
+    (λ t less i. not (has_ended past t) && is_there (λ k. sym (equal k) i) (key w past t set))
+
 -- what is bound of a session that is not born gives nobody a key
-holder_same : (w : Setting) (past now : Past) (us : List Written) (d : ℕ) (set : List Variable) (xs ys : List Root)
-    → Binds w past now (length (births w past)) us → ((k : List Root) → are_equal k xs ≡ are_equal k ys)
-    → holder w now d set ys ≡ holder w past d set xs
-holder_same w past now us d set xs ys b equal =
-    ap (session_from d (has_key w now set ys) 0) born
-    ∙ session_from_same d (has_key w now set ys) (has_key w past set xs) 0 (births w past) same_keys
+holder_bound : (w : Setting) (past now : Past) (us : List Written) (d : ℕ) (set : List Variable) (values : List Root)
+    → Binds w past now (length (births w past)) us → holder w now d set values ≡ holder w past d set values
+holder_bound w past now us d set values b =
+    ap (session_from d (has_key w now set values) 0) born
+    ∙ session_from_same d (has_key w now set values) (has_key w past set values) 0 (births w past) same_keys
   where
     born : births w now ≡ births w past
     born =
@@ -375,10 +380,10 @@ holder_same w past now us d set xs ys b equal =
     apart : (t l : ℕ) → t < 0 + l → t ≢ l
     apart t l h e = omega arith
 
-    same_keys : (t : ℕ) → t < 0 + length (births w past) → has_key w now set ys t ≡ has_key w past set xs t
+    same_keys : (t : ℕ) → t < 0 + length (births w past) → has_key w now set values t ≡ has_key w past set values t
     same_keys t less =
         λ i. not (b.ended t i)
-        && is_there (λ k. sym (equal k) i)
+        && is_there (λ k. are_equal k values)
         (all_there (map (λ v. b.others t v (apart t (length (births w past)) less) i) set))
 
 -- ---- the message
@@ -436,10 +441,10 @@ new_unnamed w past q a asked h = full (is_full w past q.value) h
         (ap (λ o. is_new (admitted w past o)) (sym asked) ∙ g)
 
 -- what a message asks for is of the program, and it names no session
-record Begins (w : Setting) (past : Past) (a : Asked) : Type 0 where
-  service : slice_get w.parts.services a.number ≡ Some a.service
-  operation : operation_at w.parts a.number a.op ≡ Some a.operation
-  unnamed : named_session w past a ≡ None
+pub record Begins (w : Setting) (past : Past) (a : Asked) : Type 0 where
+  pub service : slice_get w.parts.services a.number ≡ Some a.service
+  pub operation : operation_at w.parts a.number a.op ≡ Some a.operation
+  pub unnamed : named_session w past a ≡ None
 
 begins_asked : (w : Setting) (past : Past) (q : Posted) (a : Asked) → asked_of w q ≡ Some a
     → named_session w past a ≡ None → Begins w past a
@@ -447,7 +452,8 @@ begins_asked w past q a asked unnamed = by (slice_get w.parts.services q.service
   where
     at : (d : ServicePart) (n : ℕ) (o : Option OperationPart) → slice_get w.parts.services q.service ≡ Some d
         → slice_get (service_operations w.parts d) n ≡ o
-        → option_map (λ x. record { number = q.service; service = d; op = n; operation = x; value = q.value }) o ≡ Some a
+        → option_map (λ x. record { number = q.service; service = d; op = n; operation = x; value = q.value }) o
+        ≡ Some a
         → Begins w past a
     at d n None at_d at_n g = absurd (none_not_some a g)
     at d n (Some x) at_d at_n g =
@@ -487,11 +493,11 @@ has_alias ty t v x h = by (alias_of ty v) h
     by (Some path) g = refl
 
 -- the message that starts the next session
-abbrev starting : Setting → Past → Origin → Asked → Message
+abbrev pub starting : Setting → Past → Origin → Asked → Message
 starting w past from a = message_to w from (length (births w past)) true a
 
 -- whether a set has a variable of a number
-abbrev has_number : ℕ → List Variable → Bool
+abbrev pub has_number : ℕ → List Variable → Bool
 has_number n set = list_any (λ u. nat_eq n u.number) set
 
 module _ (w : Setting) (past : Past) (from : Origin) (a : Asked) (begun : Begins w past a) where
@@ -515,11 +521,11 @@ module _ (w : Setting) (past : Past) (from : Origin) (a : Asked) (begun : Begins
       (unwrap_or (option_map (λ (s : ServicePart). flat_map (λ vs. vs) (sets_of s)) o) []))
       begun.service
 
-  module _ (now : Past) (us : List Written) (x : Written) (xs : List Written)
-      (split : first_values w (starting w past from a) ≡ us ++ x ∷ xs)
-      (b : Binds w past now (length (births w past)) us) where
+  -- one of the values, which comes behind others
+  module _ (us : List Written) (x : Written) (xs : List Written)
+      (split : first_values w (starting w past from a) ≡ us ++ x ∷ xs) where
     -- the variable was not written before
-    is_first : rows.value_of us x.variable ≡ None
+    pub is_first : rows.value_of us x.variable ≡ None
     is_first =
         new_to (λ v. brought_by w (length (births w past)) v (starting w past from a)) 0
         (flat_map (λ vs. vs) (sets_of a.service)) us x xs (numbered_all 0 a.service.sets) (sym values_are ∙ split)
@@ -536,139 +542,153 @@ module _ (w : Setting) (past : Past) (from : Origin) (a : Asked) (begun : Begins
         (flat_map (λ vs. vs) (sets_of a.service)) place.0 v (numbered_all 0 a.service.sets) place.1)
         ∙ ap (λ l. rows.value_of l v.number) (sym values_are ∙ split)
 
-    -- that of the variable which is bound
-    is_bound : (i j : ℕ) (set : List Variable) (v : Variable) → slice_get (sets_of a.service) i ≡ Some set
+    -- that of the variable itself
+    is_own : (i j : ℕ) (set : List Variable) (v : Variable) → slice_get (sets_of a.service) i ≡ Some set
         → slice_get set j ≡ Some v → nat_eq x.variable v.number ≡ true
         → value_of a.operation.request (wide w.parts.types a.value a.operation.request) v ≡ Some x.value
-    is_bound i j set v at_i at_j e =
+    is_own i j set v at_i at_j e =
         is_given i j set v at_i at_j
         ∙ ap (rows.value_of (us ++ x ∷ xs)) (sym (eq_true x.variable v.number e))
         ∙ stands_behind us x xs is_first
 
-    -- what a variable of a set has once the value is bound, the message has of it
+    -- what a variable of a set has up to there, the message has of it
     is_had : (i j : ℕ) (set : List Variable) (v : Variable) (y : Root) → slice_get (sets_of a.service) i ≡ Some set
-        → slice_get set j ≡ Some v
-        → written_then w now (first_binding (starting w past from a) x) v ≡ Some y
+        → slice_get set j ≡ Some v → rows.value_of (us ++ x ∷ []) v.number ≡ Some y
         → value_of a.operation.request (wide w.parts.types a.value a.operation.request) v ≡ Some y
-    is_had i j set v y at_i at_j h = by (nat_eq x.variable v.number) refl h
-      where
-        by : (c : Bool) → nat_eq x.variable v.number ≡ c
-            → (if c then Some x.value else written w now (length (births w past)) v) ≡ Some y
-            → value_of a.operation.request (wide w.parts.types a.value a.operation.request) v ≡ Some y
-        by true e g = is_bound i j set v at_i at_j e ∙ g
-        by false e g =
-            is_given i j set v at_i at_j
-            ∙ value_of-append us (x ∷ xs) v.number
-            ∙ ap (λ o. or_else o (rows.value_of (x ∷ xs) v.number)) (sym (b.own v) ∙ g)
+    is_had i j set v y at_i at_j h =
+        is_given i j set v at_i at_j
+        ∙ ap (λ l. rows.value_of l v.number) (append_assoc us (x ∷ []) xs)
+        ∙ value_of-append (us ++ x ∷ []) xs v.number
+        ∙ ap (λ o. or_else o (rows.value_of xs v.number)) h
 
-    -- the variable was not written
-    not_written : (v : Variable)
-        → (if nat_eq x.variable v.number then is_some (written w now (length (births w past)) v) else false) ≡ false
-    not_written v = by (nat_eq x.variable v.number) refl
-      where
-        by : (c : Bool) → nat_eq x.variable v.number ≡ c
-            → (if c then is_some (written w now (length (births w past)) v) else false) ≡ false
-        by true e = ap is_some (b.own v ∙ ap (rows.value_of us) (sym (eq_true x.variable v.number e)) ∙ is_first)
-        by false e = refl
-
-    -- nobody has the key that it completes
-    not_held : (i : ℕ) (set : List Variable) → slice_get (sets_of a.service) i ≡ Some set
+    -- nobody has the key of a set of the variable that is complete there
+    pub not_held : (i : ℕ) (set : List Variable) (ys : List Root) → slice_get (sets_of a.service) i ≡ Some set
         → has_number x.variable set ≡ true
-        → held_in w now (first_binding (starting w past from a) x) set ≡ None
-    not_held i set at_i has =
-        by (all_there (map (written_then w now (first_binding (starting w past from a) x)) set)) refl
+        → all_there (map (λ v. rows.value_of (us ++ x ∷ []) v.number) set) ≡ Some ys
+        → holder w past a.number set ys ≡ None
+    not_held i set ys at_i has there =
+        let all = found_all (value_of a.operation.request a.value) (λ v. rows.value_of (us ++ x ∷ []) v.number) set ys
+        (λ j v y at_j g. found (value_of a.operation.request a.value v)
+        (value_of a.operation.request (wide w.parts.types a.value a.operation.request) v) y
+        (value_alike w.parts.types a.operation.request a.operation.request a.value v)
+        (is_had i j set v y at_i at_j g))
+        there in
+        holder_alike w past a.number set all.values ys all.alike
+        ∙ sym (ap (option_and_then (holder w past a.number set))
+        (ap (λ c. if c then all_there (map (value_of a.operation.request a.value) set) else None) type_has
+        ∙ all.there))
+        ∙ all_none (named_in w past a) (sets_of a.service) i set begun.unnamed at_i
       where
         type_has : is_in set a.operation.request ≡ true
         type_has =
             some_too (λ u. nat_eq x.variable u.number) (λ v. is_some (alias_of a.operation.request v)) set
             (λ j v at_j e. has_alias a.operation.request (wide w.parts.types a.value a.operation.request) v x.value
-            (is_bound i j set v at_i at_j e))
+            (is_own i j set v at_i at_j e))
             has
 
-        named_none : (values : List Root)
-            → all_there (map (value_of a.operation.request a.value) set) ≡ Some values
-            → holder w past a.number set values ≡ None
-        named_none values there =
-            sym (ap (option_and_then (holder w past a.number set))
-            (ap (λ c. if c then all_there (map (value_of a.operation.request a.value) set) else None) type_has
-            ∙ there))
-            ∙ all_none (named_in w past a) (sets_of a.service) i set begun.unnamed at_i
+    module _ (now : Past) (b : Binds w past now (length (births w past)) us) where
+      -- what a variable has once the value is bound
+      is_then : (v : Variable)
+          → written_then w now (first_binding (starting w past from a) x) v ≡ rows.value_of (us ++ x ∷ []) v.number
+      is_then v = by (nat_eq x.variable v.number) refl ∙ sym (value_of-append us (x ∷ []) v.number)
+        where
+          by : (c : Bool) → nat_eq x.variable v.number ≡ c
+              → (if c then Some x.value else written w now (length (births w past)) v)
+              ≡ or_else (rows.value_of us v.number) (if c then Some x.value else None)
+          by true e =
+              ap (λ o. or_else o (Some x.value))
+              (sym (ap (rows.value_of us) (sym (eq_true x.variable v.number e)) ∙ is_first))
+          by false e = b.own v ∙ sym (nothing_else (rows.value_of us v.number))
 
-        known : (ys : List Root)
-            → all_there (map (written_then w now (first_binding (starting w past from a) x)) set) ≡ Some ys
-            → FindsAll (all_there (map (value_of a.operation.request a.value) set)) ys
-        known ys there =
-            found_all (value_of a.operation.request a.value)
-            (written_then w now (first_binding (starting w past from a) x)) set ys
-            (λ j v y at_j g. found (value_of a.operation.request a.value v)
-            (value_of a.operation.request (wide w.parts.types a.value a.operation.request) v) y
-            (value_alike w.parts.types a.operation.request a.operation.request a.value v)
-            (is_had i j set v y at_i at_j g))
-            there
+      -- the variable was not written
+      not_written : (v : Variable)
+          → (if nat_eq x.variable v.number then is_some (written w now (length (births w past)) v) else false) ≡ false
+      not_written v = by (nat_eq x.variable v.number) refl
+        where
+          by : (c : Bool) → nat_eq x.variable v.number ≡ c
+              → (if c then is_some (written w now (length (births w past)) v) else false) ≡ false
+          by true e = ap is_some (b.own v ∙ ap (rows.value_of us) (sym (eq_true x.variable v.number e)) ∙ is_first)
+          by false e = refl
 
-        by : (o : Option (List Root))
-            → all_there (map (written_then w now (first_binding (starting w past from a) x)) set) ≡ o
-            → option_and_then (holder w now a.number set) o ≡ None
-        by None there = refl
-        by (Some ys) there =
-            let all = known ys there in
-            holder_same w past now us a.number set all.values ys b all.alike ∙ named_none all.values all.there
+      -- nobody has a key that the value completes
+      none_held : (i : ℕ) (set : List Variable) → slice_get (sets_of a.service) i ≡ Some set
+          → has_number x.variable set ≡ true
+          → held_in w now (first_binding (starting w past from a) x) set ≡ None
+      none_held i set at_i has =
+          (λ i. option_and_then (holder w now a.number set) (all_there (map (λ v. is_then v i) set)))
+          ∙ by (all_there (map (λ v. rows.value_of (us ++ x ∷ []) v.number) set)) refl
+        where
+          by : (o : Option (List Root)) → all_there (map (λ v. rows.value_of (us ++ x ∷ []) v.number) set) ≡ o
+              → option_and_then (holder w now a.number set) o ≡ None
+          by None there = refl
+          by (Some ys) there =
+              holder_bound w past now us a.number set ys b ∙ not_held i set ys at_i has there
 
-    -- the reply
-    is_answered : bind_reply w now (first_binding (starting w past from a) x) ≡ reply.Bound
-    is_answered = λ i. answered (written_before i) (first (held_by i))
-      where
-        answered : Bool → Option ℕ → BindReply
-        answered c o = elim c [ true ↦ reply.Fixed | false ↦ elim o [ None ↦ reply.Bound | Some t ↦ reply.Held t ] ]
+      -- the reply
+      is_answered : bind_reply w now (first_binding (starting w past from a) x) ≡ reply.Bound
+      is_answered = λ i. answered (written_before i) (first (held_by i))
+        where
+          answered : Bool → Option ℕ → BindReply
+          answered c o = elim c [ true ↦ reply.Fixed | false ↦ elim o [ None ↦ reply.Bound | Some t ↦ reply.Held t ] ]
 
-        written_before : list_any (was_written w now (first_binding (starting w past from a) x))
-            (sets_with w a.number x.variable) ≡ false
-        written_before =
-            none_of (was_written w now (first_binding (starting w past from a) x)) (sets_with w a.number x.variable)
-            (λ set. none_of
-            (λ v. if nat_eq x.variable v.number then is_some (written w now (length (births w past)) v) else false) set
-            not_written)
+          written_before : list_any (was_written w now (first_binding (starting w past from a) x))
+              (sets_with w a.number x.variable) ≡ false
+          written_before =
+              none_of (was_written w now (first_binding (starting w past from a) x)) (sets_with w a.number x.variable)
+              (λ set. none_of
+              (λ v. if nat_eq x.variable v.number then is_some (written w now (length (births w past)) v) else false)
+              set not_written)
 
-        held_by : filter_map (held_in w now (first_binding (starting w past from a) x))
-            (sets_with w a.number x.variable) ≡ []
-        held_by =
-            ap (λ o. filter_map (held_in w now (first_binding (starting w past from a) x))
-            (elim o [ None ↦ [] | Some d ↦ filter (has_number x.variable) (sets_of d) ])) begun.service
-            ∙ none_given (held_in w now (first_binding (starting w past from a) x)) (has_number x.variable)
-            (sets_of a.service) not_held
+          held_by : filter_map (held_in w now (first_binding (starting w past from a) x))
+              (sets_with w a.number x.variable) ≡ []
+          held_by =
+              ap (λ o. filter_map (held_in w now (first_binding (starting w past from a) x))
+              (elim o [ None ↦ [] | Some d ↦ filter (has_number x.variable) (sets_of d) ])) begun.service
+              ∙ none_given (held_in w now (first_binding (starting w past from a) x)) (has_number x.variable)
+              (sets_of a.service) none_held
 
   -- what is left of the values is bound too
   rest_bound : (now : Past) (us xs : List Written) → first_values w (starting w past from a) ≡ us ++ xs
       → Binds w past now (length (births w past)) us → AreBound w now (starting w past from a) xs
   rest_bound now us [] split b = tt
   rest_bound now us (x ∷ xs) split b = (
-    is_answered now us x xs split b,
+    is_answered us x xs split now b,
     rest_bound (then_one w now (first_entry (starting w past from a) x)) (us ++ x ∷ []) xs
         (split ∙ append_assoc us (x ∷ []) xs) (binds_more w past now (starting w past from a) us x b),
   )
 
-pub binds_first : BindsFirst
-binds_first w h from q m legal goes starts = by (asked_of w q) refl goes
+-- a message that starts a session asks for an operation of the program, and names no session
+pub record Started (w : Setting) (past : Past) (from : Origin) (m : Message) : Type 0 where
+  pub asked : Asked
+  pub begun : Begins w past asked
+  pub is_it : starting w past from asked ≡ m
+
+pub is_started : (w : Setting) (past : Past) (from : Origin) (q : Posted) (m : Message)
+    → message_of w past from q ≡ Some m → m.starts ≡ true → Started w past from m
+is_started w past from q m goes starts = by (asked_of w q) refl goes
   where
-    past : Past
-    past = past_of w h
-
-    begun : (a : Asked) → Begins w past a → AreBound w past (starting w past from a) (first_values w (starting w past from a))
-    begun a begins =
-        rest_bound w past from a begins past [] (first_values w (starting w past from a)) refl
-        (binds_none w h (length (births w past)) legal refl)
-
-    on : (a : Asked) (way : Way) → asked_of w q ≡ Some a → route w past q ≡ way → message_on w past from a way ≡ Some m
-        → AreBound w past m (first_values w m)
+    on : (a : Asked) (way : Way) → asked_of w q ≡ Some a → route w past q ≡ way
+        → message_on w past from a way ≡ Some m → Started w past from m
     on a (to_session s) asked e g =
         absurd (true≢false
         (sym starts ∙ ap (λ (y : Message). y.starts) (sym (same_of (message_to w from s false a) m g))))
     on a to_new asked e g =
-        subst (λ y. AreBound w past y (first_values w y)) (same_of (starting w past from a) m g)
-        (begun a (begins_asked w past q a asked (new_unnamed w past q a asked (ap is_new e))))
+        record {
+          asked = a;
+          begun = begins_asked w past q a asked (new_unnamed w past q a asked (ap is_new e));
+          is_it = same_of (starting w past from a) m g;
+        }
     on a (refused_for why) asked e g = absurd (none_not_some m g)
 
-    by : (o : Option Asked) → asked_of w q ≡ o → option_and_then (λ a. message_on w past from a (route w past q)) o ≡ Some m
-        → AreBound w past m (first_values w m)
+    by : (o : Option Asked) → asked_of w q ≡ o
+        → option_and_then (λ a. message_on w past from a (route w past q)) o ≡ Some m → Started w past from m
     by None asked g = absurd (none_not_some m g)
     by (Some a) asked g = on a (route w past q) asked refl g
+
+pub binds_first : BindsFirst
+binds_first w h from q m legal goes starts =
+    let it = is_started w (past_of w h) from q m goes starts in
+    subst (λ y. AreBound w (past_of w h) y (first_values w y)) it.is_it
+    (rest_bound w (past_of w h) from it.asked it.begun (past_of w h) []
+    (first_values w (starting w (past_of w h) from it.asked)) refl
+    (binds_none w h (length (births w (past_of w h))) legal refl))

@@ -1,5 +1,5 @@
 -- The session that a message is routed to was born, and its boxes are not full.
-use Rattle.std.proofs.Common.{◌≡◌, ℕ, zero, suc, ◌+◌, Bool, true, false, ◌&&◌, List, [], ◌∷◌, length, refl, sym, ap, subst, ◌∙◌, Option, None, Some, is_some, true≢false, arith}
+use Rattle.std.proofs.Common.{◌≡◌, ℕ, suc, ◌+◌, Bool, true, false, ◌&&◌, List, [], ◌∷◌, length, refl, sym, ap, subst, ◌∙◌, Option, None, Some, is_some, arith}
 use Rattle.std.specs.Prelude.{nat_eq, nat_le, slice_get, option_and_then, if◌then◌else◌}
 use Rattle.std.specs.List.{filter_map, cons_option}
 use Rattle.jolie_trees.specs.declared.root.Root.{Root}
@@ -12,7 +12,7 @@ use Rattle.office_core.specs.Past.{Past}
 use Rattle.office_core.specs.Sessions.{births, service_of, has_ended}
 use Rattle.office_core.specs.Boxes.{box}
 use Rattle.office_core.specs.Keys.{first, Variable, sets_of, named_by, has_key, session_from, session_of, holder}
-use Rattle.office_core.specs.Route.{Way, to_session, to_new, refused_for, Asked, asked_of, is_full, into_box, begins, named_in, named_session, is_starting, to_single, to_named, to_one, admitted, route}
+use Rattle.office_core.specs.Route.{to_session, to_new, refused_for, Asked, asked_of, is_full, into_box, begins, named_in, named_session, is_starting, to_single, to_named, to_one, admitted, route}
 use Rattle.office_kept.proofs.Lists.{same_of, none_not_some}
 use Rattle.office_kept.proofs.Routed.{goes_to}
 

@@ -1,9 +1,12 @@
 -- What holds of every office whose history is legal.
-use Rattle.std.specs.Prelude.{◌≡◌, true, List, [], ◌∷◌, Option, Some}
+use Rattle.std.specs.Prelude.{◌≡◌, ◌++◌, true, false, List, [], ◌∷◌, Option, Some}
 use Rattle.std.specs.List.{filter_map}
 use Rattle.behaviour_tree.specs.Data.{ProgramParts}
 use Rattle.correlation.specs.declared.bind_reply.BindReply.TheVariants as reply
+use Rattle.correlation.specs.declared.session.Session.{Session}
 use Rattle.correlation.specs.declared.session.Written.{Written}
+use Rattle.correlation.specs.Sessions.{reply_to}
+use Rattle.correlation.specs.View.{sessions_of}
 use Rattle.post_box.specs.Refusals.{HasRoom}
 use Rattle.post_box.specs.View.{box_of}
 use Rattle.reqresp_book.specs.declared.origin.Origin.{Origin}
@@ -17,6 +20,7 @@ use Rattle.office_core.specs.Keys.{Variable, brought_by}
 use Rattle.office_core.specs.Accepted.{message_of, past_of, then_one}
 use Rattle.office_core.specs.Bound.{Binding, bind_reply}
 use Rattle.office_core.specs.Legal.{IsLegal}
+use Rattle.office_lookup.specs.SetNumbers.{numbered_sets}
 use Rattle.office_kept.specs.declared.kept.Kept.{Kept}
 use Rattle.office_kept.specs.Accepting.{written_into}
 use Rattle.office_kept.specs.Kept.{variables_of}
@@ -57,9 +61,26 @@ AreBound w past m (x ∷ xs) =
     (bind_reply w past (first_binding m x) ≡ reply.Bound) × AreBound w (then_one w past (first_entry m x)) m xs
 
 -- What a message brings of the variables of the session that it starts would each be answered Bound, if the session
--- bound one after the other: so no other reply can stand for want of memory.
+-- bound one after the other.
 abbrev pub BindsFirst : Type 0
 BindsFirst =
     (w : Setting) (h : List Entry) (from : Origin) (q : Posted) (m : Message)
     → IsLegal w h → message_of w (past_of w h) from q ≡ Some m → m.starts ≡ true
     → AreBound w (past_of w h) m (first_values w m)
+
+-- the session that a message starts, once some of these values were written
+abbrev pub started_with : ProgramParts → Message → List Written → Session
+started_with parts m us =
+    record { number = m.session; sets = numbered_sets parts m.service; written = us; released = false }
+
+-- What is kept answers Bound to each of these values when it is written behind the others, the session being born: so
+-- no other reply can stand for want of memory.
+abbrev pub WritesFirst : Type 0
+WritesFirst =
+    (parts : ProgramParts) (h : List Entry) (kept : Kept) (from : Origin) (q : Posted) (m : Message)
+    (us : List Written) (x : Written) (xs : List Written)
+    → IsLegal (run_of parts) h → Ties (run_of parts) (past_of (run_of parts) h) kept
+    → message_of (run_of parts) (past_of (run_of parts) h) from q ≡ Some m → m.starts ≡ true
+    → first_values (run_of parts) m ≡ us ++ x ∷ xs
+    → reply_to (sessions_of kept.rows ++ started_with parts m us ∷ []) m.session x.variable x.value
+    ≡ Some reply.Bound
