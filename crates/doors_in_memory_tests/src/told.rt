@@ -18,6 +18,7 @@ pub fn tell_counts(
     add_count(alloc, "given", counts.wires_given(), said)?;
     add_count(alloc, "wires back", counts.wires_back(), said)?;
     add_count(alloc, "failed", counts.wires_failed(), said)?;
+    add_count(alloc, "wires ended", counts.wires_ended(), said)?;
     add_count(alloc, "waits", counts.waits(), said)?;
     add_count(alloc, "faults", faults, said)
 }
@@ -49,6 +50,7 @@ pub fn tell_calm(
     for back in returned {
         let wire = back.wire();
         tell_wire(alloc, wire.given(), wire.taken(), back.faults(), said)?;
+        tell_end(back.has_ended(), said)?;
     }
     Ok(())
 }
@@ -62,6 +64,7 @@ pub fn tell_scripted(
     for back in returned {
         let wire = back.wire();
         tell_wire(alloc, wire.given(), wire.taken(), back.faults(), said)?;
+        tell_end(back.has_ended(), said)?;
     }
     Ok(())
 }
@@ -81,4 +84,12 @@ fn tell_wire(
     add_bytes(said, written)?;
     said.push(' ')?;
     said.push_str(digits.as_str())
+}
+
+/// Whether a read told the end of what comes in.
+fn tell_end(has_ended: bool, said: &mut String) -> Result<(), AllocError> {
+    if has_ended {
+        said.push_str(" ended")?;
+    }
+    Ok(())
 }
