@@ -20,7 +20,7 @@ use Rattle.door_front.specs.NextSteps.{GoesOn, IsTried, service_of, wires_of, st
 use Rattle.door_front.proofs.Entries.{nat_eq_same, length_set}
 use Rattle.door_front.proofs.Leading.{sum_one, plus_none, led-still, led-push, led-both, led-more, led-asked}
 use Rattle.door_front.proofs.Doors.{goes-same, goes-further, all-same, all-further, all_tried-since, services-same, all-push, tried-push, tried-since}
-use Rattle.door_front.proofs.Links.{no_room-behind, new-append, new-among, any-left, any-right, links-same, links-more, links-ended}
+use Rattle.door_front.proofs.Links.{reads_not_ended, no_room-behind, new-append, new-among, any-left, any-right, links-same, links-more, links-ended}
 
 -- ---- a new connection
 
@@ -48,6 +48,7 @@ new_link-at IsMade given left taken calls faults closed link made f owed stage t
   made = made;
   fresh = new_line given left taken calls faults closed f;
   talks = talks;
+  ended = λ e. absurd (reads_not_ended (stage_at link) stage e);
 }
 
 -- where there is room there are fewer than the most

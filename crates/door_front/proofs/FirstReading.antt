@@ -16,7 +16,7 @@ use Rattle.branch_workers.specs.Texts.{posting_of}
 use Rattle.posting_texts.specs.Told.{came_for}
 use Rattle.connection_runs.specs.Visits.{came_with}
 use Rattle.door_front.specs.Keeping.{LinkTold}
-use Rattle.door_front.specs.NextSteps.{stage_at, reads, reads_at, IsAsked, Answers, listing, AsksOne, Hands, EndsOne}
+use Rattle.door_front.specs.NextSteps.{stage_at, reads, reads_at, EndIsTold, IsAsked, Answers, listing, AsksOne, Hands, EndsOne}
 
 -- a stage that reads
 pub reads_is : (s : Stage) → reads_at s ≡ true → s ≡ Stages.Reads
@@ -72,10 +72,15 @@ abbrev Talks : LinkTold → LinkTold → Option (List ℕ) → Type 0
 Talks before now body = (first : Line) (bodies : List (List ℕ)) (texts : List (Option (List ℕ)))
     → IsTalking first before.seen bodies texts → IsTalking first now.seen (bodies ++ handed body) texts
 
+-- where it stands as ended then, a read told the end
+abbrev Ends : LinkTold → LinkTold → Type 0
+Ends before now = (first : Line) (bodies : List (List ℕ)) (texts : List (Option (List ℕ)))
+    → IsTalking first before.seen bodies texts → first.closed ≡ false → EndIsTold now
+
 -- no request comes any more
 pub answers-none : (place : ℕ) (told before now : LinkTold) (x : Option (List ℕ)) → x ≡ None → told ≡ before → now.service ≡ told.service
-    → now.owed ≡ told.owed → IsBehindAsking x (stage_at now) → Talks told now x → Answers place None before now
-answers-none place told before now x is same service owed stage talks =
+    → now.owed ≡ told.owed → IsBehindAsking x (stage_at now) → Talks told now x → Ends told now → Answers place None before now
+answers-none place told before now x is same service owed stage talks ended =
     subst (λ l. Answers place None l now) same (record {
       body = None;
       posting = refl;
@@ -84,14 +89,16 @@ answers-none place told before now x is same service owed stage talks =
         owed = owed;
         stage = subst (λ y. IsBehindAsking y (stage_at now)) is stage;
         talks = subst (Talks told now) is talks;
+        ended = ended;
       };
     })
 
 -- a request comes
 pub answers-some : (place : ℕ) (told before now : LinkTold) (x : Option (List ℕ)) (body slice : List ℕ) (read : Read) (p : Posting) → x ≡ Some body
     → slice ≡ body → read ≡ posted slice → p ≡ posting_of (came_for told.service read) → told ≡ before → now.service ≡ told.service
-    → now.owed ≡ Some (record { place = place; read = read }) → IsBehindAsking x (stage_at now) → Talks told now x → Answers place (Some p) before now
-answers-some place told before now x body slice read p is piece says posts same service owed stage talks =
+    → now.owed ≡ Some (record { place = place; read = read }) → IsBehindAsking x (stage_at now) → Talks told now x → Ends told now
+    → Answers place (Some p) before now
+answers-some place told before now x body slice read p is piece says posts same service owed stage talks ended =
     let said : read ≡ posted body = says ∙ ap posted piece in
     subst (λ l. Answers place (Some p) l now) same (record {
       body = Some body;
@@ -101,6 +108,7 @@ answers-some place told before now x body slice read p is piece says posts same 
         owed = owed ∙ ap (λ r. Some (record { place = place; read = r })) said;
         stage = subst (λ y. IsBehindAsking y (stage_at now)) is stage;
         talks = subst (Talks told now) is talks;
+        ended = ended;
       };
     })
 

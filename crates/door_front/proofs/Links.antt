@@ -29,6 +29,9 @@ reads_not_over s e o = elim o [
 pub reads_not_owes : (s : Stage) → s ≡ Stages.Reads → s ≡ Stages.Owes → ⊥
 reads_not_owes s e o = let clash : Stages.Reads ≡ Stages.Owes = sym e ∙ o in cc
 
+pub reads_not_ended : (s : Stage) → s ≡ Stages.Reads → s ≡ Stages.Ended → ⊥
+reads_not_ended s e o = let clash : Stages.Reads ≡ Stages.Ended = sym e ∙ o in cc
+
 pub over_not_owes : (s : Stage) → IsOver s → s ≡ Stages.Owes → ⊥
 over_not_owes s o e = elim o [
   | inl a ↦ (let clash : Stages.Owes ≡ Stages.Ended = sym e ∙ a in cc)
@@ -103,7 +106,7 @@ any-right p xs ys e = list_any-append p xs ys ∙ or_right (list_any p xs) (list
 -- ---- connections go on
 
 pub link-same : (l : LinkTold) → LinkGoesOn l l
-link-same l = record { service = refl; owed = refl; stage = inl refl; owes = λ e. refl; talks = λ first bodies texts t. t }
+link-same l = record { service = refl; owed = refl; stage = inl refl; owes = λ e. refl; talks = λ first bodies texts t. t; ended = λ first bodies texts t o k. k }
 
 -- one that reads was asked, and no request of it comes any more
 pub link-ended : (place : ℕ) (l m n : LinkTold) → LinkGoesOn l m → stage_at m ≡ Stages.Reads → IsAsked place None m n → LinkGoesOn l n
@@ -117,6 +120,7 @@ link-ended place l m n g e a = record {
   owes = λ o. absurd (reads_not_owes (stage_at m) e (ap stage_at (g.owes o) ∙ o));
   talks = λ first bodies texts t.
       subst (λ b. IsTalking first n.seen b texts) (append-nil bodies) (a.talks first bodies texts (g.talks first bodies texts t));
+  ended = λ first bodies texts t o k. a.ended first bodies texts (g.talks first bodies texts t) o;
 }
 
 module _ (IsMade : Line → Type 0) (services : List ℕ) where
@@ -141,6 +145,7 @@ module _ (IsMade : Line → Type 0) (services : List ℕ) where
       made = g.made;
       fresh = g.fresh;
       talks = a.talks g.first [] [] g.talks;
+      ended = a.ended g.first [] [] g.talks g.fresh.is_open;
     }
 
     news-ended : (ms : List LinkTold) (k : ℕ) (m n : LinkTold) → slice_get ms k ≡ Some m → stage_at m ≡ Stages.Reads → IsAsked place None m n

@@ -39,6 +39,7 @@ module _ (IsMade : Line → Type 0) (place : ℕ) (body : List ℕ) where
     made = h.made;
     fresh = h.fresh;
     talks = a.talks h.first v.bodies v.texts h.talks;
+    ended = λ e. (let clash : Stages.Owes ≡ Stages.Ended = e in cc);
   }
 
   asked_links : (ls : List LinkTold) (vs : List Visit) (k : ℕ) (l m : LinkTold) (v : Visit) → slice_get ls k ≡ Some l → slice_get vs k ≡ Some v

@@ -193,6 +193,7 @@ module _ (IsMade : Line → Type 0) where
     made = g.made;
     fresh = g.fresh;
     talks = g.talks;
+    ended = g.ended;
   }
 
   -- whether an answer is owed stays
@@ -210,6 +211,7 @@ module _ (IsMade : Line → Type 0) where
     made = h.made;
     fresh = h.fresh;
     talks = g.talks h.first v.bodies v.texts h.talks;
+    ended = g.ended h.first v.bodies v.texts h.talks h.fresh.is_open (λ e. h.ended (h.stage ∙ e));
   }
 
   module _ (services : List ℕ) where

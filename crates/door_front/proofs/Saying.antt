@@ -47,6 +47,12 @@ not_owing stage (inl reads) is = let clash : Stages.Reads ≡ Stages.Owes = sym 
 not_owing stage (inr (inl closed)) is = let clash : Stages.Closed ≡ Stages.Owes = sym closed ∙ is in cc
 not_owing stage (inr (inr faulted)) is = let clash : Stages.Faulted ≡ Stages.Owes = sym faulted ∙ is in cc
 
+-- nor does the connection stand as ended
+not_ended : (stage : Stage) → IsBehindTelling stage → stage ≢ Stages.Ended
+not_ended stage (inl reads) is = let clash : Stages.Reads ≡ Stages.Ended = sym reads ∙ is in cc
+not_ended stage (inr (inl closed)) is = let clash : Stages.Closed ≡ Stages.Ended = sym closed ∙ is in cc
+not_ended stage (inr (inr faulted)) is = let clash : Stages.Faulted ≡ Stages.Ended = sym faulted ∙ is in cc
+
 -- a connection that owes an answer is not over
 not_over : (stage : Stage) → stage ≡ Stages.Owes → IsOver stage → ⊥
 not_over stage owes (inl ended) = let clash : Stages.Owes ≡ Stages.Ended = sym owes ∙ ended in cc
@@ -94,6 +100,7 @@ link_told IsMade parts t l after v a h = record {
   made = h.made;
   fresh = h.fresh;
   talks = a.tells.talks h.first v.bodies v.texts h.talks;
+  ended = λ e. absurd (not_ended (stage_of after.seen.kept.next) a.tells.behind e);
 }
 
 -- ---- when there was no posting

@@ -50,7 +50,7 @@ OwesAt None stage = stage ≢ Stages.Owes
 OwesAt (Some owed) stage = stage ≡ Stages.Owes
 
 -- A connection of a front and what passed on it: it was made with a new wire of its door's, handed out these bodies and
--- was told these texts; and memory did not run out.
+-- was told these texts; memory did not run out; and where it stands as ended, a read told the end of what comes in.
 pub record IsLink (IsMade : Line → Type 0) (link : LinkTold) (visit : Visit) : Type 0 where
   pub service : visit.service ≡ link.service
   pub stage : visit.stage ≡ stage_of link.seen.kept.next
@@ -60,6 +60,7 @@ pub record IsLink (IsMade : Line → Type 0) (link : LinkTold) (visit : Visit) :
   pub made : IsMade first
   pub fresh : IsNewLine first
   pub talks : IsTalking first link.seen visit.bodies visit.texts
+  pub ended : visit.stage ≡ Stages.Ended → link.ended ≡ true
 
 -- what passed on each connection, in order
 abbrev pub AreLinks : (Line → Type 0) → List LinkTold → List Visit → Type 0

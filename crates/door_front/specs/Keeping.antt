@@ -15,11 +15,13 @@ pub record PortTold : Type 0 where
   pub service : ℕ
   pub door : DoorTold
 
--- a connection, the service of its door, and the request that is owed an answer, where one is
+-- a connection, the service of its door, and the request that is owed an answer, where one is; and whether a read told
+-- the end of what comes in on its wire
 pub record LinkTold : Type 0 where
   pub service : ℕ
   pub seen : Seen
   pub owed : Option Owed
+  pub ended : Bool
 
 -- What a front over doors keeps: the doors in the order of the text, the connections in the order in which they were
 -- accepted, of which connection each posting is, how many connections it accepts at most, whether it halted, and

@@ -93,6 +93,10 @@ reads_at Stages.Spent = false
 abbrev pub reads : LinkTold → Bool
 reads link = reads_at (stage_at link)
 
+-- where a connection stands as ended, a read told the end of what comes in on its wire
+abbrev pub EndIsTold : LinkTold → Type 0
+EndIsTold link = stage_at link ≡ Stages.Ended → link.ended ≡ true
+
 -- a further connection may be taken
 abbrev pub has_room : ℕ → List LinkTold → Bool
 has_room most links = nat_lt (length links) most && nat_lt (count_by is_open links) most_open
@@ -109,6 +113,7 @@ pub record IsNewLink (IsMade : Line → Type 0) (link : LinkTold) : Type 0 where
   pub made : IsMade first
   pub fresh : IsNewLine first
   pub talks : IsTalking first link.seen [] []
+  pub ended : EndIsTold link
 
 -- no request came on these connections yet, each of which leads to one of these services
 abbrev pub AreNewLinks : (Line → Type 0) → List ℕ → List LinkTold → Type 0
@@ -124,6 +129,8 @@ pub record LinkGoesOn (before now : LinkTold) : Type 0 where
   pub owes : stage_at before ≡ Stages.Owes → now ≡ before
   pub talks : (first : Line) (bodies : List (List ℕ)) (texts : List (Option (List ℕ)))
       → IsTalking first before.seen bodies texts → IsTalking first now.seen bodies texts
+  pub ended : (first : Line) (bodies : List (List ℕ)) (texts : List (Option (List ℕ)))
+      → IsTalking first before.seen bodies texts → first.closed ≡ false → EndIsTold before → EndIsTold now
 
 -- connections go on without a request, and new ones came, which lead to these services
 abbrev pub LinksGoOn : (Line → Type 0) → List ℕ → List LinkTold → List LinkTold → Type 0
@@ -173,6 +180,8 @@ pub record IsAsked (place : ℕ) (body : Option (List ℕ)) (before now : LinkTo
   pub stage : IsBehindAsking body (stage_at now)
   pub talks : (first : Line) (bodies : List (List ℕ)) (texts : List (Option (List ℕ)))
       → IsTalking first before.seen bodies texts → IsTalking first now.seen (bodies ++ handed body) texts
+  pub ended : (first : Line) (bodies : List (List ℕ)) (texts : List (Option (List ℕ)))
+      → IsTalking first before.seen bodies texts → first.closed ≡ false → EndIsTold now
 
 -- what a connection answers to that: the posting of what its body says
 pub record Answers (place : ℕ) (came : Option Posting) (before now : LinkTold) : Type 0 where

@@ -36,6 +36,7 @@ impl<W: Wire + Drop> Model for Link<W> {
       service = l.service;
       seen = seen l.connection.kept (line_of (W.given l.connection.wire) (W.left l.connection.wire) (W.taken l.connection.wire) (W.faults l.connection.wire) (W.closed l.connection.wire));
       owed = l.owed;
+      ended = W.ended l.connection.wire;
     } };
 }
 
@@ -43,6 +44,7 @@ impl<W: Wire + Drop> Link<W> {
     /// The wire, the bytes that were read and the bytes that were written.
     pub fn into_parts(self) -> (W, Vec<u8>, Vec<u8>)
         ensures wire { line_of (W.given result.0) (W.left result.0) (W.taken result.0) (W.faults result.0) (W.closed result.0) ≡ self.seen.line }
+        ensures ended { W.ended result.0 ≡ self.ended }
         ensures read { result.1 ≡ self.seen.kept.read }
         ensures written { result.2 ≡ self.seen.kept.written }
     {

@@ -59,6 +59,7 @@ module _ (IsMade : Line → Type 0) where
         failed = subst (λ s. (s ≡ Stages.Faulted) ↔ (0 < l.seen.line.faults)) (sym k.stage)
             (failed_at (stage_of l.seen.kept.next) k.first l.seen.line l.seen.kept.read.items k.fresh.faultless
             (λ e. k.memory (k.stage ∙ e)) word.wire);
+        ended = k.ended;
       }
 
   -- the wires of all

@@ -69,7 +69,7 @@ with_openings (place ∷ places) tally = with_openings places (with_opened tally
 -- these wires came back
 abbrev pub with_wires : List WireTold → Tally → Tally
 with_wires [] tally = tally
-with_wires (w ∷ ws) tally = with_wires ws (with_wire w.faults tally)
+with_wires (w ∷ ws) tally = with_wires ws (with_wire w.faults w.ended tally)
 
 -- these doors came back
 abbrev pub with_doors : List DoorTold → Tally → Tally
@@ -104,7 +104,8 @@ pub record IsUsed (places : List DoorAt) (before now : DoorsTold) (used : Used) 
 -- ---- wires
 
 -- A wire that came back from a connection which has these bytes: it was made so, and nothing was read or written on it
--- then; what it told since is these bytes; and it has failed exactly where its connection ended with a failure.
+-- then; what it told since is these bytes; it has failed exactly where its connection ended with a failure; and its
+-- connection stands as ended only where a read told the end of what comes in.
 pub record IsWireOf (IsMade : Line → Type 0) (visit : Visit) (traffic : Traffic) (wire : WireTold) : Type 0 where
   pub first : Line
   pub came : IsMade first
@@ -112,6 +113,7 @@ pub record IsWireOf (IsMade : Line → Type 0) (visit : Visit) (traffic : Traffi
   pub read : Appends first.given wire.read traffic.read
   pub written : Appends first.taken wire.written traffic.written
   pub failed : (visit.stage ≡ Stages.Faulted) ↔ (0 < wire.faults)
+  pub ended : (visit.stage ≡ Stages.Ended) → (wire.ended ≡ true)
 
 -- the wires are those of the connections, in order
 abbrev pub AreWires : (Line → Type 0) → List Visit → List Traffic → List WireTold → Type 0
