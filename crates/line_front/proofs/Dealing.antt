@@ -42,10 +42,29 @@ pub nothing_dealt : (parts : ProgramParts) (left : Option (List ℕ)) (faults : 
     → (d : Dealings) × IsNew d × HasDealt parts (just_made left faults to_lines to_notes) (just_made left faults to_lines to_notes) d
 nothing_dealt parts left faults to_lines to_notes = (
   record {
-    brought = record { given = []; asked = []; left = None; waits = 0; ended = false; faults = faults; seen = 0 };
+    brought = record {
+      given = [];
+      asked = [];
+      left = None;
+      waits = 0;
+      ended = false;
+      faults = faults;
+      seen = 0;
+      seens = [];
+    };
     said = record { told = []; noted = []; halted = false; faults = faults_of (output_of to_lines to_notes [] false) };
   },
-  record { given = refl; asked = refl; waits = refl; open_yet = refl; unseen = refl; told = refl; noted = refl; writes = refl },
+  record {
+    given = refl;
+    asked = refl;
+    waits = refl;
+    open_yet = refl;
+    unseen = refl;
+    unasked = refl;
+    told = refl;
+    noted = refl;
+    writes = refl;
+  },
   record {
     brought = record {
       read = Consumes-nil left;
@@ -118,13 +137,14 @@ said_longer parts came later first now s same h = record {
 
 -- ---- how many it had been told of
 
--- the same, with how many it had been told of when it was asked
-abbrev with_seen : ℕ → Brought → Brought
-with_seen count b = record b { seen = count }
+-- the same, with how many it had been told of when it was asked, and when each posting was asked for
+abbrev pub with_seen : ℕ → List ℕ → Brought → Brought
+with_seen count counts b = record b { seen = count; seens = counts }
 
 -- what was brought does not speak of that
-brought_seen : (first now : Input) (count : ℕ) (b : Brought) → HasBrought first now b → HasBrought first now (with_seen count b)
-brought_seen first now count b h = record {
+brought_seen : (first now : Input) (count : ℕ) (counts : List ℕ) (b : Brought) → HasBrought first now b
+    → HasBrought first now (with_seen count counts b)
+brought_seen first now count counts b h = record {
   read = h.read;
   passed = h.passed;
   given = h.given;
@@ -134,22 +154,29 @@ brought_seen first now count b h = record {
   faults = h.faults;
 }
 
--- nor does what came
-leaves_seen : (p : Posting) (left : Option (List Posting)) (before now : Brought) (count : ℕ) → Leaves p left before now
-    → Leaves p left before (with_seen count now)
-leaves_seen p None before now count h = h
-leaves_seen p (Some ps) before now count h = h
+-- how many it had been told of when each posting was asked for, once it was asked again
+abbrev pub seens_by : Next → ℕ → List ℕ → List ℕ
+seens_by (nexts.Posting p) count counts = counts ++ count ∷ []
+seens_by nexts.NotYet count counts = counts
+seens_by nexts.End count counts = counts
 
-none_seen : (before now : Brought) (count : ℕ) → GivesNone before now → GivesNone before (with_seen count now)
-none_seen before now count g = record { given = g.given; asked = g.asked; left = g.left; faults = g.faults }
+-- what came speaks of that alone
+leaves_seen : (p : Posting) (left : Option (List Posting)) (before now : Brought) (count : ℕ) (counts : List ℕ)
+    → Leaves p left before now → Leaves p left before (with_seen count counts now)
+leaves_seen p None before now count counts h = h
+leaves_seen p (Some ps) before now count counts h = h
 
-over_seen : (before now : Brought) (count : ℕ) → IsOver before now → IsOver before (with_seen count now)
+none_seen : (before now : Brought) (count : ℕ) → GivesNone before now
+    → GivesNone before (with_seen count before.seens now)
+none_seen before now count g = record { given = g.given; asked = g.asked; left = g.left; faults = g.faults; seens = refl }
+
+over_seen : (before now : Brought) (count : ℕ) → IsOver before now → IsOver before (with_seen count before.seens now)
 over_seen before now count (none_left h) = none_left h
 over_seen before now count (failed h) = failed h
 over_seen before now count (most h) = most h
 
 came_seen : (parts : ProgramParts) (which : Next) (before now : Brought) (count : ℕ) → Came parts which before now
-    → Came parts which before (with_seen count now)
+    → Came parts which before (with_seen count (seens_by which count before.seens) now)
 came_seen parts (nexts.Posting p) before now count g = record {
   given = g.given;
   within = g.within;
@@ -157,10 +184,11 @@ came_seen parts (nexts.Posting p) before now count g = record {
   asked = g.asked;
   request = g.request;
   services = g.services;
-  left = leaves_seen p before.left before now count g.left;
+  left = leaves_seen p before.left before now count (before.seens ++ count ∷ []) g.left;
   waits = g.waits;
   ended = g.ended;
   faults = g.faults;
+  seens = refl;
 }
 came_seen parts nexts.NotYet before now count g =
     record { none = none_seen before now count g.none; waits = g.waits; ended = g.ended }
@@ -206,9 +234,10 @@ module _ (parts : ProgramParts) (A B C E F : Type 0) (a : A) (b : B) (c : C) (e 
         → MatchResult result (λ next. After (Same now) (Asks parts next d)) (λ _. Same now d)
     asked-so (Ok which) came =
         let count = length d.said.told in
-        let x : Brought = with_seen count came.0 in (
+        let counts = seens_by which count d.brought.seens in
+        let x : Brought = with_seen count counts came.0 in (
           record { brought = x; said = d.said },
-          (a, b, c, e, f, with_brought x (brought_seen first.input now.input count came.0 came.1)),
+          (a, b, c, e, f, with_brought x (brought_seen first.input now.input count counts came.0 came.1)),
           record { came = came_seen parts which d.brought came.0 count came.2; silent = refl; seen = refl },
         )
     asked-so (Err error) kept = (a, b, c, e, f, with_brought d.brought kept)

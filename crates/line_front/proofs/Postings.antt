@@ -115,12 +115,21 @@ module _ (parts : ProgramParts) (has_one : 0 < length parts.services) where
 -- what a front brought once it ended
 abbrev pub ended_by : Brought → ℕ → Brought
 ended_by b faults =
-    record { given = b.given; asked = b.asked; left = b.left; waits = 0; ended = true; faults = faults; seen = b.seen }
+    record {
+      given = b.given;
+      asked = b.asked;
+      left = b.left;
+      waits = 0;
+      ended = true;
+      faults = faults;
+      seen = b.seen;
+      seens = b.seens;
+    }
 
 -- it ends where nothing is told to be left
 ends_so : (first now : Input) (b : Brought) (faults : ℕ) → b.left ≡ None → b.faults ≤ faults → Ends b (ended_by b faults)
 ends_so first now b faults none later = record {
-  none = record { given = refl; asked = refl; left = inl refl; faults = later };
+  none = record { given = refl; asked = refl; left = inl refl; faults = later; seens = refl };
   over = none_left (λ ps is. absurd (let clash : None ≡ Some ps = sym none ∙ is in cc));
   waits = refl;
   ended = refl;
@@ -154,9 +163,9 @@ brought-ended first now b over h open_yet = (
   ends_so first now b b.faults h.left (omega arith),
 )
 
--- what a front brought by an input that it reads on
-abbrev pub brought_by : Input → Brought
-brought_by later = record {
+-- what a front brought by an input that it reads on, behind what it had brought
+abbrev pub brought_by : Brought → Input → Brought
+brought_by before later = record {
   given = map posting_of (came_in later);
   asked = asked_of (length later.reads);
   left = None;
@@ -164,6 +173,7 @@ brought_by later = record {
   ended = false;
   faults = later.faults;
   seen = 0;
+  seens = before.seens ++ 0 ∷ [];
 }
 
 -- ---- lines are looked for
@@ -263,7 +273,7 @@ module _ (first : Input) (reads : List Read) (over : Bool) (running : over ≡ f
         let long : length (map posting_of (came_in later)) ≡ length later.reads =
         length-map (came_in later) posting_of ∙ length-map later.reads came_by in
         subst (λ q. (after : Brought) × HasBrought first later after × Gives parts q b after) (sym is) (
-          brought_by later,
+          brought_by b later,
           record {
             read = subst (λ l. Consumes first.left l (read_in later.passing)) (sym left) (subst (Consumes first.left now.left) (sym read) read_now);
             passed = passed;
@@ -280,10 +290,11 @@ module _ (first : Input) (reads : List Read) (over : Bool) (running : over ≡ f
             asked = asked;
             request = sym (ap (count_by (is_of 0)) h.asked ∙ count_asked 0 (length reads));
             services = all_named parts has_one (posted line).calls;
-            left = subst (λ l. Leaves (posting_of (line_in line)) l b (brought_by later)) (sym h.left) refl;
+            left = subst (λ l. Leaves (posting_of (line_in line)) l b (brought_by b later)) (sym h.left) refl;
             waits = refl;
             ended = refl;
             faults = subst (λ n. b.faults ≤ n) (sym calm) (subst (λ n. n ≤ before.faults) (sym h.faults) (omega arith));
+            seens = refl;
           },
         )
 
