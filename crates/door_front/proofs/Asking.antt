@@ -116,10 +116,12 @@ module _ (IsMade : Line → Type 0) (parts : ProgramParts) (first : Sides) (note
     ended = ended;
     faults = d.brought.faults;
     seen = length d.said.told;
+    seens = d.brought.seens;
   }
 
   gives_none : (waits : ℕ) (ended : Bool) → GivesNone d.brought (without waits ended)
-  gives_none waits ended = record { given = refl; asked = refl; left = inl (sym h.left); faults = omega arith }
+  gives_none waits ended =
+      record { given = refl; asked = refl; left = inl (sym h.left); faults = omega arith; seens = refl }
 
   -- ---- there is no posting
 
@@ -313,6 +315,7 @@ module _ (IsMade : Line → Type 0) (parts : ProgramParts) (first : Sides) (note
       ended = false;
       faults = d.brought.faults;
       seen = length d.said.told;
+      seens = d.brought.seens ++ length d.said.told ∷ [];
     }
 
     services_now : services_of now ≡ services_of before
@@ -384,6 +387,7 @@ module _ (IsMade : Line → Type 0) (parts : ProgramParts) (first : Sides) (note
       waits = refl;
       ended = refl;
       faults = omega arith;
+      seens = refl;
     }
 
     post-so : After (HasDealt IsMade parts first (sides_of now notes)) (Asks parts (nexts.Posting p) d)

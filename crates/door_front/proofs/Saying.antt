@@ -596,10 +596,29 @@ pub nothing_dealt : (IsMade : Line → Type 0) (parts : ProgramParts) (kept : Ke
     → (d : Dealings) × IsNew d × MayHaveDealt IsMade parts (sides_of kept notes) (sides_of kept notes) d
 nothing_dealt IsMade parts kept notes empty within = (
   record {
-    brought = record { given = []; asked = []; left = None; waits = 0; ended = false; faults = 0; seen = 0 };
+    brought = record {
+      given = [];
+      asked = [];
+      left = None;
+      waits = 0;
+      ended = false;
+      faults = 0;
+      seen = 0;
+      seens = [];
+    };
     said = record { told = []; noted = []; halted = false; faults = notes.faults };
   },
-  record { given = refl; asked = refl; waits = refl; open_yet = refl; unseen = refl; told = refl; noted = refl; writes = refl },
+  record {
+    given = refl;
+    asked = refl;
+    waits = refl;
+    open_yet = refl;
+    unseen = refl;
+    unasked = refl;
+    told = refl;
+    noted = refl;
+    writes = refl;
+  },
   inr (record {
     services = refl;
     most = refl;
