@@ -1,9 +1,9 @@
 -- What a front has when it is asked for a posting, and how the run stands then.
-use Rattle.std.proofs.Common.{◌≡◌, ℕ, suc, false, List, length, inl, sym, ap, subst, ◌∙◌}
+use Rattle.std.proofs.Common.{◌≡◌, ℕ, suc, false, List, [], ◌∷◌, ◌++◌, length, inl, sym, ap, subst, ◌∙◌}
 use Rattle.behaviour_tree.specs.Data.{ProgramParts}
 use Rattle.office_core.specs.declared.front.Posting.{Posting}
 use Rattle.office_front.specs.declared.front.Next.TheVariants as next
-use Rattle.office_front.specs.Calls.{Asks}
+use Rattle.office_front.specs.Calls.{Asks, GivesNone}
 use Rattle.office_front.specs.Dealings.{Brought, Dealings, Said}
 use Rattle.run_cells.specs.Crews.{State}
 use Rattle.run_posts.specs.Fates.{Wait}
@@ -11,8 +11,14 @@ use Rattle.run_posts.specs.Open.{IsOpen, StandsInOrder}
 use Rattle.trip_laws.specs.Going.{NotedSoFar}
 use Rattle.run_alone.specs.Between.{Brings, Passed, SaidMore}
 use Rattle.run_alone.specs.Overs.{IsOver}
+use Rattle.run_alone.proofs.Earlier.{one_count_more, told_as, told_next}
 
 module _ {s : State} {xs : List Wait} {n : ℕ} {before now : Dealings} (b : Passed s xs n before) where
+  -- how many were told when each posting was asked for, with the next
+  seens_next : {parts : ProgramParts} {p : Posting} → Asks parts (next.Posting p) before now
+      → now.brought.seens ≡ before.brought.seens ++ length before.said.told ∷ []
+  seens_next asks = asks.came.seens ∙ ap (λ (k : ℕ). before.brought.seens ++ k ∷ []) asks.seen
+
   -- a posting
   pub brings_next : {parts : ProgramParts} {p : Posting} → Asks parts (next.Posting p) before now → Brings s xs n p now
   brings_next asks = record {
@@ -21,25 +27,31 @@ module _ {s : State} {xs : List Wait} {n : ℕ} {before now : Dealings} (b : Pas
     opens = subst (λ (x : Said). IsOpen s.setting s.history before.brought.given x.told xs) (sym asks.silent) b.opens;
     order = subst (λ (x : Said). StandsInOrder s.setting s.history n x.told xs) (sym asks.silent) b.order;
     count = b.count;
+    asked = ap (λ (ks : List ℕ). length ks) (seens_next asks)
+        ∙ one_count_more before.brought.seens (length before.said.told) n b.asked;
+    earlier = told_as s n before now (before.brought.seens ++ length before.said.told ∷ []) asks.silent (seens_next asks)
+        (told_next s n xs before.said.told b.order before.brought.seens b.asked b.earlier);
     noted = subst (λ (x : Said). NotedSoFar s.setting s.history x.noted) (sym asks.silent) b.noted;
   }
 
-  none_given : now.brought.given ≡ before.brought.given → now.said ≡ before.said → Passed s xs n now
-  none_given given said = record {
-    opens = coe 1 0 (i. IsOpen s.setting s.history (given i) (said i).told xs) b.opens;
+  none_given : GivesNone before.brought now.brought → now.said ≡ before.said → Passed s xs n now
+  none_given none said = record {
+    opens = coe 1 0 (i. IsOpen s.setting s.history (none.given i) (said i).told xs) b.opens;
     order = subst (λ (x : Said). StandsInOrder s.setting s.history n x.told xs) (sym said) b.order;
-    count = ap (λ (ps : List Posting). length ps) given ∙ b.count;
+    count = ap (λ (ps : List Posting). length ps) none.given ∙ b.count;
+    asked = ap (λ (ks : List ℕ). length ks) none.seens ∙ b.asked;
+    earlier = told_as s n before now before.brought.seens said none.seens b.earlier;
     noted = subst (λ (x : Said). NotedSoFar s.setting s.history x.noted) (sym said) b.noted;
   }
 
   -- none yet
   pub waits_next : {parts : ProgramParts} → Asks parts next.NotYet before now
       → Passed s xs n now × (now.brought.waits ≡ suc before.brought.waits) × (now.brought.ended ≡ false)
-  waits_next asks = (none_given asks.came.none.given asks.silent, asks.came.waits, asks.came.ended)
+  waits_next asks = (none_given asks.came.none asks.silent, asks.came.waits, asks.came.ended)
 
   -- none any more
   pub ends_next : {parts : ProgramParts} → Asks parts next.End before now → Passed s xs n now × IsOver now
-  ends_next asks = (none_given asks.came.none.given asks.silent, inl asks.came.ended)
+  ends_next asks = (none_given asks.came.none asks.silent, inl asks.came.ended)
 
 -- a posting that was taken in was the last look
 pub taken_looks : {before now : Dealings} → SaidMore before now → before.brought.waits ≡ 0

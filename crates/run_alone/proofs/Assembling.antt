@@ -25,7 +25,7 @@ use Rattle.trip_laws.proofs.Touring.{void_is}
 use Rattle.run_posts.specs.Fates.{Wait}
 use Rattle.run_posts.proofs.Ending.{told_each}
 use Rattle.run_posts.proofs.Opening.{IsOpen}
-use Rattle.run_alone.specs.Ran.{AreNotes, IsOver, GaveNone, SawFinished, Ran, Rules}
+use Rattle.run_alone.specs.Ran.{AreNotes, IsOver, GaveNone, SawFinished, ToldBefore, Ran, Rules}
 use Rattle.run_alone.specs.declared.worker.Finished.{Finished}
 use Rattle.run_alone.proofs.Stepping.{all_append, all_weaker}
 
@@ -91,6 +91,8 @@ pub record HasEnded (r : Rules) (h : List Entry) (xs : List Wait) (d : Dealings)
   pub settled : AreSettled r.setting h
   pub noted : NotedSoFar r.setting h d.said.noted
   pub over : IsOver d
+  pub asked : length d.brought.seens ≡ length d.brought.given
+  pub told_before : ToldBefore r.setting finished.report.history.entries.items d
   pub seen : GaveNone d → SawFinished r.setting finished.report.history.entries.items d
   pub looked : Looked r.setting r.budget h finished.report.sessions finished.spent
   pub traffic : finished.report.traffic ≡ []
@@ -127,6 +129,8 @@ ran r text h xs d finished program x = record {
         x.opens.told c;
     noted = notes_of r h xs d finished x;
     over = x.over;
+    asked = x.asked;
+    told_before = x.told_before;
     seen = x.seen;
   };
   consoles =

@@ -1,5 +1,6 @@
 -- What one worker has once it did what was left to do, stopped the run and told what was open.
 use Rattle.std.proofs.Common.{◌≡◌, ◌↔◌, ◌<◌, ◌≤◌, ℕ, Bool, true, false, List, [], ◌∷◌, ◌++◌, map, length, take, flat_map, inl, inr, refl, sym, ap, subst, ◌∙◌, append_assoc, le_refl}
+use Rattle.std.specs.Prelude.{slice_get}
 use Rattle.std.specs.List.{filter, list_all}
 use Rattle.std.proofs.lemmas.Bool.{false≢true}
 use Rattle.std.proofs.lemmas.List.{take_at}
@@ -23,15 +24,16 @@ use Rattle.run_cells.proofs.Ends.{came_through, looked_by}
 use Rattle.run_posts.specs.Fates.{Wait, all_collected, is_finished, is_open, settled_in, told_of}
 use Rattle.run_posts.specs.Telling.{AreExpected, TellsAll}
 use Rattle.run_posts.proofs.Ending.{StandsInOrder, open_expected}
-use Rattle.run_posts.proofs.Opening.{IsOpen, is_between}
+use Rattle.run_posts.proofs.Opening.{IsOpen, is_between, told_places}
 use Rattle.trip_laws.specs.Going.{AreSettled, NotedSoFar, is_inward}
 use Rattle.trip_laws.proofs.Settling.{noted_on, over_all, settled_on}
 use Rattle.session_turn.proofs.Histories.{some_of}
 use Rattle.run_alone.specs.Between.{Passed}
 use Rattle.run_alone.specs.Overs.{IsOver, GaveNone}
+use Rattle.run_alone.specs.Ran.{finished_before}
 use Rattle.run_alone.specs.declared.worker.Finished.{Finished}
 use Rattle.run_alone.proofs.Assembling.{HasEnded}
-use Rattle.run_alone.proofs.Finishing.{CanEnd, adoptions_add, adoptions_between, at_end, closed_by, closing_adds, closing_between, closing_by, closing_closes, early_end, open_end, open_gathered, order_end, settled_waits, stop_gathers}
+use Rattle.run_alone.proofs.Finishing.{CanEnd, adoptions_add, adoptions_between, at_end, closed_by, closing_adds, closing_between, closing_by, closing_closes, earlier_end, early_end, open_end, open_gathered, order_end, settled_waits, stop_gathers}
 use Rattle.run_alone.proofs.Stepping.{all_weaker}
 use Rattle.run_alone.proofs.Taking.{collected_all, runs, still_halted}
 
@@ -137,6 +139,16 @@ module _ {s0 s1 s2 s3 s4 : State} {xs0 xs1 : List Wait} (f : Finishes s0 s1 s2 s
           coe 1 0
           (i. map (λ (t : Told). t.place) ts ≡ flat_map (finished_there (setting_4 i) (past_of (setting_4 i) (history_4 i)) first_worker (length all)) (numbers_from 0 (length all)))
           (early_end w s0.history all xs0 f.swept adoptions (closing_by was_closed) ts can)
+
+      -- those that had been told when a posting was asked for are those that are finished before that one
+      pub earlier_at_end : (j k : ℕ) → k ≤ length ts
+          → told_places (take k ts) ≡ finished_before w s0.history (length all) j
+          → told_places (take k (ts ++ map told_of (filter is_finished xs1)))
+          ≡ finished_before s4.setting s4.history (length all) j
+      earlier_at_end j k within are =
+          coe 1 0
+          (i. told_places (take k (ts ++ map told_of (filter is_finished (waits_1 i)))) ≡ finished_before (setting_4 i) (history_4 i) (length all) j)
+          (earlier_end w s0.history all xs0 f.swept adoptions (closing_by was_closed) ts can j k within are)
 
       -- the front expects to be told of what is open
       pub expected_end : (d : Dealings) → d.brought.given ≡ all → d.said.told ≡ ts → AreExpected xs1 d
@@ -255,6 +267,14 @@ module _ {s0 s1 s2 s3 s4 : State} {xs0 xs1 : List Wait} {n : ℕ} (f : Finishes 
             subst (λ (t : List ℕ). NotedSoFar s2.setting s2.history t) (sym said.tells.noted)
             (noted_2 f team0 team2 legal mid.said.noted said.noted);
         over = over_then before now brought (λ e. said.halted_mid (said.tells.calm e)) over;
+        asked = ap (λ (b : Brought). length b.seens) brought ∙ passed.asked
+            ∙ sym (ap (λ (b : Brought). length b.given) brought ∙ passed.count);
+        told_before = λ j k at.
+            let was = passed.earlier j k (ap (λ (b : Brought). slice_get b.seens j) (sym brought) ∙ at) in
+            coe 1 0
+            (i. told_places (take k (told i)) ≡ finished_before (sym setting i) (left.history i) (length (brought i).given) j)
+            (earlier_at_end f team0 team2 legal before.brought.given before.said.told idle passed.opens order j k was.within
+            (was.are ∙ ap (λ (m : ℕ). finished_before s0.setting s0.history m j) (sym passed.count)));
         seen = λ none.
             coe 1 0
             (i. map (λ (t : Told). t.place) (take (brought i).seen (told i))

@@ -1,5 +1,5 @@
 -- The end of a run: what is open is stopped, collected and told, and that is the order of the record.
-use Rattle.std.proofs.Common.{◌≡◌, ◌<◌, ◌≤◌, ℕ, Bool, true, false, List, [], ◌∷◌, ◌++◌, map, length, Option, None, Some, nat_lt, refl, sym, ap, subst, ◌∙◌, append_assoc, append-nil, lt_of_lt_of_le, le_trans, flat_map}
+use Rattle.std.proofs.Common.{◌≡◌, ◌<◌, ◌≤◌, ℕ, Bool, true, false, List, [], ◌∷◌, ◌++◌, map, length, take, Option, None, Some, nat_lt, refl, sym, ap, subst, ◌∙◌, append_assoc, append-nil, lt_of_lt_of_le, le_trans, flat_map}
 use Rattle.std.specs.Prelude.{if◌then◌else◌, option_map}
 use Rattle.std.specs.List.{filter, list_all, list_any}
 use Rattle.std.proofs.lemmas.Bool.{and_from, and_parts, false≢true, lt-ltb, or_left, or_right}
@@ -18,7 +18,7 @@ use Rattle.office_front.specs.Dealings.{Told}
 use Rattle.order_laws.specs.Entries.{adds_none, cuts, is_other, posts_over}
 use Rattle.order_laws.specs.Ordering.{Grows}
 use Rattle.order_laws.proofs.Growing.{legal_front, legal_rest}
-use Rattle.order_laws.proofs.Ordering.{calm_at_stop, calm_behind}
+use Rattle.order_laws.proofs.Ordering.{before_ends, calm_at_stop, calm_behind}
 use Rattle.quiet_laws.specs.Ends.{is_adoption, is_close, stop_entry}
 use Rattle.quiet_laws.proofs.Within.{births_within}
 use Rattle.run_record.specs.Order.{before_first, finished_there, numbers_from, order_alone}
@@ -27,6 +27,8 @@ use Rattle.session_turn.proofs.Histories.{some_of}
 use Rattle.run_posts.specs.Fates.{Wait, all_collected, is_finished, is_open, settled_in, told_of}
 use Rattle.run_posts.proofs.Ending.{StandsInOrder, all_finished, open_collected, open_told, other_all, settled_collected, stands_early, stands_ended}
 use Rattle.run_posts.proofs.Opening.{IsOpen, is_between, open_between, told_places}
+use Rattle.run_alone.specs.Ran.{finished_before}
+use Rattle.run_alone.proofs.Earlier.{first_told}
 use Rattle.run_alone.proofs.Stepping.{all_append, all_weaker, between_other, other_over, places_settled}
 
 -- ---- adoptions
@@ -218,6 +220,15 @@ module _ (w : Setting) (h : List Entry) (all : List Posting) (xs : List Wait) (s
     early_end =
         stands_early w h more (length all) ts xs grows can.order
         ∙ ap (λ (l : List Entry). flat_map (finished_there w (past_of w l) first_worker (length all)) (numbers_from 0 (length all))) more_is
+
+    -- those that had been told when a posting was asked for are those that are finished before that one
+    pub earlier_end : (j k : ℕ) → k ≤ length ts → told_places (take k ts) ≡ finished_before w h (length all) j
+        → told_places (take k said_all) ≡ finished_before w at_end (length all) j
+    earlier_end j k within are =
+        first_told k ts (map told_of (filter is_finished settled_waits)) within
+        ∙ are
+        ∙ before_ends w h more (length all) j grows
+        ∙ ap (λ (l : List Entry). finished_before w l (length all) j) more_is
 
     -- and those that were told are in the order of the record
     pub order_end : told_places said_all ≡ order_alone w at_end first_worker (length all)

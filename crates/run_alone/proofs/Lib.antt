@@ -1,6 +1,7 @@
 pub mod Asking
 pub mod Assembling
 pub mod Between
+pub mod Earlier
 pub mod Ended
 pub mod Finishing
 pub mod Looks

@@ -21,6 +21,7 @@ use Rattle.trip_laws.proofs.Settling.{noted_first, settled_first}
 use Rattle.run_alone.specs.Between.{Between, Passed}
 use Rattle.run_alone.specs.Ran.{Ran}
 use Rattle.run_alone.specs.declared.worker.Finished.{Finished}
+use Rattle.run_alone.proofs.Earlier.{none_asked}
 use Rattle.run_alone.proofs.Touring.{travelled_all}
 
 module _ (s : State) (xs : List Wait) (empty : s.history ≡ []) (none : xs ≡ []) where
@@ -43,6 +44,8 @@ module _ (s : State) (xs : List Wait) (empty : s.history ≡ []) (none : xs ≡ 
     opens = coe 1 0 (i. IsOpen s.setting (empty i) (new.given i) (new.told i) (none i)) (nothing_open s.setting);
     order = coe 1 0 (i. StandsInOrder s.setting (empty i) 0 (new.told i) (none i)) (none_told s.setting []);
     count = ap (λ (ps : List Posting). length ps) new.given;
+    asked = ap (λ (ks : List ℕ). length ks) new.unasked;
+    earlier = λ j k at. absurd (none_asked d.brought.seens j k new.unasked at);
     noted = coe 1 0 (i. NotedSoFar s.setting (empty i) (new.noted i)) (noted_first s.setting);
   }
 

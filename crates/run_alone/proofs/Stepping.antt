@@ -1,5 +1,5 @@
 -- One posting is posted, swept and told: what is open then, and in which order postings were told.
-use Rattle.std.proofs.Common.{◌≡◌, ◌<◌, ℕ, suc, Bool, true, false, ◌&&◌, List, [], ◌∷◌, ◌++◌, map, length, nat_eq, nat_le, refl, sym, ap, subst, ◌∙◌, append_assoc, append-nil, le_refl}
+use Rattle.std.proofs.Common.{◌≡◌, ◌<◌, ◌≤◌, ℕ, suc, Bool, true, false, ◌&&◌, List, [], ◌∷◌, ◌++◌, map, length, take, nat_eq, nat_le, refl, sym, ap, subst, ◌∙◌, append_assoc, append-nil, le_refl}
 use Rattle.std.specs.List.{filter, list_all}
 use Rattle.std.proofs.lemmas.Bool.{and_from, and_parts, eq-eqb, false≢true, le-leb, or_left}
 use Rattle.office_core.specs.declared.front.Posting.{Posting}
@@ -14,12 +14,14 @@ use Rattle.office_front.specs.Dealings.{Told}
 use Rattle.order_laws.specs.Entries.{adds_none, cuts, is_other, posts_over, posts_under}
 use Rattle.order_laws.specs.Ordering.{Grows}
 use Rattle.order_laws.proofs.Growing.{legal_front}
-use Rattle.order_laws.proofs.Ordering.{calm_at_post, calm_behind}
+use Rattle.order_laws.proofs.Ordering.{before_goes_on, calm_at_post, calm_behind}
 use Rattle.run_record.specs.Order.{before_first}
 use Rattle.run_posts.specs.Fates.{Wait, all_collected, is_finished, is_open, posted_entries, settled_in, told_of}
 use Rattle.run_posts.proofs.Settling.{none_of_all}
 use Rattle.run_posts.proofs.Ending.{AreSettled, StandsInOrder, open_collected, open_told, other_all, settled_collected, stands_next}
-use Rattle.run_posts.proofs.Opening.{IsOpen, all_posts_of, is_between, next_wait, open_between, open_posts, places}
+use Rattle.run_posts.proofs.Opening.{IsOpen, all_posts_of, is_between, next_wait, open_between, open_posts, places, told_places}
+use Rattle.run_alone.specs.Ran.{finished_before}
+use Rattle.run_alone.proofs.Earlier.{first_told}
 
 -- ---- entries
 
@@ -177,3 +179,12 @@ module _ (w : Setting) (h : List Entry) (all : List Posting) (xs : List Wait) (p
         (subst (λ (l : List Entry). AreSettled w (past_of w l) settled_waits) (sym in_one)
         (settled_collected w after_sweep (all ++ p ∷ []) ts waiting open_swept))
         can.order)
+
+    -- what had been told when an earlier posting was asked for are those that are finished before that one, still
+    pub earlier_step : (j k : ℕ) → j ≤ length all → k ≤ length ts → told_places (take k ts) ≡ finished_before w h (length all) j
+        → told_places (take k said_now) ≡ finished_before w after_step (suc (length all)) j
+    earlier_step j k most within are =
+        first_told k ts (map told_of (filter is_finished settled_waits)) within
+        ∙ are
+        ∙ sym (before_goes_on w h (posted ++ (swept ++ gathered)) (length all) j grows most)
+        ∙ ap (λ (l : List Entry). finished_before w l (suc (length all)) j) in_one

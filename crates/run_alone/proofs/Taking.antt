@@ -1,5 +1,6 @@
 -- A posting is taken in: where the run stands then.
-use Rattle.std.proofs.Common.{◌≡◌, ◌<◌, ◌≤◌, ℕ, suc, Bool, true, false, not, List, [], ◌∷◌, ◌++◌, map, length, Option, None, Some, nat_eq, inl, inr, ⊎_elim, refl, sym, ap, subst, ◌∙◌, append-nil, arith, le_refl}
+use Rattle.std.proofs.Common.{◌≡◌, ◌<◌, ◌≤◌, ℕ, suc, Bool, true, false, not, List, [], ◌∷◌, ◌++◌, map, length, take, Option, None, Some, nat_eq, inl, inr, ⊎_elim, refl, sym, ap, subst, ◌∙◌, append-nil, arith, le_refl}
+use Rattle.std.specs.Prelude.{slice_get}
 use Rattle.std.specs.List.{filter, list_all, list_any}
 use Rattle.std.proofs.lemmas.Bool.{and_from, and_parts, eq-eqb, false≢true, not-true, or_from}
 use Rattle.behaviour_tree.specs.declared.words.Outcome.{Outcome}
@@ -28,13 +29,15 @@ use Rattle.run_posts.specs.declared.pending.Fate.TheVariants.{Message, Known}
 use Rattle.run_posts.specs.Fates.{Wait, all_collected, collected, collected_in, collection, fates_of, is_finished, is_open, posted_entries, settled_in, told_of}
 use Rattle.run_posts.specs.Telling.{AreExpected, TellsAll}
 use Rattle.run_posts.proofs.Ending.{StandsInOrder, open_expected}
-use Rattle.run_posts.proofs.Opening.{IsOpen, all_posts_of, next_wait, open_between, open_posts}
+use Rattle.run_posts.proofs.Opening.{IsOpen, all_posts_of, next_wait, open_between, open_posts, told_places}
 use Rattle.run_sweep.specs.Swept.{NotesBy, StaysQuiet, Swept}
 use Rattle.trip_laws.specs.Going.{AreSettled, NotedSoFar, is_inward, is_silent}
 use Rattle.trip_laws.proofs.Settling.{brought_over, noted_on, over_all, settled_on}
-use Rattle.run_alone.specs.Between.{Answered, Between, Brings, IsCalm, Passed, SaidMore}
+use Rattle.run_alone.specs.Between.{Answered, Between, Brings, IsCalm, Passed, SaidMore, WasTold}
+use Rattle.run_alone.specs.Ran.{finished_before}
 use Rattle.run_alone.proofs.Between.{swept_between}
-use Rattle.run_alone.proofs.Stepping.{CanStep, after_step, after_sweep, all_append, longer, open_gathered, open_step, order_step, posted, settled_waits, waiting}
+use Rattle.run_alone.proofs.Earlier.{asked_within, longer_told}
+use Rattle.run_alone.proofs.Stepping.{CanStep, after_step, after_sweep, all_append, earlier_step, longer, open_gathered, open_step, order_step, posted, settled_waits, waiting}
 
 -- What taking in a posting did: its calls were posted, a sweep, answers were collected, and the postings that are
 -- finished were told.
@@ -148,6 +151,16 @@ module _ {s0 s1 s2 s3 : State} {xs0 xs1 xs2 xs3 : List Wait} {n : ℕ} {p : Post
         coe 1 0
         (i. StandsInOrder (setting_3 i) (history_3 i) (suc (sym count i)) (ts ++ map told_of (filter is_finished (waits_2 i))) (waits_3 i))
         (order_step w s0.history all xs0 p swept ts can)
+
+    -- and what had been told when each was asked for
+    pub earlier_then : (j k : ℕ) → j ≤ n → k ≤ length ts → told_places (take k ts) ≡ finished_before w s0.history n j
+        → told_places (take k (ts ++ map told_of (filter is_finished xs2)))
+        ≡ finished_before s3.setting s3.history (suc n) j
+    earlier_then j k most within are =
+        coe 1 0
+        (i. told_places (take k (ts ++ map told_of (filter is_finished (waits_2 i)))) ≡ finished_before (setting_3 i) (history_3 i) (suc (sym count i)) j)
+        (earlier_step w s0.history all xs0 p swept ts can j k (subst (λ (m : ℕ). j ≤ m) (sym count) most) within
+        (are ∙ ap (λ (m : ℕ). finished_before w s0.history m j) (sym count)))
 
     -- the front expects to be told of them
     pub expected_then : (d : Dealings) → d.brought.given ≡ all ++ p ∷ [] → d.said.told ≡ ts → AreExpected xs2 d
@@ -294,6 +307,17 @@ module _ {s0 s1 s2 s3 : State} {xs0 xs1 xs2 xs3 : List Wait} {n : ℕ} {p : Post
           order = coe 1 0 (i. StandsInOrder s3.setting s3.history (suc n) (told i) xs3)
               (order_then took b.all b.count team0 team3 calm before.said.told b.opens b.order);
           count = ap (λ (ps : List Posting). length ps) given ∙ longer b.all p ∙ ap suc b.count;
+          asked = ap (λ (x : Brought). length x.seens) brought ∙ b.asked;
+          earlier = λ j k at.
+              let there : slice_get before.brought.seens j ≡ Some k
+              = ap (λ (x : Brought). slice_get x.seens j) (sym brought) ∙ at in
+              let was = b.earlier j k there in
+              coe 1 0 (i. WasTold s3 (suc n) (told i) j k)
+              (record {
+                within = longer_told k before.said.told (map told_of (filter is_finished xs2)) was.within;
+                are = earlier_then took b.all b.count team0 team3 calm before.said.told b.opens b.order j k
+                    (asked_within before.brought.seens j k n b.asked there) was.within was.are;
+              });
           noted = subst (λ (t : List ℕ). NotedSoFar s3.setting s3.history t) (sym tells.noted)
               (noted_collected mid.said.noted
               (coe 0 1 (i. NotedSoFar (sym took.sweep.setting i) s2.history mid.said.noted)

@@ -1,6 +1,6 @@
 -- These definitions serve the proofs alone: no promise speaks of them.
 -- Where a run stands between two postings.
-use Rattle.std.specs.Prelude.{◌≡◌, ◌⊎◌, ℕ, Bool, true, false, List, [], ◌∷◌, ◌++◌, length}
+use Rattle.std.specs.Prelude.{◌≡◌, ◌⊎◌, ◌≤◌, ℕ, suc, Bool, true, false, List, [], ◌∷◌, ◌++◌, length, take, Some, slice_get}
 use Rattle.std.specs.List.{list_all}
 use Rattle.office_core.specs.declared.front.Posting.{Posting}
 use Rattle.office_core.specs.declared.history.Entry.{Entry}
@@ -9,10 +9,11 @@ use Rattle.run_sweep.specs.Courses.{Goes}
 use Rattle.run_cells.specs.Crews.{State}
 use Rattle.run_cells.specs.Rounds.{IsQuietAt, IsStillAt}
 use Rattle.run_posts.specs.Fates.{Wait}
-use Rattle.run_posts.specs.Open.{IsOpen, StandsInOrder}
+use Rattle.run_posts.specs.Open.{IsOpen, StandsInOrder, told_places}
 use Rattle.run_sweep.specs.Swept.{StaysQuiet, is_swept}
 use Rattle.trip_laws.specs.Going.{AreSettled, NotedSoFar}
 use Rattle.run_alone.specs.Overs.{IsOver, GaveNone}
+use Rattle.run_alone.specs.Ran.{finished_before}
 
 -- nothing is left to do; before the first posting nothing happened
 abbrev pub IsCalm : ℕ → State → Type 0
@@ -30,11 +31,22 @@ pub record Between (s : State) (xs : List Wait) (n : ℕ) (calm : Bool) : Type 0
   pub count : length all ≡ n
   pub quiet : calm ≡ true → IsCalm n s
 
+-- Of what was told the first k are the postings, among so many, that are finished before posting j.
+pub record WasTold (s : State) (n : ℕ) (told : List Told) (j k : ℕ) : Type 0 where
+  pub within : k ≤ length told
+  pub are : told_places (take k told) ≡ finished_before s.setting s.history n j
+
+-- what was told when each posting was asked for are those that are finished before it
+abbrev pub WereTold : State → ℕ → Dealings → Type 0
+WereTold s n d = (j k : ℕ) → slice_get d.brought.seens j ≡ Some k → WasTold s n d.said.told j k
+
 -- What passed with a front until then.
 pub record Passed (s : State) (xs : List Wait) (n : ℕ) (d : Dealings) : Type 0 where
   pub opens : IsOpen s.setting s.history d.brought.given d.said.told xs
   pub order : StandsInOrder s.setting s.history n d.said.told xs
   pub count : length d.brought.given ≡ n
+  pub asked : length d.brought.seens ≡ n
+  pub earlier : WereTold s n d
   pub noted : NotedSoFar s.setting s.history d.said.noted
 
 -- The same, and then it gave a posting that was not taken in yet.
@@ -44,6 +56,8 @@ pub record Brings (s : State) (xs : List Wait) (n : ℕ) (p : Posting) (d : Deal
   pub opens : IsOpen s.setting s.history all d.said.told xs
   pub order : StandsInOrder s.setting s.history n d.said.told xs
   pub count : length all ≡ n
+  pub asked : length d.brought.seens ≡ suc n
+  pub earlier : WereTold s n d
   pub noted : NotedSoFar s.setting s.history d.said.noted
 
 -- Something more passed with a front: nothing was brought, and it halted no less.

@@ -33,9 +33,20 @@ IsTold w past given t =
 abbrev pub AreNotes : Bool → List ℕ → List ℕ → Type 0
 AreNotes halted noted all = IsFront noted all × (halted ≡ false → noted ≡ all)
 
--- the places of the postings, among so many, that are finished before the end, in the order in which they are answered
+-- the places of the postings, among so many, that are finished at one before posting j, in the order in which they are
+-- answered
+abbrev pub finished_before : Setting → List Entry → ℕ → ℕ → List ℕ
+finished_before w h count j = flat_map (finished_there w (past_of w h) first_worker count) (numbers_from 0 j)
+
+-- those that are finished before the end
 abbrev pub finished_early : Setting → List Entry → ℕ → List ℕ
-finished_early w h count = flat_map (finished_there w (past_of w h) first_worker count) (numbers_from 0 count)
+finished_early w h count = finished_before w h count count
+
+-- When posting j was asked for, the front had been told of the postings that are finished at an earlier one, in order,
+-- and of no other.
+abbrev pub ToldBefore : Setting → List Entry → Dealings → Type 0
+ToldBefore w h d = (j n : ℕ) → slice_get d.brought.seens j ≡ Some n
+    → map (λ (t : Told). t.place) (take n d.said.told) ≡ finished_before w h (length d.brought.given) j
 
 -- When the front was asked last it had been told of the postings that are finished before the end, and of no other.
 abbrev pub SawFinished : Setting → List Entry → Dealings → Type 0
@@ -43,8 +54,9 @@ SawFinished w h d =
     map (λ (t : Told). t.place) (take d.brought.seen d.said.told) ≡ finished_early w h (length d.brought.given)
 
 -- What passed between a run of this history and its front: each posting that was given was posted, in order, and was
--- answered once, in order, with what its calls came to; and what the history notes was noted. Where the front gave none
--- when it was asked last, it had been told by then of what is finished before the end.
+-- answered once, in order, with what its calls came to; and what the history notes was noted. When a posting was asked
+-- for, the front had been told of what is finished before that one; and where it gave none when it was asked last, it had
+-- been told by then of what is finished before the end.
 pub record Dealt (w : Setting) (h : List Entry) (d : Dealings) : Type 0 where
   pub posted : posts_by first_worker h ≡ posts_of 0 d.brought.given
   pub posters : list_all is_by_first h ≡ true
@@ -52,6 +64,8 @@ pub record Dealt (w : Setting) (h : List Entry) (d : Dealings) : Type 0 where
   pub told : (t : Told) → Contains d.said.told t → IsTold w (past_of w h) d.brought.given t
   pub noted : AreNotes d.said.halted d.said.noted (notes w h)
   pub over : IsOver d
+  pub asked : length d.brought.seens ≡ length d.brought.given
+  pub told_before : ToldBefore w h d
   pub seen : GaveNone d → SawFinished w h d
 
 -- ---- the run
