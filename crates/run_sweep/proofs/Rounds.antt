@@ -469,6 +469,11 @@ not_halted true r e h =
 not_halted false r e h =
     true≢false (ap (λ x. elim x [ end.Again ↦ true | end.Calm ↦ true | end.Halted ↦ false ]) (sym e ∙ h))
 
+-- a round that was calm did not halt
+pub calm_goes_on : {r : Round} → r ≡ end.Calm → r ≡ end.Halted → ⊥
+calm_goes_on is halted =
+    true≢false (ap (λ x. elim x [ end.Again ↦ false | end.Calm ↦ true | end.Halted ↦ false ]) (sym is ∙ halted))
+
 -- a round that halted is no other
 pub halted_only : end.Halted ≡ end.Again → ⊥
 halted_only h = true≢false (ap (λ x. elim x [ end.Again ↦ false | end.Calm ↦ false | end.Halted ↦ true ]) h)

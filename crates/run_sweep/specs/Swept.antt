@@ -39,6 +39,11 @@ abbrev pub HasHalted : {F : Type 0} → (ProgramParts → F → F → Dealings �
 HasHalted {F} dealt front =
     (parts : ProgramParts) (first : F) (now : Dealings) → dealt parts first front now → now.said.halted ≡ true
 
+-- the front did not halt
+abbrev pub HasNotHalted : {F : Type 0} → (ProgramParts → F → F → Dealings → Type 0) → F → Type 0
+HasNotHalted {F} dealt front =
+    (parts : ProgramParts) (first : F) (now : Dealings) → dealt parts first front now → now.said.halted ≡ false
+
 -- Texts were noted to a front, one after the other, and nothing else passed.
 pub record NotesMore (before now : Dealings) : Type 0 where
   pub text : List ℕ

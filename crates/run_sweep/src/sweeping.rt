@@ -4,7 +4,7 @@ ghost use Rattle.run_record.specs.Quiet.{unbrought};
 ghost use Rattle.run_cells.specs.Crews.{AtWork, past_in, state_of};
 ghost use Rattle.run_cells.specs.Rounds.{IsQuietAt, left};
 ghost use Rattle.trip_laws.specs.Going.{AreSettled};
-ghost use Rattle.run_sweep.specs.Swept.{NotesBy, NotesMore, PassedOn, StaysQuiet, Swept, ToursBy, HasHalted};
+ghost use Rattle.run_sweep.specs.Swept.{NotesBy, NotesMore, PassedOn, StaysQuiet, Swept, ToursBy, HasHalted, HasNotHalted};
 ghost use Rattle.trip_laws.specs.Trips.{trips_told};
 
 use crate::console::note_all;
@@ -44,6 +44,7 @@ pub fn sweep<C: Sessions, F: Front, L: Link>(
         (state_of (C.crew cells.new)).history))
         (λ _. PassedOn F.dealt front.old front.new NotesMore) }
     ensures quiet { IfOk result (λ calm. calm ≡ true → IsQuietAt (state_of (C.crew cells.new))) }
+    ensures heeded { IfOk result (λ calm. calm ≡ true → HasNotHalted F.dealt front.new) }
     ensures halted { IfOk result (λ calm. calm ≡ false → HasHalted F.dealt front.new) }
     ensures still { OnOk result (StaysQuiet (state_of (C.crew cells.old)) (state_of (C.crew cells.new))) }
 {
@@ -82,6 +83,8 @@ fn go_round<C: Sessions, F: Front, L: Link>(
         × (left (state_of (C.crew cells.new)) < left (state_of (C.crew cells.old)))) }
     ensures calm { IfOk result (λ r. r ≡ Round.Calm → IsQuietAt (state_of (C.crew cells.new))) }
     ensures halted { IfOk result (λ r. r ≡ Round.Halted → HasHalted F.dealt front.new) }
+    ensures heeded { IfOk result (λ r. (r ≡ Round.Halted → ⊥) → HasNotHalted F.dealt front.new) }
+    ensures stopped { IfOk result (λ r. r ≡ Round.Halted → link.new ≡ link.old) }
     ensures still { IfOk result (λ r. IsQuietAt (state_of (C.crew cells.old))
         → (r ≡ Round.Again → ⊥) × StaysQuiet (state_of (C.crew cells.old)) (state_of (C.crew cells.new))) }
 {

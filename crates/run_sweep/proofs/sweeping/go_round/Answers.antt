@@ -1,5 +1,5 @@
 -- A round: the sessions have their turns, then calls go out and come back.
-use Rattle.std.proofs.Common.{◌∙◌, sym, true≢false}
+use Rattle.std.proofs.Common.{◌∙◌, refl, sym, true≢false}
 use Rattle.run_cells.specs.Crews.{state_of}
 use Rattle.run_sweep.specs.Swept.{NotesBy, NotesMore}
 use Rattle.run_sweep.proofs.Notes.{failing, notes_none, passed_none, passed_as}
@@ -43,6 +43,9 @@ returns-then-halted-clause-noted g c =
 pub returns-then-halted-clause-halted : goal.returns-then-halted-clause-halted
 returns-then-halted-clause-halted g c =
     λ is parts first now d. sym (c.halted.ensures parts first now d) ∙ c.if-halted.true
+
+pub returns-then-halted-clause-heeded : goal.returns-then-halted-clause-heeded
+returns-then-halted-clause-heeded g c = λ not. absurd (not refl)
 
 pub returns-then-halted-clause-still : goal.returns-then-halted-clause-still
 returns-then-halted-clause-still g c =
@@ -100,6 +103,12 @@ returns-clause-calm g c =
 
 pub returns-clause-halted : goal.returns-clause-halted
 returns-clause-halted g c = λ is. absurd (not_halted _ _ c.came_to.ensures is)
+
+pub returns-clause-heeded : goal.returns-clause-heeded
+returns-clause-heeded g c = λ not parts first now d. sym (c.halted.ensures parts first now d) ∙ c.if-halted.false
+
+pub returns-clause-stopped : goal.returns-clause-stopped
+returns-clause-stopped g c = λ is. absurd (not_halted _ _ c.came_to.ensures is)
 
 pub returns-clause-still : goal.returns-clause-still
 returns-clause-still g c =

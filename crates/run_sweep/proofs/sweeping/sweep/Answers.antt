@@ -4,7 +4,7 @@ use Rattle.run_cells.specs.Crews.{state_of}
 use Rattle.trip_laws.specs.Going.{AreSettled}
 use Rattle.run_sweep.specs.Swept.{NotesBy, NotesMore}
 use Rattle.run_sweep.proofs.Notes.{failing, notes_none, notes_on, passed_none, passed_on}
-use Rattle.run_sweep.proofs.Rounds.{swept_none, swept_on, notes_then, tours_then, quiet_then, still_then}
+use Rattle.run_sweep.proofs.Rounds.{swept_none, swept_on, notes_then, tours_then, quiet_then, still_then, calm_goes_on}
 use Rattle.run_sweep.proofs.sweeping.sweep.Goals as goal
 use Rattle.trip_laws.specs.Trips.{trips_told}
 
@@ -85,6 +85,9 @@ returns-in-Calm-clause-noted g c =
 
 pub returns-in-Calm-clause-quiet : goal.returns-in-Calm-clause-quiet
 returns-in-Calm-clause-quiet g c = λ _. c.in_ok-go_round.ensures.calm c.in-Calm.is
+
+pub returns-in-Calm-clause-heeded : goal.returns-in-Calm-clause-heeded
+returns-in-Calm-clause-heeded g c = λ _. c.in_ok-go_round.ensures.heeded (calm_goes_on c.in-Calm.is)
 
 pub returns-in-Calm-clause-still : goal.returns-in-Calm-clause-still
 returns-in-Calm-clause-still g c =
