@@ -23,7 +23,10 @@ pub fn told(
     let back = counts.doors_back();
     let wires = counts.wires_back();
     let failed = counts.wires_failed();
-    let counted = format!(in alloc; "doors {opened} back {back}, wires {wires} failed {failed}")?;
+    let ended = counts.wires_ended();
+    let counted = format!(in alloc;
+        "doors {opened} back {back}, wires {wires} failed {failed} ended {ended}"
+    )?;
     said.push_str(counted.as_str())?;
     for wire in doors.returned() {
         tell_wire(wire, &mut said)?;
