@@ -159,7 +159,8 @@ stands_behind us x xs none =
 
 -- a value is of another variable than those before it
 new_to : (f : Variable → Option Root) (base : ℕ) (vs : List Variable) (us : List Written) (x : Written)
-    (xs : List Written) → AreNumbered base vs → filter_map (given_to f) vs ≡ us ++ x ∷ xs → rows.value_of us x.variable ≡ None
+    (xs : List Written) → AreNumbered base vs → filter_map (given_to f) vs ≡ us ++ x ∷ xs
+    → rows.value_of us x.variable ≡ None
 new_to f base vs [] x xs numbered h = refl
 new_to f base [] (u ∷ us) x xs numbered h = absurd (nil_not_cons u (us ++ x ∷ xs) h)
 new_to f base (v ∷ vs) (u ∷ us) x xs numbered h =
