@@ -1,16 +1,13 @@
 //! Calls of an office line by line, with what each of them answers.
 //!
 //! A row has a program, and lines with a call and its answer each: `0 take 0 => 0 0 void`. How calls are written stands
-//! at `played`, values at `read_value`, outcomes at `read_outcome`, and programs of many services at `program_text`.
+//! at `played`, values, messages and outcomes in `test_calls`, and programs of many services at `program_text`.
 #![tactic(auto)]
 
-mod outcomes;
 mod play;
 mod posts;
 mod program;
 mod sessions;
-mod values;
-mod words;
 mod workers;
 
 use crate::play::played;

@@ -2,11 +2,11 @@
 
 use crate::posts::{post, posts, rounds};
 use crate::sessions::{adopt, bind, end, reply, send, take, take_answer};
-use crate::words::{Line, Words};
 use crate::workers::{answered, close, collect, fetch, stop};
 use office_core::History;
 use plain_office::Office;
 use std::alloc::{AllocError, Global};
+use test_calls::{Line, Words};
 use test_values::WordError;
 
 /// What an office answers to the lines, each behind its line and ` => `.

@@ -1,23 +1,19 @@
 //! Messages that come in at a port.
 
-use crate::outcomes::{not_allowed, refused};
-use crate::values::read_value;
-use crate::words::{Line, Words};
 use behaviour_tree::Reason;
 use call_conditions::{acts, works};
-use jolie_trees::Text;
-use office_core::{PostReply, Posted};
+use office_core::PostReply;
 use plain_office::Office;
 use reqresp_book::Origin;
 use std::alloc::{AllocError, Global};
+use test_calls::{Line, Words, not_allowed, read_posted, refused, reply_words};
 use test_values::WordError;
 
 pub fn post(alloc: Global, office: &mut Office, line: Line<'_>) -> Result<String, WordError> {
     let mut words = Words { rest: line.with };
     let (posting, index) = words.pair()?;
     match posted(alloc, office, line.actor, posting, index, words.rest)? {
-        Some(PostReply::Accepted(message)) => Ok(format!(in alloc; "ok {message}")?),
-        Some(PostReply::Refused(reason)) => refused(alloc, reason),
+        Some(reply) => reply_words(alloc, reply),
         None => not_allowed(alloc),
     }
 }
@@ -67,14 +63,6 @@ fn posted(
     let posted = read_posted(alloc, words)?;
     let reply = office.post(actor, Origin::Port { posting, index }, posted)?;
     Ok(Some(reply))
-}
-
-fn read_posted(alloc: Global, words: &str) -> Result<Posted, WordError> {
-    let mut words = Words { rest: words };
-    let service = words.number()?;
-    let op = Text::new(alloc, words.word()?)?;
-    let value = read_value(alloc, words.rest)?;
-    Ok(Posted { service, op, value })
 }
 
 /// The message of operation 0 that a session takes.

@@ -1,13 +1,14 @@
 //! Calls of sessions.
 
-use crate::outcomes::{done, given, none, not_allowed, read_outcome, refused};
-use crate::values::{read_value, value_words};
-use crate::words::{Line, Words, behind, number, numbers};
 use call_conditions::{acts, has_variable, is_open, is_running, is_wanted, next_call, took};
 use correlation::BindReply;
 use office_core::{Act, Entry, Mail, Placed};
 use plain_office::Office;
 use std::alloc::Global;
+use test_calls::{
+    Line, Words, behind, done, given, none, not_allowed, number, numbers, read_outcome, read_value,
+    refused, value_words,
+};
 use test_values::{WordError, read_root};
 
 pub fn adopt(alloc: Global, office: &mut Office, line: Line<'_>) -> Result<String, WordError> {

@@ -1,12 +1,12 @@
 //! Calls of workers, but for posts.
 
-use crate::outcomes::{done, given, none, not_allowed, read_outcome};
-use crate::values::value_words;
-use crate::words::{Line, Words, behind, number};
 use call_conditions::{is_collectable, is_fetched, works};
-use office_core::{OutKind, Outgoing};
+use office_core::OutKind;
 use plain_office::Office;
 use std::alloc::Global;
+use test_calls::{
+    Line, Words, done, given, none, not_allowed, number, outgoing_words, read_outcome,
+};
 use test_values::WordError;
 
 /// The actors from this number on are workers.
@@ -33,21 +33,6 @@ pub fn fetch(alloc: Global, office: &mut Office, line: Line<'_>) -> Result<Strin
         Some(outgoing) => outgoing_words(alloc, &outgoing, line.want),
         None => none(alloc),
     }
-}
-
-fn outgoing_words(alloc: Global, outgoing: &Outgoing, want: &str) -> Result<String, WordError> {
-    let Outgoing {
-        session,
-        service,
-        call,
-        port,
-        op,
-        value,
-        wants,
-    } = outgoing;
-    let how = if *wants { "wants" } else { "tells" };
-    let value = value_words(alloc, value, behind(want, 6))?;
-    Ok(format!(in alloc; "{session} {service} {call} {port} {op} {how} {value}")?)
 }
 
 pub fn answered(alloc: Global, office: &mut Office, line: Line<'_>) -> Result<String, WordError> {
