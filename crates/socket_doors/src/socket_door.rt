@@ -143,6 +143,7 @@ impl<H: Net + Clock + Copy + Drop> SocketDoor<H> {
     fn wire(&self, stream: H::Stream) -> SocketWire<PatientStream<H::Stream, H>>
         ensures faults { result.faults ≡ 0 }
         ensures closed { result.closed ≡ false }
+        ensures ended { result.ended ≡ false }
     {
         // Where it fails, what is written in several pieces may go out later, and nothing else changes.
         let _ = stream.set_nodelay(true);
