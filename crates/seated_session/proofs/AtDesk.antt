@@ -1,6 +1,6 @@
 -- An office is opened, its session is seated, and a turn is one of the run.
 use Rattle.std.proofs.Common.{◌≡◌, ℕ, Bool, true, false, List, [], ◌∷◌, ◌++◌, refl, ap, subst, ◌∙◌, Option, None, Some, true≢false}
-use Rattle.std.specs.Prelude.{Err, IfOk, Ok, OnOk, Result, length, slice_get}
+use Rattle.std.specs.Prelude.{Err, IfOk, Ok, OnOk, Result, length}
 use Rattle.behaviour_tree.specs.declared.program.Program.{Program}
 use Rattle.behaviour_tree.specs.declared.words.Event.{Event}
 use Rattle.behaviour_tree.specs.PartsView.{parts_of}
