@@ -84,7 +84,7 @@ impl Seat<'_> {
 
     /// The calls of the office in the end.
     pub fn into_history(self) -> History
-        ensures { result.entries.items ≡ entries_of self.office }
+        ensures { result.entries.items ≡ entries_of self.entry.office }
     {
         self.office.into_history()
     }
