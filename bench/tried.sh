@@ -1,7 +1,7 @@
 #!/bin/sh
-# Lists the must-fail edits that stood at one of four commits and that no crate has any more, by the crate that they
+# Lists the must-fail edits that stood at one of six commits and that no crate has any more, by the crate that they
 # were of. They were all refused in the gate of their commit: 31dedfb on 2026-11-28, c85175f, 8fbca77 and ef3915f on
-# 2026-11-29.
+# 2026-11-29, 1c1d910 and 22356af on 2026-11-30.
 # With -m the list is put between its two marker comments in docs/tried.md. Outside the gate: bench/tried.sh [-m]
 set -eu
 top=$(cd "$(dirname "$0")/.." && pwd)
@@ -9,6 +9,8 @@ first=31dedfb
 second=c85175f
 third=8fbca77
 fourth=ef3915f
+fifth=1c1d910
+sixth=22356af
 page=docs/tried.md
 work=$(mktemp -d)
 trap 'rm -rf "$work"' EXIT
@@ -25,6 +27,8 @@ names() {
     git ls-tree -r --name-only "$second" crates | names
     git ls-tree -r --name-only "$third" crates | names
     git ls-tree -r --name-only "$fourth" crates | names
+    git ls-tree -r --name-only "$fifth" crates | names
+    git ls-tree -r --name-only "$sixth" crates | names
 } | sort -u > "$work/stood"
 git ls-files --cached --others --exclude-standard crates | while read -r path; do
     [ -e "$path" ] && echo "$path"
