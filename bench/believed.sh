@@ -207,7 +207,7 @@ FILENAME ~ /\.rt$/ { code_line($0); next }
 { definition_line($0) }
 
 END {
-    for (file in seeds) if (how != "-r" || file == "crates/jolie_main/src/top.rt") reach(file, seeds[file])
+    for (file in seeds) if (how != "-r" || file ~ /^crates\/jolie_main\/src\/(top|world)\.rt$/) reach(file, seeds[file])
     for (at = 1; at <= queued; at++) {
         block = queue[at]
         if (frame_of[block] && !(frame_of[block] in reached)) {

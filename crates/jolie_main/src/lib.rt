@@ -5,7 +5,9 @@ mod explain;
 mod say;
 mod show;
 mod top;
+mod world;
 
 pub use file_verdicts::{Cause, Refusal, Stage, program_in};
 pub use line_run::Ended;
 pub use top::run;
+pub use world::{Telling, World};

@@ -17,6 +17,7 @@ ghost use Rattle.trip_laws.specs.Trips.{trips_told};
 use crate::explain::{explain_text, file_failed};
 use crate::say::{refuse, show_usage_error, tell};
 use crate::show::{check_text, print_text};
+use crate::world::{Telling, World};
 use behaviour_tree::Program;
 use command_words::{Action, Command, Words, understood};
 use door_run::run_doors;
@@ -43,25 +44,21 @@ const MOST: u64 = 1_048_577;
 pub fn run<F: Files, S: Source, K: Sink, N: Sink, D: Doors, L: Link>(
     alloc: Global,
     words: &[String],
-    files: &mut F,
-    input: &mut S,
-    output: &mut K,
-    notes: &mut N,
-    doors: &mut D,
-    links: &mut Vec<L>,
+    world: &mut World<F, S, K, N, D, L>,
 ) -> Result<Ended, AllocError>
-    requires link { 0 < length links.old.items }
+    requires link { 0 < length world.old.links.items }
     // The headline.
-    ensures promises { let before = outside (F.faults files.old) (lines (giving (S.left input.old) (S.faults input.old)) (taking (K.taken output.old) (K.faults output.old)) (taking (N.taken notes.old) (N.faults notes.old))) (doors_told (D.faults doors.old) (D.tally doors.old) (D.locations doors.old) (D.returned doors.old)) (map (λ l. trips_told (L.trips l) (L.faults l)) links.old.items) in
-        let now = outside (F.faults files.new) (lines (giving (S.left input.new) (S.faults input.new)) (taking (K.taken output.new) (K.faults output.new)) (taking (N.taken notes.new) (N.faults notes.new))) (doors_told (D.faults doors.new) (D.tally doors.new) (D.locations doors.new) (D.returned doors.new)) (map (λ l. trips_told (L.trips l) (L.faults l)) links.new.items) in
-        let made : Line → Type 0 = (λ line. (wire : D.D.W) × (line ≡ line_of (D.D.W.given wire) (D.D.W.left wire) (D.D.W.taken wire) (D.D.W.faults wire) (D.D.W.closed wire))) in
-        IfOk result (λ ended. (said : Said) × IsUnderstood (spelled words.now) said × Promises made said (F.held files.old) ended (around before now)) }
-    ensures others { drop 1 links.new.items ≡ drop 1 links.old.items }
+    ensures promises { IfOk result (λ ended. (said : Said) × IsUnderstood (spelled words.now) said
+        × Promises ⟦<World<F, S, K, N, D, L> as Telling>⟧.made said (F.held world.old.files) ended
+        (around (⟦<World<F, S, K, N, D, L> as Telling>⟧.told world.old) (⟦<World<F, S, K, N, D, L> as Telling>⟧.told world.new))) }
+    ensures others { drop 1 world.new.links.items ≡ drop 1 world.old.links.items }
 {
     match understood(alloc, words)? {
-        Words::Command(command) => obey(alloc, &command, files, input, output, notes, doors, links),
-        Words::Help(text) => Ok(tell(alloc, text.as_str().as_bytes(), output)),
-        Words::UsageError(text) => Ok(show_usage_error(alloc, text.as_str().as_bytes(), notes)),
+        Words::Command(command) => obey(alloc, &command, world),
+        Words::Help(text) => Ok(tell(alloc, text.as_str().as_bytes(), &mut world.output)),
+        Words::UsageError(text) => {
+            Ok(show_usage_error(alloc, text.as_str().as_bytes(), &mut world.notes))
+        }
     }
 }
 
@@ -69,30 +66,40 @@ pub fn run<F: Files, S: Source, K: Sink, N: Sink, D: Doors, L: Link>(
 fn obey<F: Files, S: Source, K: Sink, N: Sink, D: Doors, L: Link>(
     alloc: Global,
     command: &Command,
-    files: &mut F,
-    input: &mut S,
-    output: &mut K,
-    notes: &mut N,
-    doors: &mut D,
-    links: &mut Vec<L>,
+    world: &mut World<F, S, K, N, D, L>,
 ) -> Result<Ended, AllocError>
-    requires link { 0 < length links.old.items }
-    ensures obeyed { IfOk result (λ ended. Obeys (λ line. (wire : D.D.W) × (line ≡ line_of (D.D.W.given wire) (D.D.W.left wire) (D.D.W.taken wire) (D.D.W.faults wire) (D.D.W.closed wire))) command.now (F.held files.old command.now.file) ended (around
-        (outside (F.faults files.old) (lines (giving (S.left input.old) (S.faults input.old)) (taking (K.taken output.old) (K.faults output.old)) (taking (N.taken notes.old) (N.faults notes.old))) (doors_told (D.faults doors.old) (D.tally doors.old) (D.locations doors.old) (D.returned doors.old)) (map (λ l. trips_told (L.trips l) (L.faults l)) links.old.items))
-        (outside (F.faults files.new) (lines (giving (S.left input.new) (S.faults input.new)) (taking (K.taken output.new) (K.faults output.new)) (taking (N.taken notes.new) (N.faults notes.new))) (doors_told (D.faults doors.new) (D.tally doors.new) (D.locations doors.new) (D.returned doors.new)) (map (λ l. trips_told (L.trips l) (L.faults l)) links.new.items)))) }
-    ensures others { drop 1 links.new.items ≡ drop 1 links.old.items }
+    requires link { 0 < length world.old.links.items }
+    ensures obeyed { IfOk result (λ ended. Obeys ⟦<World<F, S, K, N, D, L> as Telling>⟧.made command.now (F.held world.old.files command.now.file) ended
+        (around (⟦<World<F, S, K, N, D, L> as Telling>⟧.told world.old) (⟦<World<F, S, K, N, D, L> as Telling>⟧.told world.new))) }
+    ensures others { drop 1 world.new.links.items ≡ drop 1 world.old.links.items }
 {
-    let text = match files.read(command.file.as_str(), MOST) {
+    let text = match world.files.read(command.file.as_str(), MOST) {
         Ok(text) => text,
-        Err(CallError::Failed) => return file_failed(alloc, command, output),
+        Err(CallError::Failed) => return file_failed(alloc, command, &mut world.output),
         Err(CallError::Memory(cause)) => return Err(cause),
     };
     match command.action {
-        Action::Check => check_text(alloc, &text, output),
-        Action::Explain => explain_text(alloc, command.file.as_str(), &text, output),
-        Action::Print => print_text(alloc, &text, output),
-        Action::Run => run_text(alloc, &text, command, input, output, notes, links),
-        Action::Serve => serve_text(alloc, &text, command, output, notes, doors, links),
+        Action::Check => check_text(alloc, &text, &mut world.output),
+        Action::Explain => { explain_text(alloc, command.file.as_str(), &text, &mut world.output) }
+        Action::Print => print_text(alloc, &text, &mut world.output),
+        Action::Run => run_text(
+            alloc,
+            &text,
+            command,
+            &mut world.input,
+            &mut world.output,
+            &mut world.notes,
+            &mut world.links,
+        ),
+        Action::Serve => serve_text(
+            alloc,
+            &text,
+            command,
+            &mut world.output,
+            &mut world.notes,
+            &mut world.doors,
+            &mut world.links,
+        ),
     }
 }
 

@@ -1,7 +1,9 @@
-//! The objects in memory that a row describes.
+//! The world in memory that a row describes.
 
 ghost use Rattle.std.specs.Prelude.{◌<◌, IfOk, length};
 
+use doors_in_memory::CalmDoors;
+use jolie_main::World;
 use outside_links::ScriptedLink;
 use outside_traits::{Script, ScriptedFiles, ScriptedSink, ScriptedSource};
 use std::alloc::Global;
@@ -12,6 +14,37 @@ const NEVER: u64 = 1 << 60;
 
 /// Longer than each input and each output.
 const AT_ONCE: u32 = 100_000;
+
+/// Files, streams and a link in memory, and no doors.
+pub type Memory = World<
+    ScriptedFiles,
+    ScriptedSource,
+    ScriptedSink,
+    ScriptedSink,
+    CalmDoors,
+    ScriptedLink,
+>;
+
+/// The world of a row.
+pub fn world(alloc: Global, row: &Row<'_>) -> anyhow::Result<Box<Memory>>
+    ensures link { IfOk result (λ world. 0 < length world.value.links.items) }
+{
+    let files = files(alloc, row)?;
+    let input = source(alloc, row)?;
+    let output = sink(alloc, row, "write_fails_at")?;
+    let notes = sink(alloc, row, "note_fails_at")?;
+    let links = links(alloc, row)?;
+    let doors = CalmDoors::new(alloc);
+    let world = World {
+        files,
+        input,
+        output,
+        notes,
+        doors,
+        links,
+    };
+    Ok(Box::new(alloc, world)?)
+}
 
 /// The words of the row's command over the file `twice.ol`, with the row's options.
 pub fn words(alloc: Global, row: &Row<'_>) -> anyhow::Result<Vec<String>> {
@@ -27,7 +60,7 @@ pub fn words(alloc: Global, row: &Row<'_>) -> anyhow::Result<Vec<String>> {
 }
 
 /// One link, whose first trip brings back what the row says, or fails.
-pub fn links(alloc: Global, row: &Row<'_>) -> anyhow::Result<Vec<ScriptedLink>>
+fn links(alloc: Global, row: &Row<'_>) -> anyhow::Result<Vec<ScriptedLink>>
     ensures { IfOk result (λ links. 0 < length links.items) }
 {
     let script = trips(alloc, row)?;
@@ -50,7 +83,7 @@ fn comes(alloc: Global, row: &Row<'_>) -> anyhow::Result<Option<Vec<u8>>> {
     }
 }
 
-pub fn files(alloc: Global, row: &Row<'_>) -> anyhow::Result<ScriptedFiles> {
+fn files(alloc: Global, row: &Row<'_>) -> anyhow::Result<ScriptedFiles> {
     let script = script(alloc, row, "file_fails_at")?;
     let content = content(alloc, row)?;
     Ok(ScriptedFiles::new(alloc, content.as_slice(), script)?)
@@ -71,19 +104,11 @@ fn blanks(alloc: Global, count: u32) -> anyhow::Result<Vec<u8>> {
     Ok(blanks)
 }
 
-pub fn source(alloc: Global, row: &Row<'_>) -> anyhow::Result<ScriptedSource> {
+fn source(alloc: Global, row: &Row<'_>) -> anyhow::Result<ScriptedSource> {
     let script = script(alloc, row, "read_fails_at")?;
     let input = row.bytes(alloc, "input")?;
     let piece = piece(alloc, row)?;
     Ok(ScriptedSource::new(alloc, input.as_slice(), piece.max(1), script)?)
-}
-
-pub fn output(alloc: Global, row: &Row<'_>) -> anyhow::Result<ScriptedSink> {
-    sink(alloc, row, "write_fails_at")
-}
-
-pub fn notes(alloc: Global, row: &Row<'_>) -> anyhow::Result<ScriptedSink> {
-    sink(alloc, row, "note_fails_at")
 }
 
 fn sink(alloc: Global, row: &Row<'_>, fails_at: &'static str) -> anyhow::Result<ScriptedSink> {

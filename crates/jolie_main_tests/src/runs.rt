@@ -2,25 +2,24 @@
 
 ghost use Rattle.std.specs.Prelude.{◌<◌, length};
 
-use crate::objects::{files, links, notes, output, source, words};
-use doors_in_memory::CalmDoors;
+use crate::objects::{Memory, words, world};
 use jolie_main::run;
-use outside_links::{ScriptedLink, Trip};
-use outside_traits::{ScriptedFiles, ScriptedSink, ScriptedSource};
+use outside_links::Trip;
 use std::alloc::{AllocError, Global};
 use test_rows::Row;
 
 /// How the run of a row ends: its status, its output and its notes.
 pub fn ended(alloc: Global, row: &Row<'_>) -> anyhow::Result<String> {
-    let mut links = links(alloc, row)?;
-    ended_by(alloc, row, &mut links)
+    let mut world = world(alloc, row)?;
+    let status = status_of(alloc, row, &mut world)?;
+    told(alloc, row, status, &world)
 }
 
 /// The trips that the link of a row makes in its run, one a line: where to, and the text.
 pub fn travelled(alloc: Global, row: &Row<'_>) -> anyhow::Result<String> {
-    let mut links = links(alloc, row)?;
-    drop(ended_by(alloc, row, &mut links)?);
-    match links.first() {
+    let mut world = world(alloc, row)?;
+    status_of(alloc, row, &mut world)?;
+    match world.links.first() {
         Some(link) => trips_words(alloc, link.trips()),
         None => Ok(String::new(alloc)),
     }
@@ -38,69 +37,18 @@ fn trips_words(alloc: Global, trips: &[Trip]) -> anyhow::Result<String> {
     Ok(words)
 }
 
-fn ended_by(alloc: Global, row: &Row<'_>, links: &mut Vec<ScriptedLink>) -> anyhow::Result<String>
-    requires link { 0 < length links.old.items }
-{
-    let mut files = files(alloc, row)?;
-    ended_over(alloc, row, &mut files, links)
-}
-
-fn ended_over(
-    alloc: Global,
-    row: &Row<'_>,
-    files: &mut ScriptedFiles,
-    links: &mut Vec<ScriptedLink>,
-) -> anyhow::Result<String>
-    requires link { 0 < length links.old.items }
-{
-    let mut source = source(alloc, row)?;
-    ended_on(alloc, row, files, &mut source, links)
-}
-
-fn ended_on(
-    alloc: Global,
-    row: &Row<'_>,
-    files: &mut ScriptedFiles,
-    source: &mut ScriptedSource,
-    links: &mut Vec<ScriptedLink>,
-) -> anyhow::Result<String>
-    requires link { 0 < length links.old.items }
-{
-    let mut output = output(alloc, row)?;
-    let mut notes = notes(alloc, row)?;
-    let status = status_of(alloc, row, files, source, &mut output, &mut notes, links)?;
-    told(alloc, row, status, output.bytes(), notes.bytes())
-}
-
 /// The status of the run of a row.
-fn status_of(
-    alloc: Global,
-    row: &Row<'_>,
-    files: &mut ScriptedFiles,
-    source: &mut ScriptedSource,
-    output: &mut ScriptedSink,
-    notes: &mut ScriptedSink,
-    links: &mut Vec<ScriptedLink>,
-) -> anyhow::Result<u32>
-    requires link { 0 < length links.old.items }
+fn status_of(alloc: Global, row: &Row<'_>, world: &mut Memory) -> anyhow::Result<u32>
+    requires link { 0 < length world.old.links.items }
 {
     let words = words(alloc, row)?;
-    let mut doors = CalmDoors::new(alloc);
-    let ended = run(
-        alloc, &words, files, source, output, notes, &mut doors, links,
-    )?;
+    let ended = run(alloc, &words, world)?;
     Ok(u32::from(ended.status))
 }
 
-fn told(
-    alloc: Global,
-    row: &Row<'_>,
-    status: u32,
-    output: &[u8],
-    notes: &[u8],
-) -> anyhow::Result<String> {
-    let written = written(alloc, row, output)?;
-    let noted = text_of(alloc, notes)?;
+fn told(alloc: Global, row: &Row<'_>, status: u32, world: &Memory) -> anyhow::Result<String> {
+    let written = written(alloc, row, world.output.bytes())?;
+    let noted = text_of(alloc, world.notes.bytes())?;
     Ok(end_words(alloc, status, written.as_str(), noted.as_str())?)
 }
 

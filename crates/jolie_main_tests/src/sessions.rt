@@ -1,10 +1,8 @@
 //! The events of the sessions of a run.
 
-use crate::objects::{files, links, notes, output, source, words};
+use crate::objects::{words, world};
 use behaviour_tree::{Event, Events};
-use doors_in_memory::CalmDoors;
 use jolie_main::{Ended, run};
-use outside_traits::{ScriptedFiles, ScriptedSink, ScriptedSource};
 use std::alloc::{AllocError, Global};
 use test_rows::Row;
 
@@ -26,40 +24,9 @@ fn left_words(alloc: Global, call: &str, ended: &Ended) -> Result<String, AllocE
 
 /// How the run of a row ends.
 fn ended(alloc: Global, row: &Row<'_>) -> anyhow::Result<Ended> {
-    let mut files = files(alloc, row)?;
-    ended_over(alloc, row, &mut files)
-}
-
-fn ended_over(alloc: Global, row: &Row<'_>, files: &mut ScriptedFiles) -> anyhow::Result<Ended> {
-    let mut source = source(alloc, row)?;
-    ended_on(alloc, row, files, &mut source)
-}
-
-fn ended_on(
-    alloc: Global,
-    row: &Row<'_>,
-    files: &mut ScriptedFiles,
-    source: &mut ScriptedSource,
-) -> anyhow::Result<Ended> {
-    let mut output = output(alloc, row)?;
-    let mut notes = notes(alloc, row)?;
-    ended_by(alloc, row, files, source, &mut output, &mut notes)
-}
-
-fn ended_by(
-    alloc: Global,
-    row: &Row<'_>,
-    files: &mut ScriptedFiles,
-    source: &mut ScriptedSource,
-    output: &mut ScriptedSink,
-    notes: &mut ScriptedSink,
-) -> anyhow::Result<Ended> {
     let words = words(alloc, row)?;
-    let mut links = links(alloc, row)?;
-    let mut doors = CalmDoors::new(alloc);
-    Ok(run(
-        alloc, &words, files, source, output, notes, &mut doors, &mut links,
-    )?)
+    let mut world = world(alloc, row)?;
+    Ok(run(alloc, &words, &mut world)?)
 }
 
 fn record_words(alloc: Global, ended: &Ended) -> Result<String, AllocError> {

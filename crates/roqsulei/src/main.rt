@@ -5,7 +5,7 @@ ghost use Rattle.std.specs.Prelude.{◌<◌, IfOk, length};
 
 use command_words::status::{OUT_OF_MEMORY, USAGE_ERROR};
 use http_link::HttpLink;
-use jolie_main::run;
+use jolie_main::{World, run};
 use outside_sockets::SocketDial;
 use outside_traits::{Inputs, Outputs, Storage};
 use socket_doors::{Patience, SocketDoors};
@@ -30,25 +30,19 @@ fn main(rt: HostRuntime) -> ExitCode {
         Ok(words) => words,
         Err(error) => return ExitCode::from(status_without_words(&rt, &error)),
     };
-    let mut files = Storage::new(alloc, &rt);
-    let mut input = Inputs::new(rt.stdin());
-    let mut output = Outputs::new(rt.stdout());
-    let mut notes = Outputs::new(rt.stderr());
-    let mut doors = SocketDoors::new(&rt, patience());
-    let mut links = match links(alloc, &rt) {
+    let links = match links(alloc, &rt) {
         Ok(links) => links,
         Err(_) => return ExitCode::from(OUT_OF_MEMORY),
     };
-    match run(
-        alloc,
-        &words,
-        &mut files,
-        &mut input,
-        &mut output,
-        &mut notes,
-        &mut doors,
-        &mut links,
-    ) {
+    let mut world = World {
+        files: Storage::new(alloc, &rt),
+        input: Inputs::new(rt.stdin()),
+        output: Outputs::new(rt.stdout()),
+        notes: Outputs::new(rt.stderr()),
+        doors: SocketDoors::new(&rt, patience()),
+        links,
+    };
+    match run(alloc, &words, &mut world) {
         Ok(ended) => ExitCode::from(ended.status),
         Err(_) => ExitCode::from(OUT_OF_MEMORY),
     }

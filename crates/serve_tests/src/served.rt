@@ -1,37 +1,54 @@
 //! How the run of a row ends.
 
-ghost use Rattle.std.specs.Prelude.{◌<◌, length};
+ghost use Rattle.std.specs.Prelude.{◌<◌, IfOk, length};
 
 use crate::guests::{ROOM, doors};
 use crate::peers::{Calling, links};
 use crate::told::told;
 use doors_in_memory::ScriptedDoors;
-use jolie_main::run;
+use jolie_main::{World, run};
 use outside_traits::{Script, ScriptedFiles, ScriptedSink, ScriptedSource};
 use std::alloc::Global;
 use test_rows::Row;
 
-/// What takes what a run says.
-#[derive(Drop)]
-struct Sinks {
-    output: ScriptedSink,
-    notes: ScriptedSink,
-}
+/// Files and streams in memory, doors at which guests come in, and a link to peers.
+pub type Meeting = World<
+    ScriptedFiles,
+    ScriptedSource,
+    ScriptedSink,
+    ScriptedSink,
+    ScriptedDoors,
+    Calling,
+>;
 
 /// The end of the run of a row: its status and its notes, what the doors count, and what was written on each connection;
 /// then its lines and what its last peer was asked, where there is any.
 pub fn served(alloc: Global, row: &Row<'_>) -> anyhow::Result<String> {
-    let mut doors = Box::new(alloc, doors(alloc, row)?)?;
-    let mut sinks = fresh_sinks(alloc, row)?;
-    let mut links = links(alloc, row)?;
-    let status = status_of(alloc, row, &mut sinks, &mut doors, &mut links)?;
-    Ok(told(alloc, status, &sinks.output, &sinks.notes, &doors, &links)?)
+    let words = words(alloc, row)?;
+    let mut world = world(alloc, row)?;
+    let ended = run(alloc, &words, &mut world)?;
+    Ok(told(alloc, ended.status, &world)?)
 }
 
-fn fresh_sinks(alloc: Global, row: &Row<'_>) -> anyhow::Result<Box<Sinks>> {
-    let notes = ScriptedSink::new(alloc, ROOM, ROOM, script(alloc, row)?)?;
+/// The world of a row.
+fn world(alloc: Global, row: &Row<'_>) -> anyhow::Result<Box<Meeting>>
+    ensures link { IfOk result (λ world. 0 < length world.value.links.items) }
+{
+    let files = files(alloc, row)?;
+    let input = input(alloc, row)?;
     let output = ScriptedSink::new(alloc, ROOM, ROOM, Script::new(alloc, &[])?)?;
-    Ok(Box::new(alloc, Sinks { output, notes })?)
+    let notes = ScriptedSink::new(alloc, ROOM, ROOM, script(alloc, row)?)?;
+    let doors = doors(alloc, row)?;
+    let links = links(alloc, row)?;
+    let world = World {
+        files,
+        input,
+        output,
+        notes,
+        doors,
+        links,
+    };
+    Ok(Box::new(alloc, world)?)
 }
 
 /// Which write of the notes fails.
@@ -41,32 +58,6 @@ fn script(alloc: Global, row: &Row<'_>) -> anyhow::Result<Script> {
         return Ok(Script::new(alloc, &[failing])?);
     }
     Ok(Script::new(alloc, &[])?)
-}
-
-/// The status of the run of a row.
-fn status_of(
-    alloc: Global,
-    row: &Row<'_>,
-    sinks: &mut Sinks,
-    doors: &mut ScriptedDoors,
-    links: &mut Vec<Calling>,
-) -> anyhow::Result<u8>
-    requires link { 0 < length links.old.items }
-{
-    let words = words(alloc, row)?;
-    let mut files = files(alloc, row)?;
-    let mut input = input(alloc, row)?;
-    let ended = run(
-        alloc,
-        &words,
-        &mut files,
-        &mut input,
-        &mut sinks.output,
-        &mut sinks.notes,
-        doors,
-        links,
-    )?;
-    Ok(ended.status)
 }
 
 /// The lines of the row, where it has any.

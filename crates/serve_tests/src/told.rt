@@ -1,24 +1,17 @@
 //! What a run left, in words.
 
 use crate::peers::Calling;
-use doors_in_memory::ScriptedDoors;
+use crate::served::Meeting;
 use outside_doors::Return;
-use outside_traits::{ScriptedSink, ScriptedWire};
+use outside_traits::ScriptedWire;
 use std::alloc::{AllocError, Global};
 
 /// The status and the notes, what the doors count, and a line for each connection with what was written on it. Then the
 /// lines that were written, and what was written to the last peer.
-pub fn told(
-    alloc: Global,
-    status: u8,
-    output: &ScriptedSink,
-    notes: &ScriptedSink,
-    doors: &ScriptedDoors,
-    links: &[Calling],
-) -> Result<String, AllocError> {
-    let noted = text_of(notes.bytes());
+pub fn told(alloc: Global, status: u8, world: &Meeting) -> Result<String, AllocError> {
+    let noted = text_of(world.notes.bytes());
     let mut said = format!(in alloc; "status {status}, notes {noted:?}\n")?;
-    let counts = doors.counts();
+    let counts = world.doors.counts();
     let opened = counts.opened();
     let back = counts.doors_back();
     let wires = counts.wires_back();
@@ -28,11 +21,11 @@ pub fn told(
         "doors {opened} back {back}, wires {wires} failed {failed} ended {ended}"
     )?;
     said.push_str(counted.as_str())?;
-    for wire in doors.returned() {
+    for wire in world.doors.returned() {
         tell_wire(wire, &mut said)?;
     }
-    tell_more(output.bytes(), &mut said)?;
-    for link in links {
+    tell_more(world.output.bytes(), &mut said)?;
+    for link in &world.links {
         tell_peer(link, &mut said)?;
     }
     Ok(said)
