@@ -1,12 +1,17 @@
-//! Runs of the program over a file, streams and a link in memory, what its words ask for, and what runs record.
+//! Runs of the program over a file, streams, doors and links in memory, what its words ask for, and what runs record.
 #![tactic(auto)]
 
+mod guests;
 mod objects;
+mod peers;
 mod runs;
+mod served;
 mod sessions;
+mod told;
 mod words;
 
 use crate::runs::{ended, expected_end, travelled};
+use crate::served::served;
 use crate::sessions::left;
 use crate::words::{asked, refused_by};
 use std::alloc::Global;
@@ -32,6 +37,7 @@ fn told(alloc: Global, row: &Row<'_>) -> anyhow::Result<String> {
         "sentence" => refused_by(alloc, row),
         "record" | "kinds" | "counts" => left(alloc, row),
         "trips" => travelled(alloc, row),
+        "serve" => served(alloc, row),
         _ => ended(alloc, row),
     }
 }
@@ -39,7 +45,7 @@ fn told(alloc: Global, row: &Row<'_>) -> anyhow::Result<String> {
 /// What is expected of a row, as `told` writes it.
 fn expected(alloc: Global, row: &Row<'_>) -> anyhow::Result<String> {
     match row.text(alloc, "call")?.as_str() {
-        "words" | "sentence" | "record" | "kinds" | "counts" | "trips" => {
+        "words" | "sentence" | "record" | "kinds" | "counts" | "trips" | "serve" => {
             Ok(row.text(alloc, "gives")?)
         }
         _ => expected_end(alloc, row),
