@@ -103,12 +103,16 @@ class Client(threading.Thread):
             self.notes.append(f"status {status}")
 
 
-def keeps(client):
+def one_by_one(client, message):
     connection = Connection(client.port)
     for _ in range(client.count):
-        connection.send(json.dumps(client.call()))
+        connection.send(json.dumps(message()))
         client.hear(connection)
     connection.close()
+
+
+def keeps(client):
+    one_by_one(client, client.call)
 
 
 def pipelines(client):
@@ -129,11 +133,7 @@ def batches(client):
 
 
 def notifies(client):
-    connection = Connection(client.port)
-    for _ in range(client.count):
-        connection.send(json.dumps(client.notification()))
-        client.hear(connection)
-    connection.close()
+    one_by_one(client, client.notification)
 
 
 def connects(client):
