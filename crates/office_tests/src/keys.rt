@@ -1,0 +1,6 @@
+//! Scripts over the correlation variables of sessions, with what each of their lines gives.
+
+mod script;
+mod shapes;
+
+pub use script::told;

@@ -1,0 +1,95 @@
+//! What doors tell behind all.
+
+use crate::doors::visits::add_bytes;
+use outside_doors::{Counts, Location, Return};
+use outside_traits::{CalmWire, ScriptedWire};
+use std::alloc::{AllocError, Global};
+
+/// The counts, in a line.
+pub fn tell_counts(
+    alloc: Global,
+    counts: &Counts,
+    faults: u64,
+    said: &mut String,
+) -> Result<(), AllocError> {
+    add_count(alloc, "opened", counts.opened(), said)?;
+    add_count(alloc, "back", counts.doors_back(), said)?;
+    add_count(alloc, "ended", counts.doors_ended(), said)?;
+    add_count(alloc, "given", counts.wires_given(), said)?;
+    add_count(alloc, "wires back", counts.wires_back(), said)?;
+    add_count(alloc, "failed", counts.wires_failed(), said)?;
+    add_count(alloc, "wires ended", counts.wires_ended(), said)?;
+    add_count(alloc, "waits", counts.waits(), said)?;
+    add_count(alloc, "faults", faults, said)
+}
+
+fn add_count(alloc: Global, name: &str, count: u64, said: &mut String) -> Result<(), AllocError> {
+    let digits = count.to_string(alloc)?;
+    said.push_str(name)?;
+    said.push(' ')?;
+    said.push_str(digits.as_str())?;
+    said.push(' ')
+}
+
+/// The locations, in a line.
+pub fn tell_locations(locations: &[Location], said: &mut String) -> Result<(), AllocError> {
+    said.push('\n')?;
+    for location in locations {
+        said.push_str(location.as_str())?;
+        said.push(' ')?;
+    }
+    Ok(())
+}
+
+/// The wires that came back, a line each.
+pub fn tell_calm(
+    alloc: Global,
+    returned: &[Return<CalmWire>],
+    said: &mut String,
+) -> Result<(), AllocError> {
+    for back in returned {
+        let wire = back.wire();
+        tell_wire(alloc, wire.given(), wire.taken(), back.faults(), said)?;
+        tell_end(back.has_ended(), said)?;
+    }
+    Ok(())
+}
+
+/// The same of wires that follow a script.
+pub fn tell_scripted(
+    alloc: Global,
+    returned: &[Return<ScriptedWire>],
+    said: &mut String,
+) -> Result<(), AllocError> {
+    for back in returned {
+        let wire = back.wire();
+        tell_wire(alloc, wire.given(), wire.taken(), back.faults(), said)?;
+        tell_end(back.has_ended(), said)?;
+    }
+    Ok(())
+}
+
+/// What was read, what was written, and how often a call failed.
+fn tell_wire(
+    alloc: Global,
+    read: &[u8],
+    written: &[u8],
+    faults: u64,
+    said: &mut String,
+) -> Result<(), AllocError> {
+    let digits = faults.to_string(alloc)?;
+    said.push('\n')?;
+    add_bytes(said, read)?;
+    said.push('>')?;
+    add_bytes(said, written)?;
+    said.push(' ')?;
+    said.push_str(digits.as_str())
+}
+
+/// Whether a read told the end of what comes in.
+fn tell_end(has_ended: bool, said: &mut String) -> Result<(), AllocError> {
+    if has_ended {
+        said.push_str(" ended")?;
+    }
+    Ok(())
+}
