@@ -45,8 +45,8 @@ pub data Checks (text : List ℕ) (status : ℕ) (before now : Taking) : Type 0 
   unchecked : (line : List ℕ) → IsUncheckedBy text line → status ≡ 3 → IsWritten line before now
       → Checks text status before now
 
--- What `explain` does with the text of a file: it says `ok` of a program, with the notes of its definitions, or explains
--- why it is refused, at status 3.
+-- What `explain` does with the text of a file: it says `ok` of a program, with the notes of its definitions, or
+-- explains why it is refused, at status 3.
 pub data Explains (file text : List ℕ) (status : ℕ) (before now : Taking) : Type 0 where
   passed : (lines : List ℕ) → IsNoted file text lines → Says lines status before now
       → Explains file text status before now

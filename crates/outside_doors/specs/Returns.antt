@@ -2,8 +2,8 @@
 use Rattle.std.specs.Prelude.{◌≡◌, ℕ, Bool, false, List, [], ◌++◌, Option, None, Some}
 use Rattle.outside_doors.specs.Counts.{Tally, no_tally}
 
--- a wire that came back: the bytes that were read and those that were written, each where the wire tells them; its count
--- of faults; and whether a read had told the end of what comes in
+-- a wire that came back: the bytes that were read and those that were written, each where the wire tells them; its
+-- count of faults; and whether a read had told the end of what comes in
 pub record WireTold : Type 0 where
   pub read : Option (List ℕ)
   pub written : Option (List ℕ)
