@@ -10,7 +10,7 @@ use Rattle.jolie_ast.specs.PrintedExpressions.{simple, Shown, form_shown, expr_s
 use Rattle.jolie_ast.proofs.PrintedExpressions.{int_shown, long_shown, text_shown, truth_shown}
 use Rattle.jolie_parse.specs.declared.class.Class.{Class}
 use Rattle.jolie_parse.specs.declared.class.Class.TheVariants as classed
-use Rattle.jolie_parse.specs.Classes as c
+use Rattle.jolie_parse.specs.ClassNames as c
 use Rattle.jolie_parse.specs.Classes.{Spelled, class_of, place, has, same}
 use Rattle.jolie_parse.specs.Words.{word_of}
 use Rattle.jolie_parse.specs.Meanings as means_as
