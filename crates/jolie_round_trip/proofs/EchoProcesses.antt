@@ -12,7 +12,8 @@ use Rattle.jolie_ast.specs.declared.process.Block.{Block}
 use Rattle.jolie_ast.specs.declared.process.If.{If, roll-If}
 use Rattle.jolie_ast.specs.declared.process.Handler.{roll-Handler}
 use Rattle.jolie_ast.specs.Spacing as spacing
-use Rattle.jolie_ast.specs.PrintedExpressions.{in_parens, maybe, expr_tokens}
+use Rattle.jolie_ast.specs.PrintedExpressions.{in_parens, expr_tokens}
+use Rattle.jolie_ast.specs.PrintedParts.{maybe}
 use Rattle.jolie_ast.specs.PrintedProcesses.{thrown_tokens, key_token, process_tokens, block_tokens, if_tokens, otherwise_tokens, handler_tokens}
 use Rattle.jolie_ast.proofs.PrintedProcesses as printed
 use Rattle.jolie_parse.specs.declared.process.IfParts.{IfParts}

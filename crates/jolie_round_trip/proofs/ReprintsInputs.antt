@@ -11,7 +11,7 @@ use Rattle.jolie_ast.specs.declared.process.Input.{roll-Input}
 use Rattle.jolie_ast.specs.declared.process.Reply.{roll-Reply}
 use Rattle.jolie_ast.specs.declared.process.Branch.{Branch, roll-Branch, out-Branch}
 use Rattle.jolie_ast.specs.declared.process.Answer.{roll-Answer}
-use Rattle.jolie_ast.specs.PrintedExpressions.{maybe}
+use Rattle.jolie_ast.specs.PrintedParts.{maybe}
 use Rattle.jolie_ast.specs.PrintedProcesses.{count_token, assignment_tokens, for_step_tokens, path_parens, process_tokens, block_tokens, input_tokens, reply_tokens, branch_tokens, answer_tokens}
 use Rattle.jolie_ast.proofs.PrintedProcesses.{block_made, input_made, choice_shown, output_shown, assign_shown, correlate_shown}
 use Rattle.jolie_parse.specs.declared.class.Class.{Class}

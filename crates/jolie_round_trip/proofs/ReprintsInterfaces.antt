@@ -9,8 +9,9 @@ use Rattle.jolie_ast.specs.declared.interface.OperationGroup.{OperationGroup}
 use Rattle.jolie_ast.specs.declared.interface.OperationGroup.TheVariants as group
 use Rattle.jolie_ast.specs.declared.interface.Interface.{Interface}
 use Rattle.jolie_ast.specs.Spacing.{Token}
-use Rattle.jolie_ast.specs.PrintedExpressions.{in_parens, maybe}
-use Rattle.jolie_ast.specs.Printed.{type_name_token, fault_data, fault_tokens, throws_tokens, request_response_tokens, one_way_tokens, group_tokens, interface_tokens}
+use Rattle.jolie_ast.specs.PrintedExpressions.{in_parens}
+use Rattle.jolie_ast.specs.PrintedParts.{maybe, fault_data}
+use Rattle.jolie_ast.specs.Printed.{type_name_token, fault_tokens, throws_tokens, request_response_tokens, one_way_tokens, group_tokens, interface_tokens}
 use Rattle.jolie_parse.specs.ClassNames as c
 use Rattle.jolie_parse.specs.Classes.{place}
 use Rattle.jolie_parse.specs.Made as made

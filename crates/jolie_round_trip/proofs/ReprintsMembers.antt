@@ -5,7 +5,8 @@ use Rattle.jolie_ast.specs.declared.expression.Expr.{Expr}
 use Rattle.jolie_ast.specs.declared.expression.Member.{roll-Member}
 use Rattle.jolie_ast.specs.Spacing as spacing
 use Rattle.jolie_ast.specs.Spacing.{Token}
-use Rattle.jolie_ast.specs.PrintedExpressions.{maybe, member_tokens}
+use Rattle.jolie_ast.specs.PrintedExpressions.{member_tokens}
+use Rattle.jolie_ast.specs.PrintedParts.{maybe}
 use Rattle.jolie_parse.specs.ClassNames as c
 use Rattle.jolie_parse.specs.Meanings as means_as
 use Rattle.jolie_parse.specs.Syntax.{Part, Meant, Lang}

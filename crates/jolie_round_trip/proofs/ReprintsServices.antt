@@ -12,7 +12,8 @@ use Rattle.jolie_ast.specs.declared.service.Clause.TheVariants as clause
 use Rattle.jolie_ast.specs.declared.service.Service.{Service}
 use Rattle.jolie_ast.specs.declared.tree.Definition.TheVariants as definition
 use Rattle.jolie_ast.specs.Spacing.{Token, separated}
-use Rattle.jolie_ast.specs.PrintedExpressions.{maybe, name_tokens, quoted_token}
+use Rattle.jolie_ast.specs.PrintedExpressions.{name_tokens, quoted_token}
+use Rattle.jolie_ast.specs.PrintedParts.{maybe}
 use Rattle.jolie_ast.specs.PrintedProcesses.{block_tokens}
 use Rattle.jolie_ast.specs.Printed.{execution_token, protocol_tokens, port_tokens, alias_tokens, variable_tokens, clause_tokens, service_tokens, definition_tokens}
 use Rattle.jolie_parse.specs.declared.class.Class.{Class}

@@ -14,7 +14,8 @@ use Rattle.jolie_ast.specs.declared.types.DefinedType.TheVariants as defined
 use Rattle.jolie_ast.specs.declared.types.TypeDefinition.{TypeDefinition}
 use Rattle.jolie_ast.specs.declared.interface.TypeName.TheVariants as type_name
 use Rattle.jolie_ast.specs.Spacing.{Token}
-use Rattle.jolie_ast.specs.PrintedExpressions.{in_braces, int_token}
+use Rattle.jolie_ast.specs.PrintedExpressions.{in_braces}
+use Rattle.jolie_ast.specs.PrintedParts.{int_token}
 use Rattle.jolie_ast.specs.Printed.{root_token, most_token, cardinality_tokens, body_tokens, field_tokens, defined_tokens, type_tokens, type_name_token}
 use Rattle.jolie_ast.proofs.PrintedTypes.{named_body, undefined_body}
 use Rattle.jolie_parse.specs.declared.class.Class.TheVariants as classed
