@@ -4,8 +4,9 @@ use Rattle.std.specs.Prelude.{◌||◌, if◌then◌else◌}
 use Rattle.std.proofs.lemmas.Slice.Eq.{bytes_eq-Decides}
 use Rattle.behaviour_tree.specs.Distinct.{is_in}
 use Rattle.jolie_ast.specs.declared.name.Name.{Name}
-use Rattle.check_base.specs.Repeated.{first_names, first_names_after, firsts, firsts_after, Texts, with_text, with_texts}
-use Rattle.check_base.specs.Files.{Operation, each_once, each_once_after}
+use Rattle.check_base.specs.Repeated.{first_names, firsts, Texts, with_text, with_texts}
+use Rattle.check_base.specs.OnceEach.{first_names_after, firsts_after, each_once_after}
+use Rattle.check_base.specs.Files.{Operation, each_once}
 use Rattle.check_base.proofs.Repetitions.{in_any_order, or_false}
 
 -- a text that is there adds nothing

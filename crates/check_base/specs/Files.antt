@@ -1,7 +1,7 @@
 -- A file and its parts by name.
-use Rattle.std.specs.Prelude.{ℕ, zero, suc, Bool, true, false, List, [], ◌∷◌, ◌++◌, map, flat_map, bytes_eq}
+use Rattle.std.specs.Prelude.{ℕ, zero, suc, Bool, true, false, List, [], ◌∷◌, map, flat_map, bytes_eq}
 use Rattle.std.specs.Prelude.{if◌then◌else◌, Option, None, Some, option_map, unwrap_or}
-use Rattle.std.specs.List.{filter_map}
+use Rattle.std.specs.List.{filter_map, find}
 use Rattle.jolie_ast.specs.declared.name.Name.{Name}
 use Rattle.jolie_ast.specs.declared.tree.Definition.{Definition}
 use Rattle.jolie_ast.specs.declared.tree.Definition.TheVariants as definition
@@ -21,7 +21,7 @@ use Rattle.jolie_ast.specs.declared.service.Clause.TheVariants as clause
 use Rattle.jolie_ast.specs.declared.service.CorrelationVariable.{CorrelationVariable}
 use Rattle.jolie_ast.specs.declared.service.Service.{Service}
 use Rattle.jolie_ast.specs.declared.process.Block.{Block}
-use Rattle.behaviour_tree.specs.Distinct.{is_in}
+use Rattle.check_base.specs.Repeated.{once_after}
 use Rattle.jolie_ast.specs.declared.types.RootKind.TheVariants as root
 use Rattle.jolie_ast.specs.declared.types.TypeBody.{TypeBody, roll-TypeBody}
 use Rattle.jolie_ast.specs.declared.types.TypeBody.TheOpen.{TypeBody-F}
@@ -34,20 +34,17 @@ use Rattle.jolie_ast.specs.declared.types.DefinedType.TheVariants as defined
 -- a definition, if it is a type
 abbrev pub type_in : Definition → Option TypeDefinition
 type_in (definition.Type ty) = Some ty
-type_in (definition.Interface i) = None
-type_in (definition.Service s) = None
+type_in _ = None
 
 -- a definition, if it is an interface
 abbrev pub interface_in : Definition → Option Interface
-interface_in (definition.Type ty) = None
 interface_in (definition.Interface i) = Some i
-interface_in (definition.Service s) = None
+interface_in _ = None
 
 -- a definition, if it is a service
 abbrev pub service_in : Definition → Option Service
-service_in (definition.Type ty) = None
-service_in (definition.Interface i) = None
 service_in (definition.Service s) = Some s
+service_in _ = None
 
 -- the types of a file in order
 abbrev pub types_of : List Definition → List TypeDefinition
@@ -71,13 +68,11 @@ interface_names interfaces = map (λ (i : Interface). i.name.text) interfaces
 
 -- the first type of a name
 abbrev pub type_named : List TypeDefinition → List ℕ → Option TypeDefinition
-type_named [] name = None
-type_named (ty ∷ types) name = if bytes_eq ty.name.text name then Some ty else type_named types name
+type_named types name = find (λ (ty : TypeDefinition). bytes_eq ty.name.text name) types
 
 -- the first interface of a name
 abbrev pub interface_named : List Interface → List ℕ → Option Interface
-interface_named [] name = None
-interface_named (i ∷ interfaces) name = if bytes_eq i.name.text name then Some i else interface_named interfaces name
+interface_named interfaces name = find (λ (i : Interface). bytes_eq i.name.text name) interfaces
 
 -- how many texts stand before the first that is this one
 abbrev pub place_in : List (List ℕ) → List ℕ → ℕ
@@ -123,19 +118,12 @@ abbrev pub texts_of : List Operation → List (List ℕ)
 texts_of operations = map (λ (o : Operation). o.name.text) operations
 
 -- each operation once by its name, where it first stands
-abbrev pub each_once_after : List (List ℕ) → List Operation → List Operation
-each_once_after before [] = []
-each_once_after before (o ∷ os) =
-    (if is_in o.name.text before then [] else o ∷ []) ++ each_once_after (o.name.text ∷ before) os
-
--- each operation once by its name
 abbrev pub each_once : List Operation → List Operation
-each_once operations = each_once_after [] operations
+each_once operations = once_after (λ (o : Operation). o.name.text) [] operations
 
 -- the operation of a name
 abbrev pub operation_named : List Operation → List ℕ → Option Operation
-operation_named [] name = None
-operation_named (o ∷ os) name = if bytes_eq o.name.text name then Some o else operation_named os name
+operation_named operations name = find (λ (o : Operation). bytes_eq o.name.text name) operations
 
 -- the operations of a port, each once, in the order of its interfaces
 abbrev pub port_operations : List Interface → Port → List Operation
@@ -152,64 +140,37 @@ pub record Sided : Type 0 where
 abbrev pub port_in : Clause → Option Sided
 port_in (clause.InputPort port) = Some (record { input = true; port = port })
 port_in (clause.OutputPort port) = Some (record { input = false; port = port })
-port_in (clause.Execution at execution) = None
-port_in (clause.CorrelationSet at variables) = None
-port_in (clause.Init at body) = None
-port_in (clause.Main at body) = None
+port_in _ = None
 
 -- a clause, if it is an input port
 abbrev pub input_port_in : Clause → Option Port
 input_port_in (clause.InputPort port) = Some port
-input_port_in (clause.OutputPort port) = None
-input_port_in (clause.Execution at execution) = None
-input_port_in (clause.CorrelationSet at variables) = None
-input_port_in (clause.Init at body) = None
-input_port_in (clause.Main at body) = None
+input_port_in _ = None
 
 -- a clause, if it is an output port
 abbrev pub output_port_in : Clause → Option Port
-output_port_in (clause.InputPort port) = None
 output_port_in (clause.OutputPort port) = Some port
-output_port_in (clause.Execution at execution) = None
-output_port_in (clause.CorrelationSet at variables) = None
-output_port_in (clause.Init at body) = None
-output_port_in (clause.Main at body) = None
+output_port_in _ = None
 
 -- a clause, if it is a correlation set
 abbrev pub set_in : Clause → Option (List CorrelationVariable)
-set_in (clause.InputPort port) = None
-set_in (clause.OutputPort port) = None
-set_in (clause.Execution at execution) = None
 set_in (clause.CorrelationSet at variables) = Some variables
-set_in (clause.Init at body) = None
-set_in (clause.Main at body) = None
+set_in _ = None
 
 -- a clause, if it says how sessions are run
 abbrev pub execution_in : Clause → Option Execution
-execution_in (clause.InputPort port) = None
-execution_in (clause.OutputPort port) = None
 execution_in (clause.Execution at execution) = Some execution
-execution_in (clause.CorrelationSet at variables) = None
-execution_in (clause.Init at body) = None
-execution_in (clause.Main at body) = None
+execution_in _ = None
 
 -- a clause, if it is init
 abbrev pub init_in : Clause → Option Block
-init_in (clause.InputPort port) = None
-init_in (clause.OutputPort port) = None
-init_in (clause.Execution at execution) = None
-init_in (clause.CorrelationSet at variables) = None
 init_in (clause.Init at body) = Some body
-init_in (clause.Main at body) = None
+init_in _ = None
 
 -- a clause, if it is main
 abbrev pub main_in : Clause → Option Block
-main_in (clause.InputPort port) = None
-main_in (clause.OutputPort port) = None
-main_in (clause.Execution at execution) = None
-main_in (clause.CorrelationSet at variables) = None
-main_in (clause.Init at body) = None
 main_in (clause.Main at body) = Some body
+main_in _ = None
 
 -- the first of a list
 abbrev pub first_there : {A : Type 0} → List A → Option A
@@ -258,6 +219,5 @@ body_of (defined.Fields fields) = roll-TypeBody (TypeBody-F.Root 0 root.Void (So
 
 -- the name that a type is, if it is one
 abbrev pub name_in : TypeBody-F TypeBody Field → Option (List ℕ)
-name_in (TypeBody-F.Root at kind fields) = None
 name_in (TypeBody-F.Named n) = Some n.text
-name_in (TypeBody-F.Undefined at) = None
+name_in _ = None

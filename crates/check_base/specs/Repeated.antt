@@ -34,24 +34,19 @@ repeated_after before (n ∷ ns) = (if is_in n.text before then n.at ∷ [] else
 abbrev pub repeated : List Name → List ℕ
 repeated names = repeated_after [] names
 
--- each text once, where it first stands, but those among the texts before
-abbrev pub firsts_after : List (List ℕ) → List (List ℕ) → List (List ℕ)
-firsts_after before [] = []
-firsts_after before (t ∷ ts) = (if is_in t before then [] else t ∷ []) ++ firsts_after (t ∷ before) ts
+-- each thing once by its text, where it first stands, but those whose text is among the texts before
+abbrev pub once_after : {A : Type 0} → (A → List ℕ) → List (List ℕ) → List A → List A
+once_after text before [] = []
+once_after text before (a ∷ rest) =
+    (if is_in (text a) before then [] else a ∷ []) ++ once_after text (text a ∷ before) rest
 
 -- each text once, where it first stands
 abbrev pub firsts : List (List ℕ) → List (List ℕ)
-firsts texts = firsts_after [] texts
-
--- each name once, where it first stands, but those among the texts before
-abbrev pub first_names_after : List (List ℕ) → List Name → List Name
-first_names_after before [] = []
-first_names_after before (n ∷ ns) =
-    (if is_in n.text before then [] else n ∷ []) ++ first_names_after (n.text ∷ before) ns
+firsts texts = once_after (λ t. t) [] texts
 
 -- each name once, where it first stands
 abbrev pub first_names : List Name → List Name
-first_names names = first_names_after [] names
+first_names names = once_after (λ (n : Name). n.text) [] names
 
 -- the place of the first text that is this one
 abbrev pub place_of : List (List ℕ) → List ℕ → Option ℕ

@@ -16,7 +16,8 @@ use Rattle.jolie_ast.specs.declared.expression.Path.{Path, out-Path, roll-out-Pa
 use Rattle.jolie_ast.specs.declared.expression.Step.{Step, out-Step, roll-Step, roll-out-Step}
 use Rattle.jolie_ast.specs.Spacing.{Token, separated, with_token, after}
 use Rattle.jolie_ast.proofs.Spacing.{after_append, mapped_tokens, mapped_separated}
-use Rattle.jolie_ast.specs.PrintedExpressions.{Shown, simple, operation, operand, in_parens, in_braces, index_tokens, int_token, long_token, quoted_token, truth_token, cast_token, comparison_token, additive_token, multiplicative_token, form_level, expr_level, factor_level, member_level, path_level, step_level, term_level, form_shown, expr_shown, factor_tokens, term_tokens, member_tokens, path_tokens, step_tokens, expr_tokens, operand_tokens}
+use Rattle.jolie_ast.specs.PrintedExpressions.{Shown, simple, operation, operand, in_parens, in_braces, long_token, quoted_token, truth_token, cast_token, comparison_token, additive_token, multiplicative_token, form_level, expr_level, factor_level, member_level, path_level, step_level, term_level, form_shown, expr_shown, factor_tokens, term_tokens, member_tokens, path_tokens, step_tokens, expr_tokens, operand_tokens}
+use Rattle.jolie_ast.specs.PrintedParts.{index_tokens, int_token}
 
 -- what is shown of a form, by the form that it is made of
 form_made : (x : ExprForm-F ExprForm Expr Factor Member Path Step Term) {f : ExprForm} → roll-ExprForm x ≡ f

@@ -20,7 +20,8 @@ use Rattle.jolie_ast.specs.declared.process.Branch.{Branch, out-Branch, roll-out
 use Rattle.jolie_ast.specs.declared.process.Answer.{Answer, out-Answer, roll-Answer, roll-out-Answer}
 use Rattle.jolie_ast.specs.declared.process.Handler.{Handler, out-Handler, roll-out-Handler}
 use Rattle.jolie_ast.specs.Spacing.{Token, separated}
-use Rattle.jolie_ast.specs.PrintedExpressions.{in_parens, in_brackets, in_braces, maybe, expr_tokens, path_tokens}
+use Rattle.jolie_ast.specs.PrintedExpressions.{in_parens, in_brackets, in_braces, expr_tokens, path_tokens}
+use Rattle.jolie_ast.specs.PrintedParts.{maybe}
 use Rattle.jolie_ast.specs.PrintedProcesses.{assignment_tokens, for_step_tokens, key_token, path_parens, value_parens, thrown_tokens, process_level, block_level, if_level, otherwise_level, input_level, reply_level, branch_level, answer_level, handler_level, process_tokens, block_tokens, if_tokens, otherwise_tokens, input_tokens, reply_tokens, branch_tokens, answer_tokens, handler_tokens}
 use Rattle.jolie_ast.proofs.Spacing.{mapped_tokens, mapped_separated}
 

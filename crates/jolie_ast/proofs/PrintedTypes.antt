@@ -8,7 +8,8 @@ use Rattle.jolie_ast.specs.declared.types.TypeBody.TheVariants as body
 use Rattle.jolie_ast.specs.declared.types.Field.{Field, out-Field, roll-out-Field}
 use Rattle.jolie_ast.specs.Spacing.{Token}
 use Rattle.jolie_ast.specs.PrintedExpressions.{in_braces}
-use Rattle.jolie_ast.specs.Printed.{root_token, maybe_cardinality, body_level, field_level, body_tokens, field_tokens}
+use Rattle.jolie_ast.specs.Printed.{root_token, body_level, field_level, body_tokens, field_tokens}
+use Rattle.jolie_ast.specs.PrintedParts.{maybe_cardinality}
 use Rattle.jolie_ast.proofs.Spacing.{mapped_tokens}
 
 pub root_alone : (at : ℕ) (kind : RootKind) → body_tokens (body.Root at kind None) ≡ root_token kind ∷ []

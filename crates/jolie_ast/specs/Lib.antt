@@ -4,3 +4,4 @@ pub mod Spacing
 pub mod PrintedExpressions
 pub mod PrintedProcesses
 pub mod Printed
+pub mod PrintedParts

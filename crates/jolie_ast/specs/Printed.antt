@@ -1,5 +1,7 @@
 -- The printed form of a file.
-use Rattle.std.specs.Prelude.{ℕ, ℤ, List, [], ◌∷◌, ◌++◌, flat_map, Option, Some, None, codes}
+use Rattle.std.specs.Prelude.{ℕ, ℤ, List, [], ◌∷◌, ◌++◌, flat_map, Option, codes}
+use Rattle.std.specs.Fmt.{signed_decimal}
+use Rattle.std.specs.Option.{option_map_or}
 use Rattle.jolie_ast.specs.declared.name.Name.{Name}
 use Rattle.jolie_ast.specs.declared.types.TypeDefinition.{TypeDefinition}
 use Rattle.jolie_ast.specs.declared.types.DefinedType.{DefinedType}
@@ -31,7 +33,7 @@ use Rattle.jolie_ast.specs.declared.service.Service.{Service}
 use Rattle.jolie_ast.specs.declared.tree.Definition.{Definition}
 use Rattle.jolie_ast.specs.declared.tree.Definition.TheVariants as definition
 use Rattle.jolie_ast.specs.Spacing.{Token, Tokens, separated, text_of}
-use Rattle.jolie_ast.specs.PrintedExpressions.{in_parens, in_brackets, in_braces, int_token, quoted_token, name_tokens}
+use Rattle.jolie_ast.specs.PrintedExpressions.{in_parens, in_brackets, in_braces, quoted_token, name_tokens}
 use Rattle.jolie_ast.specs.PrintedProcesses.{block_tokens}
 
 -- ---- types
@@ -47,35 +49,25 @@ root_token root.Any = codes "any"
 
 -- the most of a cardinality: an int, or `*` where there is none
 abbrev pub most_token : Option ℤ → Token
-most_token None = codes "*"
-most_token (Some most) = int_token most
+most_token most = option_map_or signed_decimal most (codes "*")
 
 -- how often a field may stand
 abbrev pub cardinality_tokens : Cardinality → Tokens
 cardinality_tokens cardinality.Optional = codes "?" ∷ []
 cardinality_tokens cardinality.Any = codes "*" ∷ []
 cardinality_tokens (cardinality.Between least most) =
-    in_brackets (int_token least ∷ (codes "," ∷ (most_token most ∷ [])))
+    in_brackets (signed_decimal least ∷ (codes "," ∷ (most_token most ∷ [])))
 
--- how often a field may stand, if it is written
-abbrev pub maybe_cardinality : Option Cardinality → Tokens
-maybe_cardinality None = []
-maybe_cardinality (Some cardinality) = cardinality_tokens cardinality
-
--- fields in braces, if braces are written
-abbrev pub field_braces : Option (List Tokens) → Tokens
-field_braces None = []
-field_braces (Some fields) = in_braces (flat_map (λ ts. ts) fields)
-
--- one level of what a type is
+-- one level of what a type is: a kind with fields in braces, if braces are written, a name, or anything
 abbrev pub body_level : TypeBody-F Tokens Tokens → Tokens
-body_level (TypeBody-F.Root at kind fields) = root_token kind ∷ field_braces fields
+body_level (TypeBody-F.Root at kind fields) =
+    root_token kind ∷ option_map_or (λ written. in_braces (flat_map (λ ts. ts) written)) fields []
 body_level (TypeBody-F.Named name) = name.text ∷ []
 body_level (TypeBody-F.Undefined at) = codes "undefined" ∷ []
 
--- one level of a field
+-- one level of a field: its name, how often it may stand, if that is written, and its type
 abbrev pub field_level : Field-F Tokens Tokens → Tokens
-field_level f = f.name.text ∷ (maybe_cardinality f.cardinality ++ codes ":" ∷ f.body)
+field_level f = f.name.text ∷ (option_map_or cardinality_tokens f.cardinality [] ++ codes ":" ∷ f.body)
 
 -- the tokens of what a type is
 unfoldable pub body_tokens : TypeBody → Tokens
@@ -102,14 +94,9 @@ type_name_token (type_name.Root at kind) = root_token kind
 type_name_token (type_name.Named name) = name.text
 type_name_token (type_name.Undefined at) = codes "undefined"
 
--- the type of a fault's data in parentheses, if one is written
-abbrev pub fault_data : Option TypeName → Tokens
-fault_data None = []
-fault_data (Some ty) = in_parens (type_name_token ty ∷ [])
-
--- a fault that `throws` names
+-- a fault that `throws` names, with the type of its data in parentheses, if one is written
 abbrev pub fault_tokens : Fault → Tokens
-fault_tokens f = f.name.text ∷ fault_data f.ty
+fault_tokens f = f.name.text ∷ option_map_or (λ ty. in_parens (type_name_token ty ∷ [])) f.ty []
 
 -- the faults behind `throws`, if there are any
 abbrev pub throws_tokens : List Fault → Tokens
@@ -147,8 +134,8 @@ execution_token execution.Single = codes "single"
 
 -- the protocol of a port, if one is written
 abbrev pub protocol_tokens : Option Name → Tokens
-protocol_tokens None = []
-protocol_tokens (Some name) = codes "protocol" ∷ (codes ":" ∷ (name.text ∷ []))
+protocol_tokens protocol =
+    option_map_or (λ (name : Name). codes "protocol" ∷ (codes ":" ∷ (name.text ∷ []))) protocol []
 
 -- a port behind its first word
 abbrev pub port_tokens : Port → Tokens

@@ -1,7 +1,7 @@
 -- The tokens of an expression.
-use Rattle.std.specs.Prelude.{ℕ, ℤ, Bool, true, false, List, [], ◌∷◌, ◌++◌, flat_map}
-use Rattle.std.specs.Prelude.{Option, Some, None, codes, ◌==◌, if◌then◌else◌}
+use Rattle.std.specs.Prelude.{ℕ, ℤ, Bool, true, false, List, [], ◌∷◌, ◌++◌, flat_map, codes, ◌==◌, if◌then◌else◌}
 use Rattle.std.specs.Fmt.{signed_decimal}
+use Rattle.std.specs.Option.{option_map_or}
 use Rattle.jolie_ast.specs.declared.name.Name.{Name}
 use Rattle.jolie_ast.specs.declared.expression.Additive.{Additive}
 use Rattle.jolie_ast.specs.declared.expression.Additive.TheVariants as additive
@@ -39,10 +39,6 @@ escaped_byte b =
 -- a string in quotation marks
 abbrev pub quoted_token : List ℕ → Token
 quoted_token text = codes "\"" ++ flat_map escaped_byte text ++ codes "\""
-
--- an int in decimal
-abbrev pub int_token : ℤ → Token
-int_token n = signed_decimal n
 
 -- a long in decimal, with its L
 abbrev pub long_token : ℤ → Token
@@ -99,11 +95,6 @@ in_brackets ts = codes "[" ∷ (ts ++ codes "]" ∷ [])
 abbrev pub in_braces : Tokens → Tokens
 in_braces ts = codes "{" ∷ (ts ++ codes "}" ∷ [])
 
--- the tokens of a part, if it is written
-abbrev pub maybe : Option Tokens → Tokens
-maybe None = []
-maybe (Some ts) = ts
-
 -- ---- expressions
 
 -- the tokens of an expression, and whether it is an operation with two or more operands
@@ -125,7 +116,7 @@ operand s = if s.several then in_parens s.tokens else s.tokens
 
 -- one level of a form, with the tokens of its parts
 abbrev pub form_level : ExprForm-F Shown Shown Tokens Tokens Tokens Tokens Tokens → Shown
-form_level (ExprForm-F.Int n) = simple (int_token n ∷ [])
+form_level (ExprForm-F.Int n) = simple (signed_decimal n ∷ [])
 form_level (ExprForm-F.Long n) = simple (long_token n ∷ [])
 form_level (ExprForm-F.Str text) = simple (quoted_token text ∷ [])
 form_level (ExprForm-F.Bool b) = simple (truth_token b ∷ [])
@@ -163,14 +154,9 @@ member_level m = m.name.text ∷ (codes "=" ∷ m.value.tokens)
 abbrev pub path_level : Path-F Shown Shown Tokens Tokens Tokens Tokens Tokens → Tokens
 path_level p = p.first ++ flat_map (λ ts. codes "." ∷ ts) p.rest
 
--- the tokens of an index, if one is written
-abbrev pub index_tokens : Option Shown → Tokens
-index_tokens None = []
-index_tokens (Some value) = in_brackets value.tokens
-
--- one level of a step of a path
+-- one level of a step of a path: its name, and its index, if one is written
 abbrev pub step_level : Step-F Shown Shown Tokens Tokens Tokens Tokens Tokens → Tokens
-step_level s = s.name.text ∷ index_tokens s.index
+step_level s = s.name.text ∷ option_map_or (λ (value : Shown). in_brackets value.tokens) s.index []
 
 -- the tokens of a form, and whether it has several operands
 unfoldable pub form_shown : ExprForm → Shown

@@ -1,5 +1,6 @@
 -- The tokens of a process.
-use Rattle.std.specs.Prelude.{List, [], ◌∷◌, ◌++◌, flat_map, Option, Some, None, option_map, codes}
+use Rattle.std.specs.Prelude.{[], ◌∷◌, ◌++◌, flat_map, Option, option_map, unwrap_or, codes}
+use Rattle.std.specs.Option.{option_map_or}
 use Rattle.jolie_ast.specs.declared.expression.Expr.{Expr}
 use Rattle.jolie_ast.specs.declared.expression.Path.{Path}
 use Rattle.jolie_ast.specs.declared.process.Assignment.{Assignment}
@@ -25,7 +26,7 @@ use Rattle.jolie_ast.specs.declared.process.Branch.{Branch}
 use Rattle.jolie_ast.specs.declared.process.Answer.{Answer}
 use Rattle.jolie_ast.specs.declared.process.Handler.{Handler}
 use Rattle.jolie_ast.specs.Spacing.{Token, Tokens, separated}
-use Rattle.jolie_ast.specs.PrintedExpressions.{in_parens, in_brackets, in_braces, maybe, expr_tokens, path_tokens}
+use Rattle.jolie_ast.specs.PrintedExpressions.{in_parens, in_brackets, in_braces, expr_tokens, path_tokens}
 
 -- the sign of a count: `++` or `--`
 abbrev pub count_token : Count → Token
@@ -50,21 +51,15 @@ key_token (key.Named name) = name.text
 
 -- a path in parentheses, if one is written
 abbrev pub path_parens : Option Path → Tokens
-path_parens path = in_parens (maybe (option_map path_tokens path))
+path_parens path = in_parens (unwrap_or (option_map path_tokens path) [])
 
 -- a value in parentheses, if one is written
 abbrev pub value_parens : Option Expr → Tokens
-value_parens value = in_parens (maybe (option_map expr_tokens value))
+value_parens value = in_parens (unwrap_or (option_map expr_tokens value) [])
 
 -- the data of a `throw` behind a comma, if any is written
 abbrev pub thrown_tokens : Option Expr → Tokens
-thrown_tokens None = []
-thrown_tokens (Some value) = codes "," ∷ expr_tokens value
-
--- handlers in brackets, if a list is written
-abbrev pub handler_brackets : Option (List Tokens) → Tokens
-handler_brackets None = []
-handler_brackets (Some handlers) = in_brackets (separated (codes ",") (λ ts. ts) handlers)
+thrown_tokens value = option_map_or (λ written. codes "," ∷ expr_tokens written) value []
 
 -- one level of a process, with the tokens of its parts
 abbrev pub process_level : Process-F Tokens Tokens Tokens Tokens Tokens Tokens Tokens Tokens Tokens → Tokens
@@ -85,7 +80,7 @@ process_level (Process-F.For at path first test stepped step body) =
 process_level (Process-F.Input input) = input
 process_level (Process-F.Choice at branches) = flat_map (λ ts. ts) branches
 process_level (Process-F.Output operation port value answer) =
-    operation.text ∷ (codes "@" ∷ (port.text ∷ (value_parens value ++ maybe answer)))
+    operation.text ∷ (codes "@" ∷ (port.text ∷ (value_parens value ++ unwrap_or answer [])))
 process_level (Process-F.Scope at name body) = codes "scope" ∷ (in_parens (name.text ∷ []) ++ body)
 process_level (Process-F.Install at handlers) = codes "install" ∷ in_parens (separated (codes ",") (λ ts. ts) handlers)
 process_level (Process-F.Throw at fault value) = codes "throw" ∷ in_parens (fault.text ∷ thrown_tokens value)
@@ -97,7 +92,7 @@ process_level (Process-F.Parallel members) = separated (codes "|") (λ ts. ts) m
 
 -- one level of a block: braces, and what stands in them
 abbrev pub block_level : Block-F Tokens Tokens Tokens Tokens Tokens Tokens Tokens Tokens Tokens → Tokens
-block_level b = in_braces (maybe b.body)
+block_level b = in_braces (unwrap_or b.body [])
 
 -- one level of an `if`
 abbrev pub if_level : If-F Tokens Tokens Tokens Tokens Tokens Tokens Tokens Tokens Tokens → Tokens
@@ -111,7 +106,7 @@ otherwise_level (Otherwise-F.Else block) = codes "else" ∷ block
 
 -- one level of an input
 abbrev pub input_level : Input-F Tokens Tokens Tokens Tokens Tokens Tokens Tokens Tokens Tokens → Tokens
-input_level i = i.operation.text ∷ (path_parens i.request ++ maybe i.reply)
+input_level i = i.operation.text ∷ (path_parens i.request ++ unwrap_or i.reply [])
 
 -- one level of a reply part
 abbrev pub reply_level : Reply-F Tokens Tokens Tokens Tokens Tokens Tokens Tokens Tokens Tokens → Tokens
@@ -121,9 +116,11 @@ reply_level r = path_parens r.path ++ r.body
 abbrev pub branch_level : Branch-F Tokens Tokens Tokens Tokens Tokens Tokens Tokens Tokens Tokens → Tokens
 branch_level b = in_brackets b.input ++ b.after
 
--- one level of what an output awaits
+-- one level of what an output awaits: a path, and handlers in brackets, if a list is written
 abbrev pub answer_level : Answer-F Tokens Tokens Tokens Tokens Tokens Tokens Tokens Tokens Tokens → Tokens
-answer_level a = path_parens a.path ++ handler_brackets a.handlers
+answer_level a =
+    path_parens a.path
+    ++ option_map_or (λ handlers. in_brackets (separated (codes ",") (λ ts. ts) handlers)) a.handlers []
 
 -- one level of a handler
 abbrev pub handler_level : Handler-F Tokens Tokens Tokens Tokens Tokens Tokens Tokens Tokens Tokens → Tokens

@@ -1,7 +1,8 @@
 ghost use Rattle.std.specs.Prelude.{◌≡◌, OnOk, [], ◌∷◌, codes, flat_map};
 ghost use Rattle.jolie_ast.specs.Spacing.{after, separated, with_token};
 ghost use Rattle.jolie_ast.specs.PrintedExpressions.{in_parens};
-ghost use Rattle.jolie_ast.specs.Printed.{fault_data, fault_tokens, group_tokens, interface_tokens, one_way_tokens, request_response_tokens, throws_tokens, type_name_token};
+ghost use Rattle.jolie_ast.specs.Printed.{fault_tokens, group_tokens, interface_tokens, one_way_tokens, request_response_tokens, throws_tokens, type_name_token};
+ghost use Rattle.jolie_ast.specs.PrintedParts.{fault_data};
 
 use crate::interface::{Fault, Interface, OneWay, OperationGroup, RequestResponse, TypeName};
 use crate::printer::Printer;

@@ -1,6 +1,7 @@
 ghost use Rattle.std.specs.Prelude.{◌≡◌, ◌∷◌, ◌++◌, [], OnOk, flat_map, codes, option_map};
 ghost use Rattle.jolie_ast.specs.Spacing.{after, separated, with_token};
-ghost use Rattle.jolie_ast.specs.PrintedExpressions.{in_parens, in_brackets, expr_tokens, maybe, path_tokens};
+ghost use Rattle.jolie_ast.specs.PrintedExpressions.{in_parens, in_brackets, expr_tokens, path_tokens};
+ghost use Rattle.jolie_ast.specs.PrintedParts.{maybe};
 ghost use Rattle.jolie_ast.specs.PrintedProcesses.{answer_tokens, assignment_tokens, block_tokens, branch_tokens, count_token, for_step_tokens, handler_tokens, if_tokens, input_tokens, key_token, otherwise_tokens, path_parens, process_tokens, reply_tokens, thrown_tokens, value_parens};
 
 use crate::expression::{Expr, Path};

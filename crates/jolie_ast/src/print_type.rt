@@ -1,7 +1,8 @@
 ghost use Rattle.std.specs.Prelude.{◌≡◌, OnOk, flat_map};
 ghost use Rattle.jolie_ast.specs.Spacing.{after, with_token};
 ghost use Rattle.jolie_ast.specs.PrintedExpressions.{in_braces};
-ghost use Rattle.jolie_ast.specs.Printed.{body_tokens, cardinality_tokens, defined_tokens, field_tokens, maybe_cardinality, most_token, root_token, type_tokens};
+ghost use Rattle.jolie_ast.specs.Printed.{body_tokens, cardinality_tokens, defined_tokens, field_tokens, most_token, root_token, type_tokens};
+ghost use Rattle.jolie_ast.specs.PrintedParts.{maybe_cardinality};
 
 use crate::printer::Printer;
 use crate::types::{Cardinality, DefinedType, Field, RootKind, TypeBody, TypeDefinition};

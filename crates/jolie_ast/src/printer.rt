@@ -1,7 +1,8 @@
 ghost use Rattle.std.specs.Prelude.{◌≡◌, ◌++◌, IfOk, OnOk, None, flat_map, string_bytes};
 ghost use Rattle.std.specs.Char.{encode_utf8};
 ghost use Rattle.jolie_ast.specs.Spacing.{after, with_token, ended};
-ghost use Rattle.jolie_ast.specs.PrintedExpressions.{escaped_byte, int_token, long_token, name_tokens, quoted_token, truth_token};
+ghost use Rattle.jolie_ast.specs.PrintedExpressions.{escaped_byte, long_token, name_tokens, quoted_token, truth_token};
+ghost use Rattle.jolie_ast.specs.PrintedParts.{int_token};
 
 use crate::name::Name;
 use jolie_trees::Text;

@@ -31,11 +31,13 @@ use Rattle.jolie_ast.proofs.Formed.{int_forms, long_forms, text_forms, truth_for
 use Rattle.jolie_parse.specs.declared.class.Class.{Class}
 use Rattle.jolie_parse.specs.declared.simple.ForParts.{ForParts}
 use Rattle.jolie_parse.specs.declared.process.IfParts.{IfParts}
-use Rattle.jolie_parse.specs.Classes as c
+use Rattle.jolie_parse.specs.ClassNames as c
 use Rattle.jolie_parse.specs.Classes.{Spelled, class, place, same}
+use Rattle.jolie_parse.specs.Made as made
 use Rattle.jolie_parse.specs.Meanings as means_as
 use Rattle.jolie_parse.specs.Syntax.{Part, an_expression, an_operand, a_path, maybe_path, maybe_expression, a_body, some_handlers, a_name, an_input, an_else_if, for_parts, throw_parts, some_members, a_type_name, some_bounds, some_fields, some_operations, port_parts, some_variables, some_clauses, Meant, Syn, token, both, many, means, inside, prefix, Lang, behind, separated, some_of, optional, between, ended}
-use Rattle.jolie_parse.specs.Grammar.{one, parens, braces, list_of, id, word, index, step, path_parts, path, whole_number, long_number, quoted_text, truth, path_value, size, defined_test, cast, grouped, literal, primary, prefixed_operand, unary, factor, product, term, sum, comparand, comparison, conjunction, expr, member, members, block, reply, input_parts, input, branch, choice, answer, output_parts, output, count, change, assign, correlate, last_change, loop_parts, else_parts, if_parts, undefine, conditional, repetition, counted_loop, scope, install, throw, compensate, inner_handler, block_statement, marked_statement, nothing, statement, in_sequence, in_parallel, handler_key, handler, handlers, thrown, execution_clause, port, correlation_set, init_clause, main_clause, clauses, service, type_definition, interface, file_part, file, production, Allowed, IsFile}
+use Rattle.jolie_parse.specs.Grammar.{one, parens, braces, id, word, index, step, path_parts, path, whole_number, long_number, quoted_text, truth, path_value, size, defined_test, cast, grouped, literal, primary, prefixed_operand, unary, factor, product, term, sum, comparand, comparison, conjunction, expr, member, members, block, reply, input_parts, input, branch, choice, answer, output_parts, output, count, change, assign, correlate, last_change, loop_parts, else_parts, if_parts, undefine, conditional, repetition, counted_loop, scope, install, throw, compensate, inner_handler, block_statement, marked_statement, nothing, statement, in_sequence, in_parallel, handler_key, handler, handlers, thrown, execution_clause, port, correlation_set, init_clause, main_clause, clauses, service, type_definition, interface, file_part, file, production, Allowed, IsFile}
+use Rattle.jolie_parse.specs.Made.{list_of}
 use Rattle.jolie_parse.proofs.Makes.{Makes, any_makes, give_makes, both_makes, second_makes, either_makes, many_makes, means_makes, word_makes, behind_makes, separated_makes, some_of_makes, optional_makes, inside_makes, between_makes, prefix_makes}
 
 -- whether what stands a level further in is formed
@@ -205,7 +207,7 @@ module _ (w : (r : Part) → Lang (Meant r)) (h : (r : Part) (ts : List Spelled)
   path_value_makes : Makes w path_value expr_formed
   unfolding path_value
   path_value_makes =
-      means_makes w path means_as.path_expression path_formed expr_formed path_makes
+      means_makes w path made.path_expression path_formed expr_formed path_makes
       (λ p. made_forms (means_as.path_start p) (form.Path p) (path_formed p) (path_form_forms p))
 
   size_makes : Makes w size expr_formed
@@ -353,7 +355,7 @@ module _ (w : (r : Part) → Lang (Meant r)) (h : (r : Part) (ts : List Spelled)
   reply_makes : Makes w reply reply_formed
   unfolding reply
   reply_makes =
-      means_makes w (both (parens maybe_path) block) means_as.reply_of (λ q. option_all path_formed q.0 && block_formed q.1) reply_formed
+      means_makes w (both (parens maybe_path) block) made.reply_of (λ q. option_all path_formed q.0 && block_formed q.1) reply_formed
       (both_makes w (parens maybe_path) block (option_all path_formed) block_formed (in_parens maybe_path) block_makes)
       (λ q. reply_forms q.0 q.1)
 
@@ -387,7 +389,7 @@ module _ (w : (r : Part) → Lang (Meant r)) (h : (r : Part) (ts : List Spelled)
   unfolding answer
   answer_makes =
       let some : Syn (List Handler) = between c.sign_open_bracket some_handlers c.sign_close_bracket in
-      means_makes w (both (parens maybe_path) (optional some)) means_as.answer_of
+      means_makes w (both (parens maybe_path) (optional some)) made.answer_of
       (λ q. option_all path_formed q.0 && option_all (list_all handler_formed) q.1) answer_formed
       (both_makes w (parens maybe_path) (optional some) (option_all path_formed) (option_all (list_all handler_formed)) (in_parens maybe_path)
       (optional_makes w some (list_all handler_formed) (between_makes w part_formed h c.sign_open_bracket some_handlers c.sign_close_bracket)))

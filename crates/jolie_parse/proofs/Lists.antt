@@ -8,7 +8,7 @@ use Rattle.jolie_parse.specs.declared.stop.Stop.TheVariants.{Syntax, TooDeep, Me
 use Rattle.jolie_parse.specs.Classes.{Spelled, class, has, begins}
 use Rattle.jolie_parse.specs.Syntax.{Syn, token, both, either, many, means, optional, behind}
 use Rattle.jolie_parse.specs.Deciding.{first, further, nullable, disjoint}
-use Rattle.jolie_parse.specs.Grammar.{list_of}
+use Rattle.jolie_parse.specs.Made.{list_of}
 use Rattle.jolie_parse.specs.Factored.{Within, Nests, decided}
 use Rattle.jolie_parse.specs.Reading.{Outcome, got, refused, too_deep, and_then, repeat, read}
 use Rattle.jolie_parse.specs.Reads.{Reads, Stops, after, more}

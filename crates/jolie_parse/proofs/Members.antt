@@ -17,8 +17,9 @@ use Rattle.jolie_ast.specs.declared.tree.Definition.TheVariants as definition
 use Rattle.jolie_ast.specs.Members.{optional_count, process_members, block_members, if_members, otherwise_members, input_members, reply_members, branch_members, answer_members, handler_members, clause_members, definition_members, parallel_members}
 use Rattle.jolie_ast.proofs.Members.{nothing_counts, assign_counts, undef_counts, correlate_counts, conditional_counts, while_counts, for_counts, input_counts, choice_counts, output_counts, scope_counts, install_counts, throw_counts, compensate_counts, inner_handler_counts, block_statement_counts, sequence_counts, parallel_counts, no_else_counts, else_if_counts, else_counts, block_counts, if_counts, input_part_counts, reply_counts, branch_counts, answer_counts, handler_counts}
 use Rattle.jolie_parse.specs.declared.class.Class.{Class}
-use Rattle.jolie_parse.specs.Classes as c
+use Rattle.jolie_parse.specs.ClassNames as c
 use Rattle.jolie_parse.specs.Classes.{Spelled, class, place, same, ids}
+use Rattle.jolie_parse.specs.Made as made
 use Rattle.jolie_parse.specs.Meanings as means_as
 use Rattle.jolie_parse.specs.declared.process.IfParts.{IfParts}
 use Rattle.jolie_parse.specs.Syntax.{Part, an_expression, an_operand, a_path, maybe_path, maybe_expression, a_body, some_handlers, a_name, an_input, an_else_if, for_parts, throw_parts, some_members, a_type_name, some_bounds, some_fields, some_operations, port_parts, some_variables, some_clauses, Meant, Syn, token, give, both, either, means, inside, prefix, Lang, behind, separated, some_of, optional, between, ended}
@@ -98,7 +99,7 @@ module _ (w : (r : Part) → Lang (Meant r)) (h : (r : Part) (ts : List Spelled)
   reply_weighs : Weighs w reply reply_members
   unfolding reply
   reply_weighs =
-      means_weighs w (both (parens maybe_path) block) means_as.reply_of (λ q. 0 + (block_members q.1 + 1)) reply_members
+      means_weighs w (both (parens maybe_path) block) made.reply_of (λ q. 0 + (block_members q.1 + 1)) reply_members
       (both_weighs w (parens maybe_path) block (λ _. 0) (λ b. block_members b + 1) (nothing_weighs w (parens maybe_path)) block_weighs)
       (λ q. omega (arith, reply_counts q.0 q.1))
 
@@ -135,7 +136,7 @@ module _ (w : (r : Part) → Lang (Meant r)) (h : (r : Part) (ts : List Spelled)
   unfolding answer
   answer_weighs =
       let some : Syn (List Handler) = between c.sign_open_bracket some_handlers c.sign_close_bracket in
-      means_weighs w (both (parens maybe_path) (optional some)) means_as.answer_of
+      means_weighs w (both (parens maybe_path) (optional some)) made.answer_of
       (λ q. 0 + optional_count (option_map (sum_by handler_members) q.1)) answer_members
       (both_weighs w (parens maybe_path) (optional some) (λ _. 0) (λ v. optional_count (option_map (sum_by handler_members) v))
       (nothing_weighs w (parens maybe_path))

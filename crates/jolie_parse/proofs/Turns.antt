@@ -1,6 +1,6 @@
 -- One token decides each list that a loop reads.
 use Rattle.std.proofs.Common.{◌≡◌, true, refl}
-use Rattle.jolie_parse.specs.Classes as c
+use Rattle.jolie_parse.specs.ClassNames as c
 use Rattle.jolie_parse.specs.Grammar.{id, word, index, step, path_parts, path, whole_number, long_number, quoted_text, truth, path_value, size, defined_test, cast, grouped, literal, primary, prefixed_operand, unary, factor, product, term, sum, comparand, comparison, conjunction, expr, member, members}
 use Rattle.jolie_parse.specs.Syntax.{many, behind}
 use Rattle.jolie_parse.specs.Factored.{decided}

@@ -2,7 +2,8 @@
 -- The test that one token decides each choice of a grammar.
 use Rattle.std.specs.Prelude.{Bool, true, false, ◌&&◌, ◌||◌, not, List, [], ◌∷◌, ◌++◌, if◌then◌else◌}
 use Rattle.jolie_parse.specs.declared.class.Class.{Class}
-use Rattle.jolie_parse.specs.Classes.{has, sign_open_bracket, sign_dot, the_else}
+use Rattle.jolie_parse.specs.Classes.{has}
+use Rattle.jolie_parse.specs.ClassNames.{sign_open_bracket, sign_dot, the_else}
 use Rattle.jolie_parse.specs.Syntax.{Part, an_operand, an_else_if, Syn}
 use Rattle.jolie_parse.specs.Syntax.{token, give, both, either, many, means, inside, prefix}
 

@@ -6,7 +6,7 @@ use Rattle.jolie_ast.specs.declared.process.Process.TheVariants as process
 use Rattle.jolie_ast.specs.declared.process.Otherwise.{Otherwise}
 use Rattle.jolie_ast.specs.declared.process.Otherwise.TheVariants as otherwise
 use Rattle.jolie_parse.specs.declared.class.Class.{Class}
-use Rattle.jolie_parse.specs.Classes as c
+use Rattle.jolie_parse.specs.ClassNames as c
 use Rattle.jolie_parse.specs.Classes.{Spelled, has}
 use Rattle.jolie_parse.specs.Meanings as means_as
 use Rattle.jolie_parse.specs.Syntax.{Part, an_else_if, Meant, Syn, Lang, Derives, behind}

@@ -3,8 +3,7 @@ use Rattle.std.specs.Prelude.{◌≡◌, ◌⊎◌, ℕ, zero, suc, true, List, 
 use Rattle.jolie_ast.specs.declared.tree.Definition.{Definition}
 use Rattle.jolie_parse.specs.declared.class.Class.{Class}
 use Rattle.jolie_parse.specs.Classes.{Spelled, class, has, place, open_brackets}
-use Rattle.jolie_parse.specs.Syntax.{Part, Meant, Syn, Lang, Derives}
-use Rattle.jolie_parse.specs.Syntax.{token, give, both, either, many, means, inside, prefix}
+use Rattle.jolie_parse.specs.Syntax.{Part, Meant, Syn, Lang, Derives, both, either, many, means, inside, prefix}
 use Rattle.jolie_parse.specs.Grammar.{production, Allowed, IsFile, BeginsFile, file}
 
 -- what opens a level: a bracket with what stands in it and the bracket that closes, or tokens before what is a level
@@ -27,8 +26,6 @@ opened (before ks r) = r
 -- from there on
 abbrev pub LeadsTo : {A : Type 0} → ((r : Part) → Lang (Meant r)) → (Opener → List Spelled → Type 0) → Syn A
     → List Spelled → Type 0
-LeadsTo within at (token ks) w = ⊥
-LeadsTo within at (give a) w = ⊥
 LeadsTo within at (both {A} s t) w =
     LeadsTo within at s w
     ⊎ ((x y : List Spelled) × (a : A) × (w ≡ x ++ y) × Derives within s x a × LeadsTo within at t y)
@@ -38,6 +35,7 @@ LeadsTo within at (many {A} s) w =
 LeadsTo within at (means f s) w = LeadsTo within at s w
 LeadsTo within at (inside o r c) w = at (bracket o r c) w
 LeadsTo within at (prefix ks r) w = at (before ks r) w
+LeadsTo within at _ w = ⊥
 
 -- These say it of any grammar, given by the rules of its parts and by what stands a level further in.
 module _ (rules : (r : Part) → Syn (Meant r)) (within : ℕ → (r : Part) → Lang (Meant r)) where

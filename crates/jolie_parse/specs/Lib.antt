@@ -1,8 +1,10 @@
 pub mod Words
 pub mod Classes
+pub mod ClassNames
 pub mod Syntax
 pub mod Deciding
 pub mod Meanings
+pub mod Made
 pub mod Grammar
 pub mod Factored
 pub mod Reading

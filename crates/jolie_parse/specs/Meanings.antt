@@ -1,5 +1,5 @@
 -- What the phrases of the grammar mean as trees.
-use Rattle.std.specs.Prelude.{ℕ, ℤ, pos, Bool, List, [], ◌∷◌, map, Option, Some, None, if◌then◌else◌}
+use Rattle.std.specs.Prelude.{ℕ, ℤ, pos, Bool, List, [], ◌∷◌, Option, Some, None, if◌then◌else◌}
 use Rattle.jolie_tokens.specs.declared.token.TokenKind.TheVariants as kind
 use Rattle.jolie_ast.specs.declared.name.Name.{Name}
 use Rattle.jolie_ast.specs.declared.name.Quoted.{Quoted}
@@ -26,35 +26,30 @@ use Rattle.jolie_ast.specs.declared.process.HandlerKey.{HandlerKey}
 use Rattle.jolie_ast.specs.declared.process.Block.{Block, roll-Block}
 use Rattle.jolie_ast.specs.declared.process.If.{If, roll-If}
 use Rattle.jolie_ast.specs.declared.process.Input.{Input, roll-Input}
-use Rattle.jolie_ast.specs.declared.process.Reply.{Reply, roll-Reply}
+use Rattle.jolie_ast.specs.declared.process.Reply.{Reply}
 use Rattle.jolie_ast.specs.declared.process.Branch.{Branch, roll-Branch, out-Branch}
-use Rattle.jolie_ast.specs.declared.process.Answer.{Answer, roll-Answer}
+use Rattle.jolie_ast.specs.declared.process.Answer.{Answer}
 use Rattle.jolie_ast.specs.declared.process.Handler.{Handler, roll-Handler}
 use Rattle.jolie_ast.specs.declared.types.RootKind.{RootKind}
 use Rattle.jolie_ast.specs.declared.types.RootKind.TheVariants as root
 use Rattle.jolie_ast.specs.declared.types.TypeBody.{TypeBody}
 use Rattle.jolie_ast.specs.declared.types.TypeBody.TheVariants as body
-use Rattle.jolie_ast.specs.declared.types.Field.{Field, roll-Field}
+use Rattle.jolie_ast.specs.declared.types.Field.{Field}
 use Rattle.jolie_ast.specs.declared.types.Cardinality.{Cardinality}
 use Rattle.jolie_ast.specs.declared.types.Cardinality.TheVariants as cardinality
 use Rattle.jolie_ast.specs.declared.types.DefinedType.{DefinedType}
 use Rattle.jolie_ast.specs.declared.types.TypeDefinition.{TypeDefinition}
-use Rattle.jolie_ast.specs.declared.interface.TypeName.{TypeName}
-use Rattle.jolie_ast.specs.declared.interface.Fault.{Fault}
-use Rattle.jolie_ast.specs.declared.interface.RequestResponse.{RequestResponse}
-use Rattle.jolie_ast.specs.declared.interface.OneWay.{OneWay}
-use Rattle.jolie_ast.specs.declared.interface.OperationGroup.{OperationGroup}
-use Rattle.jolie_ast.specs.declared.interface.Interface.{Interface}
 use Rattle.jolie_ast.specs.declared.service.Execution.{Execution}
 use Rattle.jolie_ast.specs.declared.service.Execution.TheVariants as execution
 use Rattle.jolie_ast.specs.declared.service.Port.{Port}
-use Rattle.jolie_ast.specs.declared.service.Alias.{Alias}
-use Rattle.jolie_ast.specs.declared.service.CorrelationVariable.{CorrelationVariable}
 use Rattle.jolie_ast.specs.declared.service.Clause.{Clause}
 use Rattle.jolie_ast.specs.declared.service.Clause.TheVariants as clause
 use Rattle.jolie_ast.specs.declared.service.Service.{Service}
+use Rattle.jolie_tokens.specs.declared.sign.Sign.TheVariants.{Equal, NotEqual, AtMost, Increment, Less, Greater, Plus}
+use Rattle.jolie_tokens.specs.declared.sign.Sign.TheVariants.{Minus, Star, Slash}
+use Rattle.jolie_parse.specs.declared.word.Word.TheVariants as the
 use Rattle.jolie_parse.specs.declared.class.Class.{Class}
-use Rattle.jolie_parse.specs.Classes as c
+use Rattle.jolie_parse.specs.declared.class.Class.TheVariants as c
 use Rattle.jolie_parse.specs.Classes.{Spelled, class, place, same}
 use Rattle.jolie_parse.specs.declared.simple.ForParts.{ForParts}
 use Rattle.jolie_parse.specs.declared.process.IfParts.{IfParts}
@@ -79,7 +74,7 @@ meant_text t = elim t.token.kind [ kind.Str text ↦ text | _ ↦ [] ]
 
 -- whether it is the word `true`
 abbrev pub is_true : Spelled → Bool
-is_true t = same (class t) c.the_true
+is_true t = same (class t) (c.Word the.True)
 
 -- a string with its place
 abbrev pub quoted : Spelled → Quoted
@@ -111,38 +106,35 @@ path_of t parts = roll-Path (record { first = step_of t parts.0; rest = parts.1 
 abbrev pub path_start : Path → ℕ
 path_start p = (out-Step (out-Path p).first).name.at
 
--- a path as an expression
-abbrev pub path_expression : Path → Expr
-path_expression p = expression (path_start p) (form.Path p)
-
 -- the kind that a cast gives
 abbrev pub cast_target : Class → CastTarget
-cast_target k = if same k c.the_int then target.Int else if same k c.the_long then target.Long else target.Str
+cast_target k =
+    if same k (c.Word the.Int) then target.Int else if same k (c.Word the.Long) then target.Long else target.Str
 
 -- the operator of a sign: `*`, `/` or `%`
 abbrev pub multiplicative_of : Class → Multiplicative
 multiplicative_of k =
-    if same k c.sign_star then multiplicative.Times
-    else if same k c.sign_slash then multiplicative.Divide
+    if same k (c.Sign Star) then multiplicative.Times
+    else if same k (c.Sign Slash) then multiplicative.Divide
     else multiplicative.Remainder
 
 -- the operator of a sign: `+` or `-`
 abbrev pub additive_of : Class → Additive
-additive_of k = if same k c.sign_plus then additive.Plus else additive.Minus
+additive_of k = if same k (c.Sign Plus) then additive.Plus else additive.Minus
 
 -- the comparison of a sign
 abbrev pub comparison_of : Class → Comparison
 comparison_of k =
-    if same k c.sign_equal then comparison.Equal
-    else if same k c.sign_not_equal then comparison.NotEqual
-    else if same k c.sign_less then comparison.Less
-    else if same k c.sign_at_most then comparison.AtMost
-    else if same k c.sign_greater then comparison.Greater
+    if same k (c.Sign Equal) then comparison.Equal
+    else if same k (c.Sign NotEqual) then comparison.NotEqual
+    else if same k (c.Sign Less) then comparison.Less
+    else if same k (c.Sign AtMost) then comparison.AtMost
+    else if same k (c.Sign Greater) then comparison.Greater
     else comparison.AtLeast
 
 -- `-` or `!` and its operand
 abbrev pub prefixed_of : Spelled × Expr → Expr
-prefixed_of q = expression (place q.0) (if same (class q.0) c.sign_minus then form.Minus q.1 else form.Not q.1)
+prefixed_of q = expression (place q.0) (if same (class q.0) (c.Sign Minus) then form.Minus q.1 else form.Not q.1)
 
 -- an operand behind its operator: `*`, `/` or `%`
 abbrev pub factor_of : Spelled × Expr → Factor
@@ -192,19 +184,17 @@ block_of q = roll-Block (record { at = place q.0; body = q.1 })
 
 -- one statement alone is itself
 abbrev pub sequence_of : List Process → Process
-sequence_of [] = process.Sequence []
 sequence_of (p ∷ []) = p
-sequence_of (p ∷ q ∷ ps) = process.Sequence (p ∷ q ∷ ps)
+sequence_of statements = process.Sequence statements
 
 -- sequences beside one another; one alone is itself
 abbrev pub parallel_of : List Process → Process
-parallel_of [] = process.Parallel []
 parallel_of (p ∷ []) = p
-parallel_of (p ∷ q ∷ ps) = process.Parallel (p ∷ q ∷ ps)
+parallel_of sequences = process.Parallel sequences
 
 -- up or down
 abbrev pub count_of : Spelled → Count
-count_of t = if same (class t) c.sign_increment then count.Up else count.Down
+count_of t = if same (class t) (c.Sign Increment) then count.Up else count.Down
 
 -- an `if` at its word
 abbrev pub if_of : Spelled → IfParts → If
@@ -213,10 +203,6 @@ if_of t parts = roll-If (record { at = place t; test = parts.test; body = parts.
 -- a `for` at its word
 abbrev pub for_of : Spelled → ForParts → Block → Process
 for_of t parts body = process.For (place t) parts.path parts.first parts.test parts.stepped parts.step body
-
--- a reply part of its path and body
-abbrev pub reply_of : Option Path × Block → Reply
-reply_of q = roll-Reply (record { path = q.0; body = q.1 })
 
 -- an input of its operation, path and reply part
 abbrev pub input_of : Spelled → Option Path × Option Reply → Input
@@ -231,10 +217,6 @@ abbrev pub choice_of : List Branch → Process
 choice_of [] = process.Choice 0 []
 choice_of (b ∷ bs) = process.Choice (out-Branch b).at (b ∷ bs)
 
--- what an output awaits
-abbrev pub answer_of : Option Path × Option (List Handler) → Answer
-answer_of q = roll-Answer (record { path = q.0; handlers = q.1 })
-
 -- an output of its operation, its port, the value that it sends and what it awaits
 abbrev pub output_of : Spelled → Spelled × (Option Expr × Option Answer) → Process
 output_of t parts = process.Output (name_of t) (name_of parts.0) parts.1.0 parts.1.1
@@ -243,62 +225,36 @@ output_of t parts = process.Output (name_of t) (name_of parts.0) parts.1.0 parts
 abbrev pub handler_of : HandlerKey × Process → Handler
 handler_of q = roll-Handler (record { key = q.0; body = q.1 })
 
--- ---- types and interfaces
+-- ---- types
 
 -- the kind of root of a word
 abbrev pub root_kind : Class → RootKind
 root_kind k =
-    if same k c.the_void then root.Void
-    else if same k c.the_bool then root.Bool
-    else if same k c.the_int then root.Int
-    else if same k c.the_long then root.Long
-    else if same k c.the_string then root.Str
+    if same k (c.Word the.Void) then root.Void
+    else if same k (c.Word the.Bool) then root.Bool
+    else if same k (c.Word the.Int) then root.Int
+    else if same k (c.Word the.Long) then root.Long
+    else if same k (c.Word the.Str) then root.Str
     else root.Any
 
 -- a type of its kind and fields
 abbrev pub root_body : Spelled × Option (List Field) → TypeBody
 root_body q = body.Root (place q.0) (root_kind (class q.0)) q.1
 
--- a field of its name, cardinality and type
-abbrev pub field_of : Spelled → Option Cardinality → TypeBody → Field
-field_of t count ty = roll-Field (record { name = name_of t; cardinality = count; body = ty })
-
 -- `[least, most]`, where most is an int or `*`
 abbrev pub bounds_of : Spelled → Spelled → Cardinality
 bounds_of least most =
-    cardinality.Between (int_value least) (if same (class most) c.int_number then Some (int_value most) else None)
+    cardinality.Between (int_value least) (if same (class most) c.Int then Some (int_value most) else None)
 
 -- a type with its name, at its word
 abbrev pub definition_of : Spelled → Spelled → DefinedType → TypeDefinition
 definition_of t name defined = record { at = place t; name = name_of name; body = defined }
 
--- a fault of its name and type
-abbrev pub fault_of : Spelled × Option TypeName → Fault
-fault_of q = record { name = name_of q.0; ty = q.1 }
-
--- a request-response operation of its name, types and faults
-abbrev pub request_response_of : Spelled → TypeName → TypeName → Option (List Fault) → RequestResponse
-request_response_of t request response throws =
-    record {
-      name = name_of t;
-      request = request;
-      response = response;
-      throws = elim throws [ None ↦ [] | Some faults ↦ faults ];
-    }
-
--- a one-way operation of its name and type
-abbrev pub one_way_of : Spelled × TypeName → OneWay
-one_way_of q = record { name = name_of q.0; request = q.1 }
-
--- an interface of its name and operations, at its word
-abbrev pub interface_of : Spelled → Spelled → List OperationGroup → Interface
-interface_of t name groups = record { at = place t; name = name_of name; groups = groups }
-
 -- ---- services
 
 -- how a service runs its sessions
 abbrev pub execution_of : Spelled → Execution
-execution_of t = if same (class t) c.the_concurrent then execution.Concurrent else execution.Single
+execution_of t = if same (class t) (c.Word the.Concurrent) then execution.Concurrent else execution.Single
 
 -- a port of its name, location, protocol and interfaces, at its word
 abbrev pub port_of : Spelled → Spelled → Quoted × Option Name × List Name → Port
@@ -312,15 +268,7 @@ port_of t name parts = record {
 
 -- a port of the one kind or the other
 abbrev pub port_clause : Spelled → Port → Clause
-port_clause t port = if same (class t) c.the_input_port then clause.InputPort port else clause.OutputPort port
-
--- an alias of its type, the first field and the further ones
-abbrev pub alias_of : Spelled → Spelled → List Spelled → Alias
-alias_of ty field more = record { ty = name_of ty; first = name_of field; rest = map name_of more }
-
--- a correlation variable of its name and aliases
-abbrev pub variable_of : Spelled → List Alias → CorrelationVariable
-variable_of t aliases = record { name = name_of t; aliases = aliases }
+port_clause t port = if same (class t) (c.Word the.InputPort) then clause.InputPort port else clause.OutputPort port
 
 -- a service of its name and clauses, at its word
 abbrev pub service_of : Spelled → Spelled → List Clause → Service

@@ -1,9 +1,7 @@
 -- The words that count in the grammar, as they are written.
-use Rattle.std.specs.Prelude.{ℕ, Bool, List, [], ◌∷◌, codes, Option, Some, None}
+use Rattle.std.specs.Prelude.{ℕ, List, [], ◌∷◌, codes, Option, Some, None}
 use Rattle.std.specs.List.{find}
 use Rattle.std.specs.Str.{bytes_eq}
-use denote.Enum.Bare.{sameb}
-use Rattle.jolie_parse.specs.contracts.word.Word as word_row
 use Rattle.jolie_parse.specs.declared.word.Word.{Word}
 use Rattle.jolie_parse.specs.declared.word.Word.TheVariants as word
 
@@ -68,7 +66,3 @@ counted bytes = find (λ w. bytes_eq (spelling w) bytes) counted_words
 -- the word that is written in these bytes
 unfoldable pub word_of : List ℕ → Word
 word_of bytes = elim (counted bytes) [ Some w ↦ w | None ↦ word.Plain ]
-
--- they are the same word, as `==` says
-abbrev pub same_word : Word → Word → Bool
-same_word = sameb word_row.the_type

@@ -1,5 +1,5 @@
 ghost use Rattle.std.specs.Prelude.{◌≡◌, [], Some, IfOk};
-ghost use Rattle.jolie_parse.specs.Classes as c;
+ghost use Rattle.jolie_parse.specs.ClassNames as c;
 ghost use Rattle.jolie_parse.specs.Grammar as spec;
 ghost use Rattle.jolie_parse.specs.Meanings as means_as;
 ghost use Rattle.jolie_parse.specs.Reading.{read};

@@ -1,7 +1,7 @@
 //! Statements in which blocks stand, the blocks, and what is read inside them.
 
 ghost use Rattle.std.specs.Prelude.{◌≡◌};
-ghost use Rattle.jolie_parse.specs.Classes as c;
+ghost use Rattle.jolie_parse.specs.ClassNames as c;
 ghost use Rattle.jolie_parse.specs.Factored as factored;
 ghost use Rattle.jolie_parse.specs.Grammar as spec;
 ghost use Rattle.jolie_parse.specs.Meanings as means_as;

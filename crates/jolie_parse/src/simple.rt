@@ -1,7 +1,8 @@
 //! Names, and the statements and parts of statements in which no block stands.
 
 ghost use Rattle.std.specs.Prelude.{◌≡◌};
-ghost use Rattle.jolie_parse.specs.Classes as c;
+ghost use Rattle.jolie_parse.specs.ClassNames as c;
+ghost use Rattle.jolie_parse.specs.Classes.{place};
 ghost use Rattle.jolie_parse.specs.Grammar as spec;
 ghost use Rattle.jolie_parse.specs.Meanings as means_as;
 ghost use Rattle.jolie_parse.specs.Reading.{read};
@@ -301,7 +302,7 @@ impl<'a> Cursor<'a> {
     /// `this`, as what a handler is for.
     #[tactic(auto, using(crate::proofs::Lists::passes, crate::proofs::Lists::stops_then))]
     fn this(&mut self) -> Result<HandlerKey, Stop>
-        ensures { Reads (read 0 (syntax.means (λ t. HandlerKey.This (c.place t)) (spec.one c.the_this)) self.old) result self.new }
+        ensures { Reads (read 0 (syntax.means (λ t. HandlerKey.This (place t)) (spec.one c.the_this)) self.old) result self.new }
     {
         let word = self.word(Word::This)?;
         Ok(HandlerKey::This(word.at()))

@@ -7,10 +7,11 @@ use Rattle.jolie_ast.specs.declared.expression.Factor.{Factor, roll-Factor}
 use Rattle.jolie_ast.specs.declared.expression.Term.{Term, roll-Term}
 use Rattle.jolie_ast.specs.Spacing as spacing
 use Rattle.jolie_ast.specs.Spacing.{Token}
-use Rattle.jolie_ast.specs.PrintedExpressions.{maybe, multiplicative_token, additive_token, comparison_token, expr_tokens, operand_tokens, factor_tokens, term_tokens}
+use Rattle.jolie_ast.specs.PrintedExpressions.{multiplicative_token, additive_token, comparison_token, expr_tokens, operand_tokens, factor_tokens, term_tokens}
+use Rattle.jolie_ast.specs.PrintedParts.{maybe}
 use Rattle.jolie_ast.proofs.PrintedExpressions.{product_shown, sum_shown, compare_shown, and_shown, or_shown}
 use Rattle.jolie_parse.specs.declared.class.Class.{Class}
-use Rattle.jolie_parse.specs.Classes as c
+use Rattle.jolie_parse.specs.ClassNames as c
 use Rattle.jolie_parse.specs.Classes.{Spelled, class}
 use Rattle.jolie_parse.specs.Meanings as means_as
 use Rattle.jolie_parse.specs.Syntax.{Part, Meant, Syn, Lang, Derives, both, many, behind, separated, optional}

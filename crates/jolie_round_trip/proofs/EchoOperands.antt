@@ -6,8 +6,9 @@ use Rattle.jolie_ast.specs.declared.expression.ExprForm.TheVariants as form
 use Rattle.jolie_ast.specs.Spacing.{Token}
 use Rattle.jolie_ast.specs.PrintedExpressions.{simple, form_shown, operand_tokens, cast_token}
 use Rattle.jolie_ast.proofs.PrintedExpressions.{path_form_shown, size_shown, defined_shown, cast_shown, literal_shown, minus_shown, not_shown}
-use Rattle.jolie_parse.specs.Classes as c
+use Rattle.jolie_parse.specs.ClassNames as c
 use Rattle.jolie_parse.specs.Classes.{class, place, same}
+use Rattle.jolie_parse.specs.Made as made
 use Rattle.jolie_parse.specs.Meanings as means_as
 use Rattle.jolie_parse.specs.Meanings.{expression}
 use Rattle.jolie_parse.specs.Syntax.{Part, an_expression, an_operand, a_path, some_members, Meant, Lang}
@@ -44,7 +45,7 @@ module _ {w : (r : Part) → Lang (Meant r)} (inner : Inner w) where
   path_value_shows : Shows w path_value
   unfolding path_value
   path_value_shows =
-      shows_simple means_as.path_expression (λ p. expression 0 (form.Path p))
+      shows_simple made.path_expression (λ p. expression 0 (form.Path p))
       (λ p. at_placeless (means_as.path_start p) (form.Path p) _ (path_form_placeless p))
       (λ p. at_shown (means_as.path_start p) (form.Path p) _ (path_form_shown p))
       path_operand (path_reprints inner)

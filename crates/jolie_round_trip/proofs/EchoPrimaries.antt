@@ -6,11 +6,12 @@ use Rattle.jolie_ast.specs.declared.expression.Expr.{Expr}
 use Rattle.jolie_ast.specs.declared.expression.ExprForm.{ExprForm}
 use Rattle.jolie_ast.specs.declared.expression.ExprForm.TheVariants as form
 use Rattle.jolie_ast.specs.Spacing.{Token}
-use Rattle.jolie_ast.specs.PrintedExpressions.{simple, Shown, form_shown, expr_shown, int_token, long_token, quoted_token, truth_token}
+use Rattle.jolie_ast.specs.PrintedExpressions.{simple, Shown, form_shown, expr_shown, long_token, quoted_token, truth_token}
+use Rattle.jolie_ast.specs.PrintedParts.{int_token}
 use Rattle.jolie_ast.proofs.PrintedExpressions.{int_shown, long_shown, text_shown, truth_shown}
 use Rattle.jolie_parse.specs.declared.class.Class.{Class}
 use Rattle.jolie_parse.specs.declared.class.Class.TheVariants as classed
-use Rattle.jolie_parse.specs.Classes as c
+use Rattle.jolie_parse.specs.ClassNames as c
 use Rattle.jolie_parse.specs.Classes.{Spelled, class_of, place, has, same}
 use Rattle.jolie_parse.specs.Words.{word_of}
 use Rattle.jolie_parse.specs.Meanings as means_as

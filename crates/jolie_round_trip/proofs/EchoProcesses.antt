@@ -12,11 +12,12 @@ use Rattle.jolie_ast.specs.declared.process.Block.{Block}
 use Rattle.jolie_ast.specs.declared.process.If.{If, roll-If}
 use Rattle.jolie_ast.specs.declared.process.Handler.{roll-Handler}
 use Rattle.jolie_ast.specs.Spacing as spacing
-use Rattle.jolie_ast.specs.PrintedExpressions.{in_parens, maybe, expr_tokens}
+use Rattle.jolie_ast.specs.PrintedExpressions.{in_parens, expr_tokens}
+use Rattle.jolie_ast.specs.PrintedParts.{maybe}
 use Rattle.jolie_ast.specs.PrintedProcesses.{thrown_tokens, key_token, process_tokens, block_tokens, if_tokens, otherwise_tokens, handler_tokens}
 use Rattle.jolie_ast.proofs.PrintedProcesses as printed
 use Rattle.jolie_parse.specs.declared.process.IfParts.{IfParts}
-use Rattle.jolie_parse.specs.Classes as c
+use Rattle.jolie_parse.specs.ClassNames as c
 use Rattle.jolie_parse.specs.Classes.{Spelled, place}
 use Rattle.jolie_parse.specs.Meanings as means_as
 use Rattle.jolie_parse.specs.Syntax.{Part, an_expression, a_path, a_name, an_else_if, for_parts, some_handlers, throw_parts, Meant, Syn, Lang, optional}

@@ -1,6 +1,6 @@
 -- Every part, however deep, is printed so that it is read again.
 use Rattle.std.proofs.Common.{ℕ, zero, suc, List, refl}
-use Rattle.jolie_parse.specs.Classes as c
+use Rattle.jolie_parse.specs.ClassNames as c
 use Rattle.jolie_parse.specs.Classes.{Spelled}
 use Rattle.jolie_parse.specs.Syntax.{Part, an_expression, an_operand, a_path, maybe_path, maybe_expression, a_body, some_handlers, a_name, an_input, an_else_if, for_parts, throw_parts, some_members, a_type_name, some_bounds, some_fields, some_operations, port_parts, some_variables, some_clauses, Meant, Lang, Derives}
 use Rattle.jolie_parse.specs.Grammar.{production, Allowed}

@@ -17,7 +17,7 @@ use Rattle.jolie_ast.specs.Spacing.{Token}
 use Rattle.jolie_ast.specs.PrintedExpressions.{simple, operation, operand, in_parens, expr_shown, expr_tokens, operand_tokens}
 use Rattle.jolie_ast.proofs.PrintedExpressions.{expr_is}
 use Rattle.jolie_parse.specs.declared.class.Class.{Class}
-use Rattle.jolie_parse.specs.Classes as c
+use Rattle.jolie_parse.specs.ClassNames as c
 use Rattle.jolie_parse.specs.Classes.{Spelled, class, place}
 use Rattle.jolie_parse.specs.Meanings as means_as
 use Rattle.jolie_parse.specs.Meanings.{expression}

@@ -6,7 +6,8 @@ use Rattle.jolie_tokens.specs.declared.sign.Sign.{Sign}
 use Rattle.jolie_tokens.specs.Signs.{sign_bytes}
 use Rattle.jolie_tokens.specs.Pieces as pieces
 use Rattle.jolie_tokens.specs.Pieces.{Piece, written, IsPiece, kind_of}
-use Rattle.jolie_ast.specs.PrintedExpressions.{int_token, long_token, quoted_token}
+use Rattle.jolie_ast.specs.PrintedExpressions.{long_token, quoted_token}
+use Rattle.jolie_ast.specs.PrintedParts.{int_token}
 use Rattle.jolie_parse.specs.declared.class.Class.{Class}
 use Rattle.jolie_parse.specs.Classes.{Spelled, class, class_of}
 

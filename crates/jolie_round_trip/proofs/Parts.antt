@@ -7,7 +7,8 @@ use Rattle.jolie_ast.specs.declared.name.Quoted.{Quoted}
 use Rattle.jolie_ast.specs.declared.types.Cardinality.{Cardinality}
 use Rattle.jolie_ast.specs.declared.types.Cardinality.TheVariants as cardinality
 use Rattle.jolie_ast.specs.Spacing.{Token, separated}
-use Rattle.jolie_ast.specs.PrintedExpressions.{in_parens, maybe, name_tokens, int_token, quoted_token, expr_tokens, operand_tokens, path_tokens, member_tokens}
+use Rattle.jolie_ast.specs.PrintedExpressions.{in_parens, name_tokens, quoted_token, expr_tokens, operand_tokens, path_tokens, member_tokens}
+use Rattle.jolie_ast.specs.PrintedParts.{maybe, int_token}
 use Rattle.jolie_ast.specs.PrintedProcesses.{for_step_tokens, thrown_tokens, process_tokens, block_tokens, otherwise_tokens, input_tokens, handler_tokens}
 use Rattle.jolie_ast.specs.Printed.{type_name_token, most_token, field_tokens, group_tokens, protocol_tokens, variable_tokens, clause_tokens}
 use Rattle.jolie_parse.specs.declared.simple.ForParts.{ForParts}

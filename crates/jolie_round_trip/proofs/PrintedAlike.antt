@@ -21,7 +21,8 @@ use Rattle.jolie_ast.specs.declared.tree.Definition.{Definition}
 use Rattle.jolie_ast.specs.declared.tree.Definition.TheVariants as definition
 use Rattle.jolie_ast.specs.Spacing.{text_of}
 use Rattle.jolie_ast.specs.PrintedExpressions.{in_braces, in_parens, name_tokens}
-use Rattle.jolie_ast.specs.Printed.{type_name_token, fault_data, fault_tokens, throws_tokens, request_response_tokens, one_way_tokens, group_tokens, interface_tokens, protocol_tokens, port_tokens, alias_tokens, variable_tokens, clause_tokens, service_tokens, definition_tokens, printed_text}
+use Rattle.jolie_ast.specs.Printed.{type_name_token, fault_tokens, throws_tokens, request_response_tokens, one_way_tokens, group_tokens, interface_tokens, protocol_tokens, port_tokens, alias_tokens, variable_tokens, clause_tokens, service_tokens, definition_tokens, printed_text}
+use Rattle.jolie_ast.specs.PrintedParts.{fault_data}
 use Rattle.jolie_round_trip.specs.Placeless.{name_placeless, type_name_placeless, fault_placeless, request_response_placeless, one_way_placeless, group_placeless, interface_placeless, port_placeless, alias_placeless, variable_placeless, clause_placeless, service_placeless, definition_placeless}
 use Rattle.jolie_round_trip.specs.ReadsBack.{Same}
 use Rattle.jolie_round_trip.proofs.ProcessesAlike.{block_alike}

@@ -13,7 +13,8 @@ use Rattle.jolie_ast.specs.declared.expression.Member.{roll-Member}
 use Rattle.jolie_ast.specs.declared.expression.Path.{roll-Path}
 use Rattle.jolie_ast.specs.declared.expression.Step.{Step, roll-Step}
 use Rattle.jolie_ast.specs.Spacing.{Token}
-use Rattle.jolie_ast.specs.PrintedExpressions.{Shown, additive_token, multiplicative_token, in_brackets, maybe, form_level, expr_level, factor_level, member_level, path_level, step_level, term_level, form_shown, expr_shown, factor_tokens, term_tokens, member_tokens, path_tokens, step_tokens, expr_tokens, operand_tokens}
+use Rattle.jolie_ast.specs.PrintedExpressions.{Shown, additive_token, multiplicative_token, in_brackets, form_level, expr_level, factor_level, member_level, path_level, step_level, term_level, form_shown, expr_shown, factor_tokens, term_tokens, member_tokens, path_tokens, step_tokens, expr_tokens, operand_tokens}
+use Rattle.jolie_ast.specs.PrintedParts.{maybe}
 use Rattle.jolie_ast.proofs.Spacing.{mapped_tokens}
 
 pub expression_shown : (at : ℕ) (f : ExprForm) → expr_shown (roll-Expr (record { at = at; form = f })) ≡ form_shown f

@@ -15,7 +15,8 @@ use Rattle.jolie_ast.specs.declared.process.Branch.{roll-Branch}
 use Rattle.jolie_ast.specs.declared.process.Answer.{roll-Answer}
 use Rattle.jolie_ast.specs.declared.process.Handler.{Handler, roll-Handler}
 use Rattle.jolie_ast.specs.Spacing.{Token, separated}
-use Rattle.jolie_ast.specs.PrintedExpressions.{in_parens, in_brackets, maybe, expr_tokens}
+use Rattle.jolie_ast.specs.PrintedExpressions.{in_parens, in_brackets, expr_tokens}
+use Rattle.jolie_ast.specs.PrintedParts.{maybe}
 use Rattle.jolie_ast.specs.PrintedProcesses.{key_token, path_parens, process_level, block_level, if_level, otherwise_level, input_level, reply_level, branch_level, answer_level, handler_level, process_tokens, block_tokens, if_tokens, otherwise_tokens, input_tokens, reply_tokens, branch_tokens, answer_tokens, handler_tokens}
 use Rattle.jolie_ast.proofs.Spacing.{mapped_separated}
 

@@ -10,9 +10,10 @@ use Rattle.jolie_ast.specs.declared.types.Field.{Field, roll-Field}
 use Rattle.jolie_ast.specs.declared.types.TypeBody.TheOpen.{TypeBody-F}
 use Rattle.jolie_ast.specs.declared.types.TypeBody.TheFolds.{fold-roll-TypeBody, fold-roll-Field}
 use Rattle.jolie_ast.specs.Spacing.{Token}
-use Rattle.jolie_ast.specs.PrintedExpressions.{in_braces, maybe}
+use Rattle.jolie_ast.specs.PrintedExpressions.{in_braces}
+use Rattle.jolie_ast.specs.PrintedParts.{maybe, maybe_cardinality}
 use Rattle.jolie_ast.specs.Printed as printed
-use Rattle.jolie_ast.specs.Printed.{root_token, maybe_cardinality, cardinality_tokens, body_tokens, field_tokens}
+use Rattle.jolie_ast.specs.Printed.{root_token, cardinality_tokens, body_tokens, field_tokens}
 use Rattle.jolie_ast.proofs.Spacing.{mapped_tokens}
 use Rattle.jolie_round_trip.specs.Placeless as placeless
 use Rattle.jolie_round_trip.specs.Placeless.{name_placeless, body_placeless, field_placeless}

@@ -4,7 +4,7 @@ use Rattle.std.specs.Prelude.{option_map, flat_map}
 use Rattle.std.proofs.lemmas.List.{append-nil}
 use Rattle.jolie_ast.specs.Spacing as spacing
 use Rattle.jolie_ast.specs.Spacing.{Token}
-use Rattle.jolie_ast.specs.PrintedExpressions.{maybe}
+use Rattle.jolie_ast.specs.PrintedParts.{maybe}
 use Rattle.jolie_parse.specs.declared.class.Class.{Class}
 use Rattle.jolie_parse.specs.Syntax.{Syn, both, means, Part, Meant, Lang, behind, separated, some_of, optional, ended}
 use Rattle.jolie_round_trip.proofs.Lexemes.{IsValid, Every, Every-left, Every-right}

@@ -11,12 +11,13 @@ use Rattle.jolie_ast.specs.declared.process.Input.{roll-Input}
 use Rattle.jolie_ast.specs.declared.process.Reply.{roll-Reply}
 use Rattle.jolie_ast.specs.declared.process.Branch.{Branch, roll-Branch, out-Branch}
 use Rattle.jolie_ast.specs.declared.process.Answer.{roll-Answer}
-use Rattle.jolie_ast.specs.PrintedExpressions.{maybe}
+use Rattle.jolie_ast.specs.PrintedParts.{maybe}
 use Rattle.jolie_ast.specs.PrintedProcesses.{count_token, assignment_tokens, for_step_tokens, path_parens, process_tokens, block_tokens, input_tokens, reply_tokens, branch_tokens, answer_tokens}
 use Rattle.jolie_ast.proofs.PrintedProcesses.{block_made, input_made, choice_shown, output_shown, assign_shown, correlate_shown}
 use Rattle.jolie_parse.specs.declared.class.Class.{Class}
-use Rattle.jolie_parse.specs.Classes as c
+use Rattle.jolie_parse.specs.ClassNames as c
 use Rattle.jolie_parse.specs.Classes.{class, place, same}
+use Rattle.jolie_parse.specs.Made as made
 use Rattle.jolie_parse.specs.Meanings as means_as
 use Rattle.jolie_parse.specs.Syntax.{Part, a_body, maybe_path, maybe_expression, an_input, some_handlers, Meant, Lang}
 use Rattle.jolie_parse.specs.Grammar.{parens, block, reply, input_parts, input, branch, choice, answer, output_parts, output, count, change, assign, correlate, last_change, loop_parts}
@@ -66,7 +67,7 @@ module _ {w : (r : Part) → Lang (Meant r)} (inner : Inner w) where
   reply_reprints : Reprints w reply reply_placeless reply_tokens
   unfolding reply
   reply_reprints =
-      reprints_means means_as.reply_of reply_placeless reply_tokens (λ z. roll-Reply (record { path = z.0; body = z.1 }))
+      reprints_means made.reply_of reply_placeless reply_tokens (λ z. roll-Reply (record { path = z.0; body = z.1 }))
       (λ q. reply_rolled q.0 q.1) (λ q. reply_printed q.0 q.1)
       (reprints_both path_in_parens block_reprints)
 
@@ -97,7 +98,7 @@ module _ {w : (r : Part) → Lang (Meant r)} (inner : Inner w) where
   answer_reprints : Reprints w answer answer_placeless answer_tokens
   unfolding answer
   answer_reprints =
-      reprints_means means_as.answer_of answer_placeless answer_tokens (λ z. roll-Answer (record { path = z.0; handlers = z.1 }))
+      reprints_means made.answer_of answer_placeless answer_tokens (λ z. roll-Answer (record { path = z.0; handlers = z.1 }))
       (λ q. answer_rolled q.0 q.1) (λ q. answer_printed q.0 q.1)
       (reprints_both path_in_parens (reprints_optional (reprints_between inner c.sign_open_bracket some_handlers c.sign_close_bracket refl refl)))
 

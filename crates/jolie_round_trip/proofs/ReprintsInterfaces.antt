@@ -9,11 +9,12 @@ use Rattle.jolie_ast.specs.declared.interface.OperationGroup.{OperationGroup}
 use Rattle.jolie_ast.specs.declared.interface.OperationGroup.TheVariants as group
 use Rattle.jolie_ast.specs.declared.interface.Interface.{Interface}
 use Rattle.jolie_ast.specs.Spacing.{Token}
-use Rattle.jolie_ast.specs.PrintedExpressions.{in_parens, maybe}
-use Rattle.jolie_ast.specs.Printed.{type_name_token, fault_data, fault_tokens, throws_tokens, request_response_tokens, one_way_tokens, group_tokens, interface_tokens}
-use Rattle.jolie_parse.specs.Classes as c
+use Rattle.jolie_ast.specs.PrintedExpressions.{in_parens}
+use Rattle.jolie_ast.specs.PrintedParts.{maybe, fault_data}
+use Rattle.jolie_ast.specs.Printed.{type_name_token, fault_tokens, throws_tokens, request_response_tokens, one_way_tokens, group_tokens, interface_tokens}
+use Rattle.jolie_parse.specs.ClassNames as c
 use Rattle.jolie_parse.specs.Classes.{place}
-use Rattle.jolie_parse.specs.Meanings as means_as
+use Rattle.jolie_parse.specs.Made as made
 use Rattle.jolie_parse.specs.Syntax.{Part, Meant, Lang, a_type_name, some_operations, behind, some_of}
 use Rattle.jolie_parse.specs.Grammar.{parens, fault, throws, request_response, one_way, request_responses, one_ways, operation_group, interface}
 use Rattle.jolie_round_trip.specs.Placeless.{type_name_placeless, fault_placeless, request_response_placeless, one_way_placeless, group_placeless, interface_placeless}
@@ -70,7 +71,7 @@ module _ {w : (r : Part) → Lang (Meant r)} (inner : Inner w) where
   fault_reprints : Reprints w fault fault_placeless fault_tokens
   unfolding fault
   fault_reprints =
-      reprints_means means_as.fault_of fault_placeless fault_tokens fault_spelled (λ q. refl) (λ q. ap (λ ts. q.0.spelling ∷ ts) (data_printed q.1))
+      reprints_means made.fault_of fault_placeless fault_tokens fault_spelled (λ q. refl) (λ q. ap (λ ts. q.0.spelling ∷ ts) (data_printed q.1))
       (reprints_both id_reprints (reprints_optional type_reprints))
 
   -- the faults behind `throws`, of which there is one at least
@@ -86,14 +87,14 @@ module _ {w : (r : Part) → Lang (Meant r)} (inner : Inner w) where
   request_response_reprints : Reprints w request_response request_response_placeless request_response_tokens
   unfolding request_response
   request_response_reprints =
-      reprints_means (λ q. means_as.request_response_of q.0 q.1.0 q.1.1.0 q.1.1.1) request_response_placeless request_response_tokens request_response_spelled
+      reprints_means (λ q. made.request_response_of q.0 q.1.0 q.1.1.0 q.1.1.1) request_response_placeless request_response_tokens request_response_spelled
       (λ q. ap (λ faults. record { name = name_spelled q.0.spelling; request = type_name_placeless q.1.0; response = type_name_placeless q.1.1.0; throws = faults }) (throws_kept q.1.1.1))
       (λ q. ap (λ ts. q.0.spelling ∷ (type_parens q.1.0 ++ type_parens q.1.1.0 ++ ts)) (throws_printed q.1.1.1))
       (reprints_both id_reprints (reprints_both type_reprints (reprints_both type_reprints throws_reprints)))
 
   one_way_reprints : Reprints w one_way one_way_placeless one_way_tokens
   unfolding one_way
-  one_way_reprints = reprints_means means_as.one_way_of one_way_placeless one_way_tokens one_way_spelled (λ q. refl) (λ q. refl) (reprints_both id_reprints type_reprints)
+  one_way_reprints = reprints_means made.one_way_of one_way_placeless one_way_tokens one_way_spelled (λ q. refl) (λ q. refl) (reprints_both id_reprints type_reprints)
 
   request_responses_reprints : Reprints w request_responses group_placeless group_tokens
   unfolding request_responses
@@ -114,5 +115,5 @@ module _ {w : (r : Part) → Lang (Meant r)} (inner : Inner w) where
   pub interface_reprints : Reprints w interface interface_placeless interface_tokens
   unfolding interface
   interface_reprints =
-      reprints_means (λ q. means_as.interface_of q.0 q.1.0 q.1.1) interface_placeless interface_tokens (λ z. interface_spelled z.1) (λ q. refl) (λ q. refl)
+      reprints_means (λ q. made.interface_of q.0 q.1.0 q.1.1) interface_placeless interface_tokens (λ z. interface_spelled z.1) (λ q. refl) (λ q. refl)
       (reprints_both (reprints_one c.the_interface refl) (reprints_both id_reprints (reprints_between inner c.sign_open_brace some_operations c.sign_close_brace refl refl)))

@@ -5,11 +5,13 @@ use Rattle.jolie_ast.specs.declared.expression.Expr.{Expr}
 use Rattle.jolie_ast.specs.declared.expression.Member.{roll-Member}
 use Rattle.jolie_ast.specs.Spacing as spacing
 use Rattle.jolie_ast.specs.Spacing.{Token}
-use Rattle.jolie_ast.specs.PrintedExpressions.{maybe, member_tokens}
-use Rattle.jolie_parse.specs.Classes as c
+use Rattle.jolie_ast.specs.PrintedExpressions.{member_tokens}
+use Rattle.jolie_ast.specs.PrintedParts.{maybe}
+use Rattle.jolie_parse.specs.ClassNames as c
 use Rattle.jolie_parse.specs.Meanings as means_as
 use Rattle.jolie_parse.specs.Syntax.{Part, Meant, Lang}
-use Rattle.jolie_parse.specs.Grammar.{one, member, members, list_of}
+use Rattle.jolie_parse.specs.Grammar.{one, member, members}
+use Rattle.jolie_parse.specs.Made.{list_of}
 use Rattle.jolie_round_trip.specs.Placeless.{member_placeless}
 use Rattle.jolie_round_trip.proofs.Parts.{Inner}
 use Rattle.jolie_round_trip.proofs.PlacelessExpressions.{member_rolled}

@@ -6,8 +6,9 @@ use Rattle.jolie_ast.specs.declared.expression.Expr.{Expr}
 use Rattle.jolie_ast.specs.declared.expression.Path.{Path, roll-Path}
 use Rattle.jolie_ast.specs.declared.expression.Step.{Step, roll-Step}
 use Rattle.jolie_ast.specs.Spacing.{Token}
-use Rattle.jolie_ast.specs.PrintedExpressions.{maybe, in_brackets, name_tokens, expr_tokens, path_tokens, step_tokens}
-use Rattle.jolie_parse.specs.Classes as c
+use Rattle.jolie_ast.specs.PrintedExpressions.{in_brackets, name_tokens, expr_tokens, path_tokens, step_tokens}
+use Rattle.jolie_ast.specs.PrintedParts.{maybe}
+use Rattle.jolie_parse.specs.ClassNames as c
 use Rattle.jolie_parse.specs.Classes.{ids, words}
 use Rattle.jolie_parse.specs.Meanings as means_as
 use Rattle.jolie_parse.specs.Syntax.{Part, an_expression, Meant, Lang}

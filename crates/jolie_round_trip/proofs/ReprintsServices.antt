@@ -12,12 +12,14 @@ use Rattle.jolie_ast.specs.declared.service.Clause.TheVariants as clause
 use Rattle.jolie_ast.specs.declared.service.Service.{Service}
 use Rattle.jolie_ast.specs.declared.tree.Definition.TheVariants as definition
 use Rattle.jolie_ast.specs.Spacing.{Token, separated}
-use Rattle.jolie_ast.specs.PrintedExpressions.{maybe, name_tokens, quoted_token}
+use Rattle.jolie_ast.specs.PrintedExpressions.{name_tokens, quoted_token}
+use Rattle.jolie_ast.specs.PrintedParts.{maybe}
 use Rattle.jolie_ast.specs.PrintedProcesses.{block_tokens}
 use Rattle.jolie_ast.specs.Printed.{execution_token, protocol_tokens, port_tokens, alias_tokens, variable_tokens, clause_tokens, service_tokens, definition_tokens}
 use Rattle.jolie_parse.specs.declared.class.Class.{Class}
-use Rattle.jolie_parse.specs.Classes as c
+use Rattle.jolie_parse.specs.ClassNames as c
 use Rattle.jolie_parse.specs.Classes.{Spelled, class, place, same}
+use Rattle.jolie_parse.specs.Made as made
 use Rattle.jolie_parse.specs.Meanings as means_as
 use Rattle.jolie_parse.specs.Syntax.{Part, Meant, Lang, port_parts, some_variables, some_clauses}
 use Rattle.jolie_parse.specs.Grammar.{one, block, alias, variable, execution_clause, port_body, port, correlation_set, init_clause, main_clause, clauses, service, file_part, file}
@@ -53,7 +55,7 @@ module _ {w : (r : Part) → Lang (Meant r)} where
   alias_reprints : Reprints w alias alias_placeless alias_tokens
   unfolding alias
   alias_reprints =
-      reprints_means (λ q. means_as.alias_of q.0 q.1.0 q.1.1) alias_placeless alias_tokens alias_spelled
+      reprints_means (λ q. made.alias_of q.0 q.1.0 q.1.1) alias_placeless alias_tokens alias_spelled
       (λ q. ap (λ z. record { ty = name_spelled q.0.spelling; first = name_spelled q.1.0.spelling; rest = z }) (names_kept q.1.1))
       (λ q. ap (λ z. q.0.spelling ∷ (codes "." ∷ (q.1.0.spelling ∷ z))) (fields_printed q.1.1))
       (reprints_both id_reprints (reprints_both (reprints_behind c.sign_dot refl word_reprints) (reprints_many (reprints_behind c.sign_dot refl word_reprints))))
@@ -61,7 +63,7 @@ module _ {w : (r : Part) → Lang (Meant r)} where
   pub variable_reprints : Reprints w variable variable_placeless variable_tokens
   unfolding variable
   variable_reprints =
-      reprints_means (λ q. means_as.variable_of q.0 q.1) variable_placeless variable_tokens variable_spelled (λ q. refl) (λ q. refl)
+      reprints_means (λ q. made.variable_of q.0 q.1) variable_placeless variable_tokens variable_spelled (λ q. refl) (λ q. refl)
       (reprints_both (reprints_ended c.sign_colon refl id_reprints) (reprints_some alias_reprints))
 
 -- ---- ports

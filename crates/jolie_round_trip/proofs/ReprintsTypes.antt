@@ -14,12 +14,14 @@ use Rattle.jolie_ast.specs.declared.types.DefinedType.TheVariants as defined
 use Rattle.jolie_ast.specs.declared.types.TypeDefinition.{TypeDefinition}
 use Rattle.jolie_ast.specs.declared.interface.TypeName.TheVariants as type_name
 use Rattle.jolie_ast.specs.Spacing.{Token}
-use Rattle.jolie_ast.specs.PrintedExpressions.{in_braces, int_token}
+use Rattle.jolie_ast.specs.PrintedExpressions.{in_braces}
+use Rattle.jolie_ast.specs.PrintedParts.{int_token}
 use Rattle.jolie_ast.specs.Printed.{root_token, most_token, cardinality_tokens, body_tokens, field_tokens, defined_tokens, type_tokens, type_name_token}
 use Rattle.jolie_ast.proofs.PrintedTypes.{named_body, undefined_body}
 use Rattle.jolie_parse.specs.declared.class.Class.TheVariants as classed
-use Rattle.jolie_parse.specs.Classes as c
+use Rattle.jolie_parse.specs.ClassNames as c
 use Rattle.jolie_parse.specs.Classes.{Spelled, class, class_of, place, same}
+use Rattle.jolie_parse.specs.Made as made
 use Rattle.jolie_parse.specs.Meanings as means_as
 use Rattle.jolie_parse.specs.Syntax.{Part, Meant, Lang, Syn, Derives, some_bounds, some_fields, between, token}
 use Rattle.jolie_parse.specs.Grammar.{one, kinds, root_type, type_body, bounds, cardinal, field, defined_type, type_definition, type_named, braces, Allowed}
@@ -166,14 +168,14 @@ module _ {w : (r : Part) → Lang (Meant r)} (inner : Inner w) where
   abbrev field_spelled : List ℕ × (Option Cardinality × TypeBody) → Field
   field_spelled z = roll-Field (record { name = name_spelled z.0; cardinality = z.1.0; body = z.1.1 })
 
-  field_kept : (t : Spelled) (count : Option Cardinality) (ty : TypeBody) → field_placeless (means_as.field_of t count ty) ≡ field_spelled (t.spelling, (option_map (λ b. b) count, body_placeless ty))
+  field_kept : (t : Spelled) (count : Option Cardinality) (ty : TypeBody) → field_placeless (made.field_of t count ty) ≡ field_spelled (t.spelling, (option_map (λ b. b) count, body_placeless ty))
   field_kept t None ty = field_rolled (means_as.name_of t) None ty
   field_kept t (Some count) ty = field_rolled (means_as.name_of t) (Some count) ty
 
   pub field_reprints : Reprints w field field_placeless field_tokens
   unfolding field
   field_reprints =
-      reprints_means (λ q. means_as.field_of q.1.0 q.1.1.0 q.1.1.1.0) field_placeless field_tokens field_spelled
+      reprints_means (λ q. made.field_of q.1.0 q.1.1.0 q.1.1.1.0) field_placeless field_tokens field_spelled
       (λ q. field_kept q.1.0 q.1.1.0 q.1.1.1.0)
       (λ q. field_printed (means_as.name_of q.1.0) q.1.1.0 q.1.1.1.0)
       (reprints_dropped (one c.sign_dot)

@@ -11,7 +11,8 @@ use Rattle.jolie_ast.specs.declared.types.TypeBody.TheFolds.{map-TypeBody, ind-T
 use Rattle.jolie_ast.specs.declared.types.DefinedType.{DefinedType}
 use Rattle.jolie_ast.specs.declared.types.DefinedType.TheVariants as defined
 use Rattle.jolie_ast.specs.declared.types.TypeDefinition.{TypeDefinition}
-use Rattle.jolie_ast.specs.PrintedExpressions.{in_braces, maybe}
+use Rattle.jolie_ast.specs.PrintedExpressions.{in_braces}
+use Rattle.jolie_ast.specs.PrintedParts.{maybe}
 use Rattle.jolie_ast.specs.Printed.{root_token, cardinality_tokens, body_tokens, field_tokens, defined_tokens, type_tokens}
 use Rattle.jolie_ast.proofs.PrintedTypes.{named_body, undefined_body}
 use Rattle.jolie_round_trip.specs.Placeless.{name_placeless, body_placeless, field_placeless, defined_placeless, type_placeless}

@@ -19,9 +19,9 @@ use Rattle.jolie_tokens.specs.Signs.{sign_bytes, sign_at}
 use Rattle.jolie_tokens.specs.Utf8.{StopsAt}
 use Rattle.jolie_tokens.specs.Pieces as p
 use Rattle.jolie_tokens.specs.Pieces.{Piece, Part, IsPart, IsKnown, inside, written, HasNoEnd, IsPiece, StandsBefore, begins_comment}
-use Rattle.jolie_tokens.specs.Refusals.{begins_piece, BeginsNothing, ClosesNothing, IsFirstFault, IsBadString, IsBadLine, IsBadBlock, IsBadNumber, IsStuck, IsBadByte, of_nothing, of_string, of_line, of_block}
+use Rattle.jolie_tokens.specs.Refusals.{BeginsNothing, ClosesNothing, IsFirstFault, IsBadString, IsBadLine, IsBadBlock, IsBadNumber, IsStuck, IsBadByte, of_nothing, of_string, of_line, of_block}
+use Rattle.jolie_tokens.specs.Fronts.{begins_piece, front, number, number_of, line_comment, block_comment, block_comment_to, string, string_to, sign_or, after_slash, unless_stopped, utf8_stop, comment_end, string_end, bad_escape, least, parts}
 use Rattle.jolie_tokens.specs.Fronts as f
-use Rattle.jolie_tokens.specs.Fronts.{front, number, number_of, line_comment, block_comment, block_comment_to, string, string_to, sign_or, after_slash, unless_stopped, utf8_stop, comment_end, string_end, bad_escape, least, parts}
 use Rattle.jolie_tokens.proofs.Runs.{run_passes, run_stops, run_of}
 use Rattle.jolie_tokens.proofs.Encoding.{stop_found, stop_none, stop_some}
 use Rattle.jolie_tokens.proofs.Strings.{end_found, end_closes, end_none, end_closes_nothing, parts_inside, fault_found, fault_first, fault_none}

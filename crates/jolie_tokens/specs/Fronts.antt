@@ -1,7 +1,7 @@
 -- These definitions serve the proofs alone: no promise speaks of them.
 -- What the functions of this crate compute of the bytes at the front of a text. They are proved to find the pieces and
 -- the refusals that the other files of definitions have.
-use Rattle.std.specs.Prelude.{◌≡◌, ℕ, ◌+◌, ◌-◌, min, Bool, true, false, ◌&&◌, not, ◌==◌, List, [], ◌∷◌, map, length}
+use Rattle.std.specs.Prelude.{◌≡◌, ℕ, ◌+◌, ◌-◌, min, Bool, true, false, ◌&&◌, ◌||◌, not, ◌==◌, List, [], ◌∷◌, map, length}
 use Rattle.std.specs.Prelude.{take, drop, if◌then◌else◌, Option, None, Some, Result, Ok, Err, MatchResult}
 use Rattle.std.specs.List.{prefix_len}
 use Rattle.std.specs.Int.{is_in_range}
@@ -17,6 +17,10 @@ use Rattle.jolie_tokens.specs.Numbers.{closes_long, is_bad_number}
 use Rattle.jolie_tokens.specs.Signs.{sign_at}
 use Rattle.jolie_tokens.specs.Pieces as p
 use Rattle.jolie_tokens.specs.Pieces.{Piece, Part, plain, escape, written, kind_of}
+
+-- a blank, a word, a number or a string begins with the byte
+abbrev pub begins_piece : ℕ → Bool
+begins_piece b = is_blank b || is_letter b || is_digit b || b == quote
 
 -- a character of two to four bytes begins with the byte (Unicode's table of well-formed sequences)
 abbrev pub is_lead : ℕ → Bool

@@ -80,22 +80,18 @@ begins_comment (b ∷ bs) = b == slash && begins (λ c. c == slash || c == star)
 -- The piece may stand before these bytes: a `//` comment goes to the line's end, a word to its last byte, a number is
 -- not followed directly by a letter, a digit or a fraction, and a sign is the longest and begins no comment.
 abbrev pub StandsBefore : Piece → List ℕ → Type 0
-StandsBefore (blank b) rest = Unit {0}
 StandsBefore (line_comment bs) rest = begins is_in_line rest ≡ false
-StandsBefore (block_comment bs) rest = Unit {0}
 StandsBefore (word bs) rest = begins is_word_byte rest ≡ false
 StandsBefore (int ds) rest = (begins is_word_byte rest ≡ false) × (begins_fraction rest ≡ false)
 StandsBefore (long ds) rest = begins is_word_byte rest ≡ false
-StandsBefore (string parts) rest = Unit {0}
 StandsBefore (sign s) rest = IsLongest s rest × (begins_comment (sign_bytes s ++ rest) ≡ false)
+StandsBefore _ rest = Unit {0}
 
 -- what a piece is as a token; blanks and comments are none
 abbrev pub kind_of : Piece → Option TokenKind
-kind_of (blank b) = None
-kind_of (line_comment bs) = None
-kind_of (block_comment bs) = None
 kind_of (word bs) = Some kind.Word
 kind_of (int ds) = Some (kind.Int (pos (value ds)))
 kind_of (long ds) = Some (kind.Long (pos (value ds)))
 kind_of (string parts) = Some (kind.Str (map meant parts))
 kind_of (sign s) = Some (kind.Sign s)
+kind_of _ = None

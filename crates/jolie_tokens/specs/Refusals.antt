@@ -1,5 +1,5 @@
 -- The bytes at which no piece can be read, and how they are refused.
-use Rattle.std.specs.Prelude.{◌≡◌, ◌≢◌, ℕ, ◌+◌, ◌<◌, ◌≤◌, Bool, true, false, ◌||◌, ◌==◌, List, ◌∷◌, ◌++◌, length, ◌⊎◌}
+use Rattle.std.specs.Prelude.{◌≡◌, ◌≢◌, ℕ, ◌+◌, ◌<◌, ◌≤◌, true, false, ◌||◌, ◌==◌, List, ◌∷◌, ◌++◌, length, ◌⊎◌}
 use Rattle.std.specs.List.{All, AllPass}
 use Rattle.jolie_tokens.specs.declared.lex_error.LexError.{LexError}
 use Rattle.jolie_tokens.specs.declared.lex_error.LexError.TheVariants as error
@@ -10,14 +10,10 @@ use Rattle.jolie_tokens.specs.Signs.{sign_bytes}
 use Rattle.jolie_tokens.specs.Utf8.{StopsAt}
 use Rattle.jolie_tokens.specs.Pieces.{Part, escape, IsPart, inside, HasNoEnd}
 
--- a blank, a word, a number or a string begins with the byte
-abbrev pub begins_piece : ℕ → Bool
-begins_piece b = is_blank b || is_letter b || is_digit b || b == quote
-
 -- no blank, word, number, string or sign begins there, and so no comment
 pub record BeginsNothing (bs : List ℕ) : Type 0 where
   pub some : 0 < length bs
-  pub no_piece : begins begins_piece bs ≡ false
+  pub no_piece : begins (λ b. is_blank b || is_letter b || is_digit b || b == quote) bs ≡ false
   pub no_sign : (s : Sign) (rest : List ℕ) → bs ≢ sign_bytes s ++ rest
 
 -- the bytes after a string's first quote close no string
@@ -95,5 +91,4 @@ IsStuck bs at (error.BadByte place) = IsBadByte bs at place
 IsStuck bs at (error.OpenString place) = IsOpenString bs × (place ≡ at)
 IsStuck bs at (error.OpenComment place) = IsOpenComment bs × (place ≡ at)
 IsStuck bs at (error.BadNumber place) = IsBadNumber bs × (place ≡ at)
-IsStuck bs at error.TooLong = ⊥
-IsStuck bs at (error.Memory cause) = ⊥
+IsStuck bs at _ = ⊥

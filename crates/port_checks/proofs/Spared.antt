@@ -12,7 +12,8 @@ use Rattle.check_base.specs.declared.refusal.CheckName.TheVariants.{DuplicateNam
 use Rattle.check_base.specs.declared.refusal.Refusal.{Refusal}
 use Rattle.check_base.specs.Files.{Operation, operations_named}
 use Rattle.check_base.specs.Least.{comes_first, joined, offered, refusal, refused}
-use Rattle.port_checks.specs.PortRules.{brought, brought_by, brought_in, brought_unless, operation_at}
+use Rattle.port_checks.specs.PortRules.{brought, brought_by, brought_in, operation_at}
+use Rattle.port_checks.specs.PortParts.{brought_unless}
 use Rattle.check_base.specs.Repeated.{repeated, repeated_after}
 use Rattle.port_checks.specs.Spared.{first_alone, spared, spared_after, spared_in, spared_unless}
 use Rattle.check_base.proofs.Joined.{joined_append, refused_append}

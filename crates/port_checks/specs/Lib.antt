@@ -1,3 +1,4 @@
+pub mod PortParts
 pub mod PortRules
 pub mod SetRules
 pub mod Spared

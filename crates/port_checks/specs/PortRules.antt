@@ -43,13 +43,10 @@ group_at at g = map (operation_at at) (group_operations g)
 abbrev pub brought_by : List Interface → Name → List Name
 brought_by interfaces n = map (operation_at n.at) (operations_named interfaces n.text)
 
--- the same, but none where the interface stands in a list
-abbrev pub brought_unless : List Interface → List (List ℕ) → Name → List Name
-brought_unless interfaces others n = if is_in n.text others then [] else brought_by interfaces n
-
 -- the operations that a port brings: those of its interfaces, but of those that stand in a list
 abbrev pub brought : List Interface → List (List ℕ) → List Name → List Name
-brought interfaces others names = flat_map (brought_unless interfaces others) names
+brought interfaces others names =
+    flat_map (λ (n : Name). if is_in n.text others then [] else brought_by interfaces n) names
 
 -- the operations that input ports bring: an interface that an earlier port has brings nothing new
 abbrev pub brought_in : List Interface → List (List ℕ) → List Port → List Name
@@ -96,32 +93,20 @@ port_refused interfaces port =
     refused_if (bytes_eq port.name.text console) WrongKind port.name.at
     ++ wrong_location port ++ wrong_protocol port ++ flat_map (unknown_interface interfaces) port.interfaces
 
--- the locations of the input ports of a service
-abbrev pub service_locations : Service → List (List ℕ)
-service_locations s = map (λ (p : Port). p.location.text) (input_ports s)
-
 -- the locations of the input ports of services
 abbrev pub input_locations : List Service → List (List ℕ)
-input_locations services = flat_map service_locations services
+input_locations services = flat_map (λ s. map (λ (p : Port). p.location.text) (input_ports s)) services
 
 -- an output port at a local location that no input port has
 abbrev pub unmet : List (List ℕ) → Port → List Refusal
 unmet locations port =
     refused_if (is_local port.location.text && not (is_in port.location.text locations)) UnknownPort port.location.at
 
--- the name of a port
-abbrev pub port_name : Sided → Name
-port_name p = p.port.name
-
--- what is refused of a port by itself, whatever its direction
-abbrev pub sided_refused : List Interface → Sided → List Refusal
-sided_refused interfaces p = port_refused interfaces p.port
-
 -- what is refused of the ports of a service
 abbrev pub ports_refused : List Interface → List (List ℕ) → Service → List Refusal
 ports_refused interfaces locations s =
-    refused DuplicateName (repeated (map port_name (filter_map port_in s.clauses)))
-    ++ flat_map (sided_refused interfaces) (filter_map port_in s.clauses)
+    refused DuplicateName (repeated (map (λ (p : Sided). p.port.name) (filter_map port_in s.clauses)))
+    ++ flat_map (λ (p : Sided). port_refused interfaces p.port) (filter_map port_in s.clauses)
     ++ input_ports_refused interfaces (input_ports s)
     ++ flat_map (operations_repeated interfaces) (output_ports s)
     ++ flat_map (unmet locations) (output_ports s)

@@ -1,7 +1,7 @@
 -- What is refused of the correlation sets of a service.
 use Rattle.std.specs.Prelude.{ℕ, pos, Bool, true, false, not, ◌&&◌, List, [], ◌∷◌, ◌++◌, map, flat_map}
 use Rattle.std.specs.Prelude.{bytes_eq, if◌then◌else◌, Option, None, Some, option_and_then}
-use Rattle.std.specs.List.{list_all}
+use Rattle.std.specs.List.{list_all, find}
 use Rattle.std.specs.Ordering.{int_eq}
 use Rattle.jolie_ast.specs.declared.name.Name.{Name}
 use Rattle.jolie_ast.specs.declared.types.TypeDefinition.{TypeDefinition}
@@ -31,37 +31,28 @@ use Rattle.check_base.specs.TypeNames.{behind_names}
 -- a field that stands exactly once
 abbrev pub is_once : Option Cardinality → Bool
 is_once None = true
-is_once (Some cardinality.Optional) = false
-is_once (Some cardinality.Any) = false
-is_once (Some (cardinality.Between least None)) = false
 is_once (Some (cardinality.Between least (Some most))) = int_eq least (pos 1) && int_eq most (pos 1)
+is_once _ = false
 
 -- the first field of a name
 abbrev pub field_named : List Field → List ℕ → Option Field
-field_named [] name = None
-field_named (f ∷ fields) name = if bytes_eq (out-Field f).name.text name then Some f else field_named fields name
+field_named fields name = find (λ (f : Field). bytes_eq (out-Field f).name.text name) fields
 
 -- the kinds that a variable of a set may have
 abbrev pub is_value_kind : RootKind → Bool
 is_value_kind root.Void = false
-is_value_kind root.Bool = true
-is_value_kind root.Int = true
-is_value_kind root.Long = true
-is_value_kind root.Str = true
 is_value_kind root.Any = false
+is_value_kind _ = true
 
 -- the fields of a body
 abbrev pub fields_in : TypeBody-F TypeBody Field → List Field
-fields_in (TypeBody-F.Root at kind None) = []
 fields_in (TypeBody-F.Root at kind (Some fields)) = fields
-fields_in (TypeBody-F.Named n) = []
-fields_in (TypeBody-F.Undefined at) = []
+fields_in _ = []
 
 -- a root of a kind that a variable may have
 abbrev pub is_value : TypeBody-F TypeBody Field → Bool
 is_value (TypeBody-F.Root at kind fields) = is_value_kind kind
-is_value (TypeBody-F.Named n) = false
-is_value (TypeBody-F.Undefined at) = false
+is_value _ = false
 
 -- a field that stands once, with its type behind the names
 abbrev pub once_in : List TypeDefinition → TypeBody → Name → Option TypeBody
@@ -107,8 +98,7 @@ set_texts set = map (λ (n : Name). n.text) (set_types set)
 
 -- each variable has an alias of the type
 abbrev pub all_have : List ℕ → List CorrelationVariable → Bool
-all_have ty [] = true
-all_have ty (v ∷ vs) = is_in ty (alias_texts v) && all_have ty vs
+all_have ty set = list_all (λ v. is_in ty (alias_texts v)) set
 
 -- a type that is not in all of some tables
 abbrev pub partly_among : List (List (List ℕ)) → Name → List Refusal
@@ -137,11 +127,7 @@ two_sets sets = refused TwoSets (repeated (flat_map set_types sets))
 -- a set of a service whose sessions run one alone, at its word
 abbrev pub set_of_single : Bool → Clause → List Refusal
 set_of_single concurrent (clause.CorrelationSet at variables) = refused_if (not concurrent) WrongKind at
-set_of_single concurrent (clause.InputPort port) = []
-set_of_single concurrent (clause.OutputPort port) = []
-set_of_single concurrent (clause.Execution at execution) = []
-set_of_single concurrent (clause.Init at body) = []
-set_of_single concurrent (clause.Main at body) = []
+set_of_single concurrent _ = []
 
 -- what is refused of the sets of a service
 abbrev pub sets_refused : List TypeDefinition → Service → List Refusal

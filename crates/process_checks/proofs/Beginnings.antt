@@ -19,9 +19,9 @@ use Rattle.jolie_ast.specs.declared.process.Branch.{Branch, out-Branch, roll-out
 use Rattle.jolie_ast.specs.declared.process.Handler.{Handler}
 use Rattle.jolie_ast.specs.declared.process.If.{If}
 use Rattle.jolie_ast.specs.declared.process.Input.{Input, out-Input, roll-out-Input}
-use Rattle.process_checks.specs.FirstInputParts.{beginning}
+use Rattle.process_checks.specs.FirstInputParts.{beginning, branch_level, input_level}
 use Rattle.process_checks.specs.ProcessParts.{branch_operation}
-use Rattle.process_checks.specs.FirstInputs.{Beginning, block_level, branch_level, first_input, input_level, of_sequence, process_level}
+use Rattle.process_checks.specs.FirstInputs.{Beginning, block_level, first_input, of_sequence, process_level}
 use Rattle.check_base.proofs.FirstFound.{left_at}
 
 -- the operation of an input

@@ -8,7 +8,8 @@ use Rattle.jolie_ast.specs.declared.interface.Interface.{Interface}
 use Rattle.jolie_ast.specs.declared.service.Clause.{Clause}
 use Rattle.behaviour_tree.specs.Distinct.{is_in}
 use Rattle.check_base.specs.Repeated.{place_of}
-use Rattle.check_base.specs.Files.{Operation, each_once_after, input_port_in, operation_named, output_port_in, texts_of}
+use Rattle.check_base.specs.Files.{Operation, input_port_in, operation_named, output_port_in, texts_of}
+use Rattle.check_base.specs.OnceEach.{each_once_after}
 use Rattle.process_checks.specs.OperationTables.{answers_named, does_answer, operations_at, operations_of_input, with_new}
 use Rattle.process_checks.specs.Surroundings.{Outlet, outlet}
 use Rattle.process_checks.specs.ProcessRules.{outlet_named}

@@ -4,16 +4,27 @@ use Rattle.std.specs.Prelude.{List, [], ◌∷◌, map, Option}
 use Rattle.jolie_ast.specs.declared.name.Name.{Name}
 use Rattle.jolie_ast.specs.declared.process.Process.{Process}
 use Rattle.jolie_ast.specs.declared.process.Input.{out-Input}
+use Rattle.jolie_ast.specs.declared.process.Otherwise.TheOpen.{Branch-F, Input-F}
 use Rattle.jolie_ast.specs.declared.process.Otherwise.TheFolds.{fold-Process}
 use Rattle.process_checks.specs.declared.first_inputs.FirstInput.{FirstInput}
 use Rattle.process_checks.specs.declared.first_inputs.FirstInput.TheVariants as first
 use Rattle.process_checks.specs.ProcessParts.{branch_operation}
-use Rattle.process_checks.specs.FirstInputs.{Beginning, process_level, block_level, branch_level, input_level}
+use Rattle.process_checks.specs.FirstInputs.{Beginning, process_level, block_level}
 
 -- the operations of a first input
 abbrev pub operations_of : FirstInput → List Name
 operations_of (first.Alone input) = (out-Input input.now).operation ∷ []
 operations_of (first.Choice branches) = map branch_operation branches.now
+
+-- one level of an input: its operation
+abbrev pub input_level : Input-F (Unit {0}) Beginning (Unit {0}) (Option (List Name)) Name (Unit {0}) (Unit {0}) Name
+    (Unit {0}) → Name
+input_level i = i.operation
+
+-- one level of a branch: its operation
+abbrev pub branch_level : Branch-F (Unit {0}) Beginning (Unit {0}) (Option (List Name)) Name (Unit {0}) (Unit {0}) Name
+    (Unit {0}) → Name
+branch_level b = b.input
 
 -- what a process begins with
 unfoldable pub beginning : Process → Beginning

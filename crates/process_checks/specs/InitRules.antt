@@ -46,10 +46,6 @@ process_place =
     fold-Process ℕ ℕ ℕ ℕ ℕ ℕ ℕ ℕ ℕ (λ o. 0) place_level (λ a. 0) (λ b. b.at) (λ b. b.at) (λ h. 0) (λ i. i.at)
     (λ i. i.operation.at) (λ r. 0)
 
--- a statement of init: anything but an assignment is refused at its place
-abbrev pub statement_refused : ℕ → Bool → List Refusal
-statement_refused at assigns = refused_if (not assigns) InitNotAssignment at
-
 -- whether a process is an assignment
 abbrev pub assigns : Process → Bool
 assigns p = elim (out-Process p) [ Process-F.Assign path assignment ↦ true | _ ↦ false ]
@@ -62,6 +58,6 @@ statements_of p = elim (out-Process p) [ Process-F.Sequence statements ↦ state
 abbrev pub statements_in : Block → List Process
 statements_in b = elim (out-Block b).body [ None ↦ [] | Some p ↦ statements_of p ]
 
--- what is refused of an init because it is one
+-- what is refused of an init because it is one: each statement but an assignment, at its place
 abbrev pub init_refused : Block → List Refusal
-init_refused b = flat_map (λ p. statement_refused (process_place p) (assigns p)) (statements_in b)
+init_refused b = flat_map (λ p. refused_if (not (assigns p)) InitNotAssignment (process_place p)) (statements_in b)

@@ -6,7 +6,8 @@ use Rattle.jolie_ast.specs.declared.service.Port.{Port}
 use Rattle.jolie_ast.specs.declared.service.Clause.{Clause}
 use Rattle.process_checks.specs.declared.operation_tables.Declaration.{Declaration}
 use Rattle.process_checks.specs.declared.operation_tables.Declaration.TheVariants as declaration
-use Rattle.check_base.specs.Files.{Operation, answering, each_once_after, input_port_in, operation_named}
+use Rattle.check_base.specs.Files.{Operation, answering, input_port_in, operation_named}
+use Rattle.check_base.specs.OnceEach.{each_once_after}
 use Rattle.check_base.specs.Files.{operations_among, silent, texts_of}
 use Rattle.check_base.specs.MaybeThere.{if_there}
 

@@ -1,6 +1,7 @@
 -- What is refused of the processes of a service.
 use Rattle.std.specs.Prelude.{ℕ, pos, int_le, Bool, true, false, not, List, [], ◌∷◌, ◌++◌, map, flat_map, bytes_eq}
 use Rattle.std.specs.Prelude.{codes, if◌then◌else◌, Option, None, Some, is_some}
+use Rattle.std.specs.Option.{option_map_or}
 use Rattle.jolie_ast.specs.declared.name.Name.{Name}
 use Rattle.jolie_ast.specs.declared.expression.Expr.{Expr, out-Expr}
 use Rattle.jolie_ast.specs.declared.expression.ExprForm.{ExprForm, out-ExprForm}
@@ -78,8 +79,7 @@ wrong_path p = flat_map wrong_step ((out-Path p).first ∷ (out-Path p).rest)
 
 -- the same of a path that may be written
 abbrev pub wrong_if_written : Option Path → List Refusal
-wrong_if_written None = []
-wrong_if_written (Some p) = wrong_path p
+wrong_if_written p = option_map_or wrong_path p []
 
 -- ---- processes: what is refused inside a handler (true) or outside of one
 
@@ -99,8 +99,7 @@ pub record HandlerFound : Type 0 where
 
 -- what is refused of a part that may be there
 abbrev pub maybe : Option Found → Found
-maybe None h = []
-maybe (Some found) h = found h
+maybe part h = option_map_or (λ (found : Found). found h) part []
 
 -- what is refused of parts
 abbrev pub each : List Found → Found
@@ -117,11 +116,6 @@ handlers list =
     refused DuplicateName (repeated (map (λ (f : HandlerFound). f.name) list))
     ++ flat_map (λ (f : HandlerFound). f.found true) list
 
--- the same of a list that may be written
-abbrev pub handlers_if_written : Option (List HandlerFound) → List Refusal
-handlers_if_written None = []
-handlers_if_written (Some list) = handlers list
-
 -- a variable that the service lacks, at the word `csets`
 abbrev pub lacks_variable : Surroundings → ℕ → Name → List Refusal
 lacks_variable e at variable = refused_if (not (is_in variable.text e.variables)) Uncorrelated at
@@ -129,9 +123,6 @@ lacks_variable e at variable = refused_if (not (is_in variable.text e.variables)
 -- one level of a process
 abbrev pub process_level : Surroundings
     → Process-F Found Found Found Found InputFound HandlerFound Found InputFound Found → Found
-process_level e (Process-F.«Process::Nothing» at) h = []
-process_level e (Process-F.Assign path assignment) h = []
-process_level e (Process-F.Undef at path) h = []
 process_level e (Process-F.Correlate at variable value) h = lacks_variable e at variable
 process_level e (Process-F.If conditional) h = conditional h
 process_level e (Process-F.While at test body) h = body h
@@ -144,12 +135,12 @@ process_level e (Process-F.Output operation port value None) h = sends e operati
 process_level e (Process-F.Output operation port value (Some answer)) h = sends e operation port true ++ answer h
 process_level e (Process-F.Scope at name body) h = body h
 process_level e (Process-F.Install at list) h = handlers list
-process_level e (Process-F.Throw at fault value) h = []
 process_level e (Process-F.Compensate at scope) h = refused_if (not h) CompOutsideHandler at
 process_level e (Process-F.InnerHandler at) h = refused_if (not h) ChOutsideHandler at
 process_level e (Process-F.Block block) h = block h
 process_level e (Process-F.Sequence statements) h = each statements h
 process_level e (Process-F.Parallel members) h = each members h
+process_level e _ h = []
 
 -- one level of a block
 abbrev pub block_level : Block-F Found Found Found Found InputFound HandlerFound Found InputFound Found → Found
@@ -183,7 +174,7 @@ branch_level b = record { operation = b.input.operation; found = λ h. b.input.f
 
 -- one level of what an output awaits
 abbrev pub answer_level : Answer-F Found Found Found Found InputFound HandlerFound Found InputFound Found → Found
-answer_level a h = wrong_if_written a.path ++ handlers_if_written a.handlers
+answer_level a h = wrong_if_written a.path ++ option_map_or handlers a.handlers []
 
 -- one level of a handler
 abbrev pub handler_level : Handler-F Found Found Found Found InputFound HandlerFound Found InputFound Found

@@ -24,7 +24,7 @@ use Rattle.behaviour_tree.specs.Data.{Proc}
 use Rattle.behaviour_tree.specs.View.{HandlerView, BranchView, ReplyView, procs_of, branches_of, handlers_of}
 use Rattle.check_base.specs.Files.{place_in}
 use Rattle.process_lowering.specs.Expressions.{lowered_expr, lowered_path, lowered_if_written}
-use Rattle.process_lowering.specs.Behaviours.{Numbering, AnswerView, InputView, alone, branch_after, sent, lowered_port, lowered_assignment, lowered_for, lowered_step, lowered_key, otherwise_level, process_level, answer_level, block_level, branch_level, handler_level, if_level, input_level, reply_level, lowered_process, lowered_conditional, lowered_otherwise, lowered_input, lowered_reply, lowered_branch, lowered_answer, lowered_handler, lowered_block}
+use Rattle.process_lowering.specs.Behaviours.{Numbering, AnswerView, InputView, alone, branch_after, sent, lowered_port, lowered_assignment, lowered_for, lowered_step, key_of, otherwise_level, process_level, answer_level, block_level, branch_level, handler_level, if_level, input_level, reply_level, lowered_process, lowered_conditional, lowered_otherwise, lowered_input, lowered_reply, lowered_branch, lowered_answer, lowered_handler, lowered_block}
 
 -- what a process means, by the form that it is made of
 process_made : (e : Numbering) (x : Process-F Otherwise Process Answer Block Branch Handler If Input Reply) {p : Process} → roll-Process x ≡ p
@@ -127,7 +127,7 @@ reply_is e r =
     ap (lowered_reply e) (sym (roll-out-Reply r))
     ∙ fold-roll-Reply Proc Proc AnswerView Proc BranchView HandlerView Proc InputView ReplyView otherwise_level (process_level e) answer_level block_level branch_level (handler_level e) if_level (input_level e) reply_level (out-Reply r)
 
-pub handler_is : (e : Numbering) (h : Handler) → lowered_handler e h ≡ record { key = lowered_key e (out-Handler h).key; body = lowered_process e (out-Handler h).body }
+pub handler_is : (e : Numbering) (h : Handler) → lowered_handler e h ≡ record { key = key_of e.names (out-Handler h).key; body = lowered_process e (out-Handler h).body }
 unfolding lowered_process lowered_conditional lowered_otherwise lowered_input lowered_reply lowered_branch lowered_answer lowered_handler lowered_block
 handler_is e h =
     ap (lowered_handler e) (sym (roll-out-Handler h))

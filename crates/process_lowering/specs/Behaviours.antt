@@ -1,6 +1,7 @@
 -- What the processes of a text mean: operations, ports, variables and names by their numbers, and short forms written
 -- out.
 use Rattle.std.specs.Prelude.{ℕ, pos, List, [], ◌∷◌, bytes_eq, if◌then◌else◌, Option, None, Some, option_map, unwrap_or}
+use Rattle.std.specs.Option.{option_map_or}
 use Rattle.jolie_trees.specs.declared.root.Root.TheVariants as root
 use Rattle.jolie_ast.specs.declared.process.Assignment.{Assignment}
 use Rattle.jolie_ast.specs.declared.process.Assignment.TheVariants as assignment
@@ -120,10 +121,6 @@ abbrev pub key_of : List (List ℕ) → ast_key.HandlerKey → HandlerKey
 key_of names (key.This at) = handler_key.This
 key_of names (key.Named n) = handler_key.Fault (place_in names n.text)
 
--- what a handler stands under
-abbrev pub lowered_key : Numbering → ast_key.HandlerKey → HandlerKey
-lowered_key e k = key_of e.names k
-
 -- an output to an operation of a port that awaits nothing, or an answer
 abbrev pub sent : ℕ → ℕ → plain.Exp → Option AnswerView → Proc
 sent port operation value None = plain.notify port operation value
@@ -139,8 +136,7 @@ alone i = plain.choice (branches_of (branch_after i plain.nothing ∷ []))
 
 -- handlers, none where no list is written
 abbrev pub lowered_handlers : Option (List HandlerView) → HandlerList
-lowered_handlers None = plain.no_handlers
-lowered_handlers (Some handlers) = handlers_of handlers
+lowered_handlers handlers = option_map_or handlers_of handlers plain.no_handlers
 
 -- ---- processes
 
@@ -211,7 +207,7 @@ answer_level a = record { target = option_map lowered_path a.path; handlers = lo
 -- one level of a handler
 abbrev pub handler_level : Numbering
     → Handler-F Proc Proc AnswerView Proc BranchView HandlerView Proc InputView ReplyView → HandlerView
-handler_level e h = record { key = lowered_key e h.key; body = h.body }
+handler_level e h = record { key = key_of e.names h.key; body = h.body }
 
 -- the behaviour that a block means
 unfoldable pub lowered_block : Numbering → Block → Proc
@@ -269,5 +265,4 @@ lowered_handler e = fold-Handler Proc Proc AnswerView Proc BranchView HandlerVie
 
 -- the behaviour of a block that may be missing
 abbrev pub lowered_if_there : Numbering → Option Block → Proc
-lowered_if_there e None = plain.nothing
-lowered_if_there e (Some b) = lowered_block e b
+lowered_if_there e body = option_map_or (lowered_block e) body plain.nothing

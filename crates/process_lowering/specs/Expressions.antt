@@ -1,5 +1,6 @@
 -- What the expressions and the paths of a text mean.
-use Rattle.std.specs.Prelude.{◌∷◌, Option, None, Some}
+use Rattle.std.specs.Prelude.{◌∷◌, Option}
+use Rattle.std.specs.Option.{option_map_or}
 use Rattle.jolie_trees.specs.declared.root.Root.TheVariants as root
 use Rattle.jolie_ast.specs.declared.expression.Additive.{Additive}
 use Rattle.jolie_ast.specs.declared.expression.Additive.TheVariants as additive
@@ -146,5 +147,4 @@ lowered_term =
 
 -- an expression that may be left out is void
 abbrev pub lowered_if_written : Option ast_expr.Expr → Exp
-lowered_if_written None = plain.constant root.Void
-lowered_if_written (Some e) = lowered_expr e
+lowered_if_written value = option_map_or lowered_expr value (plain.constant root.Void)

@@ -1,6 +1,6 @@
 -- Laws of all but the first of a list.
 use Rattle.std.proofs.Common.{◌≡◌, ℕ, List, [], ◌∷◌, map, drop, refl, ap, sym, ◌∙◌}
-use Rattle.service_check.specs.ServiceRules.{later}
+use Rattle.service_check.specs.Clauses.{later}
 
 -- a list of which each thing is taken as it is
 pub map_same : (xs : List ℕ) → map (λ x. x) xs ≡ xs

@@ -28,7 +28,8 @@ use Rattle.jolie_ast.specs.declared.tree.Definition.{Definition}
 use Rattle.check_base.specs.Files.{answering, silent, group_operations}
 use Rattle.check_base.proofs.Firsts.{with_none}
 use Rattle.check_base.specs.Repeated.{Texts, with_text, with_texts}
-use Rattle.service_check.specs.Mentioned.{all, maybe, key_texts, otherwise_level, process_level, answer_level, block_level, branch_level, handler_level, if_level, input_level, reply_level, process_texts, conditional_texts, otherwise_texts, input_texts, reply_texts, branch_texts, answer_texts, handler_texts, block_texts, fault_text, thrown_by, definition_texts, standard, names_of}
+use Rattle.service_check.specs.Mentioned.{all, key_texts, otherwise_level, process_level, answer_level, block_level, branch_level, handler_level, if_level, input_level, reply_level, process_texts, conditional_texts, otherwise_texts, input_texts, reply_texts, branch_texts, answer_texts, handler_texts, block_texts, thrown_by, definition_texts, standard, names_of}
+use Rattle.service_check.specs.MentionedParts.{maybe, fault_text}
 use Rattle.check_base.proofs.Loops.{each_of_each}
 
 -- ---- lists

@@ -6,8 +6,8 @@ use Rattle.std.proofs.lemmas.Slice.Eq.{bytes_eq-Decides}
 use Rattle.std.proofs.lemmas.List.Folds.{list_any-append}
 use Rattle.behaviour_tree.specs.Operations.{is_among, first_mentions}
 use Rattle.behaviour_tree.specs.Distinct.{texts_differ, is_in}
-use Rattle.check_base.specs.Repeated.{firsts_after}
-use Rattle.check_base.specs.Files.{Operation, each_once_after, place_in, texts_of}
+use Rattle.check_base.specs.OnceEach.{firsts_after, each_once_after}
+use Rattle.check_base.specs.Files.{Operation, place_in, texts_of}
 use Rattle.service_check.proofs.Emptied.{another_text, in_first, in_last}
 use Rattle.check_base.proofs.Repetitions.{in_any_order, or_false}
 use Rattle.service_check.proofs.WellInterfaces.{all_in, places_alike}

@@ -24,7 +24,8 @@ use Rattle.check_base.specs.Repeated.{repeated}
 use Rattle.check_base.specs.Files.{Operation, operations_in, interfaces_of, place_in, type_names}
 use Rattle.type_checks.specs.TypeRules.{unknown_type_name}
 use Rattle.type_checks.specs.InterfaceRules.{unknown_if_written, fault_refused, operation_refused, interface_refused}
-use Rattle.service_check.specs.Mentioned.{fault_text, thrown_by, definition_texts}
+use Rattle.service_check.specs.Mentioned.{thrown_by, definition_texts}
+use Rattle.service_check.specs.MentionedParts.{fault_text}
 use Rattle.type_lowering.specs.LoweredTypes.{lowered_type, lowered_data}
 use Rattle.type_lowering.specs.LoweredInterfaces.{lowered_fault, lowered_operation, lowered_interface}
 use Rattle.service_check.proofs.Emptied.{left_empty, right_empty, has_place, names_differ}

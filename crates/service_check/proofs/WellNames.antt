@@ -7,7 +7,8 @@ use Rattle.std.proofs.lemmas.Slice.Eq.{bytes_eq-Decides}
 use Rattle.jolie_ast.specs.declared.tree.Definition.{Definition}
 use Rattle.behaviour_tree.specs.Distinct.{texts_differ, is_in}
 use Rattle.behaviour_tree.specs.WellFormed.{begin_with, standard_names, are_names}
-use Rattle.check_base.specs.Repeated.{firsts, firsts_after}
+use Rattle.check_base.specs.Repeated.{firsts}
+use Rattle.check_base.specs.OnceEach.{firsts_after}
 use Rattle.service_check.specs.Mentioned.{definition_texts, standard, names_of}
 use Rattle.service_check.proofs.Emptied.{another_text, in_first, in_last, all_are_in}
 

@@ -22,9 +22,11 @@ use Rattle.behaviour_tree.specs.FormedPorts.{operation_names, is_port, has_once,
 use Rattle.check_base.specs.declared.refusal.CheckName.TheVariants.{DuplicateName, UnknownType, UnknownPort, WrongKind}
 use Rattle.check_base.specs.declared.refusal.Refusal.{Refusal}
 use Rattle.check_base.specs.Least.{refused, refused_if}
-use Rattle.check_base.specs.Repeated.{firsts_after, repeated}
+use Rattle.check_base.specs.Repeated.{repeated}
+use Rattle.check_base.specs.OnceEach.{firsts_after}
 use Rattle.check_base.specs.Files.{Operation, each_once, interface_named, operations_in, operations_named, place_in, port_in, input_port_in, output_port_in, texts_of, interface_names}
-use Rattle.port_checks.specs.PortRules.{unknown_interface, operation_at, brought_by, brought_unless, brought, brought_in, operations_repeated, wrong_location, wrong_protocol, port_refused, sided_refused, unmet}
+use Rattle.port_checks.specs.PortRules.{unknown_interface, operation_at, brought_by, brought, brought_in, operations_repeated, wrong_location, wrong_protocol, port_refused, unmet}
+use Rattle.port_checks.specs.PortParts.{brought_unless, sided_refused}
 use Rattle.check_base.specs.Console.{console}
 use Rattle.type_lowering.specs.LoweredInterfaces.{lowered_operation, lowered_interface}
 use Rattle.service_check.specs.Programs.{lowered_port_part}

@@ -22,7 +22,7 @@ use Rattle.behaviour_tree.specs.Distinct.{texts_differ, is_in}
 use Rattle.behaviour_tree.specs.FormedServices.{all_reach, has_start, is_correlated}
 use Rattle.check_base.specs.declared.refusal.CheckName.TheVariants.{NoStart, Uncorrelated}
 use Rattle.check_base.specs.Least.{refused_if}
-use Rattle.check_base.specs.Repeated.{firsts_after}
+use Rattle.check_base.specs.OnceEach.{firsts_after}
 use Rattle.check_base.specs.Files.{Operation, execution_of, input_operations, input_ports, is_concurrent, place_in, sets_of, texts_of}
 use Rattle.process_lowering.specs.Behaviours.{Numbering, lowered_if_there}
 use Rattle.service_check.specs.Programs.{lowered_execution, lowered_service, lowered_set, numbering}

@@ -22,7 +22,8 @@ use Rattle.behaviour_tree.specs.FormedSets.{is_alias, alias_types, is_variable, 
 use Rattle.check_base.specs.declared.refusal.CheckName.TheVariants.{DuplicateName, Uncorrelated, TwoSets}
 use Rattle.check_base.specs.declared.refusal.Refusal.{Refusal}
 use Rattle.check_base.specs.Least.{refused}
-use Rattle.check_base.specs.Repeated.{firsts_after, first_names_after, repeated}
+use Rattle.check_base.specs.Repeated.{repeated}
+use Rattle.check_base.specs.OnceEach.{firsts_after, first_names_after}
 use Rattle.check_base.specs.Files.{is_concurrent, place_in, set_in, type_names, set_names}
 use Rattle.port_checks.specs.SetRules.{alias_names, alias_texts, set_types, set_texts, all_have, partly, wrong_alias, variable_refused, set_refused, two_sets, types_in_sets, set_of_single}
 use Rattle.service_check.specs.Programs.{lowered_alias, lowered_variable, lowered_set, lowered_execution}

@@ -1,7 +1,7 @@
 -- These definitions serve the proofs alone: no promise speaks of them.
 -- What the rules say of the clauses of a service, of the statements of an init and of the definitions of a file, one by
 -- one.
-use Rattle.std.specs.Prelude.{ℕ, ◌&&◌, ◌++◌, List, Option}
+use Rattle.std.specs.Prelude.{ℕ, ◌&&◌, ◌++◌, List, drop, Option}
 use Rattle.std.specs.List.{filter_map, list_any}
 use Rattle.jolie_ast.specs.declared.tree.Definition.{Definition}
 use Rattle.jolie_ast.specs.declared.types.TypeDefinition.{TypeDefinition}
@@ -14,8 +14,12 @@ use Rattle.check_base.specs.Least.{refused, refused_if}
 use Rattle.check_base.specs.Files.{Operation, execution_of, is_concurrent, service_in, sets_of}
 use Rattle.check_base.specs.MaybeThere.{if_there}
 use Rattle.port_checks.specs.SetRules.{types_in_sets}
-use Rattle.service_check.specs.ServiceRules.{execution_place, init_place, is_lost, later, main_place, names_if_there}
+use Rattle.service_check.specs.ServiceRules.{execution_place, init_place, is_lost, main_place, names_if_there}
 use Rattle.service_check.specs.ServiceRules.{service_refused, starting}
+
+-- all but the first
+abbrev pub later : List ℕ → List ℕ
+later places = drop 1 places
 
 -- a second clause of a kind that may stand once
 abbrev pub second_among : (Clause → Option ℕ) → List Clause → List Refusal

@@ -1,5 +1,6 @@
 -- The faults and scopes of a file, in the order of the text.
-use Rattle.std.specs.Prelude.{ℕ, List, [], ◌∷◌, ◌++◌, map, flat_map, Option, None, Some, unwrap_or}
+use Rattle.std.specs.Prelude.{List, [], ◌∷◌, ◌++◌, map, flat_map, unwrap_or}
+use Rattle.std.specs.Option.{option_map_or}
 use Rattle.jolie_ast.specs.declared.interface.Fault.{Fault}
 use Rattle.jolie_ast.specs.declared.service.Clause.{Clause}
 use Rattle.jolie_ast.specs.declared.service.Clause.TheVariants as clause
@@ -25,18 +26,9 @@ use Rattle.behaviour_tree.specs.WellFormed.{standard_names}
 use Rattle.check_base.specs.Repeated.{firsts, Texts}
 use Rattle.check_base.specs.Files.{Operation, operations_in}
 
--- the texts of a part that may be there
-abbrev pub maybe : Option Texts → Texts
-maybe part = unwrap_or part []
-
 -- the texts of parts
 abbrev pub all : List Texts → Texts
 all parts = flat_map (λ texts. texts) parts
-
--- the texts of parts that may be there
-abbrev pub maybe_all : Option (List Texts) → Texts
-maybe_all None = []
-maybe_all (Some parts) = all parts
 
 -- the fault that a handler stands under; `this` is no name
 abbrev pub key_texts : HandlerKey → Texts
@@ -45,24 +37,20 @@ key_texts (key.Named n) = n.text ∷ []
 
 -- one level of a process: a scope, a throw and a compensation name one
 abbrev pub process_level : Process-F Texts Texts Texts Texts Texts Texts Texts Texts Texts → Texts
-process_level (Process-F.«Process::Nothing» at) = []
-process_level (Process-F.Assign path assignment) = []
-process_level (Process-F.Undef at path) = []
-process_level (Process-F.Correlate at variable value) = []
 process_level (Process-F.If conditional) = conditional
 process_level (Process-F.While at test body) = body
 process_level (Process-F.For at path first test stepped step body) = body
 process_level (Process-F.Input input) = input
 process_level (Process-F.Choice at branches) = all branches
-process_level (Process-F.Output operation port value answer) = maybe answer
+process_level (Process-F.Output operation port value answer) = unwrap_or answer []
 process_level (Process-F.Scope at name body) = name.text ∷ body
 process_level (Process-F.Install at handlers) = all handlers
 process_level (Process-F.Throw at fault value) = fault.text ∷ []
 process_level (Process-F.Compensate at scope) = scope.text ∷ []
-process_level (Process-F.InnerHandler at) = []
 process_level (Process-F.Block block) = block
 process_level (Process-F.Sequence statements) = all statements
 process_level (Process-F.Parallel members) = all members
+process_level _ = []
 
 -- one level of what an `if` does where its test fails
 abbrev pub otherwise_level : Otherwise-F Texts Texts Texts Texts Texts Texts Texts Texts Texts → Texts
@@ -70,9 +58,9 @@ otherwise_level Otherwise-F.«Otherwise::Nothing» = []
 otherwise_level (Otherwise-F.ElseIf conditional) = conditional
 otherwise_level (Otherwise-F.Else block) = block
 
--- one level of what an output awaits
+-- one level of what an output awaits: its handlers, if they are written
 abbrev pub answer_level : Answer-F Texts Texts Texts Texts Texts Texts Texts Texts Texts → Texts
-answer_level a = maybe_all a.handlers
+answer_level a = option_map_or all a.handlers []
 
 -- one level of a handler: its key and then what stands in it
 abbrev pub handler_level : Handler-F Texts Texts Texts Texts Texts Texts Texts Texts Texts → Texts
@@ -80,7 +68,7 @@ handler_level h = key_texts h.key ++ h.body
 
 -- one level of a block
 abbrev pub block_level : Block-F Texts Texts Texts Texts Texts Texts Texts Texts Texts → Texts
-block_level b = maybe b.body
+block_level b = unwrap_or b.body []
 
 -- one level of a branch
 abbrev pub branch_level : Branch-F Texts Texts Texts Texts Texts Texts Texts Texts Texts → Texts
@@ -92,7 +80,7 @@ if_level i = i.body ++ i.otherwise
 
 -- one level of an input
 abbrev pub input_level : Input-F Texts Texts Texts Texts Texts Texts Texts Texts Texts → Texts
-input_level i = maybe i.reply
+input_level i = unwrap_or i.reply []
 
 -- one level of a reply part
 abbrev pub reply_level : Reply-F Texts Texts Texts Texts Texts Texts Texts Texts Texts → Texts
@@ -147,18 +135,11 @@ handler_texts = fold-Handler Texts Texts Texts Texts Texts Texts Texts Texts Tex
 abbrev pub clause_texts : Clause → Texts
 clause_texts (clause.Init at body) = block_texts body
 clause_texts (clause.Main at body) = block_texts body
-clause_texts (clause.Execution at execution) = []
-clause_texts (clause.InputPort port) = []
-clause_texts (clause.OutputPort port) = []
-clause_texts (clause.CorrelationSet at variables) = []
-
--- the name of a fault
-abbrev pub fault_text : Fault → List ℕ
-fault_text f = f.name.text
+clause_texts _ = []
 
 -- the faults that an operation throws
 abbrev pub thrown_by : Operation → Texts
-thrown_by o = map fault_text o.throws
+thrown_by o = map (λ (f : Fault). f.name.text) o.throws
 
 -- what a definition names: the faults of an interface's operations, and what the processes of a service name
 abbrev pub definition_texts : Definition → Texts

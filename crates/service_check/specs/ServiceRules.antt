@@ -1,6 +1,7 @@
 -- What is refused of a service.
-use Rattle.std.specs.Prelude.{ℕ, Bool, false, not, ◌&&◌, List, [], ◌∷◌, ◌++◌, map, flat_map, Option, None, Some}
-use Rattle.std.specs.Prelude.{is_some, option_and_then}
+use Rattle.std.specs.Prelude.{ℕ, Bool, false, not, ◌&&◌, List, [], ◌++◌, map, flat_map, Option, None, Some}
+use Rattle.std.specs.Prelude.{drop, is_some, option_and_then}
+use Rattle.std.specs.Option.{option_map_or}
 use Rattle.std.specs.List.{filter_map, list_any}
 use Rattle.jolie_ast.specs.declared.name.Name.{Name}
 use Rattle.jolie_ast.specs.declared.types.TypeDefinition.{TypeDefinition}
@@ -29,38 +30,21 @@ use Rattle.process_checks.specs.InitRules.{init_refused}
 -- the place of a clause that says how sessions are run
 abbrev pub execution_place : Clause → Option ℕ
 execution_place (clause.Execution at execution) = Some at
-execution_place (clause.InputPort port) = None
-execution_place (clause.OutputPort port) = None
-execution_place (clause.CorrelationSet at variables) = None
-execution_place (clause.Init at body) = None
-execution_place (clause.Main at body) = None
+execution_place _ = None
 
 -- the place of an init
 abbrev pub init_place : Clause → Option ℕ
 init_place (clause.Init at body) = Some at
-init_place (clause.Execution at execution) = None
-init_place (clause.InputPort port) = None
-init_place (clause.OutputPort port) = None
-init_place (clause.CorrelationSet at variables) = None
-init_place (clause.Main at body) = None
+init_place _ = None
 
 -- the place of a main
 abbrev pub main_place : Clause → Option ℕ
 main_place (clause.Main at body) = Some at
-main_place (clause.Execution at execution) = None
-main_place (clause.InputPort port) = None
-main_place (clause.OutputPort port) = None
-main_place (clause.CorrelationSet at variables) = None
-main_place (clause.Init at body) = None
-
--- all but the first
-abbrev pub later : List ℕ → List ℕ
-later [] = []
-later (p ∷ ps) = ps
+main_place _ = None
 
 -- a second clause of a kind that may stand once
 abbrev pub second : (Clause → Option ℕ) → Service → List Refusal
-second place s = refused DuplicateName (later (filter_map place s.clauses))
+second place s = refused DuplicateName (drop 1 (filter_map place s.clauses))
 
 -- ---- a service
 
@@ -68,10 +52,7 @@ second place s = refused DuplicateName (later (filter_map place s.clauses))
 abbrev pub clause_refused : Surroundings → Clause → List Refusal
 clause_refused e (clause.Init at body) = block_refused e body false ++ init_refused body
 clause_refused e (clause.Main at body) = block_refused e body false
-clause_refused e (clause.Execution at execution) = []
-clause_refused e (clause.InputPort port) = []
-clause_refused e (clause.OutputPort port) = []
-clause_refused e (clause.CorrelationSet at variables) = []
+clause_refused e _ = []
 
 -- the main of a service, which is its first
 abbrev pub main_of : Service → Option Block
@@ -83,14 +64,12 @@ starting s = option_and_then first_input (main_of s)
 
 -- the names of operations that may be there
 abbrev pub names_if_there : Option (List Name) → List (List ℕ)
-names_if_there None = []
-names_if_there (Some names) = map (λ (n : Name). n.text) names
+names_if_there names = option_map_or (map (λ (n : Name). n.text)) names []
 
 -- a type that is in one of these by its name
 abbrev pub is_among : List (List ℕ) → TypeName → Bool
 is_among types (type_name.Named n) = is_in n.text types
-is_among types (type_name.Root at kind) = false
-is_among types (type_name.Undefined at) = false
+is_among types _ = false
 
 -- an input operation that starts nothing and whose request is in no set
 abbrev pub is_lost : List (List ℕ) → List (List ℕ) → Operation → Bool

@@ -1,6 +1,7 @@
 ghost use Rattle.std.specs.Prelude.{◌≡◌, flat_map, map, option_map, IfOk, OnOk};
 ghost use Rattle.check_base.specs.Files.{answering, group_operations, operations_in};
-ghost use Rattle.service_check.specs.Mentioned.{answer_texts, block_texts, branch_texts, clause_texts, conditional_texts, definition_texts, fault_text, handler_texts, input_texts, key_texts, maybe, names_of, otherwise_texts, process_texts, reply_texts, standard, thrown_by};
+ghost use Rattle.service_check.specs.Mentioned.{answer_texts, block_texts, branch_texts, clause_texts, conditional_texts, definition_texts, handler_texts, input_texts, key_texts, names_of, otherwise_texts, process_texts, reply_texts, standard, thrown_by};
+ghost use Rattle.service_check.specs.MentionedParts.{fault_text, maybe};
 ghost use Rattle.check_base.specs.Repeated.{with_text, with_texts};
 
 use check_base::Names;

@@ -1,5 +1,6 @@
 -- What is refused of interfaces.
-use Rattle.std.specs.Prelude.{List, [], ◌++◌, map, flat_map, Option, None, Some}
+use Rattle.std.specs.Prelude.{List, [], ◌++◌, map, flat_map, Option}
+use Rattle.std.specs.Option.{option_map_or}
 use Rattle.jolie_ast.specs.declared.types.TypeDefinition.{TypeDefinition}
 use Rattle.jolie_ast.specs.declared.interface.TypeName.{TypeName}
 use Rattle.jolie_ast.specs.declared.interface.Fault.{Fault}
@@ -16,8 +17,7 @@ use Rattle.type_checks.specs.TypeRules.{unknown_type_name}
 
 -- a type that may be written
 abbrev pub unknown_if_written : List TypeDefinition → Option TypeName → List Refusal
-unknown_if_written types None = []
-unknown_if_written types (Some ty) = unknown_type_name types ty
+unknown_if_written types ty = option_map_or (unknown_type_name types) ty []
 
 -- a type of the data of a fault that is not there
 abbrev pub fault_refused : List TypeDefinition → Fault → List Refusal

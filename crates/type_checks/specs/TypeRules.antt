@@ -21,9 +21,8 @@ unknown_type types n = refused_if (not (is_some (type_named types n.text))) Unkn
 
 -- a type of an operation that is not there
 abbrev pub unknown_type_name : List TypeDefinition → TypeName → List Refusal
-unknown_type_name types (type_name.Root at kind) = []
 unknown_type_name types (type_name.Named n) = unknown_type types n
-unknown_type_name types (type_name.Undefined at) = []
+unknown_type_name types _ = []
 
 -- a field with what is refused of its type
 pub record FieldFound : Type 0 where

@@ -14,7 +14,8 @@ use Rattle.behaviour_tree.specs.Data as plain
 use Rattle.behaviour_tree.specs.Data.{TypeTree}
 use Rattle.behaviour_tree.specs.View.{FieldView, type_fields_of}
 use Rattle.check_base.specs.Files.{place_in}
-use Rattle.type_lowering.specs.LoweredTypes.{lowered_kind, least_of, most_of, body_level, field_level, lowered_body, lowered_field}
+use Rattle.type_lowering.specs.LoweredTypes.{lowered_kind, body_level, field_level, lowered_body, lowered_field}
+use Rattle.type_lowering.specs.FieldBounds.{least_of, most_of}
 
 pub root_lowered : (types : List (List ℕ)) (at : ℕ) (k : RootKind) (fields : Option (List Field)) → lowered_body types (body.Root at k fields) ≡ plain.plain (lowered_kind k) (type_fields_of (map (lowered_field types) (unwrap_or fields [])))
 unfolding lowered_body lowered_field

@@ -1,2 +1,3 @@
+pub mod FieldBounds
 pub mod LoweredInterfaces
 pub mod LoweredTypes

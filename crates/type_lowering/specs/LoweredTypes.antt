@@ -1,5 +1,6 @@
 -- What types mean in a program.
 use Rattle.std.specs.Prelude.{ℕ, ℤ, pos, negsuc, List, Option, None, Some, option_map}
+use Rattle.std.specs.Option.{option_map_or}
 use Rattle.jolie_ast.specs.declared.types.TypeDefinition.{TypeDefinition}
 use Rattle.jolie_ast.specs.declared.types.RootKind as ast_kind
 use Rattle.jolie_ast.specs.declared.types.RootKind.TheVariants as written
@@ -32,34 +33,24 @@ abbrev pub natural : ℤ → ℕ
 natural (pos n) = n
 natural (negsuc n) = 0
 
--- the least number of a field: 1 where nothing is written
-abbrev pub least_of : Option Cardinality → ℕ
-least_of None = 1
-least_of (Some cardinality.Optional) = 0
-least_of (Some cardinality.Any) = 0
-least_of (Some (cardinality.Between least most)) = natural least
+-- how often a field may stand, at least and at most: once where nothing is written; there is no most for `*`
+abbrev pub bounds : Option Cardinality → ℕ × Option ℕ
+bounds None = (1, Some 1)
+bounds (Some cardinality.Optional) = (0, Some 1)
+bounds (Some cardinality.Any) = (0, None)
+bounds (Some (cardinality.Between least most)) = (natural least, option_map natural most)
 
--- the greatest number of a field: 1 where nothing is written, any number for `*`
-abbrev pub most_of : Option Cardinality → Option ℕ
-most_of None = Some 1
-most_of (Some cardinality.Optional) = Some 1
-most_of (Some cardinality.Any) = None
-most_of (Some (cardinality.Between least most)) = option_map natural most
-
--- fields that may be written
-abbrev pub fields_if_written : Option (List FieldView) → plain.TypeFields
-fields_if_written None = plain.no_type_fields
-fields_if_written (Some fields) = type_fields_of fields
-
--- one level of a type: names of types are numbers
+-- one level of a type: names of types are numbers, and fields may be written or not
 abbrev pub body_level : List (List ℕ) → TypeBody-F TypeTree FieldView → TypeTree
-body_level types (TypeBody-F.Root at k fields) = plain.plain (lowered_kind k) (fields_if_written fields)
+body_level types (TypeBody-F.Root at k fields) =
+    plain.plain (lowered_kind k) (option_map_or type_fields_of fields plain.no_type_fields)
 body_level types (TypeBody-F.Named n) = plain.named (place_in types n.text)
 body_level types (TypeBody-F.Undefined at) = plain.undefined
 
 -- one level of a field
 abbrev pub field_level : Field-F TypeTree FieldView → FieldView
-field_level f = record { name = f.name.text; least = least_of f.cardinality; most = most_of f.cardinality; ty = f.body }
+field_level f =
+    record { name = f.name.text; least = (bounds f.cardinality).0; most = (bounds f.cardinality).1; ty = f.body }
 
 -- the type that a body means
 unfoldable pub lowered_body : List (List ℕ) → TypeBody → TypeTree
@@ -81,5 +72,4 @@ lowered_type types (type_name.Undefined at) = plain.undefined
 
 -- the type of a fault's data, which is void where none is written
 abbrev pub lowered_data : List (List ℕ) → Option TypeName → TypeTree
-lowered_data types None = plain.plain kind.Void plain.no_type_fields
-lowered_data types (Some ty) = lowered_type types ty
+lowered_data types ty = option_map_or (lowered_type types) ty (plain.plain kind.Void plain.no_type_fields)

@@ -3,7 +3,8 @@ ghost use Rattle.std.specs.Option.{option_to_list};
 ghost use Rattle.behaviour_tree.specs.Data.{no_type_fields, plain};
 ghost use Rattle.behaviour_tree.specs.View.{field_view, type_view};
 ghost use Rattle.check_base.specs.Files.{type_in, types_of};
-ghost use Rattle.type_lowering.specs.LoweredTypes.{least_of, lowered_body, lowered_data, lowered_definition, lowered_field, lowered_kind, lowered_type, most_of, natural};
+ghost use Rattle.type_lowering.specs.LoweredTypes.{lowered_body, lowered_data, lowered_definition, lowered_field, lowered_kind, lowered_type, natural};
+ghost use Rattle.type_lowering.specs.FieldBounds.{least_of, most_of};
 
 use behaviour_tree::{Field, RootKind, TypeDef};
 use check_base::{Names, number, type_in};

@@ -1,6 +1,6 @@
 use Rattle.std.proofs.Common.{[], append-nil, refl, sym}
 use Rattle.check_base.specs.Files.{service_in}
-use Rattle.port_checks.specs.PortRules.{service_locations}
+use Rattle.port_checks.specs.PortParts.{service_locations}
 use Rattle.check_base.proofs.Loops.{picked_adds}
 use Rattle.port_checks.proofs.port_rules.input_locations.Goals as goal
 use Rattle.port_checks.proofs.port_rules.input_locations.Goals.{in-Some+in_ok-add_locations, in_default}

@@ -1,7 +1,7 @@
 use Rattle.std.proofs.Common.{◌≡◌, flat_map, take}
 use Rattle.std.specs.List.{filter_map}
 use Rattle.check_base.specs.Files.{service_in}
-use Rattle.port_checks.specs.PortRules.{service_locations}
+use Rattle.port_checks.specs.PortParts.{service_locations}
 use Rattle.port_checks.proofs.port_rules.input_locations.Given as goal
 
 abbrev pub invariant-loop-definition : goal.invariant-loop-definition

@@ -1,7 +1,7 @@
 use Rattle.std.proofs.Common.{rules, map, flat_map, ap, sym, ◌∙◌}
 use Rattle.std.proofs.lemmas.List.{take_all}
 use Rattle.jolie_ast.specs.declared.interface.RequestResponse.{RequestResponse}
-use Rattle.service_check.specs.Mentioned.{fault_text}
+use Rattle.service_check.specs.MentionedParts.{fault_text}
 use Rattle.check_base.specs.Repeated.{with_texts}
 use Rattle.service_check.proofs.Mentions.{naming_turn, answering_throw}
 use Rattle.service_check.proofs.mentioned.answering_names.Goals as goal

@@ -1,6 +1,6 @@
 use Rattle.std.proofs.Common.{◌≡◌, map, flat_map, take}
 use Rattle.jolie_ast.specs.declared.interface.RequestResponse.{RequestResponse}
-use Rattle.service_check.specs.Mentioned.{fault_text}
+use Rattle.service_check.specs.MentionedParts.{fault_text}
 use Rattle.check_base.specs.Repeated.{with_texts}
 use Rattle.service_check.proofs.mentioned.answering_names.Given as goal
 

@@ -1,5 +1,5 @@
 use Rattle.std.proofs.Common.{ap, ◌∙◌}
-use Rattle.service_check.specs.Mentioned.{fault_text}
+use Rattle.service_check.specs.MentionedParts.{fault_text}
 use Rattle.check_base.specs.Repeated.{with_text}
 use Rattle.service_check.proofs.Mentions.{text_turn}
 use Rattle.service_check.proofs.mentioned.fault_names.Goals as goal

@@ -1,5 +1,5 @@
 use Rattle.std.proofs.Common.{◌≡◌, map, take}
-use Rattle.service_check.specs.Mentioned.{fault_text}
+use Rattle.service_check.specs.MentionedParts.{fault_text}
 use Rattle.check_base.specs.Repeated.{with_texts}
 use Rattle.service_check.proofs.mentioned.fault_names.Given as goal
 

@@ -3,7 +3,8 @@ use Rattle.std.specs.Prelude.{option_map}
 use Rattle.jolie_ast.specs.declared.expression.Path.{out-Path}
 use Rattle.jolie_ast.specs.declared.expression.Step.{out-Step}
 use Rattle.jolie_ast.specs.Spacing.{after, with_token}
-use Rattle.jolie_ast.specs.PrintedExpressions.{factor_tokens, term_tokens, member_tokens, step_tokens, operand_tokens, expr_shown, form_shown, path_tokens, index_tokens, in_parens}
+use Rattle.jolie_ast.specs.PrintedExpressions.{factor_tokens, term_tokens, member_tokens, step_tokens, operand_tokens, expr_shown, form_shown, path_tokens, in_parens}
+use Rattle.jolie_ast.specs.PrintedParts.{index_tokens}
 use Rattle.jolie_ast.proofs.Spacing.{turn_of, token_then, all_separated, all_behind}
 use Rattle.jolie_ast.proofs.PrintedExpressions.{operand_several, operand_alone, indexed_step, factor_is, term_is, path_is, step_is, defined_shown}
 use Rattle.jolie_ast.proofs.printer.Printer.+expression.Goals as goal

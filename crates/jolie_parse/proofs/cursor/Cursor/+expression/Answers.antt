@@ -1,5 +1,5 @@
 use Rattle.std.proofs.Common.{true, false, [], ◌∷◌, refl, sym, ◌∙◌, ◌-◌}
-use Rattle.jolie_parse.specs.Classes as classes
+use Rattle.jolie_parse.specs.ClassNames as classes
 use Rattle.jolie_parse.specs.Grammar.{whole_number, long_number, quoted_text, truth, path_value, path, id, size, defined_test, cast, grouped, literal, primary, prefixed_operand, unary, factor, term, sum, comparand, comparison, conjunction, index, step, word, member, members}
 use Rattle.jolie_parse.specs.Syntax as syntax
 use Rattle.jolie_parse.specs.Syntax.{behind, separated, between, inside}

@@ -1,6 +1,6 @@
 use Rattle.std.proofs.Common.{◌≡◌, ℕ, List, [], ◌∷◌, refl, sym, ◌∙◌, ◌-◌, Ok, Err}
 use Rattle.jolie_ast.specs.declared.process.Otherwise.TheVariants as otherwise
-use Rattle.jolie_parse.specs.Classes as classes
+use Rattle.jolie_parse.specs.ClassNames as classes
 use Rattle.jolie_parse.specs.Classes.{Spelled}
 use Rattle.jolie_parse.specs.Grammar.{id, handler_key, block, reply, input_parts, branch, choice, answer, output_parts, correlate, undefine, repetition, counted_loop, scope, install, throw, compensate, inner_handler, block_statement, nothing, marked_statement, in_sequence, in_parallel, handler}
 use Rattle.jolie_parse.specs.Factored.{named_parts, named, else_if, alternative, one_else, one_statement}

@@ -1,5 +1,5 @@
 use Rattle.std.proofs.Common.{◌≡◌, ◌+◌, ◌*◌, length}
-use Rattle.jolie_parse.specs.Classes as c
+use Rattle.jolie_parse.specs.ClassNames as c
 use Rattle.jolie_parse.specs.Factored.{one_statement}
 use Rattle.jolie_parse.specs.Grammar.{branch, handler, in_sequence}
 use Rattle.jolie_parse.specs.Syntax.{behind, separated, some_of}

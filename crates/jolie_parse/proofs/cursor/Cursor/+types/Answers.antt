@@ -1,5 +1,5 @@
 use Rattle.std.proofs.Common.{◌-◌, refl, rules}
-use Rattle.jolie_parse.specs.Classes as classes
+use Rattle.jolie_parse.specs.ClassNames as classes
 use Rattle.jolie_parse.specs.Grammar as spec
 use Rattle.jolie_parse.specs.Grammar.{field, word, cardinal, bounds, type_body, root_type, id}
 use Rattle.jolie_parse.specs.Syntax as syntax

@@ -1,6 +1,6 @@
 use Rattle.std.proofs.Common.{◌≡◌, List, map, refl, rules}
 use Rattle.jolie_ast.specs.declared.name.Name.{Name}
-use Rattle.jolie_parse.specs.Classes as classes
+use Rattle.jolie_parse.specs.ClassNames as classes
 use Rattle.jolie_parse.specs.Classes.{Spelled, ids}
 use Rattle.jolie_parse.specs.Grammar as spec
 use Rattle.jolie_parse.specs.Grammar.{alias, id}

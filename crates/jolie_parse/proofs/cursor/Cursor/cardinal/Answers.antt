@@ -1,5 +1,5 @@
 use Rattle.std.proofs.Common.{[], ◌∷◌, refl, sym, ◌∙◌}
-use Rattle.jolie_parse.specs.Classes as classes
+use Rattle.jolie_parse.specs.ClassNames as classes
 use Rattle.jolie_parse.specs.Grammar.{cardinal}
 use Rattle.jolie_parse.proofs.Steps.{found_taken, none_taken}
 use Rattle.jolie_parse.proofs.cursor.Cursor.cardinal.Goals as goal

@@ -1,5 +1,5 @@
 use Rattle.std.proofs.Common.{refl}
-use Rattle.jolie_parse.specs.Classes as classes
+use Rattle.jolie_parse.specs.ClassNames as classes
 use Rattle.jolie_parse.specs.Grammar as spec
 use Rattle.jolie_parse.specs.Grammar.{name, id}
 use Rattle.jolie_parse.specs.Syntax.{behind}

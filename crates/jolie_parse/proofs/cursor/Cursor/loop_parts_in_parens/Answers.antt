@@ -1,5 +1,5 @@
 use Rattle.std.proofs.Common.{◌-◌, refl}
-use Rattle.jolie_parse.specs.Classes as classes
+use Rattle.jolie_parse.specs.ClassNames as classes
 use Rattle.jolie_parse.specs.Syntax as syntax
 use Rattle.jolie_parse.proofs.Inside.{between_reads}
 use Rattle.jolie_parse.proofs.cursor.Cursor.loop_parts_in_parens.Goals as goal

@@ -1,7 +1,7 @@
 use Rattle.std.proofs.Common.{◌≡◌, List, Option, refl, rules}
 use Rattle.jolie_ast.specs.declared.name.Name.{Name}
 use Rattle.jolie_ast.specs.declared.name.Quoted.{Quoted}
-use Rattle.jolie_parse.specs.Classes as classes
+use Rattle.jolie_parse.specs.ClassNames as classes
 use Rattle.jolie_parse.specs.Classes.{Spelled}
 use Rattle.jolie_parse.specs.Grammar as spec
 use Rattle.jolie_parse.specs.Grammar.{port_body}

@@ -1,5 +1,5 @@
 use Rattle.std.proofs.Common.{refl}
-use Rattle.jolie_parse.specs.Classes as classes
+use Rattle.jolie_parse.specs.ClassNames as classes
 use Rattle.jolie_parse.specs.Grammar as spec
 use Rattle.jolie_parse.specs.Grammar.{request_response, throws, fault, type_named, id}
 use Rattle.jolie_parse.specs.Syntax.{behind}

@@ -1,4 +1,4 @@
-use Rattle.jolie_parse.specs.Classes as classes
+use Rattle.jolie_parse.specs.ClassNames as classes
 use Rattle.jolie_parse.specs.Grammar.{expr}
 use Rattle.jolie_parse.specs.Syntax.{behind}
 use Rattle.jolie_parse.proofs.Lists.{passes, optional_none, optional_stops, optional_read}

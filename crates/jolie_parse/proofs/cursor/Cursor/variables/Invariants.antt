@@ -1,5 +1,5 @@
 use Rattle.std.proofs.Common.{◌≡◌, length}
-use Rattle.jolie_parse.specs.Classes as c
+use Rattle.jolie_parse.specs.ClassNames as c
 use Rattle.jolie_parse.specs.Grammar as spec
 use Rattle.jolie_parse.specs.Syntax.{behind, separated}
 use Rattle.jolie_parse.specs.Reading.{read}
