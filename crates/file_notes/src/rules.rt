@@ -12,7 +12,8 @@ use check_base::Names;
 use program_mentions::Mention;
 use std::alloc::{AllocError, Global};
 
-/// The notes of a kind, in a file whose operations have these faults, and those of the other names are content with void.
+/// The notes of a kind, in a file whose operations have these faults, and those of the other names are content with
+/// void.
 pub fn add_notes<'a>(
     alloc: Global,
     kind: NoteKind,
