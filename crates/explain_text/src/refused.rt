@@ -29,7 +29,11 @@ pub fn explained(
     add_pointed(alloc, file, text, at, words.as_str(), &mut bytes)?;
     add_line(&mut bytes, "expected: ", listed.as_slice())?;
     add_line(&mut bytes, "rule: ", rule(refusal.cause).as_bytes())?;
-    add_line(&mut bytes, "advice: ", advised_words(text, refusal).as_bytes())?;
+    add_line(
+        &mut bytes,
+        "advice: ",
+        advised_words(text, refusal).as_bytes(),
+    )?;
     Ok(bytes)
 }
 

@@ -177,11 +177,7 @@ fn is_named(mention: &Mention<'_>, name: &Name) -> bool
 fn rethrown(role: Role) -> Role
     ensures { result ≡ spec.rethrown_role role }
 {
-    if role.is_free() {
-        Role::Rethrown
-    } else {
-        role
-    }
+    if role.is_free() { Role::Rethrown } else { role }
 }
 
 /// The role around a scope that handles the fault.
@@ -199,9 +195,5 @@ fn role_handled(role: Role) -> Role
 fn filled(role: Role) -> Role
     ensures { result ≡ spec.filled_role role }
 {
-    if role.is_set() {
-        Role::Filled
-    } else {
-        role
-    }
+    if role.is_set() { Role::Filled } else { role }
 }

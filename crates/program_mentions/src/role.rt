@@ -53,10 +53,7 @@ impl Role {
     pub(crate) fn is_set(self) -> bool
         ensures { result ≡ spec.is_set self }
     {
-        matches!(
-            self,
-            Role::Set | Role::Kept | Role::Received | Role::Filled
-        )
+        matches!(self, Role::Set | Role::Kept | Role::Received | Role::Filled)
     }
 
     /// Whether a fault is thrown that nothing caught yet.
@@ -97,11 +94,7 @@ impl Role {
     pub(crate) fn caught(self) -> Role
         ensures { result ≡ spec.caught_role self }
     {
-        if self.is_free() {
-            Role::Caught
-        } else {
-            self
-        }
+        if self.is_free() { Role::Caught } else { self }
     }
 
     /// The role around a scope that does not handle the fault.
