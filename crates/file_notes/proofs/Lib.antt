@@ -1,3 +1,3 @@
-pub mod Kinds
+pub mod ByKind
 pub mod Silent
 pub mod Turns

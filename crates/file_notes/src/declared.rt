@@ -115,7 +115,7 @@ fn add_faults_of_statements(names: &mut Names<'_>) -> Result<(), AllocError>
 }
 
 /// The texts that meet a name of a kind in a file with these faults, whatever is mentioned.
-#[tactic(auto, using(crate::proofs::Kinds::met_by_no_text))]
+#[tactic(auto, using(crate::proofs::ByKind::met_by_no_text))]
 pub fn texts_met<'a>(
     alloc: Global,
     kind: NoteKind,

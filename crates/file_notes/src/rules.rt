@@ -30,7 +30,7 @@ pub fn add_notes<'a>(
 }
 
 /// The notes of a kind, by the texts that meet its names.
-#[tactic(auto, using(crate::proofs::Kinds::of_the_unmet))]
+#[tactic(auto, using(crate::proofs::ByKind::of_the_unmet))]
 fn add_by<'a>(
     kind: NoteKind,
     met: &mut Names<'a>,

@@ -1,5 +1,5 @@
 use Rattle.std.proofs.Common.{refl, ◌∙◌}
-use Rattle.file_notes.proofs.Kinds.{one_after_the_other}
+use Rattle.file_notes.proofs.ByKind.{one_after_the_other}
 use Rattle.file_notes.proofs.service.add_service.Goals as goal
 
 pub returns : goal.returns
