@@ -4,7 +4,7 @@ use Rattle.std.specs.Prelude.{codes}
 use Rattle.std.proofs.lemmas.List.{append_assoc}
 use Rattle.parse_hints.specs.declared.hint.Hint.{Hint}
 use Rattle.file_verdicts.specs.declared.refusal.Refusal.{Refusal}
-use Rattle.explain_text.specs.Explained.{explanation, expected_line, line_if_any, listed, AreHintsOf, IsExplained}
+use Rattle.explain_text.specs.Explained.{explanation, line_if_any, AreHintsOf, IsExplained}
 
 -- two pieces, one after the other
 pub two_more : (old a b : List ℕ) → old ++ a ++ b ≡ old ++ (a ++ b)
@@ -13,6 +13,12 @@ two_more old a b = append_assoc old a b
 -- three pieces
 pub three_more : (old a b c : List ℕ) → old ++ a ++ b ++ c ≡ old ++ (a ++ b ++ c)
 three_more old a b c = ap (λ xs. xs ++ c) (append_assoc old a b) ∙ append_assoc old (a ++ b) c
+
+-- five pieces
+pub five_more : (old a b c d e : List ℕ) → old ++ a ++ b ++ c ++ d ++ e ≡ old ++ (a ++ b ++ c ++ d ++ e)
+five_more old a b c d e =
+    ap (λ xs. xs ++ c ++ d ++ e) (append_assoc old a b) ∙ ap (λ xs. xs ++ d ++ e) (append_assoc old (a ++ b) c)
+    ∙ ap (λ xs. xs ++ e) (append_assoc old (a ++ b ++ c) d) ∙ append_assoc old (a ++ b ++ c ++ d) e
 
 -- bytes with these hints
 pub is_explained : (file text : List ℕ) (r : Refusal) (bytes : List ℕ) (hints : List Hint) → AreHintsOf text r.cause r.at hints → bytes ≡ explanation file text r hints → IsExplained file text r bytes
@@ -27,13 +33,3 @@ no_line kind (b ∷ bs) none = absurd (omega arith)
 pub some_line : (kind said : List ℕ) → 0 < length said → line_if_any kind said ≡ kind ++ said ++ codes "\n"
 some_line kind [] some = absurd (omega arith)
 some_line kind (b ∷ bs) some = refl
-
--- nothing may stand there
-pub no_hints : (hints : List Hint) → length hints ≡ 0 → expected_line hints ≡ []
-no_hints [] none = refl
-no_hints (h ∷ hs) none = absurd (omega arith)
-
--- something may stand there
-pub some_hints : (hints : List Hint) → 0 < length hints → expected_line hints ≡ codes "expected: " ++ listed hints ++ codes "\n"
-some_hints [] some = absurd (omega arith)
-some_hints (h ∷ hs) some = refl

@@ -1,5 +1,5 @@
 -- A program with its notes.
-use Rattle.std.proofs.Common.{◌≡◌, ℕ, List, ◌++◌, Result, Ok, Err, refl, ap, ◌∙◌, subst, append_assoc}
+use Rattle.std.proofs.Common.{◌≡◌, ℕ, List, Result, Ok, Err, refl, subst}
 use Rattle.std.specs.Prelude.{MatchResult}
 use Rattle.jolie_ast.specs.declared.tree.Definition.{Definition}
 use Rattle.service_check.specs.Programs.{program_of}
@@ -25,9 +25,3 @@ is_noted file text bytes found definitions right is lines =
     let of : IsFileOf text definitions = subst (λ x. IsFound text x) is right in
     let checked : IsChecked text (program_of definitions) = record { file = definitions; accepted = of.accepted; passes = of.passes; means = refl } in
     record { parts = program_of definitions; checked = checked; lines = lines }
-
--- five pieces, one after the other
-pub five_more : (old a b c d e : List ℕ) → old ++ a ++ b ++ c ++ d ++ e ≡ old ++ (a ++ b ++ c ++ d ++ e)
-five_more old a b c d e =
-    ap (λ xs. xs ++ c ++ d ++ e) (append_assoc old a b) ∙ ap (λ xs. xs ++ d ++ e) (append_assoc old (a ++ b) c)
-    ∙ ap (λ xs. xs ++ e) (append_assoc old (a ++ b ++ c) d) ∙ append_assoc old (a ++ b ++ c ++ d) e

@@ -1,5 +1,5 @@
 -- The lines that explain a refusal, and the one of a file that can't be read.
-use Rattle.std.specs.Prelude.{◌≡◌, ℕ, List, [], ◌∷◌, ◌++◌, codes, Option, None, Some}
+use Rattle.std.specs.Prelude.{◌≡◌, ℕ, List, [], ◌∷◌, ◌++◌, codes, option_map, unwrap_or}
 use Rattle.std.specs.Fmt.{decimal}
 use Rattle.text_places.specs.Places.{line_at, column_at, line_of, mark_of}
 use Rattle.parse_hints.specs.declared.hint.Hint.{Hint}
@@ -9,26 +9,28 @@ use Rattle.file_verdicts.specs.declared.refusal.Cause.{Cause}
 use Rattle.file_verdicts.specs.declared.refusal.Cause.TheVariants as cause
 use Rattle.file_verdicts.specs.declared.refusal.Refusal.{Refusal}
 use Rattle.file_verdicts.specs.RefusalLines.{stage_word, cause_word}
-use Rattle.explain_text.specs.declared.advice.Advice.{Advice}
 use Rattle.explain_text.specs.Words.{words_of, rule_of, advice_words}
 use Rattle.explain_text.specs.Advised.{advice_for}
 
--- ---- where, and what is wrong
+-- ---- where, and what is said
 
--- `[STAGE NAME]`, by which documents call the refusal
-abbrev pub tag : Refusal → List ℕ
-tag r = codes " [" ++ (stage_word r.stage ++ (codes " " ++ (cause_word r.cause ++ codes "]\n")))
+-- `FILE:LINE:COLUMN: WORDS`
+abbrev pub head_line : List ℕ → ℕ → ℕ → List ℕ → List ℕ
+head_line file line column words =
+    file ++ (codes ":" ++ (decimal line ++ (codes ":" ++ (decimal column ++ (codes ": " ++ (words ++ codes "\n"))))))
 
--- `FILE:LINE:COLUMN`
-abbrev pub place_words : List ℕ → ℕ → ℕ → List ℕ → List ℕ
-place_words file line column rest =
-    file ++ (codes ":" ++ (decimal line ++ (codes ":" ++ (decimal column ++ rest))))
+-- words of a place of a file's text: where it is, the line in which it stands, and a mark under it
+abbrev pub pointed : List ℕ → List ℕ → ℕ → List ℕ → List ℕ
+pointed file text at words =
+    head_line file (line_at text at) (column_at text at) words
+    ++ line_of text at ++ codes "\n" ++ mark_of text at ++ codes "\n"
 
--- `FILE:LINE:COLUMN: WORDS [STAGE NAME]`
-abbrev pub head_line : List ℕ → ℕ → ℕ → Refusal → List ℕ
-head_line file line column r = place_words file line column (codes ": " ++ (words_of r.cause ++ tag r))
+-- `WORDS [STAGE NAME]`: what is wrong, and what documents call the refusal by
+abbrev pub tagged_words : Refusal → List ℕ
+tagged_words r =
+    words_of r.cause ++ (codes " [" ++ (stage_word r.stage ++ (codes " " ++ (cause_word r.cause ++ codes "]"))))
 
--- ---- what may stand there
+-- ---- what helps
 
 -- hints behind another: commas between, and "or" before the last
 abbrev pub further : List Hint → List ℕ
@@ -41,40 +43,28 @@ abbrev pub listed : List Hint → List ℕ
 listed [] = []
 listed (h ∷ hs) = hint_words h ++ further hs
 
--- the line that says what may stand there, where something may
-abbrev pub expected_line : List Hint → List ℕ
-expected_line [] = []
-expected_line (h ∷ hs) = codes "expected: " ++ listed (h ∷ hs) ++ codes "\n"
-
 -- what may stand at the place of a token that may not; of another refusal its words say what is wrong
 abbrev pub AreHintsOf : List ℕ → Cause → ℕ → List Hint → Type 0
 AreHintsOf text cause.Syntax at hints = AreToldAt text at hints
 AreHintsOf text _ at hints = hints ≡ []
 
--- ---- the rule and the advice
+-- what is advised of a refusal, in words
+abbrev pub advised_words : List ℕ → Refusal → List ℕ
+advised_words text r = unwrap_or (option_map advice_words (advice_for r.cause text r.at)) []
 
 -- a line of a kind, or none where there is nothing to say
 abbrev pub line_if_any : List ℕ → List ℕ → List ℕ
 line_if_any kind [] = []
 line_if_any kind (b ∷ bs) = kind ++ (b ∷ bs) ++ codes "\n"
 
--- the line of the rule that is broken
-abbrev pub rule_line : Cause → List ℕ
-rule_line c = line_if_any (codes "rule: ") (rule_of c)
-
--- the line of what is advised
-abbrev pub advice_line : Option Advice → List ℕ
-advice_line None = []
-advice_line (Some a) = codes "advice: " ++ advice_words a ++ codes "\n"
-
 -- ---- the whole
 
--- the refusal of a file's text, explained: where and what, the line with a mark, and what helps
+-- the refusal of a file's text, explained: where and what, what may stand there, the rule that is broken, and advice
 abbrev pub explanation : List ℕ → List ℕ → Refusal → List Hint → List ℕ
 explanation file text r hints =
-    head_line file (line_at text r.at) (column_at text r.at) r
-    ++ line_of text r.at ++ codes "\n" ++ mark_of text r.at ++ codes "\n"
-    ++ expected_line hints ++ rule_line r.cause ++ advice_line (advice_for r.cause text r.at)
+    pointed file text r.at (tagged_words r)
+    ++ line_if_any (codes "expected: ") (listed hints) ++ line_if_any (codes "rule: ") (rule_of r.cause)
+    ++ line_if_any (codes "advice: ") (advised_words text r)
 
 -- the bytes explain the refusal of a file's text, with what may stand there
 pub record IsExplained (file text : List ℕ) (r : Refusal) (bytes : List ℕ) : Type 0 where

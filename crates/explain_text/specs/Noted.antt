@@ -1,12 +1,11 @@
 -- What is said of a program: `ok`, and the lines of its notes.
 use Rattle.std.specs.Prelude.{◌≡◌, ℕ, List, [], ◌∷◌, ◌++◌, codes, flat_map}
-use Rattle.text_places.specs.Places.{line_at, column_at, line_of, mark_of}
 use Rattle.behaviour_tree.specs.Data.{ProgramParts}
 use Rattle.file_verdicts.specs.Programs.{IsChecked}
 use Rattle.file_notes.specs.declared.kind.NoteKind.{NoteKind}
 use Rattle.file_notes.specs.declared.kind.NoteKind.TheVariants as kind
 use Rattle.file_notes.specs.Notes.{Noted, notes_of}
-use Rattle.explain_text.specs.Explained.{place_words}
+use Rattle.explain_text.specs.Explained.{pointed}
 
 -- what a person reads of a note
 abbrev pub note_words : NoteKind → List ℕ
@@ -23,15 +22,9 @@ note_words kind.TreeCut = codes "`=` takes the root alone: `<<` copies what stan
 note_words kind.LiteralCut = codes "`=` sets the root alone: `<<` copies the members of the literal too"
 note_words kind.Unanswered = codes "this is answered, and nothing sets it"
 
--- `FILE:LINE:COLUMN: note: WORDS`
-abbrev pub head_line : List ℕ → ℕ → ℕ → NoteKind → List ℕ
-head_line file line column k = place_words file line column (codes ": note: " ++ (note_words k ++ codes "\n"))
-
 -- where a note is and what it says, the line of the place, and its mark
 abbrev pub note_lines : List ℕ → List ℕ → Noted → List ℕ
-note_lines file text n =
-    head_line file (line_at text n.name.at) (column_at text n.name.at) n.kind
-    ++ line_of text n.name.at ++ codes "\n" ++ mark_of text n.name.at ++ codes "\n"
+note_lines file text n = pointed file text n.name.at (codes "note: " ++ note_words n.kind)
 
 -- `ok`, and the lines of each note
 abbrev pub noted_text : List ℕ → List ℕ → List Noted → List ℕ

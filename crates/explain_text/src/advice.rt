@@ -1,6 +1,8 @@
 //! What is advised where the place alone does not help.
 
-ghost use Rattle.std.specs.Prelude.{◌≡◌};
+ghost use Rattle.std.specs.Prelude.{◌≡◌, false};
+ghost use Rattle.jolie_tokens.specs.Bytes as bytes;
+ghost use Rattle.file_verdicts.specs.declared.refusal.Cause.TheVariants as causes;
 ghost use Rattle.explain_text.specs.Advised as spec;
 ghost use Rattle.explain_text.specs.Words.{advice_words};
 
@@ -49,7 +51,7 @@ pub fn advice_for(cause: Cause, text: &[u8], at: usize) -> Option<Advice>
 
 /// What is advised of a token that may not stand at a place.
 fn advice_at(text: &[u8], at: usize) -> Option<Advice>
-    ensures { result ≡ spec.advice_at text.now at }
+    ensures { result ≡ spec.advice_for causes.Syntax text.now at }
 {
     let rest = behind(text, at);
     if rest.starts_with("=>".as_bytes()) {
@@ -66,30 +68,20 @@ fn advice_at(text: &[u8], at: usize) -> Option<Advice>
 
 /// Whether `;` is the last byte that is no blank.
 fn ends_in_semicolon(text: &[u8]) -> bool
-    ensures { result ≡ spec.ends_in_semicolon text.now }
+    ensures { result ≡ spec.ends_in_semicolon false text.now }
 {
-    match last_unblank(text) {
-        Some(byte) => byte == b';',
-        None => false,
-    }
-}
-
-/// The last byte that is no blank.
-fn last_unblank(text: &[u8]) -> Option<u8>
-    ensures { result ≡ spec.last_unblank text.now }
-{
-    let mut last = None;
+    let mut ends = false;
     for byte in text {
         if !is_blank(*byte) {
-            last = Some(*byte);
+            ends = *byte == b';';
         }
     }
-    last
+    ends
 }
 
 /// Whether a byte is a space, a tab, a carriage return or a line feed.
 fn is_blank(byte: u8) -> bool
-    ensures { result ≡ spec.is_blank byte }
+    ensures { result ≡ bytes.is_blank byte }
 {
     byte == b' ' || byte == b'\t' || byte == b'\r' || byte == b'\n'
 }

@@ -3,27 +3,38 @@
 ghost use Rattle.std.specs.Prelude.{◌≡◌, ◌++◌, IfOk, OnOk, string_bytes};
 ghost use Rattle.explain_text.specs.Explained as spec;
 
-use crate::advice::Advice;
-use crate::words::{rule, words};
-use file_verdicts::{Cause, Refusal};
 use std::alloc::{AllocError, Global};
-use text_places::Place;
+use text_places::{Place, line_of, mark_of, place_of};
 
-/// The line that says where a refusal is and what is wrong.
-pub fn head(
+/// Adds words of a place of a file's text: where it is, the line in which it stands, and a mark under it.
+#[tactic(auto, using(crate::proofs::Pieces::five_more))]
+pub fn add_pointed(
     alloc: Global,
     file: &str,
-    place: Place,
-    refusal: &Refusal,
-) -> Result<String, AllocError>
-    ensures { IfOk result (λ line. string_bytes line ≡ spec.head_line file.now place.line place.column refusal.now) }
+    text: &[u8],
+    at: usize,
+    words: &str,
+    bytes: &mut Vec<u8>,
+) -> Result<(), AllocError>
+    ensures { OnOk result (bytes.new.items ≡ bytes.old.items ++ spec.pointed file.now text.now at words.now) }
+{
+    let head = head(alloc, file, place_of(text, at), words)?;
+    let mark = mark_of(alloc, text, at)?;
+    bytes.extend_from_slice(head.as_bytes())?;
+    bytes.extend_from_slice(line_of(text, at))?;
+    bytes.extend_from_slice("\n".as_bytes())?;
+    bytes.extend_from_slice(mark.as_slice())?;
+    bytes.extend_from_slice("\n".as_bytes())?;
+    Ok(())
+}
+
+/// The line that says where a place is and what is said of it.
+fn head(alloc: Global, file: &str, place: Place, words: &str) -> Result<String, AllocError>
+    ensures { IfOk result (λ line. string_bytes line ≡ spec.head_line file.now place.line place.column words.now) }
 {
     let line = place.line;
     let column = place.column;
-    let words = words(refusal.cause);
-    let stage = refusal.stage.as_str();
-    let name = refusal.cause.as_str();
-    format!(in alloc; "{file}:{line}:{column}: {words} [{stage} {name}]\n")
+    format!(in alloc; "{file}:{line}:{column}: {words}\n")
 }
 
 /// The line of a file that can't be read.
@@ -33,31 +44,16 @@ pub fn unreadable(alloc: Global, file: &str) -> Result<String, AllocError>
     format!(in alloc; "{file}: cannot be read\n")
 }
 
-/// Adds the line of the rule that is broken, but of a token that may not stand there.
+/// Adds a line of a kind, or none where there is nothing to say.
 #[tactic(auto, using(crate::proofs::Pieces::three_more, crate::proofs::Pieces::no_line, crate::proofs::Pieces::some_line))]
-pub fn add_rule(bytes: &mut Vec<u8>, cause: Cause) -> Result<(), AllocError>
-    ensures { OnOk result (bytes.new.items ≡ bytes.old.items ++ spec.rule_line cause) }
+pub fn add_line(bytes: &mut Vec<u8>, kind: &str, said: &[u8]) -> Result<(), AllocError>
+    ensures { OnOk result (bytes.new.items ≡ bytes.old.items ++ spec.line_if_any kind.now said.now) }
 {
-    let rule = rule(cause);
-    if rule.is_empty() {
+    if said.is_empty() {
         return Ok(());
     }
-    bytes.extend_from_slice("rule: ".as_bytes())?;
-    bytes.extend_from_slice(rule.as_bytes())?;
-    bytes.extend_from_slice("\n".as_bytes())?;
-    Ok(())
-}
-
-/// Adds the line of what is advised, if anything is.
-#[tactic(auto, using(crate::proofs::Pieces::three_more))]
-pub fn add_advice(bytes: &mut Vec<u8>, advice: Option<Advice>) -> Result<(), AllocError>
-    ensures { OnOk result (bytes.new.items ≡ bytes.old.items ++ spec.advice_line advice) }
-{
-    let Some(advice) = advice else {
-        return Ok(());
-    };
-    bytes.extend_from_slice("advice: ".as_bytes())?;
-    bytes.extend_from_slice(advice.words().as_bytes())?;
+    bytes.extend_from_slice(kind.as_bytes())?;
+    bytes.extend_from_slice(said)?;
     bytes.extend_from_slice("\n".as_bytes())?;
     Ok(())
 }

@@ -1,29 +1,24 @@
 //! What may stand at a place, as a person reads it.
 
-ghost use Rattle.std.specs.Prelude.{◌≡◌, ◌++◌, OnOk};
-ghost use Rattle.explain_text.specs.Explained.{expected_line, further, listed};
+ghost use Rattle.std.specs.Prelude.{◌≡◌, ◌++◌, IfOk, OnOk};
+ghost use Rattle.explain_text.specs.Explained as spec;
 
 use parse_hints::Hint;
-use std::alloc::AllocError;
+use std::alloc::{AllocError, Global};
 
-/// Adds the line that says what may stand there, where something may.
-#[tactic(auto, using(crate::proofs::Pieces::three_more, crate::proofs::Pieces::no_hints, crate::proofs::Pieces::some_hints))]
-pub fn add_expected(bytes: &mut Vec<u8>, hints: &[Hint]) -> Result<(), AllocError>
-    ensures { OnOk result (bytes.new.items ≡ bytes.old.items ++ expected_line hints.now) }
+/// Hints with commas between, and "or" before the last.
+pub fn listed(alloc: Global, hints: &[Hint]) -> Result<Vec<u8>, AllocError>
+    ensures { IfOk result (λ bytes. bytes.items ≡ spec.listed hints.now) }
 {
-    if hints.is_empty() {
-        return Ok(());
-    }
-    bytes.extend_from_slice("expected: ".as_bytes())?;
-    add_listed(bytes, hints)?;
-    bytes.extend_from_slice("\n".as_bytes())?;
-    Ok(())
+    let mut bytes = Vec::new(alloc);
+    add_listed(&mut bytes, hints)?;
+    Ok(bytes)
 }
 
 /// Adds hints with commas between, and "or" before the last.
 #[tactic(auto, using(crate::proofs::Pieces::two_more))]
 fn add_listed(bytes: &mut Vec<u8>, hints: &[Hint]) -> Result<(), AllocError>
-    ensures { OnOk result (bytes.new.items ≡ bytes.old.items ++ listed hints.now) }
+    ensures { OnOk result (bytes.new.items ≡ bytes.old.items ++ spec.listed hints.now) }
 {
     match hints {
         [] => Ok(()),
@@ -38,7 +33,7 @@ fn add_listed(bytes: &mut Vec<u8>, hints: &[Hint]) -> Result<(), AllocError>
 /// Adds hints behind another.
 #[tactic(auto, using(crate::proofs::Pieces::two_more, crate::proofs::Pieces::three_more))]
 fn add_further(bytes: &mut Vec<u8>, hints: &[Hint]) -> Result<(), AllocError>
-    ensures { OnOk result (bytes.new.items ≡ bytes.old.items ++ further hints.now) }
+    ensures { OnOk result (bytes.new.items ≡ bytes.old.items ++ spec.further hints.now) }
 {
     match hints {
         [] => Ok(()),

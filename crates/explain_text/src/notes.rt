@@ -1,16 +1,16 @@
 //! A program, with its notes.
 
-ghost use Rattle.std.specs.Prelude.{◌≡◌, ◌++◌, IfOk, MatchResult, OnOk, string_bytes};
+ghost use Rattle.std.specs.Prelude.{◌≡◌, ◌++◌, IfOk, MatchResult, OnOk, codes, string_bytes};
 ghost use Rattle.file_notes.specs.Notes.{notes_of};
 ghost use Rattle.file_verdicts.specs.Programs.{IsUncheckedBy};
 ghost use Rattle.file_verdicts.specs.RefusalLines.{refusal_line};
 ghost use Rattle.explain_text.specs.Noted as spec;
 
+use crate::lines::add_pointed;
 use file_notes::{Note, NoteKind, notes_of};
 use file_verdicts::{Refusal, definitions_in};
 use jolie_ast::Ast;
 use std::alloc::{AllocError, Global};
-use text_places::{Place, line_of, mark_of, place_of};
 
 /// What a person reads of a program: `ok` and its notes. Of another text it is why it is none.
 #[tactic(auto, using(crate::proofs::Programs::is_refused))]
@@ -50,7 +50,6 @@ fn with_notes(alloc: Global, file: &str, text: &[u8], notes: &[Note]) -> Result<
 }
 
 /// Adds the lines of a note.
-#[tactic(auto, using(crate::proofs::Programs::five_more))]
 fn add_note(
     alloc: Global,
     file: &str,
@@ -60,25 +59,16 @@ fn add_note(
 ) -> Result<(), AllocError>
     ensures { OnOk result (bytes.new.items ≡ bytes.old.items ++ spec.note_lines file.now text.now note.now) }
 {
-    let at = note.at() as usize;
-    let head = head(alloc, file, place_of(text, at), note.kind())?;
-    let mark = mark_of(alloc, text, at)?;
-    bytes.extend_from_slice(head.as_bytes())?;
-    bytes.extend_from_slice(line_of(text, at))?;
-    bytes.extend_from_slice("\n".as_bytes())?;
-    bytes.extend_from_slice(mark.as_slice())?;
-    bytes.extend_from_slice("\n".as_bytes())?;
-    Ok(())
+    let said = said(alloc, note.kind())?;
+    add_pointed(alloc, file, text, note.at() as usize, said.as_str(), bytes)
 }
 
-/// The line that says where a note is and what it says.
-fn head(alloc: Global, file: &str, place: Place, kind: NoteKind) -> Result<String, AllocError>
-    ensures { IfOk result (λ line. string_bytes line ≡ spec.head_line file.now place.line place.column kind) }
+/// What a note says of its place.
+fn said(alloc: Global, kind: NoteKind) -> Result<String, AllocError>
+    ensures { IfOk result (λ said. string_bytes said ≡ codes "note: " ++ spec.note_words kind) }
 {
-    let line = place.line;
-    let column = place.column;
     let words = words(kind);
-    format!(in alloc; "{file}:{line}:{column}: note: {words}\n")
+    format!(in alloc; "note: {words}")
 }
 
 /// What a person reads of a note.

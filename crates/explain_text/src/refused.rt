@@ -1,15 +1,15 @@
 //! A refusal, explained.
 
-ghost use Rattle.std.specs.Prelude.{IfOk};
-ghost use Rattle.explain_text.specs.Explained.{AreHintsOf, IsExplained};
+ghost use Rattle.std.specs.Prelude.{◌≡◌, IfOk, string_bytes};
+ghost use Rattle.explain_text.specs.Explained as spec;
 
 use crate::advice::advice_for;
-use crate::lines::{add_advice, add_rule, head};
-use crate::listed::add_expected;
+use crate::lines::{add_line, add_pointed};
+use crate::listed::listed;
+use crate::words::{rule, words};
 use file_verdicts::{Cause, Refusal};
 use parse_hints::{Hint, hints_at};
 use std::alloc::{AllocError, Global};
-use text_places::{line_of, mark_of, place_of};
 
 /// What a person reads of the refusal of a file's text.
 #[tactic(auto, using(crate::proofs::Pieces::is_explained))]
@@ -19,26 +19,47 @@ pub fn explained(
     text: &[u8],
     refusal: &Refusal,
 ) -> Result<Vec<u8>, AllocError>
-    ensures { IfOk result (λ bytes. IsExplained file.now text.now refusal.now bytes.items) }
+    ensures { IfOk result (λ bytes. spec.IsExplained file.now text.now refusal.now bytes.items) }
 {
     let at = refusal.at as usize;
     let hints = hints_of(alloc, text, refusal.cause, at)?;
-    let head = head(alloc, file, place_of(text, at), refusal)?;
-    let mark = mark_of(alloc, text, at)?;
-    let mut bytes = Vec::from_slice(alloc, head.as_bytes())?;
-    bytes.extend_from_slice(line_of(text, at))?;
-    bytes.extend_from_slice("\n".as_bytes())?;
-    bytes.extend_from_slice(mark.as_slice())?;
-    bytes.extend_from_slice("\n".as_bytes())?;
-    add_expected(&mut bytes, hints.as_slice())?;
-    add_rule(&mut bytes, refusal.cause)?;
-    add_advice(&mut bytes, advice_for(refusal.cause, text, at))?;
+    let listed = listed(alloc, hints.as_slice())?;
+    let words = tagged_words(alloc, refusal)?;
+    let mut bytes = Vec::new(alloc);
+    add_pointed(alloc, file, text, at, words.as_str(), &mut bytes)?;
+    add_line(&mut bytes, "expected: ", listed.as_slice())?;
+    add_line(&mut bytes, "rule: ", rule(refusal.cause).as_bytes())?;
+    add_line(
+        &mut bytes,
+        "advice: ",
+        advised_words(text, refusal).as_bytes(),
+    )?;
     Ok(bytes)
+}
+
+/// What is wrong, and what documents call the refusal by.
+fn tagged_words(alloc: Global, refusal: &Refusal) -> Result<String, AllocError>
+    ensures { IfOk result (λ tagged. string_bytes tagged ≡ spec.tagged_words refusal.now) }
+{
+    let words = words(refusal.cause);
+    let stage = refusal.stage.as_str();
+    let name = refusal.cause.as_str();
+    format!(in alloc; "{words} [{stage} {name}]")
+}
+
+/// What is advised of a refusal, in words, and nothing where there is no advice.
+fn advised_words(text: &[u8], refusal: &Refusal) -> &'static str
+    ensures { result.now ≡ spec.advised_words text.now refusal.now }
+{
+    match advice_for(refusal.cause, text, refusal.at as usize) {
+        Some(advice) => advice.words(),
+        None => "",
+    }
 }
 
 /// What may stand at the place of a token that may not: of another refusal its words say what is wrong.
 fn hints_of(alloc: Global, text: &[u8], cause: Cause, at: usize) -> Result<Vec<Hint>, AllocError>
-    ensures { IfOk result (λ hints. AreHintsOf text.now cause at hints.items) }
+    ensures { IfOk result (λ hints. spec.AreHintsOf text.now cause at hints.items) }
 {
     match cause {
         Cause::Syntax => {

@@ -1,2 +1,3 @@
+pub mod ByKind
 pub mod Silent
 pub mod Turns

@@ -9,6 +9,13 @@ turn_of f p0 p1 p2 xs i x below item before turn =
     turn ∙ ap (λ p. p ++ f x) before ∙ flat_map_more f p0 (take i xs) x
     ∙ ap (λ y. p0 ++ flat_map f (take i xs ++ y ∷ [])) item ∙ ap (λ ys. p0 ++ flat_map f ys) (sym (take_more xs i x below))
 
+-- the same of an item that is read at a place
+pub turn_at : {X A : Type 0} (f : X → List A) (p0 p1 p2 : List A) (xs : List X) (i : ℕ) (d : X) → i < length xs
+    → p1 ≡ p0 ++ flat_map f (take i xs) → p2 ≡ p1 ++ f (get_or xs i d) → p2 ≡ p0 ++ flat_map f (take (i + 1) xs)
+turn_at f p0 p1 p2 xs i d below before turn =
+    turn ∙ ap (λ p. p ++ f (get_or xs i d)) before ∙ flat_map_more f p0 (take i xs) (get_or xs i d)
+    ∙ ap (λ ys. p0 ++ flat_map f ys) (sym (take_more xs i d below))
+
 -- a loop over a list added what all its items give
 pub all_of : {X A : Type 0} (f : X → List A) (p0 p1 : List A) (xs : List X) (i : ℕ) → length xs ≤ i → p1 ≡ p0 ++ flat_map f (take i xs) → p1 ≡ p0 ++ flat_map f xs
 all_of f p0 p1 xs i ended through = through ∙ ap (λ ys. p0 ++ flat_map f ys) (take_all i xs ended)

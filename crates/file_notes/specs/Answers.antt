@@ -1,6 +1,7 @@
 -- Which operations ask for an answer, and which requests have none.
 use Rattle.std.specs.Prelude.{ℕ, pos, int_le, Bool, true, false, not, ◌||◌, if◌then◌else◌, List, [], ◌∷◌, flat_map}
-use Rattle.std.specs.Prelude.{Option, None, Some}
+use Rattle.std.specs.Prelude.{Option, None, Some, option_map, unwrap_or}
+use Rattle.std.specs.List.{list_any}
 use Rattle.jolie_ast.specs.declared.types.RootKind.{RootKind}
 use Rattle.jolie_ast.specs.declared.types.RootKind.TheVariants as root
 use Rattle.jolie_ast.specs.declared.types.Cardinality.{Cardinality}
@@ -8,13 +9,11 @@ use Rattle.jolie_ast.specs.declared.types.Cardinality.TheVariants as cardinality
 use Rattle.jolie_ast.specs.declared.types.TypeBody.{TypeBody, out-TypeBody}
 use Rattle.jolie_ast.specs.declared.types.TypeBody.TheOpen.{TypeBody-F}
 use Rattle.jolie_ast.specs.declared.types.Field.{Field, out-Field}
-use Rattle.jolie_ast.specs.declared.types.DefinedType.{DefinedType}
-use Rattle.jolie_ast.specs.declared.types.DefinedType.TheVariants as defined
 use Rattle.jolie_ast.specs.declared.types.TypeDefinition.{TypeDefinition}
 use Rattle.jolie_ast.specs.declared.interface.TypeName.{TypeName}
 use Rattle.jolie_ast.specs.declared.interface.TypeName.TheVariants as type_name
 use Rattle.jolie_ast.specs.declared.tree.Definition.{Definition}
-use Rattle.check_base.specs.Files.{Operation, interfaces_of, operations_in, type_named, types_of}
+use Rattle.check_base.specs.Files.{Operation, body_of, interfaces_of, operations_in, type_named, types_of}
 
 -- ---- types that ask for more than void: no void answer is of them
 
@@ -27,42 +26,28 @@ asks_root kind = true
 -- a field that has to stand
 abbrev pub asks_often : Option Cardinality → Bool
 asks_often None = true
-asks_often (Some cardinality.Optional) = false
-asks_often (Some cardinality.Any) = false
 asks_often (Some (cardinality.Between least most)) = int_le (pos 1) least
+asks_often _ = false
 
 -- fields of which one has to stand
 abbrev pub asks_fields : List Field → Bool
-asks_fields [] = false
-asks_fields (f ∷ fs) = asks_often (out-Field f).cardinality || asks_fields fs
-
--- fields in braces, if they are written
-abbrev pub asks_braces : Option (List Field) → Bool
-asks_braces None = false
-asks_braces (Some fields) = asks_fields fields
+asks_fields fields = list_any (λ (f : Field). asks_often (out-Field f).cardinality) fields
 
 -- the body of a type; another name is not looked behind
 abbrev pub asks_body : TypeBody → Bool
 asks_body body = elim (out-TypeBody body) [
-  | TypeBody-F.Root at kind fields ↦ asks_root kind || asks_braces fields
-  | TypeBody-F.Named n ↦ false
-  | TypeBody-F.Undefined at ↦ false
+  | TypeBody-F.Root at kind fields ↦ asks_root kind || asks_fields (unwrap_or fields [])
+  | _ ↦ false
 ]
 
--- what a type is defined as
-abbrev pub asks_definition : DefinedType → Bool
-asks_definition (defined.Body body) = asks_body body
-asks_definition (defined.Fields fields) = asks_fields fields
-
--- a type, if there is one
-abbrev pub asks_defined : Option TypeDefinition → Bool
-asks_defined None = false
-asks_defined (Some ty) = asks_definition ty.body
+-- a definition of a type
+abbrev pub asks_definition : TypeDefinition → Bool
+asks_definition ty = asks_body (body_of ty.body)
 
 -- the type that an operation names
 abbrev pub asks_type : List TypeDefinition → TypeName → Bool
 asks_type types (type_name.Root at kind) = asks_root kind
-asks_type types (type_name.Named n) = asks_defined (type_named types n.text)
+asks_type types (type_name.Named n) = unwrap_or (option_map asks_definition (type_named types n.text)) false
 asks_type types (type_name.Undefined at) = false
 
 -- ---- operations that a void answers

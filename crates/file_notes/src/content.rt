@@ -1,8 +1,8 @@
 //! Which operations are content with a void answer.
 
-ghost use Rattle.std.specs.Prelude.{◌≡◌, ◌++◌, IfOk, OnOk, map};
+ghost use Rattle.std.specs.Prelude.{◌≡◌, false, [], ◌++◌, IfOk, OnOk, map, option_map, unwrap_or};
 ghost use Rattle.std.specs.Option.{option_copied, option_to_list};
-ghost use Rattle.check_base.specs.Files.{answering, group_operations, operations_in, type_in, types_of};
+ghost use Rattle.check_base.specs.Files.{answering, body_of, group_operations, operations_in, type_in, types_of};
 ghost use Rattle.file_notes.specs.Answers as spec;
 
 use check_base::{Names, Types, interface_in, type_in};
@@ -114,7 +114,7 @@ fn asks_type(types: &Types<'_>, ty: &TypeName) -> bool
 }
 
 fn asks_defined(ty: Option<&TypeDefinition>) -> bool
-    ensures { result ≡ spec.asks_defined (option_copied ty.entry) }
+    ensures { result ≡ unwrap_or (option_map spec.asks_definition (option_copied ty.entry)) false }
 {
     match ty {
         Some(ty) => asks_definition(&ty.body),
@@ -123,7 +123,7 @@ fn asks_defined(ty: Option<&TypeDefinition>) -> bool
 }
 
 fn asks_definition(body: &DefinedType) -> bool
-    ensures { result ≡ spec.asks_definition body.now }
+    ensures { result ≡ spec.asks_body (body_of body.now) }
 {
     match body {
         DefinedType::Body(body) => asks_body(body),
@@ -143,7 +143,7 @@ fn asks_body(body: &TypeBody) -> bool
 }
 
 fn asks_braces(fields: &Option<Items<Field>>) -> bool
-    ensures { result ≡ spec.asks_braces fields.now }
+    ensures { result ≡ spec.asks_fields (unwrap_or fields.now []) }
 {
     match fields {
         Some(fields) => asks_fields(fields.as_slice()),

@@ -1,9 +1,10 @@
 //! The faults that a file's operations and the language have.
 
-ghost use Rattle.std.specs.Prelude.{◌≡◌, ◌++◌, IfOk, OnOk, map};
+ghost use Rattle.std.specs.Prelude.{◌≡◌, [], ◌∷◌, ◌++◌, IfOk, OnOk, codes, map};
 ghost use Rattle.check_base.specs.Files.{answering, group_operations, operations_in};
 ghost use Rattle.file_notes.specs.Notes as spec;
 
+use crate::kind::NoteKind;
 use check_base::{Names, interface_in};
 use jolie_ast::{Definition, Fault, Interface, OperationGroup, RequestResponse};
 use std::alloc::{AllocError, Global};
@@ -63,7 +64,7 @@ fn add_faults<'a>(faults: &'a [Fault], names: &mut Names<'a>) -> Result<(), Allo
 }
 
 /// The texts of other names, each again.
-pub fn same_names<'a>(alloc: Global, names: &Names<'a>) -> Result<Names<'a>, AllocError>
+fn same_names<'a>(alloc: Global, names: &Names<'a>) -> Result<Names<'a>, AllocError>
     ensures { IfOk result (λ same. same ≡ names.now) }
 {
     let mut same = Names::new(alloc);
@@ -74,7 +75,7 @@ pub fn same_names<'a>(alloc: Global, names: &Names<'a>) -> Result<Names<'a>, All
 }
 
 /// The faults of the operations of a file, and those that the language throws.
-pub fn all_faults<'a>(alloc: Global, declared: &Names<'a>) -> Result<Names<'a>, AllocError>
+fn all_faults<'a>(alloc: Global, declared: &Names<'a>) -> Result<Names<'a>, AllocError>
     ensures { IfOk result (λ names. names ≡ declared.now ++ spec.standard_faults) }
 {
     let mut names = same_names(alloc, declared)?;
@@ -93,7 +94,7 @@ fn add_standard(names: &mut Names<'_>) -> Result<(), AllocError>
 
 /// Adds the faults that calls come back with.
 fn add_faults_of_calls(names: &mut Names<'_>) -> Result<(), AllocError>
-    ensures { OnOk result (names.new ≡ names.old ++ spec.faults_of_calls) }
+    ensures { OnOk result (names.new ≡ names.old ++ codes "IOException" ∷ codes "TypeMismatch" ∷ codes "CorrelationError" ∷ codes "Refused" ∷ codes "UndeclaredFault" ∷ []) }
 {
     names.add("IOException")?;
     names.add("TypeMismatch")?;
@@ -105,7 +106,7 @@ fn add_faults_of_calls(names: &mut Names<'_>) -> Result<(), AllocError>
 
 /// Adds the faults of a session's own statements.
 fn add_faults_of_statements(names: &mut Names<'_>) -> Result<(), AllocError>
-    ensures { OnOk result (names.new ≡ names.old ++ spec.faults_of_statements) }
+    ensures { OnOk result (names.new ≡ names.old ++ codes "ExprFault" ∷ codes "HandlerTooLarge" ∷ codes "StoreTooLarge" ∷ []) }
 {
     names.add("ExprFault")?;
     names.add("HandlerTooLarge")?;
@@ -113,9 +114,27 @@ fn add_faults_of_statements(names: &mut Names<'_>) -> Result<(), AllocError>
     Ok(())
 }
 
+/// The texts that meet a name of a kind in a file with these faults, whatever is mentioned.
+#[tactic(auto, using(crate::proofs::ByKind::met_by_no_text))]
+pub fn texts_met<'a>(
+    alloc: Global,
+    kind: NoteKind,
+    declared: &Names<'a>,
+) -> Result<Names<'a>, AllocError>
+    ensures { IfOk result (λ names. names ≡ spec.texts_met declared.now kind) }
+{
+    match kind {
+        NoteKind::Uncaught => same_names(alloc, declared),
+        NoteKind::UncaughtInLoop => same_names(alloc, declared),
+        NoteKind::Unthrown => all_faults(alloc, declared),
+        NoteKind::Unset => outermost(alloc),
+        _ => Ok(Names::new(alloc)),
+    }
+}
+
 /// The outermost scope, whose faults stand below its name.
-pub fn outermost<'a>(alloc: Global) -> Result<Names<'a>, AllocError>
-    ensures { IfOk result (λ names. names ≡ spec.outermost) }
+fn outermost<'a>(alloc: Global) -> Result<Names<'a>, AllocError>
+    ensures { IfOk result (λ names. names ≡ codes "main" ∷ []) }
 {
     let mut names = Names::new(alloc);
     names.add("main")?;

@@ -1,4 +1,5 @@
 ghost use Rattle.std.specs.Prelude.{◌≡◌};
+ghost use Rattle.file_notes.specs.declared.kind.NoteKind.TheVariants as kind;
 ghost use Rattle.file_notes.specs.Rules as spec;
 
 use program_mentions::Role;
@@ -38,18 +39,18 @@ impl NoteKind {
         ensures { result ≡ spec.is_noted self role }
     {
         match self {
-            NoteKind::Uncaught => is_thrown(role),
-            NoteKind::UncaughtInLoop => is_thrown_in_loop(role),
-            NoteKind::EndsService => is_thrown_in_loop(role),
-            NoteKind::Unthrown => is_handled(role),
-            NoteKind::NoScope => is_compensated(role),
-            NoteKind::Unsent => is_port(role),
-            NoteKind::Unset => is_read(role),
-            NoteKind::Unread => is_set_by_statement(role),
-            NoteKind::Forgotten => is_kept(role),
-            NoteKind::TreeCut => is_taken(role),
-            NoteKind::LiteralCut => is_flattened(role),
-            NoteKind::Unanswered => is_left_unset(role),
+            NoteKind::Uncaught => matches!(role, Role::Thrown | Role::Rethrown),
+            NoteKind::UncaughtInLoop => matches!(role, Role::ThrownInLoop),
+            NoteKind::EndsService => matches!(role, Role::ThrownInLoop),
+            NoteKind::Unthrown => matches!(role, Role::Handled | Role::HandledInside),
+            NoteKind::NoScope => matches!(role, Role::Compensated),
+            NoteKind::Unsent => matches!(role, Role::Port),
+            NoteKind::Unset => matches!(role, Role::Read | Role::RootTaken),
+            NoteKind::Unread => matches!(role, Role::Set),
+            NoteKind::Forgotten => matches!(role, Role::Kept),
+            NoteKind::TreeCut => matches!(role, Role::RootTaken),
+            NoteKind::LiteralCut => matches!(role, Role::Flattened),
+            NoteKind::Unanswered => matches!(role, Role::LeftUnset),
         }
     }
 
@@ -62,77 +63,26 @@ impl NoteKind {
             NoteKind::UncaughtInLoop => false,
             NoteKind::EndsService => false,
             NoteKind::Unthrown => throws(role),
-            NoteKind::NoScope => is_scope(role),
-            NoteKind::Unsent => is_sent_to(role),
+            NoteKind::NoScope => matches!(role, Role::Scope),
+            NoteKind::Unsent => matches!(role, Role::SentTo),
             NoteKind::Unset => gives_value(role),
             NoteKind::Unread => takes_value(role),
-            NoteKind::Forgotten => takes_value(role) || is_set_by_statement(role),
-            NoteKind::TreeCut => is_branched(role),
-            NoteKind::LiteralCut => is_flattened(role),
-            NoteKind::Unanswered => is_set_outside(role),
+            NoteKind::Forgotten => takes_value(role) || matches!(role, Role::Set),
+            NoteKind::TreeCut => matches!(role, Role::Branched),
+            NoteKind::LiteralCut => matches!(role, Role::Flattened),
+            NoteKind::Unanswered => matches!(role, Role::Set | Role::Kept | Role::Received),
         }
     }
 }
 
-/// A fault that leaves the service, but for those in a loop.
-fn is_thrown(role: Role) -> bool
-    ensures { result ≡ spec.is_thrown role }
-{
-    matches!(role, Role::Thrown | Role::Rethrown)
-}
-
-fn is_thrown_in_loop(role: Role) -> bool
-    ensures { result ≡ spec.is_thrown_in_loop role }
-{
-    matches!(role, Role::ThrownInLoop)
-}
-
 /// A fault that is thrown, whatever becomes of it.
 fn throws(role: Role) -> bool
-    ensures { result ≡ spec.throws role }
+    ensures { result ≡ spec.is_met kind.Unthrown role }
 {
     matches!(
         role,
         Role::Thrown | Role::ThrownInLoop | Role::Rethrown | Role::Caught
     )
-}
-
-/// A fault that has a handler.
-fn is_handled(role: Role) -> bool
-    ensures { result ≡ spec.is_handled role }
-{
-    matches!(role, Role::Handled | Role::HandledInside)
-}
-
-fn is_scope(role: Role) -> bool
-    ensures { result ≡ spec.is_scope role }
-{
-    matches!(role, Role::Scope)
-}
-
-fn is_compensated(role: Role) -> bool
-    ensures { result ≡ spec.is_compensated role }
-{
-    matches!(role, Role::Compensated)
-}
-
-fn is_port(role: Role) -> bool
-    ensures { result ≡ spec.is_port role }
-{
-    matches!(role, Role::Port)
-}
-
-fn is_sent_to(role: Role) -> bool
-    ensures { result ≡ spec.is_sent_to role }
-{
-    matches!(role, Role::SentTo)
-}
-
-/// A variable whose value is used.
-fn is_read(role: Role) -> bool
-    ensures { result ≡ spec.is_read role }
-{
-    matches!(role, Role::Read | Role::RootTaken)
 }
 
 /// A variable whose value is used, or answered.
@@ -145,62 +95,14 @@ fn takes_value(role: Role) -> bool
     )
 }
 
-/// A variable that a statement sets where something is answered.
-fn is_set_by_statement(role: Role) -> bool
-    ensures { result ≡ spec.is_set_by_statement role }
-{
-    matches!(role, Role::Set)
-}
-
-fn is_kept(role: Role) -> bool
-    ensures { result ≡ spec.is_kept role }
-{
-    matches!(role, Role::Kept)
-}
-
 /// A variable that gets a value, or a scope, whose faults stand below its name.
 fn gives_value(role: Role) -> bool
-    ensures { result ≡ spec.gives_value role }
+    ensures { result ≡ spec.is_met kind.Unset role }
 {
     matches!(
         role,
         Role::Set | Role::Kept | Role::Received | Role::Filled | Role::Scope
     )
-}
-
-/// A variable that is the whole right side of `=`.
-fn is_taken(role: Role) -> bool
-    ensures { result ≡ spec.is_taken role }
-{
-    matches!(role, Role::RootTaken)
-}
-
-/// A variable of which a field was set or taken.
-fn is_branched(role: Role) -> bool
-    ensures { result ≡ spec.is_branched role }
-{
-    matches!(role, Role::Branched)
-}
-
-/// A variable that is set by `=` to a literal with members.
-fn is_flattened(role: Role) -> bool
-    ensures { result ≡ spec.is_flattened role }
-{
-    matches!(role, Role::Flattened)
-}
-
-/// A variable that a request is answered by, and that its body does not set.
-fn is_left_unset(role: Role) -> bool
-    ensures { result ≡ spec.is_left_unset role }
-{
-    matches!(role, Role::LeftUnset)
-}
-
-/// A variable that gets a value outside of the requests that it answers.
-fn is_set_outside(role: Role) -> bool
-    ensures { result ≡ spec.is_set_outside role }
-{
-    matches!(role, Role::Set | Role::Kept | Role::Received)
 }
 
 /// An operation whose answer is a variable.

@@ -1,40 +1,51 @@
 //! The notes of one kind.
 
 ghost use Rattle.std.specs.Prelude.{◌≡◌, ◌++◌, OnOk, false};
+ghost use Rattle.program_mentions.specs.Mentions.{names_in};
 ghost use Rattle.file_notes.specs.Notes as spec;
+ghost use Rattle.file_notes.specs.Rules.{is_met};
 
+use crate::declared::texts_met;
 use crate::kind::{NoteKind, is_asked};
 use crate::note::Note;
 use check_base::Names;
 use program_mentions::Mention;
 use std::alloc::{AllocError, Global};
 
-/// The notes of a kind: of each name where it first stands in its roles, but where these texts or other roles meet it.
-pub fn add_unmet<'a>(
-    kind: NoteKind,
-    known: Names<'a>,
-    mentions: &[Mention<'a>],
-    notes: &mut Vec<Note<'a>>,
-) -> Result<(), AllocError>
-    ensures { OnOk result (notes.new.items ≡ notes.old.items ++ spec.notes_for kind known.entry mentions.now) }
-{
-    let mut known = known;
-    add_met(kind, mentions, &mut known)?;
-    add_unknown(kind, &mut known, mentions, notes)
-}
-
-/// The notes of a kind that other roles make: of each mention in its roles whose name they meet.
-pub fn add_among<'a>(
+/// The notes of a kind, in a file whose operations have these faults, and those of the other names are content with
+/// void.
+pub fn add_notes<'a>(
     alloc: Global,
     kind: NoteKind,
+    declared: &Names<'a>,
+    content: &Names<'a>,
     mentions: &[Mention<'a>],
     notes: &mut Vec<Note<'a>>,
 ) -> Result<(), AllocError>
-    ensures { OnOk result (notes.new.items ≡ notes.old.items ++ spec.notes_among kind mentions.now) }
+    ensures { OnOk result (notes.new.items ≡ notes.old.items ++ spec.notes_for declared.now content.now mentions.now kind) }
 {
-    let mut known = Names::new(alloc);
-    add_met(kind, mentions, &mut known)?;
-    add_known(kind, &known, mentions, notes)
+    let mut met = texts_met(alloc, kind, declared)?;
+    add_met(kind, mentions, &mut met)?;
+    add_by(kind, &mut met, content, mentions, notes)
+}
+
+/// The notes of a kind, by the texts that meet its names.
+#[tactic(auto, using(crate::proofs::ByKind::of_the_unmet))]
+fn add_by<'a>(
+    kind: NoteKind,
+    met: &mut Names<'a>,
+    content: &Names<'a>,
+    mentions: &[Mention<'a>],
+    notes: &mut Vec<Note<'a>>,
+) -> Result<(), AllocError>
+    ensures { OnOk result (notes.new.items ≡ notes.old.items ++ spec.notes_by kind met.old content.now mentions.now) }
+{
+    match kind {
+        NoteKind::TreeCut => add_known(kind, met, mentions, notes),
+        NoteKind::LiteralCut => add_known(kind, met, mentions, notes),
+        NoteKind::Unanswered => add_unanswered_after(content, met, mentions, notes),
+        _ => add_unknown(kind, met, mentions, notes),
+    }
 }
 
 /// The notes of a kind: of each mention in its roles whose name is known.
@@ -61,7 +72,7 @@ fn add_met<'a>(
     mentions: &[Mention<'a>],
     known: &mut Names<'a>,
 ) -> Result<(), AllocError>
-    ensures { OnOk result (known.new ≡ known.old ++ spec.names_met kind mentions.now) }
+    ensures { OnOk result (known.new ≡ known.old ++ names_in (is_met kind) mentions.now) }
 {
     for mention in mentions {
         if kind.is_met_by(mention.role()) {
@@ -88,20 +99,6 @@ fn add_unknown<'a>(
         }
     }
     Ok(())
-}
-
-/// The answers that are set nowhere, in a file whose operations of these names are content with void.
-pub fn add_unanswered<'a>(
-    alloc: Global,
-    content: &Names<'a>,
-    mentions: &[Mention<'a>],
-    notes: &mut Vec<Note<'a>>,
-) -> Result<(), AllocError>
-    ensures { OnOk result (notes.new.items ≡ notes.old.items ++ spec.unanswered content.now mentions.now) }
-{
-    let mut known = Names::new(alloc);
-    add_met(NoteKind::Unanswered, mentions, &mut known)?;
-    add_unanswered_after(content, &known, mentions, notes)
 }
 
 /// The answers that no body and nothing else sets.

@@ -5,96 +5,68 @@ use Rattle.parse_hints.specs.declared.hint.Hint.TheVariants as hint
 use Rattle.parse_hints.specs.declared.hint.SaidBy.{SaidBy}
 use Rattle.parse_hints.specs.declared.hint.SaidBy.TheVariants as said
 
+-- A hint as a person reads it, and a sample of it: bytes that may stand there and nowhere else, so far as the grammar
+-- has such. What begins alike and is something else goes on otherwise.
+pub record HintRow : Type 0 where
+  pub words : List ℕ
+  pub sample : List ℕ
+
+-- a row of these
+abbrev pub row : List ℕ → List ℕ → HintRow
+row words sample = record { words = words; sample = sample }
+
+-- the row of a hint
+abbrev pub row_of : Hint → HintRow
+row_of hint.Definition = row (codes "a definition as `service`") (codes "type x:")
+row_of hint.EndOfFile = row (codes "the end of the file") (codes "type x:")
+row_of hint.Clause = row (codes "a clause as `main`") (codes "main {")
+row_of hint.Statement = row (codes "a statement") (codes "while (")
+row_of hint.Value = row (codes "a value") (codes "1L")
+row_of hint.Name = row (codes "a name") (codes "x")
+row_of hint.Number = row (codes "a number") (codes "1")
+row_of hint.QuotedText = row (codes "a text in quotes") (codes "\"\"")
+row_of hint.Type = row (codes "a type as `int`") (codes "void {")
+row_of hint.RequestType = row (codes "a type as `int`") (codes "void)(void) OneWay: x(")
+row_of hint.LastType = row (codes "a type as `int`") (codes "void) OneWay: x(")
+row_of hint.Location = row (codes "`location`") (codes "location: \"\"")
+row_of hint.Protocol = row (codes "`protocol`") (codes "protocol: x interfaces: x, x }")
+row_of hint.Interfaces = row (codes "`interfaces`") (codes "interfaces: x, x }")
+row_of hint.Concurrent = row (codes "`concurrent`") (codes "concurrent main {")
+row_of hint.Single = row (codes "`single`") (codes "single main {")
+row_of hint.RequestResponse = row (codes "`RequestResponse`") (codes "RequestResponse: x(")
+row_of hint.OneWay = row (codes "`OneWay`") (codes "OneWay: x(")
+row_of hint.Throws = row (codes "`throws`") (codes "throws x(")
+row_of hint.This = row (codes "`this`") (codes "this =>")
+row_of hint.Else = row (codes "`else`") (codes "else {")
+row_of hint.If = row (codes "`if`") (codes "if (")
+row_of hint.Operator = row (codes "an operator as `+`") (codes "&&")
+row_of hint.OpenBrace = row (codes "`{`") (codes "{")
+row_of hint.CloseBrace = row (codes "`}`") (codes "}")
+row_of hint.OpenParen = row (codes "`(`") (codes "(")
+row_of hint.CloseParen = row (codes "`)`") (codes ")")
+row_of hint.OpenBracket = row (codes "`[`") (codes "[")
+row_of hint.CloseBracket = row (codes "`]`") (codes "]")
+row_of hint.Comma = row (codes "`,`") (codes ",")
+row_of hint.Semicolon = row (codes "`;`") (codes ";")
+row_of hint.Bar = row (codes "`|`") (codes "|")
+row_of hint.Colon = row (codes "`:`") (codes ":")
+row_of hint.Dot = row (codes "`.`") (codes ".")
+row_of hint.Assign = row (codes "`=`") (codes "=")
+row_of hint.DeepAssign = row (codes "`<<`") (codes "<<")
+row_of hint.Increment = row (codes "`++`") (codes "++")
+row_of hint.Decrement = row (codes "`--`") (codes "--")
+row_of hint.Arrow = row (codes "`=>`") (codes "=>")
+row_of hint.At = row (codes "`@`") (codes "@")
+row_of hint.Question = row (codes "`?`") (codes "?")
+row_of hint.Star = row (codes "`*`") (codes "*")
+
 -- the hint as a person reads it
 abbrev pub words_of : Hint → List ℕ
-words_of hint.Definition = codes "a definition as `service`"
-words_of hint.EndOfFile = codes "the end of the file"
-words_of hint.Clause = codes "a clause as `main`"
-words_of hint.Statement = codes "a statement"
-words_of hint.Value = codes "a value"
-words_of hint.Name = codes "a name"
-words_of hint.Number = codes "a number"
-words_of hint.QuotedText = codes "a text in quotes"
-words_of hint.Type = codes "a type as `int`"
-words_of hint.RequestType = codes "a type as `int`"
-words_of hint.LastType = codes "a type as `int`"
-words_of hint.Location = codes "`location`"
-words_of hint.Protocol = codes "`protocol`"
-words_of hint.Interfaces = codes "`interfaces`"
-words_of hint.Concurrent = codes "`concurrent`"
-words_of hint.Single = codes "`single`"
-words_of hint.RequestResponse = codes "`RequestResponse`"
-words_of hint.OneWay = codes "`OneWay`"
-words_of hint.Throws = codes "`throws`"
-words_of hint.This = codes "`this`"
-words_of hint.Else = codes "`else`"
-words_of hint.If = codes "`if`"
-words_of hint.Operator = codes "an operator as `+`"
-words_of hint.OpenBrace = codes "`{`"
-words_of hint.CloseBrace = codes "`}`"
-words_of hint.OpenParen = codes "`(`"
-words_of hint.CloseParen = codes "`)`"
-words_of hint.OpenBracket = codes "`[`"
-words_of hint.CloseBracket = codes "`]`"
-words_of hint.Comma = codes "`,`"
-words_of hint.Semicolon = codes "`;`"
-words_of hint.Bar = codes "`|`"
-words_of hint.Colon = codes "`:`"
-words_of hint.Dot = codes "`.`"
-words_of hint.Assign = codes "`=`"
-words_of hint.DeepAssign = codes "`<<`"
-words_of hint.Increment = codes "`++`"
-words_of hint.Decrement = codes "`--`"
-words_of hint.Arrow = codes "`=>`"
-words_of hint.At = codes "`@`"
-words_of hint.Question = codes "`?`"
-words_of hint.Star = codes "`*`"
+words_of h = (row_of h).words
 
--- A sample of it: bytes that may stand there and nowhere else, so far as the grammar has such. What begins alike and is
--- something else goes on otherwise.
+-- a sample of it
 abbrev pub sample_of : Hint → List ℕ
-sample_of hint.Definition = codes "type x:"
-sample_of hint.EndOfFile = codes "type x:"
-sample_of hint.Clause = codes "main {"
-sample_of hint.Statement = codes "while ("
-sample_of hint.Value = codes "1L"
-sample_of hint.Name = codes "x"
-sample_of hint.Number = codes "1"
-sample_of hint.QuotedText = codes "\"\""
-sample_of hint.Type = codes "void {"
-sample_of hint.RequestType = codes "void)(void) OneWay: x("
-sample_of hint.LastType = codes "void) OneWay: x("
-sample_of hint.Location = codes "location: \"\""
-sample_of hint.Protocol = codes "protocol: x interfaces: x, x }"
-sample_of hint.Interfaces = codes "interfaces: x, x }"
-sample_of hint.Concurrent = codes "concurrent main {"
-sample_of hint.Single = codes "single main {"
-sample_of hint.RequestResponse = codes "RequestResponse: x("
-sample_of hint.OneWay = codes "OneWay: x("
-sample_of hint.Throws = codes "throws x("
-sample_of hint.This = codes "this =>"
-sample_of hint.Else = codes "else {"
-sample_of hint.If = codes "if ("
-sample_of hint.Operator = codes "&&"
-sample_of hint.OpenBrace = codes "{"
-sample_of hint.CloseBrace = codes "}"
-sample_of hint.OpenParen = codes "("
-sample_of hint.CloseParen = codes ")"
-sample_of hint.OpenBracket = codes "["
-sample_of hint.CloseBracket = codes "]"
-sample_of hint.Comma = codes ","
-sample_of hint.Semicolon = codes ";"
-sample_of hint.Bar = codes "|"
-sample_of hint.Colon = codes ":"
-sample_of hint.Dot = codes "."
-sample_of hint.Assign = codes "="
-sample_of hint.DeepAssign = codes "<<"
-sample_of hint.Increment = codes "++"
-sample_of hint.Decrement = codes "--"
-sample_of hint.Arrow = codes "=>"
-sample_of hint.At = codes "@"
-sample_of hint.Question = codes "?"
-sample_of hint.Star = codes "*"
+sample_of h = (row_of h).sample
 
 -- Another hint that says it too: a value may be a name, a number, a text, a literal or in parentheses; a statement may
 -- begin with a name, with `if` or with a bracket; `*` is an operator.

@@ -1,6 +1,5 @@
 -- What an expression mentions at each form.
 use Rattle.std.proofs.Common.{◌≡◌, ℕ, ℤ, Bool, List, [], ◌++◌, Option, Some, None, ap, sym, ◌∙◌, map, flat_map}
-use Rattle.std.specs.Prelude.{option_map}
 use Rattle.jolie_ast.specs.declared.name.Name.{Name}
 use Rattle.jolie_ast.specs.declared.expression.Comparison.{Comparison}
 use Rattle.jolie_ast.specs.declared.expression.CastTarget.{CastTarget}
@@ -16,14 +15,16 @@ use Rattle.jolie_ast.specs.declared.expression.Path.{Path, out-Path, roll-out-Pa
 use Rattle.jolie_ast.specs.declared.expression.Step.{Step, out-Step, roll-Step, roll-out-Step}
 use Rattle.program_mentions.specs.declared.role.Role.TheVariants as role
 use Rattle.program_mentions.specs.Mentions.{Seen}
-use Rattle.program_mentions.specs.Expressions.{Stepped, Walked, maybe, form_level, expr_level, factor_level, member_level, path_level, step_level, term_level, form_mentions, expr_mentions, factor_mentions, term_mentions, member_mentions, path_walked, step_seen, path_mentions, index_mentions}
+use Rattle.program_mentions.specs.Expressions.{Walked, form_level, expr_level, factor_level, member_level, path_level, step_level, term_level, expr_mentions, path_walked, path_mentions}
+use Rattle.program_mentions.specs.Parts.{form_mentions, factor_mentions, term_mentions, member_mentions, step_walked, index_mentions}
+use Rattle.program_mentions.specs.Statements.{if_written}
 use Rattle.program_mentions.proofs.Lists.{mapped_joined, mapped_parts}
 
 -- what a form mentions, by the form that it is made of
 form_made : (x : ExprForm-F ExprForm Expr Factor Member Path Step Term) {f : ExprForm} → roll-ExprForm x ≡ f
-    → form_mentions f ≡ form_level (map-ExprForm ExprForm Expr Factor Member Path Step Term Seen Seen Seen Seen Walked Stepped Seen form_mentions expr_mentions factor_mentions member_mentions path_walked step_seen term_mentions x)
-unfolding form_mentions expr_mentions factor_mentions member_mentions path_walked step_seen term_mentions
-form_made x made = ap form_mentions (sym made) ∙ fold-roll-ExprForm Seen Seen Seen Seen Walked Stepped Seen form_level expr_level factor_level member_level path_level step_level term_level x
+    → form_mentions f ≡ form_level (map-ExprForm ExprForm Expr Factor Member Path Step Term Seen Seen Seen Seen Walked Walked Seen form_mentions expr_mentions factor_mentions member_mentions path_walked step_walked term_mentions x)
+unfolding form_mentions expr_mentions factor_mentions member_mentions path_walked step_walked term_mentions
+form_made x made = ap form_mentions (sym made) ∙ fold-roll-ExprForm Seen Seen Seen Seen Walked Walked Seen form_level expr_level factor_level member_level path_level step_level term_level x
 
 pub int_is : (n : ℤ) → form_mentions (form.Int n) ≡ []
 int_is n = form_made (ExprForm-F.Int n) (form.rolls-Int n)
@@ -78,53 +79,53 @@ pub or_is : (values : List Expr) → form_mentions (form.Or values) ≡ flat_map
 or_is values = form_made (ExprForm-F.Or values) (form.rolls-Or values) ∙ mapped_joined expr_mentions values
 
 pub expr_is : (e : Expr) → expr_mentions e ≡ form_mentions (out-Expr e).form
-unfolding form_mentions expr_mentions factor_mentions member_mentions path_walked step_seen term_mentions
+unfolding form_mentions expr_mentions factor_mentions member_mentions path_walked step_walked term_mentions
 expr_is e =
     ap expr_mentions (sym (roll-out-Expr e))
-    ∙ fold-roll-Expr Seen Seen Seen Seen Walked Stepped Seen form_level expr_level factor_level member_level path_level step_level term_level (out-Expr e)
+    ∙ fold-roll-Expr Seen Seen Seen Seen Walked Walked Seen form_level expr_level factor_level member_level path_level step_level term_level (out-Expr e)
 
 pub factor_is : (f : Factor) → factor_mentions f ≡ expr_mentions (out-Factor f).operand
-unfolding form_mentions expr_mentions factor_mentions member_mentions path_walked step_seen term_mentions
+unfolding form_mentions expr_mentions factor_mentions member_mentions path_walked step_walked term_mentions
 factor_is f =
     ap factor_mentions (sym (roll-out-Factor f))
-    ∙ fold-roll-Factor Seen Seen Seen Seen Walked Stepped Seen form_level expr_level factor_level member_level path_level step_level term_level (out-Factor f)
+    ∙ fold-roll-Factor Seen Seen Seen Seen Walked Walked Seen form_level expr_level factor_level member_level path_level step_level term_level (out-Factor f)
 
 pub term_is : (t : Term) → term_mentions t ≡ expr_mentions (out-Term t).operand
-unfolding form_mentions expr_mentions factor_mentions member_mentions path_walked step_seen term_mentions
+unfolding form_mentions expr_mentions factor_mentions member_mentions path_walked step_walked term_mentions
 term_is t =
     ap term_mentions (sym (roll-out-Term t))
-    ∙ fold-roll-Term Seen Seen Seen Seen Walked Stepped Seen form_level expr_level factor_level member_level path_level step_level term_level (out-Term t)
+    ∙ fold-roll-Term Seen Seen Seen Seen Walked Walked Seen form_level expr_level factor_level member_level path_level step_level term_level (out-Term t)
 
 pub member_is : (m : Member) → member_mentions m ≡ expr_mentions (out-Member m).value
-unfolding form_mentions expr_mentions factor_mentions member_mentions path_walked step_seen term_mentions
+unfolding form_mentions expr_mentions factor_mentions member_mentions path_walked step_walked term_mentions
 member_is m =
     ap member_mentions (sym (roll-out-Member m))
-    ∙ fold-roll-Member Seen Seen Seen Seen Walked Stepped Seen form_level expr_level factor_level member_level path_level step_level term_level (out-Member m)
+    ∙ fold-roll-Member Seen Seen Seen Seen Walked Walked Seen form_level expr_level factor_level member_level path_level step_level term_level (out-Member m)
 
 -- a step of its name and its index, if one is written
-step_made : (name : Name) (index : Option Expr) → step_seen (roll-Step (record { name = name; index = index })) ≡ record { name = name; index = maybe (option_map expr_mentions index) }
-unfolding form_mentions expr_mentions factor_mentions member_mentions path_walked step_seen term_mentions
-step_made name None = fold-roll-Step Seen Seen Seen Seen Walked Stepped Seen form_level expr_level factor_level member_level path_level step_level term_level (record { name = name; index = None })
-step_made name (Some e) = fold-roll-Step Seen Seen Seen Seen Walked Stepped Seen form_level expr_level factor_level member_level path_level step_level term_level (record { name = name; index = Some e })
+step_made : (name : Name) (index : Option Expr) → step_walked (roll-Step (record { name = name; index = index })) ≡ record { name = name; indices = if_written expr_mentions index }
+unfolding form_mentions expr_mentions factor_mentions member_mentions path_walked step_walked term_mentions
+step_made name None = fold-roll-Step Seen Seen Seen Seen Walked Walked Seen form_level expr_level factor_level member_level path_level step_level term_level (record { name = name; index = None })
+step_made name (Some e) = fold-roll-Step Seen Seen Seen Seen Walked Walked Seen form_level expr_level factor_level member_level path_level step_level term_level (record { name = name; index = Some e })
 
-step_whole : (s : Step) → step_seen s ≡ record { name = (out-Step s).name; index = maybe (option_map expr_mentions (out-Step s).index) }
-step_whole s = ap step_seen (sym (roll-out-Step s)) ∙ step_made (out-Step s).name (out-Step s).index
+step_whole : (s : Step) → step_walked s ≡ record { name = (out-Step s).name; indices = if_written expr_mentions (out-Step s).index }
+step_whole s = ap step_walked (sym (roll-out-Step s)) ∙ step_made (out-Step s).name (out-Step s).index
 
-pub step_is : (s : Step) → index_mentions s ≡ maybe (option_map expr_mentions (out-Step s).index)
-step_is s = ap (λ (w : Stepped). w.index) (step_whole s)
+pub step_is : (s : Step) → index_mentions s ≡ if_written expr_mentions (out-Step s).index
+step_is s = ap (λ (w : Walked). w.indices) (step_whole s)
 
-path_made : (p : Path) → path_walked p ≡ record { variable = (step_seen (out-Path p).first).name; indices = index_mentions (out-Path p).first ++ flat_map (λ (w : Stepped). w.index) (map step_seen (out-Path p).rest) }
-unfolding form_mentions expr_mentions factor_mentions member_mentions path_walked step_seen term_mentions
+path_made : (p : Path) → path_walked p ≡ record { name = (step_walked (out-Path p).first).name; indices = index_mentions (out-Path p).first ++ flat_map (λ (w : Walked). w.indices) (map step_walked (out-Path p).rest) }
+unfolding form_mentions expr_mentions factor_mentions member_mentions path_walked step_walked term_mentions
 path_made p =
     ap path_walked (sym (roll-out-Path p))
-    ∙ fold-roll-Path Seen Seen Seen Seen Walked Stepped Seen form_level expr_level factor_level member_level path_level step_level term_level (out-Path p)
+    ∙ fold-roll-Path Seen Seen Seen Seen Walked Walked Seen form_level expr_level factor_level member_level path_level step_level term_level (out-Path p)
 
 -- the variable of a path is the name of its first step
-pub variable_is : (p : Path) → (path_walked p).variable ≡ (out-Step (out-Path p).first).name
-variable_is p = ap (λ (w : Walked). w.variable) (path_made p) ∙ ap (λ (w : Stepped). w.name) (step_whole (out-Path p).first)
+pub variable_is : (p : Path) → (path_walked p).name ≡ (out-Step (out-Path p).first).name
+variable_is p = ap (λ (w : Walked). w.name) (path_made p) ∙ ap (λ (w : Walked). w.name) (step_whole (out-Path p).first)
 
 -- what the indices of a path mention
 pub indices_are : (p : Path) → (path_walked p).indices ≡ index_mentions (out-Path p).first ++ flat_map index_mentions (out-Path p).rest
 indices_are p =
     ap (λ (w : Walked). w.indices) (path_made p)
-    ∙ ap (λ ms. index_mentions (out-Path p).first ++ ms) (mapped_parts (λ (w : Stepped). w.index) step_seen (out-Path p).rest)
+    ∙ ap (λ ms. index_mentions (out-Path p).first ++ ms) (mapped_parts (λ (w : Walked). w.indices) step_walked (out-Path p).rest)

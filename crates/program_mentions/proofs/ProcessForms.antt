@@ -1,6 +1,6 @@
 -- What a process mentions at each form.
-use Rattle.std.proofs.Common.{◌≡◌, ℕ, true, false, List, [], ◌∷◌, ◌++◌, Option, Some, None, refl, ap, sym, ◌∙◌, map, flat_map}
-use Rattle.std.specs.Prelude.{is_some, option_map}
+use Rattle.std.proofs.Common.{◌≡◌, ℕ, List, [], ◌∷◌, ◌++◌, Option, Some, None, refl, ap, sym, ◌∙◌, map, flat_map, append-nil}
+use Rattle.std.specs.Prelude.{is_some}
 use Rattle.jolie_ast.specs.declared.name.Name.{Name}
 use Rattle.jolie_ast.specs.declared.expression.Expr.{Expr}
 use Rattle.jolie_ast.specs.declared.expression.Path.{Path}
@@ -20,19 +20,20 @@ use Rattle.jolie_ast.specs.declared.process.Branch.{Branch, out-Branch, roll-out
 use Rattle.jolie_ast.specs.declared.process.Answer.{Answer, out-Answer, roll-Answer, roll-out-Answer}
 use Rattle.jolie_ast.specs.declared.process.Handler.{Handler, out-Handler, roll-out-Handler}
 use Rattle.program_mentions.specs.declared.role.Role.TheVariants as role
-use Rattle.program_mentions.specs.Mentions.{Seen, mention, in_loop}
-use Rattle.program_mentions.specs.Expressions.{expr_mentions, maybe, path_walked}
-use Rattle.program_mentions.specs.Statements.{assigned_mentions, begun_mentions, handler_mentions_of, received_mentions, request_mentions, scoped, stepped_mentions, value_mentions}
-use Rattle.program_mentions.specs.Processes.{Replied, Asked, request_seen, after_input, process_level, block_level, if_level, otherwise_level, input_level, reply_level, branch_level, answer_level, handler_level, process_mentions, block_mentions, if_mentions, otherwise_mentions, input_asked, reply_seen, branch_mentions, answer_mentions, handler_mentions}
+use Rattle.program_mentions.specs.Mentions.{Seen, mention, around_scope, in_role, kept_role, looped_role}
+use Rattle.program_mentions.specs.Expressions.{expr_mentions, path_walked}
+use Rattle.program_mentions.specs.Statements.{assigned_mentions, begun_mentions, handler_mentions_of, if_written, received_mentions, request_mentions, stepped_mentions}
+use Rattle.program_mentions.specs.Processes.{process_level, block_level, if_level, otherwise_level, input_level, reply_level, branch_level, answer_level, handler_level, block_mentions}
+use Rattle.program_mentions.specs.Parts.{after_input, process_mentions, if_mentions, otherwise_mentions, input_mentions, reply_mentions, branch_mentions, answer_mentions, handler_mentions}
 use Rattle.program_mentions.proofs.Lists.{mapped_joined}
 
 -- ---- processes
 
 -- what a process mentions, by the form that it is made of
 process_made : (x : Process-F Otherwise Process Answer Block Branch Handler If Input Reply) {p : Process} → roll-Process x ≡ p
-    → process_mentions p ≡ process_level (map-Process Otherwise Process Answer Block Branch Handler If Input Reply Seen Seen Seen Seen Seen Seen Seen Asked Replied otherwise_mentions process_mentions answer_mentions block_mentions branch_mentions handler_mentions if_mentions input_asked reply_seen x)
-unfolding otherwise_mentions process_mentions answer_mentions block_mentions branch_mentions handler_mentions if_mentions input_asked reply_seen
-process_made x made = ap process_mentions (sym made) ∙ fold-roll-Process Seen Seen Seen Seen Seen Seen Seen Asked Replied otherwise_level process_level answer_level block_level branch_level handler_level if_level input_level reply_level x
+    → process_mentions p ≡ process_level (map-Process Otherwise Process Answer Block Branch Handler If Input Reply Seen Seen Seen Seen Seen Seen Seen (Seen → Seen) (Name → Seen → Seen) otherwise_mentions process_mentions answer_mentions block_mentions branch_mentions handler_mentions if_mentions input_mentions reply_mentions x)
+unfolding otherwise_mentions process_mentions answer_mentions block_mentions branch_mentions handler_mentions if_mentions input_mentions reply_mentions
+process_made x made = ap process_mentions (sym made) ∙ fold-roll-Process Seen Seen Seen Seen Seen Seen Seen (Seen → Seen) (Name → Seen → Seen) otherwise_level process_level answer_level block_level branch_level handler_level if_level input_level reply_level x
 
 pub nothing_is : (at : ℕ) → process_mentions (process.Nothing at) ≡ []
 nothing_is at = process_made (Process-F.«Process::Nothing» at) (process.rolls-Nothing at)
@@ -49,29 +50,29 @@ correlate_is at variable value = process_made (Process-F.Correlate at variable v
 pub conditional_is : (i : If) → process_mentions (process.If i) ≡ if_mentions i
 conditional_is i = process_made (Process-F.If i) (process.rolls-If i)
 
-pub while_is : (at : ℕ) (test : Expr) (body : Block) → process_mentions (process.While at test body) ≡ expr_mentions test ++ map in_loop (block_mentions body)
+pub while_is : (at : ℕ) (test : Expr) (body : Block) → process_mentions (process.While at test body) ≡ expr_mentions test ++ map (in_role looped_role) (block_mentions body)
 while_is at test body = process_made (Process-F.While at test body) (process.rolls-While at test body)
 
-pub for_is : (at : ℕ) (path : Path) (first : Expr) (test : Expr) (stepped : Path) (step : ForStep) (body : Block) → process_mentions (process.For at path first test stepped step body) ≡ begun_mentions path first test ++ (stepped_mentions stepped step ++ map in_loop (block_mentions body))
+pub for_is : (at : ℕ) (path : Path) (first : Expr) (test : Expr) (stepped : Path) (step : ForStep) (body : Block) → process_mentions (process.For at path first test stepped step body) ≡ begun_mentions path first test ++ (stepped_mentions stepped step ++ map (in_role looped_role) (block_mentions body))
 for_is at path first test stepped step body = process_made (Process-F.For at path first test stepped step body) (process.rolls-For at path first test stepped step body)
 
-pub input_form_is : (i : Input) → process_mentions (process.Input i) ≡ (input_asked i).seen
+pub input_form_is : (i : Input) → process_mentions (process.Input i) ≡ input_mentions i []
 input_form_is i = process_made (Process-F.Input i) (process.rolls-Input i)
 
 pub choice_is : (at : ℕ) (branches : List Branch) → process_mentions (process.Choice at branches) ≡ flat_map branch_mentions branches
 choice_is at branches = process_made (Process-F.Choice at branches) (process.rolls-Choice at branches) ∙ mapped_joined branch_mentions branches
 
-pub output_is : (operation : Name) (port : Name) (value : Option Expr) (answer : Option Answer) → process_mentions (process.Output operation port value answer) ≡ mention role.SentTo port ∷ (value_mentions value ++ maybe (option_map answer_mentions answer))
+pub output_is : (operation : Name) (port : Name) (value : Option Expr) (answer : Option Answer) → process_mentions (process.Output operation port value answer) ≡ mention role.SentTo port ∷ (if_written expr_mentions value ++ if_written answer_mentions answer)
 output_is operation port value None = process_made (Process-F.Output operation port value None) (process.rolls-Output operation port value None)
 output_is operation port value (Some it) = process_made (Process-F.Output operation port value (Some it)) (process.rolls-Output operation port value (Some it))
 
-pub scope_is : (at : ℕ) (name : Name) (body : Block) → process_mentions (process.Scope at name body) ≡ scoped name (block_mentions body)
+pub scope_is : (at : ℕ) (name : Name) (body : Block) → process_mentions (process.Scope at name body) ≡ mention role.Scope name ∷ around_scope (block_mentions body)
 scope_is at name body = process_made (Process-F.Scope at name body) (process.rolls-Scope at name body)
 
 pub install_is : (at : ℕ) (handlers : List Handler) → process_mentions (process.Install at handlers) ≡ flat_map handler_mentions handlers
 install_is at handlers = process_made (Process-F.Install at handlers) (process.rolls-Install at handlers) ∙ mapped_joined handler_mentions handlers
 
-pub throw_is : (at : ℕ) (fault : Name) (value : Option Expr) → process_mentions (process.Throw at fault value) ≡ mention role.Thrown fault ∷ value_mentions value
+pub throw_is : (at : ℕ) (fault : Name) (value : Option Expr) → process_mentions (process.Throw at fault value) ≡ mention role.Thrown fault ∷ if_written expr_mentions value
 throw_is at fault value = process_made (Process-F.Throw at fault value) (process.rolls-Throw at fault value)
 
 pub compensate_is : (at : ℕ) (scope : Name) → process_mentions (process.Compensate at scope) ≡ mention role.Compensated scope ∷ []
@@ -92,9 +93,9 @@ parallel_is members = process_made (Process-F.Parallel members) (process.rolls-P
 -- ---- what an `if` does where its test fails
 
 otherwise_made : (x : Otherwise-F Otherwise Process Answer Block Branch Handler If Input Reply) {o : Otherwise} → roll-Otherwise x ≡ o
-    → otherwise_mentions o ≡ otherwise_level (map-Otherwise Otherwise Process Answer Block Branch Handler If Input Reply Seen Seen Seen Seen Seen Seen Seen Asked Replied otherwise_mentions process_mentions answer_mentions block_mentions branch_mentions handler_mentions if_mentions input_asked reply_seen x)
-unfolding otherwise_mentions process_mentions answer_mentions block_mentions branch_mentions handler_mentions if_mentions input_asked reply_seen
-otherwise_made x made = ap otherwise_mentions (sym made) ∙ fold-roll-Otherwise Seen Seen Seen Seen Seen Seen Seen Asked Replied otherwise_level process_level answer_level block_level branch_level handler_level if_level input_level reply_level x
+    → otherwise_mentions o ≡ otherwise_level (map-Otherwise Otherwise Process Answer Block Branch Handler If Input Reply Seen Seen Seen Seen Seen Seen Seen (Seen → Seen) (Name → Seen → Seen) otherwise_mentions process_mentions answer_mentions block_mentions branch_mentions handler_mentions if_mentions input_mentions reply_mentions x)
+unfolding otherwise_mentions process_mentions answer_mentions block_mentions branch_mentions handler_mentions if_mentions input_mentions reply_mentions
+otherwise_made x made = ap otherwise_mentions (sym made) ∙ fold-roll-Otherwise Seen Seen Seen Seen Seen Seen Seen (Seen → Seen) (Name → Seen → Seen) otherwise_level process_level answer_level block_level branch_level handler_level if_level input_level reply_level x
 
 pub no_else_is : otherwise_mentions otherwise.Nothing ≡ []
 no_else_is = otherwise_made Otherwise-F.«Otherwise::Nothing» otherwise.rolls-Nothing
@@ -107,58 +108,73 @@ else_is b = otherwise_made (Otherwise-F.Else b) (otherwise.rolls-Else b)
 
 -- ---- the parts of processes
 
-block_made : (at : ℕ) (body : Option Process) → block_mentions (roll-Block (record { at = at; body = body })) ≡ maybe (option_map process_mentions body)
-unfolding otherwise_mentions process_mentions answer_mentions block_mentions branch_mentions handler_mentions if_mentions input_asked reply_seen
-block_made at None = fold-roll-Block Seen Seen Seen Seen Seen Seen Seen Asked Replied otherwise_level process_level answer_level block_level branch_level handler_level if_level input_level reply_level (record { at = at; body = None })
-block_made at (Some it) = fold-roll-Block Seen Seen Seen Seen Seen Seen Seen Asked Replied otherwise_level process_level answer_level block_level branch_level handler_level if_level input_level reply_level (record { at = at; body = Some it })
+block_made : (at : ℕ) (body : Option Process) → block_mentions (roll-Block (record { at = at; body = body })) ≡ if_written process_mentions body
+unfolding otherwise_mentions process_mentions answer_mentions block_mentions branch_mentions handler_mentions if_mentions input_mentions reply_mentions
+block_made at None = fold-roll-Block Seen Seen Seen Seen Seen Seen Seen (Seen → Seen) (Name → Seen → Seen) otherwise_level process_level answer_level block_level branch_level handler_level if_level input_level reply_level (record { at = at; body = None })
+block_made at (Some it) = fold-roll-Block Seen Seen Seen Seen Seen Seen Seen (Seen → Seen) (Name → Seen → Seen) otherwise_level process_level answer_level block_level branch_level handler_level if_level input_level reply_level (record { at = at; body = Some it })
 
-pub block_is : (b : Block) → block_mentions b ≡ maybe (option_map process_mentions (out-Block b).body)
+pub block_is : (b : Block) → block_mentions b ≡ if_written process_mentions (out-Block b).body
 block_is b = ap block_mentions (sym (roll-out-Block b)) ∙ block_made (out-Block b).at (out-Block b).body
 
 pub if_is : (i : If) → if_mentions i ≡ expr_mentions (out-If i).test ++ (block_mentions (out-If i).body ++ otherwise_mentions (out-If i).otherwise)
-unfolding otherwise_mentions process_mentions answer_mentions block_mentions branch_mentions handler_mentions if_mentions input_asked reply_seen
+unfolding otherwise_mentions process_mentions answer_mentions block_mentions branch_mentions handler_mentions if_mentions input_mentions reply_mentions
 if_is i =
     ap if_mentions (sym (roll-out-If i))
-    ∙ fold-roll-If Seen Seen Seen Seen Seen Seen Seen Asked Replied otherwise_level process_level answer_level block_level branch_level handler_level if_level input_level reply_level (out-If i)
+    ∙ fold-roll-If Seen Seen Seen Seen Seen Seen Seen (Seen → Seen) (Name → Seen → Seen) otherwise_level process_level answer_level block_level branch_level handler_level if_level input_level reply_level (out-If i)
 
-pub reply_is : (r : Reply) → reply_seen r ≡ record { path = (out-Reply r).path; body = block_mentions (out-Reply r).body }
-unfolding otherwise_mentions process_mentions answer_mentions block_mentions branch_mentions handler_mentions if_mentions input_asked reply_seen
-reply_is r =
-    ap reply_seen (sym (roll-out-Reply r))
-    ∙ fold-roll-Reply Seen Seen Seen Seen Seen Seen Seen Asked Replied otherwise_level process_level answer_level block_level branch_level handler_level if_level input_level reply_level (out-Reply r)
+pub reply_is : (r : Reply) (operation : Name) (taken : Seen) → reply_mentions r operation taken ≡ request_mentions operation (out-Reply r).path (taken ++ block_mentions (out-Reply r).body)
+unfolding otherwise_mentions process_mentions answer_mentions block_mentions branch_mentions handler_mentions if_mentions input_mentions reply_mentions
+reply_is r operation taken =
+    ap (λ (q : Reply). reply_mentions q operation taken) (sym (roll-out-Reply r))
+    ∙ ap (λ (f : Name → Seen → Seen). f operation taken) (fold-roll-Reply Seen Seen Seen Seen Seen Seen Seen (Seen → Seen) (Name → Seen → Seen) otherwise_level process_level answer_level block_level branch_level handler_level if_level input_level reply_level (out-Reply r))
 
--- an input, by its reply part
-abbrev pub asked_by : Name → Option Path → Option Reply → Asked
-asked_by operation request None = record { answers = false; seen = received_mentions request }
-asked_by operation request (Some r) = record { answers = true; seen = request_seen operation request r }
+-- an input by its reply part, before what stands behind it
+abbrev pub asked_before : Name → Option Path → Option Reply → Seen → Seen
+asked_before operation request None after = received_mentions request ++ map (in_role kept_role) after
+asked_before operation request (Some r) after = reply_mentions r operation (received_mentions request) ++ after
 
-input_made : (operation : Name) (request : Option Path) (reply : Option Reply) → input_asked (roll-Input (record { operation = operation; request = request; reply = reply })) ≡ asked_by operation request reply
-unfolding otherwise_mentions process_mentions answer_mentions block_mentions branch_mentions handler_mentions if_mentions input_asked reply_seen
-input_made operation request None = fold-roll-Input Seen Seen Seen Seen Seen Seen Seen Asked Replied otherwise_level process_level answer_level block_level branch_level handler_level if_level input_level reply_level (record { operation = operation; request = request; reply = None })
-input_made operation request (Some it) =
-    fold-roll-Input Seen Seen Seen Seen Seen Seen Seen Asked Replied otherwise_level process_level answer_level block_level branch_level handler_level if_level input_level reply_level (record { operation = operation; request = request; reply = Some it })
-    ∙ ap (λ (r : Replied). record { answers = true; seen = request_mentions operation r.path (received_mentions request ++ r.body) }) (reply_is it)
+input_made : (operation : Name) (request : Option Path) (reply : Option Reply) (after : Seen) → input_mentions (roll-Input (record { operation = operation; request = request; reply = reply })) after ≡ asked_before operation request reply after
+unfolding otherwise_mentions process_mentions answer_mentions block_mentions branch_mentions handler_mentions if_mentions input_mentions reply_mentions
+input_made operation request None after = ap (λ (f : Seen → Seen). f after) (fold-roll-Input Seen Seen Seen Seen Seen Seen Seen (Seen → Seen) (Name → Seen → Seen) otherwise_level process_level answer_level block_level branch_level handler_level if_level input_level reply_level (record { operation = operation; request = request; reply = None }))
+input_made operation request (Some it) after = ap (λ (f : Seen → Seen). f after) (fold-roll-Input Seen Seen Seen Seen Seen Seen Seen (Seen → Seen) (Name → Seen → Seen) otherwise_level process_level answer_level block_level branch_level handler_level if_level input_level reply_level (record { operation = operation; request = request; reply = Some it }))
 
-pub input_is : (i : Input) → input_asked i ≡ asked_by (out-Input i).operation (out-Input i).request (out-Input i).reply
-input_is i = ap input_asked (sym (roll-out-Input i)) ∙ input_made (out-Input i).operation (out-Input i).request (out-Input i).reply
+input_before : (i : Input) (after : Seen) → input_mentions i after ≡ asked_before (out-Input i).operation (out-Input i).request (out-Input i).reply after
+input_before i after =
+    ap (λ (j : Input). input_mentions j after) (sym (roll-out-Input i))
+    ∙ input_made (out-Input i).operation (out-Input i).request (out-Input i).reply after
 
-branch_made : (b : Branch) → branch_mentions b ≡ (input_asked (out-Branch b).input).seen ++ after_input (input_asked (out-Branch b).input).answers (block_mentions (out-Branch b).after)
-unfolding otherwise_mentions process_mentions answer_mentions block_mentions branch_mentions handler_mentions if_mentions input_asked reply_seen
+-- an input by its reply part
+abbrev pub asked_by : Name → Option Path → Option Reply → Seen
+asked_by operation request None = received_mentions request
+asked_by operation request (Some r) = reply_mentions r operation (received_mentions request)
+
+-- what stands behind an input comes after it
+asked_parts : (operation : Name) (request : Option Path) (reply : Option Reply) (after : Seen) → asked_before operation request reply after ≡ asked_by operation request reply ++ after_input (is_some reply) after
+asked_parts operation request None after = refl
+asked_parts operation request (Some it) after = refl
+
+-- where nothing stands behind it
+asked_alone : (operation : Name) (request : Option Path) (reply : Option Reply) → asked_before operation request reply [] ≡ asked_by operation request reply
+asked_alone operation request None = append-nil (received_mentions request)
+asked_alone operation request (Some it) = append-nil (reply_mentions it operation (received_mentions request))
+
+pub input_is : (i : Input) → input_mentions i [] ≡ asked_by (out-Input i).operation (out-Input i).request (out-Input i).reply
+input_is i = input_before i [] ∙ asked_alone (out-Input i).operation (out-Input i).request (out-Input i).reply
+
+branch_made : (b : Branch) → branch_mentions b ≡ input_mentions (out-Branch b).input (block_mentions (out-Branch b).after)
+unfolding otherwise_mentions process_mentions answer_mentions block_mentions branch_mentions handler_mentions if_mentions input_mentions reply_mentions
 branch_made b =
     ap branch_mentions (sym (roll-out-Branch b))
-    ∙ fold-roll-Branch Seen Seen Seen Seen Seen Seen Seen Asked Replied otherwise_level process_level answer_level block_level branch_level handler_level if_level input_level reply_level (out-Branch b)
+    ∙ fold-roll-Branch Seen Seen Seen Seen Seen Seen Seen (Seen → Seen) (Name → Seen → Seen) otherwise_level process_level answer_level block_level branch_level handler_level if_level input_level reply_level (out-Branch b)
 
--- an input is answered where it has a reply part
-asked_answers : (operation : Name) (request : Option Path) (reply : Option Reply) → (asked_by operation request reply).answers ≡ is_some reply
-asked_answers operation request None = refl
-asked_answers operation request (Some it) = refl
-
-pub branch_is : (b : Branch) → branch_mentions b ≡ (input_asked (out-Branch b).input).seen ++ after_input (is_some (out-Input (out-Branch b).input).reply) (block_mentions (out-Branch b).after)
+-- the input of a branch, and what comes after
+pub branch_is : (b : Branch) → branch_mentions b ≡ input_mentions (out-Branch b).input [] ++ after_input (is_some (out-Input (out-Branch b).input).reply) (block_mentions (out-Branch b).after)
 branch_is b =
     let i : Input = (out-Branch b).input in
     branch_made b
-    ∙ ap (λ answers. (input_asked i).seen ++ after_input answers (block_mentions (out-Branch b).after))
-    (ap (λ (a : Asked). a.answers) (input_is i) ∙ asked_answers (out-Input i).operation (out-Input i).request (out-Input i).reply)
+    ∙ input_before i (block_mentions (out-Branch b).after)
+    ∙ asked_parts (out-Input i).operation (out-Input i).request (out-Input i).reply (block_mentions (out-Branch b).after)
+    ∙ ap (λ ms. ms ++ after_input (is_some (out-Input i).reply) (block_mentions (out-Branch b).after)) (sym (input_is i))
 
 -- what an output awaits, by its handlers
 abbrev pub awaited_by : Option Path → Option (List Handler) → Seen
@@ -166,17 +182,19 @@ awaited_by path None = received_mentions path
 awaited_by path (Some handlers) = received_mentions path ++ flat_map handler_mentions handlers
 
 answer_made : (path : Option Path) (handlers : Option (List Handler)) → answer_mentions (roll-Answer (record { path = path; handlers = handlers })) ≡ awaited_by path handlers
-unfolding otherwise_mentions process_mentions answer_mentions block_mentions branch_mentions handler_mentions if_mentions input_asked reply_seen
-answer_made path None = fold-roll-Answer Seen Seen Seen Seen Seen Seen Seen Asked Replied otherwise_level process_level answer_level block_level branch_level handler_level if_level input_level reply_level (record { path = path; handlers = None })
+unfolding otherwise_mentions process_mentions answer_mentions block_mentions branch_mentions handler_mentions if_mentions input_mentions reply_mentions
+answer_made path None =
+    fold-roll-Answer Seen Seen Seen Seen Seen Seen Seen (Seen → Seen) (Name → Seen → Seen) otherwise_level process_level answer_level block_level branch_level handler_level if_level input_level reply_level (record { path = path; handlers = None })
+    ∙ append-nil (received_mentions path)
 answer_made path (Some it) =
-    fold-roll-Answer Seen Seen Seen Seen Seen Seen Seen Asked Replied otherwise_level process_level answer_level block_level branch_level handler_level if_level input_level reply_level (record { path = path; handlers = Some it })
+    fold-roll-Answer Seen Seen Seen Seen Seen Seen Seen (Seen → Seen) (Name → Seen → Seen) otherwise_level process_level answer_level block_level branch_level handler_level if_level input_level reply_level (record { path = path; handlers = Some it })
     ∙ ap (λ ms. received_mentions path ++ ms) (mapped_joined handler_mentions it)
 
 pub answer_is : (a : Answer) → answer_mentions a ≡ awaited_by (out-Answer a).path (out-Answer a).handlers
 answer_is a = ap answer_mentions (sym (roll-out-Answer a)) ∙ answer_made (out-Answer a).path (out-Answer a).handlers
 
 pub handler_is : (h : Handler) → handler_mentions h ≡ handler_mentions_of (out-Handler h).key (process_mentions (out-Handler h).body)
-unfolding otherwise_mentions process_mentions answer_mentions block_mentions branch_mentions handler_mentions if_mentions input_asked reply_seen
+unfolding otherwise_mentions process_mentions answer_mentions block_mentions branch_mentions handler_mentions if_mentions input_mentions reply_mentions
 handler_is h =
     ap handler_mentions (sym (roll-out-Handler h))
-    ∙ fold-roll-Handler Seen Seen Seen Seen Seen Seen Seen Asked Replied otherwise_level process_level answer_level block_level branch_level handler_level if_level input_level reply_level (out-Handler h)
+    ∙ fold-roll-Handler Seen Seen Seen Seen Seen Seen Seen (Seen → Seen) (Name → Seen → Seen) otherwise_level process_level answer_level block_level branch_level handler_level if_level input_level reply_level (out-Handler h)

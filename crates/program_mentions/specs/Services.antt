@@ -1,24 +1,18 @@
 -- What a service mentions.
-use Rattle.std.specs.Prelude.{[], ◌∷◌, map, flat_map}
+use Rattle.std.specs.Prelude.{[], ◌∷◌, flat_map}
 use Rattle.jolie_ast.specs.declared.service.Clause.{Clause}
 use Rattle.jolie_ast.specs.declared.service.Clause.TheVariants as clause
 use Rattle.jolie_ast.specs.declared.service.Service.{Service}
 use Rattle.program_mentions.specs.declared.role.Role.TheVariants as role
-use Rattle.program_mentions.specs.Mentions.{Seen, mention, handled_in, out_of_scope}
+use Rattle.program_mentions.specs.Mentions.{Seen, mention, around_scope}
 use Rattle.program_mentions.specs.Processes.{block_mentions}
 
--- what stands in `main`, which is the outermost scope
-abbrev pub outermost : Seen → Seen
-outermost body = map (out_of_scope (handled_in body)) body
-
--- what a clause mentions: its output port, or what stands in its braces
+-- what a clause mentions: its output port, or what stands in its braces; `main` is the outermost scope
 abbrev pub clause_mentions : Clause → Seen
-clause_mentions (clause.Execution at execution) = []
-clause_mentions (clause.InputPort port) = []
 clause_mentions (clause.OutputPort port) = mention role.Port port.name ∷ []
-clause_mentions (clause.CorrelationSet at variables) = []
 clause_mentions (clause.Init at body) = block_mentions body
-clause_mentions (clause.Main at body) = outermost (block_mentions body)
+clause_mentions (clause.Main at body) = around_scope (block_mentions body)
+clause_mentions _ = []
 
 -- what a service mentions, in the order of its text
 abbrev pub service_mentions : Service → Seen

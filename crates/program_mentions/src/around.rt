@@ -22,7 +22,7 @@ impl<'a> Mentions<'a> {
 
     /// Adds what stands in a loop.
     pub(crate) fn add_looped(&mut self, inner: &Mentions<'a>) -> Result<(), AllocError>
-        ensures { OnOk result (self.new ≡ self.old ++ map spec.in_loop inner.now) }
+        ensures { OnOk result (self.new ≡ self.old ++ map (spec.in_role spec.looped_role) inner.now) }
     {
         for mention in inner.as_slice() {
             self.add(mention.role().in_loop(), mention.name())?;
@@ -32,7 +32,7 @@ impl<'a> Mentions<'a> {
 
     /// Adds what stands behind an input that is not answered.
     pub(crate) fn add_kept(&mut self, inner: &Mentions<'a>) -> Result<(), AllocError>
-        ensures { OnOk result (self.new ≡ self.old ++ map spec.behind_one_way inner.now) }
+        ensures { OnOk result (self.new ≡ self.old ++ map (spec.in_role spec.kept_role) inner.now) }
     {
         for mention in inner.as_slice() {
             self.add(mention.role().behind_one_way(), mention.name())?;
@@ -42,7 +42,7 @@ impl<'a> Mentions<'a> {
 
     /// Adds what stands in a handler under `this`.
     pub(crate) fn add_of_this(&mut self, inner: &Mentions<'a>) -> Result<(), AllocError>
-        ensures { OnOk result (self.new ≡ self.old ++ map spec.in_this inner.now) }
+        ensures { OnOk result (self.new ≡ self.old ++ map (spec.in_role spec.caught_role) inner.now) }
     {
         for mention in inner.as_slice() {
             self.add(mention.role().caught(), mention.name())?;
@@ -56,7 +56,7 @@ impl<'a> Mentions<'a> {
         fault: &Name,
         inner: &Mentions<'a>,
     ) -> Result<(), AllocError>
-        ensures { OnOk result (self.new ≡ self.old ++ map (spec.in_handler fault.now) inner.now) }
+        ensures { OnOk result (self.new ≡ self.old ++ map (spec.in_role_of fault.now spec.rethrown_role) inner.now) }
     {
         for mention in inner.as_slice() {
             self.add(role_in_handler(mention, fault), mention.name())?;
@@ -84,7 +84,7 @@ impl<'a> Mentions<'a> {
         variable: &Name,
         inner: &Mentions<'a>,
     ) -> Result<(), AllocError>
-        ensures { OnOk result (self.new ≡ self.old ++ map (spec.in_request variable.now) inner.now) }
+        ensures { OnOk result (self.new ≡ self.old ++ map (spec.in_role_of variable.now spec.filled_role) inner.now) }
     {
         for mention in inner.as_slice() {
             self.add(role_in_request(mention, variable), mention.name())?;
@@ -94,11 +94,11 @@ impl<'a> Mentions<'a> {
 
     /// The faults that have a handler in the nearest scope.
     pub(crate) fn handled(&self) -> Result<Names<'a>, AllocError>
-        ensures { IfOk result (λ names. names ≡ spec.handled_in self.now) }
+        ensures { IfOk result (λ names. names ≡ spec.names_in spec.is_handled self.now) }
     {
         let mut names = Names::new(self.alloc());
         for mention in self.as_slice() {
-            if is_handled(mention.role()) {
+            if mention.role().is_handled() {
                 names.add(mention.name().text.as_str())?;
             }
         }
@@ -110,7 +110,7 @@ impl<'a> Mentions<'a> {
         ensures { result ≡ spec.faults self.now }
     {
         for mention in self.as_slice() {
-            if is_free(mention.role()) {
+            if mention.role().is_free() {
                 return true;
             }
         }
@@ -122,7 +122,7 @@ impl<'a> Mentions<'a> {
         ensures { result ≡ spec.sets variable.now self.now }
     {
         for mention in self.as_slice() {
-            if is_set(mention.role()) && is_named(mention, variable) {
+            if mention.role().is_set() && is_named(mention, variable) {
                 return true;
             }
         }
@@ -132,7 +132,7 @@ impl<'a> Mentions<'a> {
 
 /// The role of what stands in the handler of a fault.
 fn role_in_handler(mention: &Mention<'_>, fault: &Name) -> Role
-    ensures { spec.mention result mention.now.name ≡ spec.in_handler fault.now mention.now }
+    ensures { spec.mention result mention.now.name ≡ spec.in_role_of fault.now spec.rethrown_role mention.now }
 {
     let role = mention.role();
     if is_named(mention, fault) {
@@ -156,7 +156,7 @@ fn role_out_of_scope(mention: &Mention<'_>, handled: &Names<'_>) -> Role
 
 /// The role in a request that is answered by a variable.
 fn role_in_request(mention: &Mention<'_>, variable: &Name) -> Role
-    ensures { spec.mention result mention.now.name ≡ spec.in_request variable.now mention.now }
+    ensures { spec.mention result mention.now.name ≡ spec.in_role_of variable.now spec.filled_role mention.now }
 {
     let role = mention.role();
     if is_named(mention, variable) {
@@ -177,11 +177,7 @@ fn is_named(mention: &Mention<'_>, name: &Name) -> bool
 fn rethrown(role: Role) -> Role
     ensures { result ≡ spec.rethrown_role role }
 {
-    match role {
-        Role::Thrown => Role::Rethrown,
-        Role::ThrownInLoop => Role::Rethrown,
-        _ => role,
-    }
+    if role.is_free() { Role::Rethrown } else { role }
 }
 
 /// The role around a scope that handles the fault.
@@ -199,45 +195,5 @@ fn role_handled(role: Role) -> Role
 fn filled(role: Role) -> Role
     ensures { result ≡ spec.filled_role role }
 {
-    match role {
-        Role::Set => Role::Filled,
-        Role::Kept => Role::Filled,
-        Role::Received => Role::Filled,
-        _ => role,
-    }
-}
-
-/// Whether a variable gets a value.
-fn is_set(role: Role) -> bool
-    ensures { result ≡ spec.is_set role }
-{
-    match role {
-        Role::Set => true,
-        Role::Kept => true,
-        Role::Received => true,
-        Role::Filled => true,
-        _ => false,
-    }
-}
-
-/// Whether a fault is thrown that nothing caught yet.
-fn is_free(role: Role) -> bool
-    ensures { result ≡ spec.is_free role }
-{
-    match role {
-        Role::Thrown => true,
-        Role::ThrownInLoop => true,
-        Role::Rethrown => true,
-        _ => false,
-    }
-}
-
-/// Whether a fault has a handler in the nearest scope.
-fn is_handled(role: Role) -> bool
-    ensures { result ≡ spec.is_handled role }
-{
-    match role {
-        Role::Handled => true,
-        _ => false,
-    }
+    if role.is_set() { Role::Filled } else { role }
 }

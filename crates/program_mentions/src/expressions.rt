@@ -1,7 +1,8 @@
 //! What expressions mention.
 
 ghost use Rattle.std.specs.Prelude.{◌≡◌, ◌++◌, OnOk, flat_map};
-ghost use Rattle.program_mentions.specs.Expressions.{expr_mentions, factor_mentions, form_mentions, index_mentions, member_mentions, path_mentions, path_walked, term_mentions};
+ghost use Rattle.program_mentions.specs.Expressions.{expr_mentions, path_mentions, path_walked};
+ghost use Rattle.program_mentions.specs.Parts.{factor_mentions, form_mentions, index_mentions, member_mentions, term_mentions};
 
 use crate::list::Mentions;
 use crate::role::Role;

@@ -1,11 +1,12 @@
 //! What processes mention.
 
-ghost use Rattle.std.specs.Prelude.{◌≡◌, ◌∷◌, ◌++◌, OnOk, flat_map, is_some, map, option_map};
+ghost use Rattle.std.specs.Prelude.{◌≡◌, [], ◌∷◌, ◌++◌, OnOk, flat_map, is_some, map};
 ghost use Rattle.program_mentions.specs.declared.role.Role.TheVariants as role;
-ghost use Rattle.program_mentions.specs.Mentions.{behind_one_way, in_loop, mention};
-ghost use Rattle.program_mentions.specs.Expressions.{expr_mentions, maybe};
-ghost use Rattle.program_mentions.specs.Statements.{answered_role, begun_mentions, handler_mentions_of, received_mentions, request_mentions, scoped, stepped_mentions, value_mentions};
-ghost use Rattle.program_mentions.specs.Processes.{after_input, answer_mentions, block_mentions, branch_mentions, handler_mentions, if_mentions, input_asked, otherwise_mentions, process_mentions, request_seen};
+ghost use Rattle.program_mentions.specs.Mentions.{around_scope, in_role, kept_role, looped_role, mention};
+ghost use Rattle.program_mentions.specs.Expressions.{expr_mentions};
+ghost use Rattle.program_mentions.specs.Statements.{answered_role, begun_mentions, handler_mentions_of, if_written, received_mentions, request_mentions, stepped_mentions};
+ghost use Rattle.program_mentions.specs.Processes.{block_mentions};
+ghost use Rattle.program_mentions.specs.Parts.{after_input, answer_mentions, branch_mentions, handler_mentions, if_mentions, input_mentions, otherwise_mentions, process_mentions, reply_mentions};
 
 use crate::list::Mentions;
 use crate::role::Role;
@@ -81,7 +82,7 @@ impl<'a> Mentions<'a> {
     #[cycle(process)]
     #[tactic(auto, using(crate::proofs::Lists::behind_two))]
     fn while_loop(&mut self, body: &'a Block, test: &'a Expr) -> Result<(), AllocError>
-        ensures { OnOk result (self.new ≡ self.old ++ (expr_mentions test.now ++ map in_loop (block_mentions body.now))) }
+        ensures { OnOk result (self.new ≡ self.old ++ (expr_mentions test.now ++ map (in_role looped_role) (block_mentions body.now))) }
     {
         self.expr(test)?;
         self.looped(body)
@@ -99,7 +100,7 @@ impl<'a> Mentions<'a> {
         stepped: &'a Path,
         step: &'a ForStep,
     ) -> Result<(), AllocError>
-        ensures { OnOk result (self.new ≡ self.old ++ (begun_mentions path.now first.now test.now ++ (stepped_mentions stepped.now step.now ++ map in_loop (block_mentions body.now)))) }
+        ensures { OnOk result (self.new ≡ self.old ++ (begun_mentions path.now first.now test.now ++ (stepped_mentions stepped.now step.now ++ map (in_role looped_role) (block_mentions body.now)))) }
     {
         self.begun(path, first, test)?;
         self.stepped(stepped, step)?;
@@ -115,7 +116,7 @@ impl<'a> Mentions<'a> {
         value: &'a Option<Expr>,
         answer: &'a Option<Answer>,
     ) -> Result<(), AllocError>
-        ensures { OnOk result (self.new ≡ self.old ++ mention role.SentTo port.now ∷ (value_mentions value.now ++ maybe (option_map answer_mentions answer.now))) }
+        ensures { OnOk result (self.new ≡ self.old ++ mention role.SentTo port.now ∷ (if_written expr_mentions value.now ++ if_written answer_mentions answer.now)) }
     {
         self.sent(port, value)?;
         self.optional_answer(answer)
@@ -124,7 +125,7 @@ impl<'a> Mentions<'a> {
     /// What stands in a loop.
     #[cycle(process)]
     fn looped(&mut self, body: &'a Block) -> Result<(), AllocError>
-        ensures { OnOk result (self.new ≡ self.old ++ map in_loop (block_mentions body.now)) }
+        ensures { OnOk result (self.new ≡ self.old ++ map (in_role looped_role) (block_mentions body.now)) }
     {
         let mut inner = self.inner();
         inner.block(body)?;
@@ -134,7 +135,7 @@ impl<'a> Mentions<'a> {
     /// A scope: what it handles does not pass it.
     #[cycle(process)]
     fn scope(&mut self, name: &'a Name, body: &'a Block) -> Result<(), AllocError>
-        ensures { OnOk result (self.new ≡ self.old ++ scoped name.now (block_mentions body.now)) }
+        ensures { OnOk result (self.new ≡ self.old ++ mention role.Scope name.now ∷ around_scope (block_mentions body.now)) }
     {
         let mut inner = self.inner();
         inner.block(body)?;
@@ -168,7 +169,7 @@ impl<'a> Mentions<'a> {
     #[cycle(process)]
     #[tactic(auto, using(crate::proofs::ProcessForms::input_is))]
     fn input(&mut self, input: &'a Input) -> Result<(), AllocError>
-        ensures { OnOk result (self.new ≡ self.old ++ (input_asked input.now).seen) }
+        ensures { OnOk result (self.new ≡ self.old ++ input_mentions input.now []) }
     {
         match &input.reply {
             Some(reply) => self.request(&input.operation, &input.request, reply),
@@ -178,13 +179,14 @@ impl<'a> Mentions<'a> {
 
     /// A request: what it takes and does, and the variable that it is answered by.
     #[cycle(process)]
+    #[tactic(auto, using(crate::proofs::ProcessForms::reply_is))]
     fn request(
         &mut self,
         operation: &'a Name,
         request: &'a Option<Path>,
         reply: &'a Reply,
     ) -> Result<(), AllocError>
-        ensures { OnOk result (self.new ≡ self.old ++ request_seen operation.now request.now reply.now) }
+        ensures { OnOk result (self.new ≡ self.old ++ reply_mentions reply.now operation.now (received_mentions request.now)) }
     {
         let mut inside = self.inner();
         inside.received(request)?;
@@ -225,7 +227,7 @@ impl<'a> Mentions<'a> {
     /// What stands behind an input that is not answered.
     #[cycle(process)]
     fn kept(&mut self, after: &'a Block) -> Result<(), AllocError>
-        ensures { OnOk result (self.new ≡ self.old ++ map behind_one_way (block_mentions after.now)) }
+        ensures { OnOk result (self.new ≡ self.old ++ map (in_role kept_role) (block_mentions after.now)) }
     {
         let mut inner = self.inner();
         inner.block(after)?;
@@ -234,7 +236,7 @@ impl<'a> Mentions<'a> {
 
     #[cycle(process)]
     fn optional_answer(&mut self, answer: &'a Option<Answer>) -> Result<(), AllocError>
-        ensures { OnOk result (self.new ≡ self.old ++ maybe (option_map answer_mentions answer.now)) }
+        ensures { OnOk result (self.new ≡ self.old ++ if_written answer_mentions answer.now) }
     {
         match answer {
             Some(answer) => self.answer(answer),
@@ -319,7 +321,7 @@ impl<'a> Mentions<'a> {
 
     /// What is sent to a port.
     fn sent(&mut self, port: &'a Name, value: &'a Option<Expr>) -> Result<(), AllocError>
-        ensures { OnOk result (self.new ≡ self.old ++ mention role.SentTo port.now ∷ value_mentions value.now) }
+        ensures { OnOk result (self.new ≡ self.old ++ mention role.SentTo port.now ∷ if_written expr_mentions value.now) }
     {
         self.add(Role::SentTo, port)?;
         self.value(value)
@@ -327,7 +329,7 @@ impl<'a> Mentions<'a> {
 
     /// A fault that is thrown.
     fn thrown(&mut self, fault: &'a Name, value: &'a Option<Expr>) -> Result<(), AllocError>
-        ensures { OnOk result (self.new ≡ self.old ++ mention role.Thrown fault.now ∷ value_mentions value.now) }
+        ensures { OnOk result (self.new ≡ self.old ++ mention role.Thrown fault.now ∷ if_written expr_mentions value.now) }
     {
         self.add(Role::Thrown, fault)?;
         self.value(value)

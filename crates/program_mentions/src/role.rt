@@ -1,5 +1,5 @@
 ghost use Rattle.std.specs.Prelude.{◌≡◌};
-ghost use Rattle.program_mentions.specs.Mentions.{caught_role, freed_role, kept_role, looped_role};
+ghost use Rattle.program_mentions.specs.Mentions as spec;
 
 /// What is done with a name where it stands.
 #[derive(Clone, Copy, Debug, PartialEq, Eq)]
@@ -49,9 +49,30 @@ pub enum Role {
 }
 
 impl Role {
+    /// Whether a variable gets a value.
+    pub(crate) fn is_set(self) -> bool
+        ensures { result ≡ spec.is_set self }
+    {
+        matches!(self, Role::Set | Role::Kept | Role::Received | Role::Filled)
+    }
+
+    /// Whether a fault is thrown that nothing caught yet.
+    pub(crate) fn is_free(self) -> bool
+        ensures { result ≡ spec.is_free self }
+    {
+        matches!(self, Role::Thrown | Role::ThrownInLoop | Role::Rethrown)
+    }
+
+    /// Whether a fault has a handler in the nearest scope.
+    pub(crate) fn is_handled(self) -> bool
+        ensures { result ≡ spec.is_handled self }
+    {
+        matches!(self, Role::Handled)
+    }
+
     /// The role in a loop.
     pub(crate) fn in_loop(self) -> Role
-        ensures { result ≡ looped_role self }
+        ensures { result ≡ spec.looped_role self }
     {
         match self {
             Role::Thrown => Role::ThrownInLoop,
@@ -61,7 +82,7 @@ impl Role {
 
     /// The role behind an input that is not answered.
     pub(crate) fn behind_one_way(self) -> Role
-        ensures { result ≡ kept_role self }
+        ensures { result ≡ spec.kept_role self }
     {
         match self {
             Role::Set => Role::Kept,
@@ -71,19 +92,14 @@ impl Role {
 
     /// The role where faults end by themselves.
     pub(crate) fn caught(self) -> Role
-        ensures { result ≡ caught_role self }
+        ensures { result ≡ spec.caught_role self }
     {
-        match self {
-            Role::Thrown => Role::Caught,
-            Role::ThrownInLoop => Role::Caught,
-            Role::Rethrown => Role::Caught,
-            _ => self,
-        }
+        if self.is_free() { Role::Caught } else { self }
     }
 
     /// The role around a scope that does not handle the fault.
     pub(crate) fn freed(self) -> Role
-        ensures { result ≡ freed_role self }
+        ensures { result ≡ spec.freed_role self }
     {
         match self {
             Role::Rethrown => Role::Thrown,

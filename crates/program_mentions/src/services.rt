@@ -1,8 +1,9 @@
 //! What services mention.
 
 ghost use Rattle.std.specs.Prelude.{◌≡◌, ◌++◌, IfOk, OnOk};
+ghost use Rattle.program_mentions.specs.Mentions.{around_scope};
 ghost use Rattle.program_mentions.specs.Processes.{block_mentions};
-ghost use Rattle.program_mentions.specs.Services.{clause_mentions, outermost, service_mentions};
+ghost use Rattle.program_mentions.specs.Services.{clause_mentions, service_mentions};
 
 use crate::list::Mentions;
 use crate::role::Role;
@@ -36,7 +37,7 @@ impl<'a> Mentions<'a> {
 
     /// What stands in `main`, which is the outermost scope.
     fn outermost(&mut self, body: &'a Block) -> Result<(), AllocError>
-        ensures { OnOk result (self.new ≡ self.old ++ outermost (block_mentions body.now)) }
+        ensures { OnOk result (self.new ≡ self.old ++ around_scope (block_mentions body.now)) }
     {
         let mut inner = self.inner();
         inner.block(body)?;

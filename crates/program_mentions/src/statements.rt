@@ -1,6 +1,8 @@
 //! What the parts of a statement mention.
 
 ghost use Rattle.std.specs.Prelude.{◌≡◌, ◌++◌, OnOk};
+ghost use Rattle.program_mentions.specs.declared.role.Role.TheVariants as roles;
+ghost use Rattle.program_mentions.specs.Expressions.{expr_mentions};
 ghost use Rattle.program_mentions.specs.Statements as spec;
 
 use crate::list::Mentions;
@@ -11,7 +13,7 @@ use std::alloc::AllocError;
 impl<'a> Mentions<'a> {
     /// A value that may be written.
     pub(crate) fn value(&mut self, value: &'a Option<Expr>) -> Result<(), AllocError>
-        ensures { OnOk result (self.new ≡ self.old ++ spec.value_mentions value.now) }
+        ensures { OnOk result (self.new ≡ self.old ++ spec.if_written expr_mentions value.now) }
     {
         match value {
             Some(value) => self.expr(value),
@@ -30,7 +32,7 @@ impl<'a> Mentions<'a> {
 
     /// The variable of a path, where the path goes on.
     fn branched(&mut self, rest: &[Step], variable: &'a Name) -> Result<(), AllocError>
-        ensures { OnOk result (self.new ≡ self.old ++ spec.branched rest.now variable.now) }
+        ensures { OnOk result (self.new ≡ self.old ++ spec.where_some rest.now roles.Branched variable.now) }
     {
         match rest {
             [] => Ok(()),
@@ -45,21 +47,6 @@ impl<'a> Mentions<'a> {
         match path {
             Some(path) => self.target(Role::Received, path),
             None => Ok(()),
-        }
-    }
-
-    /// What is done to a path whose variable this is.
-    fn assignment(
-        &mut self,
-        variable: &'a Name,
-        assignment: &'a Assignment,
-    ) -> Result<(), AllocError>
-        ensures { OnOk result (self.new ≡ self.old ++ spec.assignment_mentions variable.now assignment.now) }
-    {
-        match assignment {
-            Assignment::Root(value) => self.root(variable, value),
-            Assignment::Copy(value) => self.expr(value),
-            Assignment::Count(_) => Ok(()),
         }
     }
 
@@ -80,7 +67,7 @@ impl<'a> Mentions<'a> {
 
     /// A variable that is set by `=` to a literal with these members.
     fn flattened(&mut self, members: &[Member], variable: &'a Name) -> Result<(), AllocError>
-        ensures { OnOk result (self.new ≡ self.old ++ spec.flattened members.now variable.now) }
+        ensures { OnOk result (self.new ≡ self.old ++ spec.where_some members.now roles.Flattened variable.now) }
     {
         match members {
             [] => Ok(()),
@@ -98,7 +85,11 @@ impl<'a> Mentions<'a> {
         ensures { OnOk result (self.new ≡ self.old ++ spec.assigned_mentions path.now assignment.now) }
     {
         self.target(Role::Set, path)?;
-        self.assignment(&path.first.name, assignment)
+        match assignment {
+            Assignment::Root(value) => self.root(&path.first.name, value),
+            Assignment::Copy(value) => self.expr(value),
+            Assignment::Count(_) => Ok(()),
+        }
     }
 
     /// What a `for` begins with, and its test.
@@ -122,13 +113,6 @@ impl<'a> Mentions<'a> {
         ensures { OnOk result (self.new ≡ self.old ++ spec.stepped_mentions path.now step.now) }
     {
         self.target(Role::Set, path)?;
-        self.for_step(step)
-    }
-
-    /// What the last part of a `for` does to its path.
-    fn for_step(&mut self, step: &'a ForStep) -> Result<(), AllocError>
-        ensures { OnOk result (self.new ≡ self.old ++ spec.for_step_mentions step.now) }
-    {
         match step {
             ForStep::Root(value) => self.expr(value),
             ForStep::Count(_) => Ok(()),

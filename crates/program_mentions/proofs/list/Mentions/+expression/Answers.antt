@@ -1,7 +1,7 @@
 use Rattle.std.proofs.Common.{◌++◌, ap, sym, ◌∙◌}
-use Rattle.std.specs.Prelude.{option_map}
-use Rattle.program_mentions.specs.Expressions.{expr_mentions, factor_mentions, form_mentions, index_mentions, maybe}
-use Rattle.program_mentions.specs.Expressions.{member_mentions, term_mentions}
+use Rattle.program_mentions.specs.Expressions.{expr_mentions}
+use Rattle.program_mentions.specs.Parts.{factor_mentions, form_mentions, index_mentions, member_mentions, term_mentions}
+use Rattle.program_mentions.specs.Statements.{if_written}
 use Rattle.program_mentions.proofs.Lists.{nothing_added, turn_of}
 use Rattle.program_mentions.proofs.ExpressionForms.{factor_is, int_is, long_is, member_is, step_is, term_is, text_is, truth_is}
 use Rattle.program_mentions.proofs.list.Mentions.+expression.Goals as goal
@@ -20,7 +20,7 @@ form-returns-in-Bool t c = nothing_added _ _ (ap form_mentions c.in-Bool.is ∙ 
 
 pub index-returns-in-None : goal.index-returns-in-None
 index-returns-in-None t c =
-    nothing_added _ _ (step_is c.args.step.now ∙ ap (λ i. maybe (option_map expr_mentions i)) c.in-None.is)
+    nothing_added _ _ (step_is c.args.step.now ∙ ap (λ i. if_written expr_mentions i) c.in-None.is)
 
 pub exprs-loop-value-preserved : goal.exprs-loop-value-preserved
 exprs-loop-value-preserved t c =

@@ -1,5 +1,6 @@
 use Rattle.std.proofs.Common.{◌≡◌, ◌++◌, take, flat_map}
-use Rattle.program_mentions.specs.Expressions.{expr_mentions, factor_mentions, term_mentions, member_mentions, index_mentions}
+use Rattle.program_mentions.specs.Expressions.{expr_mentions}
+use Rattle.program_mentions.specs.Parts.{factor_mentions, term_mentions, member_mentions, index_mentions}
 use Rattle.program_mentions.proofs.list.Mentions.+expression.Given as goal
 
 abbrev pub invariant-exprs-loop-value : goal.invariant-exprs-loop-value

@@ -1,7 +1,6 @@
 use Rattle.std.proofs.Common.{ap, ◌∙◌}
-use Rattle.std.specs.Prelude.{option_map}
-use Rattle.program_mentions.specs.Expressions.{maybe}
-use Rattle.program_mentions.specs.Processes.{branch_mentions, handler_mentions, otherwise_mentions, process_mentions}
+use Rattle.program_mentions.specs.Parts.{branch_mentions, handler_mentions, otherwise_mentions, process_mentions}
+use Rattle.program_mentions.specs.Statements.{if_written}
 use Rattle.program_mentions.proofs.Lists.{nothing_added, turn_of}
 use Rattle.program_mentions.proofs.ProcessForms.{block_is, inner_handler_is, no_else_is, nothing_is}
 use Rattle.program_mentions.proofs.list.Mentions.+process.Goals as goal
@@ -15,7 +14,7 @@ process-returns-in-InnerHandler t c =
 
 pub block-returns-in-None : goal.block-returns-in-None
 block-returns-in-None t c =
-    nothing_added _ _ (block_is c.args.block.now ∙ ap (λ p. maybe (option_map process_mentions p)) c.in-None.is)
+    nothing_added _ _ (block_is c.args.block.now ∙ ap (λ p. if_written process_mentions p) c.in-None.is)
 
 pub otherwise-returns-in-Nothing : goal.otherwise-returns-in-Nothing
 otherwise-returns-in-Nothing t c = nothing_added _ _ (ap otherwise_mentions c.in-Nothing.is ∙ no_else_is)

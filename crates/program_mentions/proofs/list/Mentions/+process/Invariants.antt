@@ -1,5 +1,5 @@
 use Rattle.std.proofs.Common.{◌≡◌, ◌++◌, take, flat_map}
-use Rattle.program_mentions.specs.Processes.{process_mentions, branch_mentions, handler_mentions}
+use Rattle.program_mentions.specs.Parts.{process_mentions, branch_mentions, handler_mentions}
 use Rattle.program_mentions.proofs.list.Mentions.+process.Given as goal
 
 abbrev pub invariant-processes-loop-process : goal.invariant-processes-loop-process
