@@ -103,16 +103,16 @@ had_later {r} {h} {ss} {ss'} {t} {had} more grows x = record {
 -- ---- one turn behind the other
 
 -- what stands behind a turn, up to the next
-abbrev behind : List Entry → ℕ → ℕ → List Entry
+abbrev pub behind : List Entry → ℕ → ℕ → List Entry
 behind h from to = drop from (take to h)
 
 -- whose the entries between two turns are
-abbrev is_theirs : ℕ → ℕ → Entry → Bool
+abbrev pub is_theirs : ℕ → ℕ → Entry → Bool
 is_theirs a b e = nat_eq a e.actor || nat_eq b e.actor
 
-pub ends_later : {w : Setting} {h : List Entry} {a : TakenTurn} (more : List Entry) → a.entries ≤ length h
+pub ends_later : {w : Setting} {a : TakenTurn} (h more : List Entry) → a.entries ≤ length h
     → EndsRound w (take a.entries h) a → EndsRound w (take a.entries (h ++ more)) a
-ends_later {w} {h} {a} more l e =
+ends_later {w} {a} h more l e =
     subst (λ (before : List Entry). EndsRound w before a) (sym (take-append-le a.entries h more l)) e
 
 theirs_later : (h : List Entry) (a b : TakenTurn) (more : List Entry) → b.entries ≤ length h → AreTheirs h a b
@@ -126,7 +126,7 @@ pub follows_later : {w : Setting} {h : List Entry} {a b : TakenTurn} (more : Lis
     → b.entries ≤ length h → Follows w h a b → Follows w (h ++ more) a b
 follows_later {w} {h} {a} {b} more l m (again e is theirs) = again e is (theirs_later h a b more m theirs)
 follows_later {w} {h} {a} {b} more l m (next e is theirs) = next e is (theirs_later h a b more m theirs)
-follows_later {w} {h} {a} {b} more l m (anew ends is) = anew (ends_later more l ends) is
+follows_later {w} {h} {a} {b} more l m (anew ends is) = anew (ends_later h more l ends) is
 
 -- the turn that session n would take behind one more entry of its own
 theirs_more : (h : List Entry) (a : TakenTurn) (n : ℕ) (e : Entry) → e.actor ≡ n → a.entries ≤ length h
@@ -151,12 +151,12 @@ theirs_more h a n e actor l theirs =
         (or_right (nat_eq a.session e.actor) (nat_eq n e.actor) ((unsigned_Decides n e.actor).1 (sym actor)))
         refl
 
-follows_more : {w : Setting} {h : List Entry} {a : TakenTurn} {n pick : ℕ} {did : Bool} (e : Entry) → e.actor ≡ n
+follows_more : {w : Setting} {h : List Entry} {a : TakenTurn} (n pick : ℕ) (did : Bool) (e : Entry) → e.actor ≡ n
     → a.entries ≤ length h → Follows w h a (turn_at h n pick did)
     → Follows w (h ++ e ∷ []) a (turn_at (h ++ e ∷ []) n pick did)
-follows_more {w} {h} {a} {n} e actor l (again d is theirs) = again d is (theirs_more h a n e actor l theirs)
-follows_more {w} {h} {a} {n} e actor l (next d is theirs) = next d is (theirs_more h a n e actor l theirs)
-follows_more {w} {h} {a} {n} e actor l (anew ends is) = anew (ends_later (e ∷ []) l ends) is
+follows_more {w} {h} {a} n pick did e actor l (again d is theirs) = again d is (theirs_more h a n e actor l theirs)
+follows_more {w} {h} {a} n pick did e actor l (next d is theirs) = next d is (theirs_more h a n e actor l theirs)
+follows_more {w} {h} {a} n pick did e actor l (anew ends is) = anew (ends_later h (e ∷ []) l ends) is
 
 -- between a turn and the end of the history stand such entries
 pub theirs_since : (is_it : Entry → Bool) (old own new : List Entry) → new ≡ old ++ own → list_all is_it own ≡ true
@@ -241,14 +241,14 @@ module _ {r : Rules} {picks : List ℕ} {h : List Entry} {ss : List (List Event)
   }
 
   pub at_end_later : (more : List Entry) → AtEnd r.setting h turns → AtEnd r.setting (h ++ more) turns
-  at_end_later more ends = λ a at. ends_later more (last_within a at) (ends a at)
+  at_end_later more ends = λ a at. ends_later h more (last_within a at) (ends a at)
 
   -- where session n is adopted
   pub may_come_later : {n : ℕ} (e : Entry) → e.actor ≡ n → MayCome r.setting h n turns
       → MayCome r.setting (h ++ e ∷ []) n turns
-  may_come_later e actor may = record {
+  may_come_later {n} e actor may = record {
     first = may.first;
-    follows = λ a pick did at. follows_more e actor (last_within a at) (may.follows a pick did at);
+    follows = λ a pick did at. follows_more n pick did e actor (last_within a at) (may.follows a pick did at);
   }
 
   -- with a turn more
