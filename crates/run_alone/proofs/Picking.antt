@@ -18,16 +18,17 @@ use Rattle.run_posts.specs.Fates.{Wait, all_collected, posted_entries}
 use Rattle.run_posts.proofs.Opening.{all_posts_of}
 use Rattle.run_sweep.specs.Swept.{Swept}
 use Rattle.session_turn.proofs.Histories.{some_of}
-use Rattle.run_alone.specs.Between.{Rested}
-use Rattle.run_alone.specs.Picks.{GoesTo, TookPicks, begins}
+use Rattle.run_alone.specs.Between.{GoesTo, Rested}
+use Rattle.run_alone.specs.Picks.{TookPicks, TookTurns}
 use Rattle.run_alone.specs.Ran.{Rules}
+use Rattle.run_alone.proofs.Courses.{begins, course_begins, course_on, course_took}
 use Rattle.run_alone.proofs.Finishing.{closing_by}
 use Rattle.run_alone.proofs.Taking.{collected_all, runs}
 
 -- one course behind another
 pub goes_both : {a b c : State} → Goes a b → Goes b c → Goes a c
 goes_both x stays = x
-goes_both x (round mid new moved y r) = round mid new moved (goes_both x y) r
+goes_both x (round mid new moved y t r) = round mid new moved (goes_both x y) t r
 goes_both x (adopts mid new y r) = adopts mid new (goes_both x y) r
 goes_both x (works mid new more y r w) = works mid new more (goes_both x y) r w
 
@@ -97,9 +98,6 @@ goes_ended {s0} {s1} {s2} {s3} {s4} {run = run} xs rest adopt stop collect team 
 -- from the beginning of a run on
 pub took_picks : (r : Rules) (picks : List ℕ) {s t : State} {run : Record} → s ≡ begins r picks → Goes s t → GoesTo t run
     → TookPicks r picks run
-took_picks r picks {s} {t} e goes g = record {
-  last = g.last;
-  goes = coe 0 1 (i. Goes (e i) g.last) (goes_both goes g.goes);
-  history = g.history;
-  sessions = g.sessions;
-}
+took_picks r picks {s} {t} e goes g =
+    coe 0 1 (i. TookTurns r picks (g.history i) (g.sessions i))
+    (course_took (course_on (course_begins r picks) (coe 0 1 (i. Goes (e i) g.last) (goes_both goes g.goes))))

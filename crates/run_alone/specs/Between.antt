@@ -6,8 +6,10 @@ use Rattle.std.specs.List.{list_all}
 use Rattle.office_core.specs.declared.front.Posting.{Posting}
 use Rattle.office_core.specs.declared.history.Entry.{Entry}
 use Rattle.office_front.specs.Dealings.{Dealings, Told}
+use Rattle.run_record.specs.declared.record.Record.{Record}
+use Rattle.run_record.specs.Quiet.{before_stop}
 use Rattle.run_sweep.specs.Courses.{Goes}
-use Rattle.run_cells.specs.Crews.{State}
+use Rattle.run_cells.specs.Crews.{State, events_of}
 use Rattle.run_cells.specs.Rounds.{IsQuietAt, IsStillAt}
 use Rattle.run_posts.specs.Fates.{Wait}
 use Rattle.run_posts.specs.Open.{IsOpen, StandsInOrder, told_places}
@@ -79,6 +81,13 @@ pub record Rested (calm : Bool) (old new : State) : Type 0 where
   pub quiet : StaysQuiet old new
   pub stopped : calm ≡ false → new.history ≡ old.history
   pub goes : Goes old new
+
+-- A run goes on from there to what its record has before the stop.
+pub record GoesTo (begin : State) (run : Record) : Type 0 where
+  pub last : State
+  pub goes : Goes begin last
+  pub history : last.history ≡ before_stop run.history.entries.items
+  pub sessions : events_of last.stands ≡ run.sessions
 
 -- The texts that were noted are those of the history now, where they were those of the history before, and nothing else
 -- passed.

@@ -8,8 +8,7 @@ ghost use Rattle.office_front.specs.Dealings.{Dealings};
 ghost use Rattle.run_cells.specs.Crews.{AtWork, IsOurs, events_of, state_of};
 ghost use Rattle.run_posts.specs.Fates.{waits};
 ghost use Rattle.run_sweep.specs.Swept.{ToursBy};
-ghost use Rattle.run_alone.specs.Between.{Between, Closed, LeftQuiet, Rested};
-ghost use Rattle.run_alone.specs.Picks.{GoesTo};
+ghost use Rattle.run_alone.specs.Between.{Between, Closed, GoesTo, LeftQuiet, Rested};
 ghost use Rattle.run_alone.specs.Ran.{Ran};
 ghost use Rattle.trip_laws.specs.Trips.{trips_told};
 

@@ -89,7 +89,7 @@ still_errands b c more s each z =
 -- first so, and then so
 pub goes_on : {a b c : State} → Goes a b → Goes b c → Goes a c
 goes_on x stays = x
-goes_on x (round mid new moved y r) = round mid new moved (goes_on x y) r
+goes_on x (round mid new moved y t r) = round mid new moved (goes_on x y) t r
 goes_on x (adopts mid new y r) = adopts mid new (goes_on x y) r
 goes_on x (works mid new more y s e) = works mid new more (goes_on x y) s e
 
@@ -175,8 +175,8 @@ toured_then {old} {one} {turned} x now first t =
     subst (λ h. Toured old.setting h first now) (sym x.went.history)
     (toured_over old.setting first now old.history x.went.more (legal_more x) x.went.sessions t)
 
-pub swept_then : {old one : State} {turned : Bool} → Turns old one turned → Swept old one
-swept_then {old} {one} {turned} x =
+pub swept_then : {old one : State} {turned : Bool} → Team old → Turns old one turned → Swept old one
+swept_then {old} {one} {turned} team x =
     record {
       setting = x.went.setting;
       budget = x.went.budget;
@@ -185,7 +185,7 @@ swept_then {old} {one} {turned} x =
       each = weaker is_by_session is_swept x.went.more (λ e. or_left (is_by_session e) (is_errand e)) x.went.sessions;
       settled = settled_then x;
       still = x.went.still;
-      goes = round old one turned stays x.went.round;
+      goes = round old one turned stays team x.went.round;
     }
 
 -- where no session did something, no call waits
@@ -353,19 +353,19 @@ round_of {old} {one} {two} {three} {turned} {noted} {travelled} went team settle
       remotes = subst (λ w. Cleared w kind.Remote two three travelled) (c.errands.stays.setting ∙ went.setting) d;
     }
 
-pub half_swept : {old one two : State} {turned noted : Bool} → Went old one turned → Team one
+pub half_swept : {old one two : State} {turned noted : Bool} → Team old → Went old one turned → Team one
     → AreSettled old.setting old.history → unbrought (past_in old) ≡ [] → Cleared one.setting kind.Console one two noted
     → Swept old two
-half_swept {old} {one} {two} {turned} {noted} went team settled start c =
-    swept_errands old one two kind.Console noted (swept_then (turns_of went team settled start))
+half_swept {old} {one} {two} {turned} {noted} before went team settled start c =
+    swept_errands old one two kind.Console noted (swept_then before (turns_of went team settled start))
     (half_of went c).errands
 
-pub round_swept : {old one two three : State} {turned noted travelled : Bool}
+pub round_swept : {old one two three : State} {turned noted travelled : Bool} → Team old
     → WholeRound old one two three turned noted travelled
     → Swept old three
-round_swept {old} {one} {two} {three} {turned} {noted} {travelled} r =
+round_swept {old} {one} {two} {three} {turned} {noted} {travelled} team r =
     swept_errands old two three kind.Remote travelled
-    (swept_errands old one two kind.Console noted (swept_then r.turns) r.consoles.errands)
+    (swept_errands old one two kind.Console noted (swept_then team r.turns) r.consoles.errands)
     r.remotes.errands
 
 pub still_half : {old one two : State} {turned noted : Bool} → Went old one turned → Team one

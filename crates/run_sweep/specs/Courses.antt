@@ -1,9 +1,10 @@
+-- These definitions serve the proofs of runs: no promise of the program speaks of them.
 -- How a run of one worker goes on: rounds of turns, adoptions, and entries of the worker.
 use Rattle.std.specs.Prelude.{◌≡◌, Bool, true, List, nat_eq}
 use Rattle.std.specs.List.{list_all}
 use Rattle.office_core.specs.declared.history.Entry.{Entry}
 use Rattle.office_core.specs.Limits.{first_worker}
-use Rattle.run_cells.specs.Crews.{State, Stays}
+use Rattle.run_cells.specs.Crews.{State, Stays, Team}
 use Rattle.run_cells.specs.Turns.{IsAdoption, RoundFrom}
 
 -- an entry of the one worker
@@ -14,7 +15,7 @@ is_by_worker e = nat_eq first_worker e.actor
 -- or the worker makes entries of its own, which leave the picks.
 pub data Goes (old : State) : State → Type 0 where
   stays : Goes old old
-  round : (mid new : State) (moved : Bool) → Goes old mid → RoundFrom 0 mid new moved → Goes old new
+  round : (mid new : State) (moved : Bool) → Goes old mid → Team mid → RoundFrom 0 mid new moved → Goes old new
   adopts : (mid new : State) → Goes old mid → IsAdoption mid new → Goes old new
   works : (mid new : State) (more : List Entry) → Goes old mid → Stays mid new more
       → list_all is_by_worker more ≡ true

@@ -20,8 +20,8 @@ trip_all-requires-clause-settled g c = settled_two c.in_ok-noted.ensures.cleared
 
 pub returns-then-halted-clause-swept : goal.returns-then-halted-clause-swept
 returns-then-halted-clause-swept g c =
-    half_swept c.in_ok-turned.ensures.went c.in_ok-turned.ensures.work.team c.requires.settled c.requires.brought
-    c.in_ok-noted.ensures.cleared
+    half_swept c.requires.work.team c.in_ok-turned.ensures.went c.in_ok-turned.ensures.work.team c.requires.settled
+    c.requires.brought c.in_ok-noted.ensures.cleared
 
 pub returns-then-halted-clause-toured : goal.returns-then-halted-clause-toured
 returns-then-halted-clause-toured g c =
@@ -59,8 +59,9 @@ returns-then-halted-clause-still g c =
 
 pub returns-clause-swept : goal.returns-clause-swept
 returns-clause-swept g c =
-    round_swept (round_of c.in_ok-turned.ensures.went c.in_ok-turned.ensures.work.team c.requires.settled
-    c.requires.brought c.in_ok-noted.ensures.cleared c.in_ok-travelled.ensures.cleared)
+    round_swept c.requires.work.team
+    (round_of c.in_ok-turned.ensures.went c.in_ok-turned.ensures.work.team c.requires.settled c.requires.brought
+    c.in_ok-noted.ensures.cleared c.in_ok-travelled.ensures.cleared)
 
 pub returns-clause-toured : goal.returns-clause-toured
 returns-clause-toured g c =
