@@ -1,5 +1,5 @@
 -- One event of a session: what it makes of a configuration, what is seen of it, and what it asks of the office.
-use Rattle.std.specs.Prelude.{◌≡◌, ℕ, zero, Option, None, Some, option_map, Bool, true, false}
+use Rattle.std.specs.Prelude.{◌≡◌, ℕ, zero, Option, None, Some, option_map, option_and_then, Bool, true, false}
 use Rattle.jolie_trees.specs.Data.{Tree}
 use Rattle.jolie_trees.specs.Trees.{void_tree}
 use Rattle.behaviour_tree.specs.declared.words.Kind.TheVariants as kind
@@ -74,13 +74,10 @@ act s (repeat e body) = tests s (truth_of s.store e) (turn_of e body) nothing
 act s (install list) = ungiven s (installs s list)
 act s (comp r) = ungiven s (compensates s r)
 act s (choice bs) = inputs s bs
-act s (notify port op e) = elim (message_value s port op e) [ None ↦ None | Some v ↦ ungiven s (notifies s port op v) ]
+act s (notify port op e) = option_and_then (λ v. ungiven s (notifies s port op v)) (message_value s port op e)
 act s (solicit port op e x list) =
-    elim (message_value s port op e) [
-      | None ↦ None
-      | Some v ↦ ungiven s (solicits s port op v (wait s.call port op x list))
-    ]
-act s (bind v e) = elim (binding s.store e) [ None ↦ None | Some r ↦ binds s v r ]
+    option_and_then (λ v. ungiven s (solicits s port op v (wait s.call port op x list))) (message_value s port op e)
+act s (bind v e) = option_and_then (binds s v) (binding s.store e)
 act s p = None
 
 -- ---- an event in a form, before normal form
