@@ -52,10 +52,7 @@ collects n e = elim e.act [ act.Collect m o ↦ nat_eq n m | _ ↦ false ]
 
 -- the entry by which an actor posted message n
 abbrev pub posts_as : ℕ → ℕ → Entry → Bool
-posts_as actor n e = elim e.act [
-  | act.Post j i q r ↦ elim r [ answer.Accepted m ↦ nat_eq actor e.actor && nat_eq n m | answer.Refused why ↦ false ]
-  | _ ↦ false
-]
+posts_as actor n e = elim e.act [ act.Post j i q (answer.Accepted m) ↦ nat_eq actor e.actor && nat_eq n m | _ ↦ false ]
 
 -- a message that came in at a port
 abbrev pub is_from_port : Message → Bool
@@ -113,22 +110,18 @@ bound w past s v x =
 abbrev pub next_out : Setting → Past → ℕ → ℕ → Option Call
 next_out w past s k = option_and_then (λ c. first (outgoing w past (kind_of w past c))) (call past s k)
 
--- a call with the reply that the office gives, where it gives one
+-- a call with the reply that the office gives, where it gives one; a call that has no reply stays as it is
 abbrev pub replied : Setting → Past → ℕ → Act → Option Act
 replied w past actor (act.Post j i q r) = Some (act.Post j i q (post_reply past (route w past q)))
 replied w past s (act.Adopt d) = option_map act.Adopt (service_of w past s)
 replied w past s (act.Take n) = option_map act.Take (oldest past s n)
 replied w past s (act.Bind v x r) = option_map (act.Bind v x) (bound w past s v x)
-replied w past s (act.Reply n o) = Some (act.Reply n o)
 replied w past s (act.Send k port op v wants r) =
     Some (act.Send k port op v wants (placed w past (handed_in w past s (act.Send k port op v wants r))))
 replied w past s (act.Answer k o) = option_map (act.Answer k) (result w past s k)
-replied w past s act.End = Some act.End
 replied w past actor (act.Collect n o) = option_map (act.Collect n) (first (answers w past n))
 replied w past actor (act.Fetch s k) = option_map (λ c. act.Fetch c.session c.number) (next_out w past s k)
-replied w past actor (act.Answered s k o) = Some (act.Answered s k o)
-replied w past actor act.Close = Some act.Close
-replied w past actor act.Stop = Some act.Stop
+replied w past actor a = Some a
 
 -- ---- histories
 
