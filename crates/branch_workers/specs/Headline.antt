@@ -2,6 +2,7 @@
 use Rattle.std.specs.Prelude.{◌≡◌, ◌⊎◌, ℕ, ◌≤◌, Bool, true, false, List, [], ◌∷◌, length, Option}
 use Rattle.std.specs.List.{list_all}
 use Rattle.std.specs.Io.KnownBytes.{IsAtEnd}
+use Rattle.outside_traits.specs.Causes.{Rose}
 use Rattle.office_core.specs.Limits.{Setting}
 use Rattle.run_record.specs.declared.record.Record.{Record}
 use Rattle.run_record.specs.declared.record.Traffic.{Traffic}
@@ -9,7 +10,7 @@ use Rattle.run_record.specs.Run.{Hands, IsRun, IsSpent}
 use Rattle.branch_workers.specs.Split.{whole_lines, all_lines, said_lines}
 use Rattle.branch_workers.specs.Texts.{Came}
 use Rattle.branch_workers.specs.Lines.{most_postings, come_in, is_by_first, Output, IsAnswered, IsCutShort}
-use Rattle.branch_workers.specs.Statuses.{Faults, SourceRose, Halted, IsCalm, HasStatus}
+use Rattle.branch_workers.specs.Statuses.{Faults, Halted, IsCalm, HasStatus}
 
 -- what a run over lines left behind: its record and status, how often the outside failed before and after it, what the
 -- source has left, as far as that is told, and the notes
@@ -44,7 +45,7 @@ pub data AnswersLines (hands : Hands) (w : Setting) (traffic : Traffic) (e : End
   whole : e.now.source ≡ e.before.source → IsCalm e.before e.now → IsExhausted traffic e
       → IsAnswered hands w e.run.history.entries.items (all_of traffic) (output_of traffic e)
       → AnswersLines hands w traffic e
-  cut : SourceRose e.before e.now → IsCalm e.before e.now
+  cut : Rose e.before.source e.now.source → IsCalm e.before e.now
       → IsAnswered hands w e.run.history.entries.items (whole_of traffic) (output_of traffic e)
       → AnswersLines hands w traffic e
   halted : Halted e.before e.now

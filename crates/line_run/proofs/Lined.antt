@@ -17,7 +17,7 @@ use Rattle.run_record.specs.Run.{Hands, alone, IsRun, IsSpent}
 use Rattle.branch_workers.specs.Split.{whole_lines, all_lines, said_lines}
 use Rattle.branch_workers.specs.Texts.{Came, posting_of}
 use Rattle.branch_workers.specs.Lines.{come_in, lines_in, most_postings, IsFront, IsProperFront, Output, IsAnswered, IsCutShort}
-use Rattle.branch_workers.specs.Statuses.{Faults, SourceRose, Halted, IsCalm, HasStatus}
+use Rattle.branch_workers.specs.Statuses.{Faults, Halted, IsCalm, HasStatus}
 use Rattle.branch_workers.specs.Headline.{Ending, AnswersLines, IsHalted, IsLineRun}
 use Rattle.branch_workers.specs.Headline.{whole as all_answered, cut as ended_answered, halted as cut_short, halted_at_end as all_cut_short}
 use Rattle.office_front.specs.Dealings.{Told, Dealings}

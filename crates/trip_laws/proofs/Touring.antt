@@ -3,7 +3,7 @@ use Rattle.std.proofs.Common.{◌≡◌, ℕ, Bool, true, false, cond, ◌&&◌,
 use Rattle.std.proofs.Common.{◌+◌, ◌-◌, ◌^◌, ◌≤◌, min, count_by, arith}
 use Rattle.std.proofs.Common.{sym, ap, subst, ◌∙◌, Option, None, Some, option_map, true≢false, slice_get, filter}
 use Rattle.std.proofs.Common.{filter_map, is_some, nat_eq, option_and_then, append_assoc, unwrap_or, if◌then◌else◌}
-use Rattle.std.specs.List.{list_any, list_all, cons_option}
+use Rattle.std.specs.List.{list_any, list_all, cons_option, AllZip}
 use Rattle.std.proofs.lemmas.List.{append-nil}
 use Rattle.std.proofs.lemmas.List.Sums.{sum_by-cons}
 use Rattle.std.proofs.lemmas.Option.{slice_get-get_or}
@@ -37,7 +37,7 @@ use Rattle.plain_office.proofs.Sending.{speaks_of, was_sent, calls_known}
 use Rattle.session_turn.proofs.Histories.{past_on, some_of, service_stays}
 use Rattle.run_record.specs.Outside.{Trip, trips, fetched_in, trip_of, console_calls}
 use Rattle.outside_links.specs.Trips.{Made, Travels}
-use Rattle.trip_laws.specs.Trips.{TripsTold, has_failed, HasCounted, IsTrip, AreTrips, Travelled, AreVoid}
+use Rattle.trip_laws.specs.Trips.{TripsTold, has_failed, HasCounted, IsTrip, Travelled, AreVoid}
 use Rattle.trip_laws.specs.Going.{is_inward, is_of_session, fetch_of, answer_of, went_out, goes_to, AreSettled}
 use Rattle.trip_laws.specs.Going.{IsTour, AreTours, Toured, IsHeard}
 use Rattle.trip_laws.proofs.Places.{filter_map_same, any_at, at_front}
@@ -407,7 +407,7 @@ trip_is w past t m x =
     }
 
 trips_are : (w : Setting) (past : Past) (ts : List Trip) (ms : List Made) → AreTours w past ts ms
-    → AreTrips w past ts ms
+    → AllZip (IsTrip w past) ts ms
 trips_are w past [] [] x = tt
 trips_are w past [] (m ∷ ms) x = x
 trips_are w past (t ∷ ts) [] x = x
