@@ -5,7 +5,7 @@ use Rattle.std.specs.List.{list_all, list_any, items_where_true}
 use Rattle.std.proofs.lemmas.List.Sums.{sum_by-cons}
 use Rattle.outside_traits.specs.Causes.{Rose}
 use Rattle.outside_doors.specs.Counts.{DoorTold}
-use Rattle.outside_doors.specs.Returns.{Lists}
+use Rattle.outside_traits.specs.Told.{Lists}
 use Rattle.office_core.specs.Limits.{Setting, run_of}
 use Rattle.office_core.specs.declared.history.Entry.{Entry}
 use Rattle.run_record.specs.declared.record.Record.{Record}

@@ -10,7 +10,7 @@ use Rattle.behaviour_tree.specs.declared.program.Port.{Port}
 use Rattle.behaviour_tree.specs.declared.program.Service.{Service}
 use Rattle.std.proofs.lemmas.Bool.{lt-ltb}
 use Rattle.behaviour_tree.specs.Data.{PortPart, ServicePart}
-use Rattle.outside_doors.specs.Returns.{Lists}
+use Rattle.outside_traits.specs.Told.{Lists}
 use Rattle.connection_runs.specs.Ports.{DoorAt, is_door, locations_of, doors_from}
 use Rattle.door_front.specs.Keeping.{PortTold}
 use Rattle.door_run.specs.Used.{DoorsTold, RoseWhere, location_of, with_openings}

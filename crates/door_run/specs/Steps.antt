@@ -3,7 +3,8 @@
 use Rattle.std.specs.Prelude.{◌≡◌, ℕ, Bool, not, ◌||◌, if◌then◌else◌, List, ◌++◌, length, map}
 use Rattle.std.specs.List.{list_any, filter, items_where_true}
 use Rattle.outside_doors.specs.Counts.{DoorTold, untried}
-use Rattle.outside_doors.specs.Returns.{WireTold, wire_told, Lists}
+use Rattle.outside_traits.specs.Told.{Lists}
+use Rattle.outside_doors.specs.Returns.{WireTold, wire_told}
 use Rattle.behaviour_tree.specs.Data.{PortPart}
 use Rattle.run_record.specs.declared.record.Record.{Record}
 use Rattle.run_record.specs.declared.record.Traffic.{Traffic}

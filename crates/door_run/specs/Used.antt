@@ -5,7 +5,8 @@ use Rattle.std.specs.List.{list_any, items_where_true}
 use Rattle.std.specs.Io.KnownBytes.{Appends}
 use Rattle.outside_traits.specs.Causes.{Rose}
 use Rattle.outside_doors.specs.Counts.{DoorTold, Tally, with_opened, with_door, with_wire}
-use Rattle.outside_doors.specs.Returns.{WireTold, Lists}
+use Rattle.outside_traits.specs.Told.{Lists}
+use Rattle.outside_doors.specs.Returns.{WireTold}
 use Rattle.run_record.specs.declared.record.Traffic.{Traffic}
 use Rattle.connection_runs.specs.Ports.{DoorAt}
 use Rattle.connection_runs.specs.Visits.{Visit}

@@ -14,7 +14,8 @@ use Rattle.office_core.specs.Accepted.{past_of}
 use Rattle.office_core.specs.Sessions.{service_of}
 use Rattle.office_core.specs.Calls.{result}
 use Rattle.run_record.specs.Outside.{console_calls, Trip, trips}
-use Rattle.outside_links.specs.Trips.{Made, Travels}
+use Rattle.outside_traits.specs.Told.{Lists}
+use Rattle.outside_links.specs.Trips.{Made}
 use Rattle.jsonrpc_calls.specs.CallTexts.{call as call_text}
 use Rattle.jsonrpc_calls.specs.Heard.{heard}
 
@@ -67,7 +68,7 @@ pub record IsTrip (w : Setting) (past : Past) (t : Trip) (m : Made) : Type 0 whe
 pub record Travelled (w : Setting) (h : List Entry) (before now : TripsTold) : Type 0 where
   pub made : List Made
   pub are : AllZip (IsTrip w (past_of w h)) (trips w h first_worker) made
-  pub told : Travels before.trips now.trips made
+  pub told : Lists before.trips now.trips made
   pub counts : HasCounted before.faults now.faults made
 
 -- ---- the console
