@@ -72,9 +72,8 @@ is_fetched past actor s k = elim (call past s k) [
   | Some c ↦ some_entry past (λ e. nat_eq actor e.actor && fetches c e) && not (some_entry past (brings c))
 ]
 
--- whether an actor may make a call
+-- whether an actor may make a call; for a post, a fetch and the stop it is enough that a worker is at work
 abbrev pub is_allowed : Setting → Past → ℕ → Act → Bool
-is_allowed w past actor (act.Post j i q r) = is_at_work past actor
 is_allowed w past s (act.Adopt d) = is_running past && not (was_adopted past s)
 is_allowed w past s (act.Take n) = is_acting w past s
 is_allowed w past s (act.Bind v x r) = is_acting w past s && has_variable w past s v
@@ -83,10 +82,9 @@ is_allowed w past s (act.Send k port op v wants r) = is_acting w past s && nat_e
 is_allowed w past s (act.Answer k o) = is_acting w past s && is_wanted past s k
 is_allowed w past s act.End = is_acting w past s
 is_allowed w past actor (act.Collect n o) = nat_le first_worker actor && is_collectable past actor n
-is_allowed w past actor (act.Fetch s k) = is_at_work past actor
 is_allowed w past actor (act.Answered s k o) = is_at_work past actor && is_fetched past actor s k
 is_allowed w past actor act.Close = is_at_work past actor && not (some_entry past closes)
-is_allowed w past actor act.Stop = is_at_work past actor
+is_allowed w past actor a = is_at_work past actor
 
 -- ---- the replies
 
