@@ -19,7 +19,7 @@ pub record HadNoAnswer (w : Setting) (h : List Entry) (asked : List Asked) (k : 
   pub traffic : whose.traffic ≡ k
   pub unfinished : list_any (nat_eq place) (finished_early w h (length asked)) ≡ false
 
--- each connection, the first of which has the number k, waited for an answer, where that is told of it, or it was over
+-- each connection, the first of which has the number k, waited for an answer, where it is marked so, or it was over
 abbrev pub WereBusy : (ℕ → Type 0) → ℕ → List Bool → List Visit → Type 0
 WereBusy Waited k [] [] = Unit {0}
 WereBusy Waited k (b ∷ bs) (v ∷ vs) = MatchBool b (Waited k) (IsOver v.stage) × WereBusy Waited (suc k) bs vs
