@@ -14,7 +14,7 @@ use Rattle.serde_json.proofs.Views.{get_member-put}
 use Rattle.jolie_trees.specs.declared.root.Root.{Root}
 use Rattle.jolie_trees.specs.declared.root.Root.TheVariants as root
 use Rattle.jolie_trees.specs.Data.{Tree, node, Fields, no_fields, field, Trees, no_trees, tree}
-use Rattle.jolie_trees.specs.Trees.{count_of}
+use Rattle.jolie_trees.specs.Trees.{count_of, field_if}
 use Rattle.behaviour_tree.specs.Data.{TypeTree, TypeFields}
 use Rattle.jsonrpc_text.specs.FromJson.{root_name, integer_root, root_in, root_of_member, of_both, only, tree_in, children_in, vector_in, trees_in}
 use Rattle.jsonrpc_text.specs.ToJson.{root_data, with_root, FieldPart, field_part, fields_of_type, repeats, member_type, are_there, json_of, members_json, vector_json, items_json}
