@@ -4,7 +4,7 @@ use Rattle.std.specs.Prelude.{slice_get, if◌then◌else◌}
 use Rattle.behaviour_tree.specs.Data.{PortPart}
 use Rattle.behaviour_tree.specs.PartsView.{port_view}
 use Rattle.behaviour_tree.specs.declared.program.Port.{Port}
-use Rattle.behaviour_tree.specs.Operations.{inputs_of, inputs_at, is_among, mentions, passed, coming, rest_from, if_new}
+use Rattle.behaviour_tree.specs.Operations.{inputs_of, inputs_at, is_among, mentions, passed, coming, rest_from}
 
 drop-none : {A : Type 0} (xs : List A) (j : ℕ) → slice_get xs j ≡ None → drop j xs ≡ []
 drop-none [] zero e = refl
@@ -70,7 +70,7 @@ coming-further ports i j n e = rw (drop-some (inputs_at ports i) j n e) refl
 passed-further : (ports : List PortPart) (i j n : ℕ) → slice_get (inputs_at ports i) j ≡ Some n → passed ports i (suc j) ≡ passed ports i j ++ n ∷ []
 passed-further ports i j n e = rw (take-some (inputs_at ports i) j n e) (sym (append_assoc (mentions (take i ports)) (take j (inputs_at ports i)) (n ∷ [])))
 
-rest-further : (ports : List PortPart) (i j n : ℕ) → slice_get (inputs_at ports i) j ≡ Some n → rest_from ports i j ≡ if_new (passed ports i j) n ++ rest_from ports i (suc j)
+rest-further : (ports : List PortPart) (i j n : ℕ) → slice_get (inputs_at ports i) j ≡ Some n → rest_from ports i j ≡ (if is_among (passed ports i j) n then [] else n ∷ []) ++ rest_from ports i (suc j)
 rest-further ports i j n e = rw (coming-further ports i j n e, passed-further ports i j n e) refl
 
 -- the interfaces of a port at hand

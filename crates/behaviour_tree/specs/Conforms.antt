@@ -49,12 +49,9 @@ abbrev mutual
   pub fits : List TypeTree → Tree → TypeTree → Bool
   fits types (node r children) ty =
       elim (shape types (length types) ty) [
-        | None ↦ false
-        | Some s ↦ elim s [
-          | plain k fields ↦ has_kind k r && counts_fit children fields && children_fit types children fields
-          | named i ↦ false
-          | undefined ↦ true
-        ]
+        | Some (plain k fields) ↦ has_kind k r && counts_fit children fields && children_fit types children fields
+        | Some undefined ↦ true
+        | _ ↦ false
       ]
 
   -- the members of each name fit that field
@@ -87,12 +84,8 @@ abbrev mutual
   pub wide : List TypeTree → Tree → TypeTree → Tree
   wide types (node r children) ty =
       elim (shape types (length types) ty) [
-        | None ↦ node r children
-        | Some s ↦ elim s [
-          | plain k fields ↦ node (wide_root k r) (wide_children types children fields)
-          | named i ↦ node r children
-          | undefined ↦ node r children
-        ]
+        | Some (plain k fields) ↦ node (wide_root k r) (wide_children types children fields)
+        | _ ↦ node r children
       ]
 
   -- the same of the children, by their fields

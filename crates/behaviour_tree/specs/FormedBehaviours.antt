@@ -115,6 +115,11 @@ abbrev mutual
   are_handlers r no_handlers = true
   are_handlers r (handler k p list) = is_key r.names k && is_behaviour r true p && are_handlers r list
 
+-- how many behaviours there are
+abbrev pub count_of : Procs → ℕ
+count_of no_procs = 0
+count_of (proc p ps) = suc (count_of ps)
+
 abbrev mutual
   -- how many members the parallels of a behaviour have in all, those in its handlers included
   pub parallel_members : Proc → ℕ
@@ -133,11 +138,6 @@ abbrev mutual
   pub members_within : Procs → ℕ
   members_within no_procs = 0
   members_within (proc p ps) = parallel_members p + members_within ps
-
-  -- how many behaviours there are
-  pub count_of : Procs → ℕ
-  count_of no_procs = 0
-  count_of (proc p ps) = suc (count_of ps)
 
   -- in branches
   pub members_of_branches : Branches → ℕ

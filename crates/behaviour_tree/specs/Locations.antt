@@ -1,7 +1,11 @@
 -- Which texts are locations: `socket://host:port` with a path that may follow, and `local://name`.
-use Rattle.std.specs.Prelude.{ℕ, Bool, true, false, not, ◌&&◌, ◌||◌, ◌==◌, List, []}
-use Rattle.std.specs.Prelude.{◌∷◌, nat_le, codes, if◌then◌else◌, Option, None, Some}
+use Rattle.std.specs.Prelude.{ℕ, Bool, true, false, not, ◌&&◌, ◌||◌, ◌==◌, List, [], ◌∷◌, drop, take_while}
+use Rattle.std.specs.Prelude.{nat_le, codes, if◌then◌else◌, Option, None, Some, is_some}
+use Rattle.std.specs.List.{list_all, prefix_len}
+use Rattle.std.specs.Option.{option_map_or}
 use Rattle.std.specs.Str.Parse.{digits_value}
+use Rattle.behaviour_tree.specs.Texts.{is_digit}
+use Rattle.behaviour_tree.specs.Distinct.{is_some_list}
 
 -- the bytes of a text behind a beginning, where it has it
 abbrev pub behind : List ℕ → List ℕ → Option (List ℕ)
@@ -9,29 +13,9 @@ behind [] text = Some text
 behind (b ∷ bs) [] = None
 behind (b ∷ bs) (c ∷ text) = if b == c then behind bs text else None
 
--- the bytes in front that a test holds of
-abbrev pub front : (ℕ → Bool) → List ℕ → List ℕ
-front test [] = []
-front test (b ∷ bs) = if test b then b ∷ front test bs else []
-
 -- the bytes from the first on that a test does not hold of
 abbrev pub back : (ℕ → Bool) → List ℕ → List ℕ
-back test [] = []
-back test (b ∷ bs) = if test b then back test bs else b ∷ bs
-
--- a test holds of every byte
-abbrev pub all_are : (ℕ → Bool) → List ℕ → Bool
-all_are test [] = true
-all_are test (b ∷ bs) = test b && all_are test bs
-
--- there is a byte
-abbrev pub is_some_text : List ℕ → Bool
-is_some_text [] = false
-is_some_text (b ∷ bs) = true
-
--- an ASCII digit
-abbrev pub is_digit : ℕ → Bool
-is_digit b = nat_le 48 b && nat_le b 57
+back test text = drop (prefix_len test text) text
 
 -- an ASCII letter, a digit, `.`, `-` or `_`
 abbrev pub is_host_byte : ℕ → Bool
@@ -49,16 +33,16 @@ has_no_leading_zero (b ∷ bs) = not (b == 48)
 
 -- a decimal number from 1 to 65535 without a leading zero
 abbrev pub is_port_number : List ℕ → Bool
-is_port_number digits = is_some_text digits && has_no_leading_zero digits && nat_le (digits_value 10 digits) 65535
+is_port_number digits = is_some_list digits && has_no_leading_zero digits && nat_le (digits_value 10 digits) 65535
 
 -- nothing, or `/` and visible bytes
 abbrev pub is_path : List ℕ → Bool
 is_path [] = true
-is_path (b ∷ bs) = (b == 47) && all_are is_visible bs
+is_path (b ∷ bs) = (b == 47) && list_all is_visible bs
 
 -- a port number and a path
 abbrev pub is_port_and_path : List ℕ → Bool
-is_port_and_path text = is_port_number (front is_digit text) && is_path (back is_digit text)
+is_port_and_path text = is_port_number (take_while is_digit text) && is_path (back is_digit text)
 
 -- `:`, a port number and a path
 abbrev pub is_colon_and_port : List ℕ → Bool
@@ -67,25 +51,20 @@ is_colon_and_port (b ∷ bs) = (b == 58) && is_port_and_path bs
 
 -- a host, a port number and a path
 abbrev pub is_address : List ℕ → Bool
-is_address text = is_some_text (front is_host_byte text) && is_colon_and_port (back is_host_byte text)
+is_address text = is_some_list (take_while is_host_byte text) && is_colon_and_port (back is_host_byte text)
 
 -- a name of a local location
 abbrev pub is_local_name : List ℕ → Bool
-is_local_name text = is_some_text text && all_are is_visible text
-
--- what is behind the beginning is what it must be
-abbrev pub holds_behind : (List ℕ → Bool) → Option (List ℕ) → Bool
-holds_behind test None = false
-holds_behind test (Some text) = test text
+is_local_name text = is_some_list text && list_all is_visible text
 
 -- a text that begins as a local location
 abbrev pub begins_local : List ℕ → Bool
-begins_local text = holds_behind (λ rest. true) (behind (codes "local://") text)
+begins_local text = is_some (behind (codes "local://") text)
 
 -- a location of a local service
 abbrev pub is_local : List ℕ → Bool
-is_local text = holds_behind is_local_name (behind (codes "local://") text)
+is_local text = option_map_or is_local_name (behind (codes "local://") text) false
 
 -- a location of a socket
 abbrev pub is_socket : List ℕ → Bool
-is_socket text = holds_behind is_address (behind (codes "socket://") text)
+is_socket text = option_map_or is_address (behind (codes "socket://") text) false

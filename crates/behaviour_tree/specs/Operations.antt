@@ -18,14 +18,10 @@ mentions ports = flat_map inputs_of ports
 abbrev pub is_among : List ℕ → ℕ → Bool
 is_among ns n = list_any (λ m. m == n) ns
 
--- a number, unless it was mentioned before
-abbrev pub if_new : List ℕ → ℕ → List ℕ
-if_new before n = if is_among before n then [] else n ∷ []
-
 -- the numbers that were not mentioned before, each once, at its first mention
 abbrev pub first_mentions : List ℕ → List ℕ → List ℕ
 first_mentions before [] = []
-first_mentions before (n ∷ ns) = if_new before n ++ first_mentions (before ++ n ∷ []) ns
+first_mentions before (n ∷ ns) = (if is_among before n then [] else n ∷ []) ++ first_mentions (before ++ n ∷ []) ns
 
 -- the input interfaces of a service, each once
 abbrev pub input_interfaces : List PortPart → List ℕ

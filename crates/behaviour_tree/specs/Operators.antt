@@ -52,9 +52,8 @@ each (Some true) b = b
 
 -- an operator on two values that both are there: a fault on either side is the fault of both
 abbrev pub both : {A B : Type 0} → (A → A → Option B) → Option A → Option A → Option B
-both f None b = None
-both f (Some a) None = None
 both f (Some a) (Some b) = f a b
+both f a b = None
 
 -- the index that a root is: an int from 0
 abbrev pub index_in : Root → Option ℕ

@@ -1,7 +1,8 @@
 -- The texts of roots, and the numbers that texts write.
-use Rattle.std.specs.Prelude.{ℕ, ℤ, pos, neg_ℤ, Bool, true, false, ◌&&◌, ◌==◌, List, [], ◌∷◌}
+use Rattle.std.specs.Prelude.{ℕ, ℤ, pos, neg_ℤ, Bool, ◌&&◌, ◌==◌, List, [], ◌∷◌}
 use Rattle.std.specs.Prelude.{length, nat_le, if◌then◌else◌, Option, None, Some, option_map, codes}
 use Rattle.std.specs.Fmt.{signed_decimal}
+use Rattle.std.specs.List.{list_all}
 use Rattle.std.specs.Str.Parse.{digits_value}
 use Rattle.jolie_trees.specs.declared.root.Root.{Root}
 use Rattle.jolie_trees.specs.declared.root.Root.TheVariants as root
@@ -18,19 +19,14 @@ spelled (root.Text text) = text
 abbrev pub text_root : List ℕ → Option Root
 text_root text = if nat_le (length text) 65536 then Some (root.Text text) else None
 
--- the byte of a decimal digit
+-- an ASCII digit
 abbrev pub is_digit : ℕ → Bool
 is_digit b = nat_le 48 b && nat_le b 57
-
--- digits and nothing else
-abbrev pub are_digits : List ℕ → Bool
-are_digits [] = true
-are_digits (b ∷ bs) = is_digit b && are_digits bs
 
 -- the number that one digit or more write, leading zeros being allowed
 abbrev pub digits_in : List ℕ → Option ℕ
 digits_in [] = None
-digits_in (b ∷ bs) = if are_digits (b ∷ bs) then Some (digits_value 10 (b ∷ bs)) else None
+digits_in (b ∷ bs) = if list_all is_digit (b ∷ bs) then Some (digits_value 10 (b ∷ bs)) else None
 
 -- the number that a text writes: digits with or without a minus in front
 abbrev pub number_in : List ℕ → Option ℤ

@@ -1,15 +1,15 @@
 -- The headline of a run over lines, in two parts: what every run has, and what is said of its lines.
 use Rattle.std.specs.Prelude.{◌≡◌, ◌⊎◌, ℕ, ◌≤◌, Bool, true, false, List, [], ◌∷◌, length, Option}
-use Rattle.std.specs.List.{list_all}
 use Rattle.std.specs.Io.KnownBytes.{IsAtEnd}
+use Rattle.outside_traits.specs.Causes.{Rose}
 use Rattle.office_core.specs.Limits.{Setting}
 use Rattle.run_record.specs.declared.record.Record.{Record}
 use Rattle.run_record.specs.declared.record.Traffic.{Traffic}
 use Rattle.run_record.specs.Run.{Hands, IsRun, IsSpent}
 use Rattle.branch_workers.specs.Split.{whole_lines, all_lines, said_lines}
 use Rattle.branch_workers.specs.Texts.{Came}
-use Rattle.branch_workers.specs.Lines.{most_postings, come_in, is_by_first, Output, IsAnswered, IsCutShort}
-use Rattle.branch_workers.specs.Statuses.{Faults, SourceRose, Halted, IsCalm, HasStatus}
+use Rattle.branch_workers.specs.Lines.{most_postings, come_in, Output, IsAnswered, IsCutShort}
+use Rattle.branch_workers.specs.Statuses.{Faults, Halted, IsCalm, HasStatus}
 
 -- what a run over lines left behind: its record and status, how often the outside failed before and after it, what the
 -- source has left, as far as that is told, and the notes
@@ -44,7 +44,7 @@ pub data AnswersLines (hands : Hands) (w : Setting) (traffic : Traffic) (e : End
   whole : e.now.source ≡ e.before.source → IsCalm e.before e.now → IsExhausted traffic e
       → IsAnswered hands w e.run.history.entries.items (all_of traffic) (output_of traffic e)
       → AnswersLines hands w traffic e
-  cut : SourceRose e.before e.now → IsCalm e.before e.now
+  cut : Rose e.before.source e.now.source → IsCalm e.before e.now
       → IsAnswered hands w e.run.history.entries.items (whole_of traffic) (output_of traffic e)
       → AnswersLines hands w traffic e
   halted : Halted e.before e.now
@@ -66,6 +66,5 @@ pub record IsLineRun (w : Setting) (budget : ℕ) (hands : Hands) (e : Ending) :
   pub run : IsRun w budget hands halted e.run
   pub traffic : Traffic
   pub one : e.run.traffic ≡ traffic ∷ []
-  pub posters : list_all is_by_first e.run.history.entries.items ≡ true
   pub lines : AnswersLines hands w traffic e
   pub status : HasStatus e.status e.before e.now (IsSpent w budget e.run)

@@ -1,8 +1,8 @@
 -- What a run over lines posts and writes.
-use Rattle.std.specs.Prelude.{◌≡◌, ◌≢◌, ◌⊎◌, ℕ, Bool, true, List, [], ◌∷◌, ◌++◌, length}
-use Rattle.std.specs.Prelude.{map, take, flat_map, nat_eq, Option, None, Some, slice_get}
+use Rattle.std.specs.Prelude.{◌≡◌, ◌≢◌, ◌⊎◌, ℕ, List, [], ◌∷◌, ◌++◌, length}
+use Rattle.std.specs.Prelude.{map, take, flat_map, Option, None, Some, slice_get}
+use Rattle.std.specs.Option.{option_map_or}
 use Rattle.jsonrpc_text.specs.Posted.{posted}
-use Rattle.office_core.specs.declared.history.Act.TheVariants as act
 use Rattle.office_core.specs.declared.history.Entry.{Entry}
 use Rattle.office_core.specs.Limits.{Setting, first_worker}
 use Rattle.office_core.specs.Past.{Past}
@@ -27,10 +27,6 @@ line_in line = record { service = 0; read = posted line }
 abbrev pub come_in : List (List ℕ) → List Came
 come_in lines = take most_postings (map line_in lines)
 
--- a post is by the worker that has the lines
-abbrev pub is_by_first : Entry → Bool
-is_by_first e = elim e.act [ act.Post j i q r ↦ nat_eq e.actor first_worker | _ ↦ true ]
-
 -- ---- what is written
 
 -- a response with its line end, where there is one
@@ -40,10 +36,8 @@ line_if (Some text) = text ++ 10 ∷ []
 
 -- the line that answers the posting of a number, none where it is not there
 abbrev pub line_of : Setting → Past → List Came → ℕ → List ℕ
-line_of w past all j = elim (slice_get all j) [
-  | None ↦ []
-  | Some came ↦ line_if (response w past first_worker j came)
-]
+line_of w past all j =
+    option_map_or (λ came. line_if (response w past first_worker j came)) (slice_get all j) []
 
 -- the lines that answer postings, in an order
 abbrev pub lines_in : Setting → List Entry → List Came → List ℕ → List ℕ

@@ -29,13 +29,9 @@ abbrev pub IsOpen : List ℕ → Type 0
 IsOpen [] = Unit {0}
 IsOpen (b ∷ bs) = (b ≢ 10) × IsOpen bs
 
--- a blank: space, tab or CR
-abbrev pub is_blank_byte : ℕ → Bool
-is_blank_byte b = b == 32 || b == 9 || b == 13
-
--- blanks alone
+-- blanks alone: space, tab and CR
 abbrev pub is_blank : List ℕ → Bool
-is_blank line = list_all is_blank_byte line
+is_blank line = list_all (λ b. b == 32 || b == 9 || b == 13) line
 
 -- the lines that are not blank
 abbrev pub said_lines : List (List ℕ) → List (List ℕ)

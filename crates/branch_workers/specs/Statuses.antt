@@ -9,10 +9,6 @@ pub record Faults : Type 0 where
   pub notes : ℕ
   pub doors : ℕ
 
--- the source failed
-abbrev pub SourceRose : Faults → Faults → Type 0
-SourceRose before now = Rose before.source now.source
-
 -- the output or the notes failed: then a front halts
 abbrev pub Halted : Faults → Faults → Type 0
 Halted before now = Rose before.output now.output ⊎ Rose before.notes now.notes
@@ -21,18 +17,14 @@ Halted before now = Rose before.output now.output ⊎ Rose before.notes now.note
 abbrev pub IsCalm : Faults → Faults → Type 0
 IsCalm before now = (now.output ≡ before.output) × (now.notes ≡ before.notes)
 
--- a door failed
-abbrev pub DoorsRose : Faults → Faults → Type 0
-DoorsRose before now = Rose before.doors now.doors
-
 -- The status of a run over a program that was accepted. Of the faults that came the least is the status, and each has
 -- its own cause; where none came it is 6 exactly where a session used its whole budget and could act all the same,
 -- and else 0.
 pub record HasStatus (status : ℕ) (before now : Faults) (IsMore : Type 0) : Type 0 where
   pub one : (status ≡ 0) ⊎ (status ≡ 4) ⊎ (status ≡ 5) ⊎ (status ≡ 6) ⊎ (status ≡ 7)
-  pub source : status ≡ 4 → SourceRose before now
+  pub source : status ≡ 4 → Rose before.source now.source
   pub halted : status ≡ 5 → Halted before now
-  pub doors : status ≡ 7 → DoorsRose before now
+  pub doors : status ≡ 7 → Rose before.doors now.doors
   pub least_source : status ≢ 4 → now.source ≡ before.source
   pub least_halted : status ≢ 4 → status ≢ 5 → IsCalm before now
   pub least_doors : status ≢ 4 → status ≢ 5 → status ≢ 7 → now.doors ≡ before.doors

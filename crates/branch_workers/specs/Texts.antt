@@ -56,10 +56,7 @@ answer_type (Some o) = unwrap_or o.response undefined
 -- whether a call asks for a response: a notification does not
 abbrev pub has_id : Id → Bool
 has_id id.None = false
-has_id id.Null = true
-has_id (id.Int z) = true
-has_id (id.Big n) = true
-has_id (id.Text s) = true
+has_id i = true
 
 -- what is said of a call of a service: of what is no call its refusal, of another its outcome, once it has one
 abbrev pub said_by : ProgramParts → ℕ → ReadCall → Option Outcome → List (List ℕ)

@@ -18,7 +18,8 @@ use Rattle.calculus.specs.Throw.{Carried, up, caught_at, ended_at, blocked, abse
 use Rattle.calculus.specs.Moves.{Seen, Made, Move, moved_to, within, quietly, starts, instead, ungiven, inside, in_its_scope}
 use Rattle.calculus.specs.Effects.{Effect, faults, stores, effect_of, copied, effect_of_undef, received}
 use Rattle.calculus.specs.Faults.{binding}
-use Rattle.calculus.specs.Inputs.{Coming, ops_of, past, asked, goes_on, comes, inputs}
+use Rattle.behaviour_tree.specs.FormedBehaviours.{branch_operations}
+use Rattle.calculus.specs.Inputs.{Coming, past, asked, goes_on, comes, inputs}
 use Rattle.calculus.specs.Replies.{outcome_of_fault, reply_of, replies}
 use Rattle.calculus.specs.Calls.{message_value, notifies, solicits, binds, asks_to_bind}
 use Rattle.calculus.specs.Answers.{Read, answered, faulted, Call, call_of, with_handlers, answer_comes, sets_target, value_comes, answers, dead_answers, with_answer}
@@ -110,10 +111,10 @@ opens-inputs k s bs = go s.gift
     go : (g : Given)
         → OnValue (Leaving k 0 (asks k (Some (choice bs)) g))
         (elim g [
-          | given.Mail m o v ↦ comes s (record { message = m; op = o; value = v; ops = ops_of bs; branch = 0 }) bs
+          | given.Mail m o v ↦ comes s (record { message = m; op = o; value = v; ops = branch_operations bs; branch = 0 }) bs
           | _ ↦ None
         ])
-    go (given.Mail m o v) = opens-comes k s (record { message = m; op = o; value = v; ops = ops_of bs; branch = 0 }) bs
+    go (given.Mail m o v) = opens-comes k s (record { message = m; op = o; value = v; ops = branch_operations bs; branch = 0 }) bs
     go g = tt
 
 -- a binding

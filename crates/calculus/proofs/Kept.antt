@@ -4,7 +4,8 @@ use Rattle.std.proofs.lemmas.Bool.{false≢true}
 use Rattle.behaviour_tree.specs.Data.{Proc, nothing, inner_handler, block, sequence, parallel, scope, Procs, no_procs, proc}
 use Rattle.calculus.specs.Tables.{Table}
 use Rattle.calculus.specs.Terms.{Fault, Term, Strands, done, seq, par, in_scope, exec, fail, prot, no_strands, strand, State, live, caught, last, zombie, seq_of, all_done, par_of, prot_of, scope_of}
-use Rattle.calculus.specs.Start.{Begun, begun, count_of, start, start_head, start_members, settle, settle_head, settle_members, begin_rest, begin, then_rest, normal, normal_members}
+use Rattle.behaviour_tree.specs.FormedBehaviours.{count_of}
+use Rattle.calculus.specs.Start.{Begun, begun, start, start_head, start_members, settle, settle_head, settle_members, begin_rest, begin, then_rest, normal, normal_members}
 use Rattle.calculus.specs.Kill.{kill, kill_members}
 use Rattle.calculus.specs.Open.{held, held_among, only, none}
 use Rattle.calculus.specs.Reached.{KillKeepsCalls}

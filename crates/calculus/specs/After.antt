@@ -1,5 +1,5 @@
 -- One event of a session: what it makes of a configuration, what is seen of it, and what it asks of the office.
-use Rattle.std.specs.Prelude.{◌≡◌, ℕ, zero, Option, None, Some, option_map, Bool, true, false}
+use Rattle.std.specs.Prelude.{◌≡◌, ℕ, zero, Option, None, Some, option_map, option_and_then, Bool, true, false}
 use Rattle.jolie_trees.specs.Data.{Tree}
 use Rattle.jolie_trees.specs.Trees.{void_tree}
 use Rattle.behaviour_tree.specs.declared.words.Kind.TheVariants as kind
@@ -16,7 +16,7 @@ use Rattle.calculus.specs.Tables.{empty}
 use Rattle.calculus.specs.Terms.{Fault, Term, Strands, done, place, seq, par, in_scope, exec}
 use Rattle.calculus.specs.Terms.{fail, wait, dead_wait, prot, no_strands, strand, live, stands_in}
 use Rattle.calculus.specs.Start.{begin, normal}
-use Rattle.calculus.specs.Throw.{Carried, up, caught_at, ended_at, blocked, absent, throw}
+use Rattle.calculus.specs.Throw.{Carried, up, caught_at, ended_at, throw}
 use Rattle.calculus.specs.Moves.{Seen, Move, moved_to, within, quietly, starts}
 use Rattle.calculus.specs.Moves.{in_strand, ungiven, inside, in_its_scope}
 use Rattle.calculus.specs.Effects.{Effect, faults, stores, effect_of, copied, effect_of_undef}
@@ -74,13 +74,10 @@ act s (repeat e body) = tests s (truth_of s.store e) (turn_of e body) nothing
 act s (install list) = ungiven s (installs s list)
 act s (comp r) = ungiven s (compensates s r)
 act s (choice bs) = inputs s bs
-act s (notify port op e) = elim (message_value s port op e) [ None ↦ None | Some v ↦ ungiven s (notifies s port op v) ]
+act s (notify port op e) = option_and_then (λ v. ungiven s (notifies s port op v)) (message_value s port op e)
 act s (solicit port op e x list) =
-    elim (message_value s port op e) [
-      | None ↦ None
-      | Some v ↦ ungiven s (solicits s port op v (wait s.call port op x list))
-    ]
-act s (bind v e) = elim (binding s.store e) [ None ↦ None | Some r ↦ binds s v r ]
+    option_and_then (λ v. ungiven s (solicits s port op v (wait s.call port op x list))) (message_value s port op e)
+act s (bind v e) = option_and_then (binds s v) (binding s.store e)
 act s p = None
 
 -- ---- an event in a form, before normal form
@@ -156,8 +153,7 @@ abbrev pub raised : Config → ℕ → ℕ → Carried Term → Option Done
 raised c n f (up t) = Some (settled c t (raise_event n 2 main f))
 raised c n f (caught_at t q) = Some (settled c t (raise_event n 0 q f))
 raised c n f (ended_at t q) = Some (settled c t (raise_event n 1 q f))
-raised c n f (blocked m) = None
-raised c n f absent = None
+raised c n f carried = None
 
 -- a fault is raised where the office gave nothing
 abbrev pub raises : Config → ℕ → Given → Fault → Option Done

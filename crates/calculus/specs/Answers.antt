@@ -1,6 +1,7 @@
 -- Answer: the answer of a call comes.
 use Rattle.std.specs.Prelude.{ℕ, Bool, true, false, nat_eq, List, [], ◌∷◌, Option, None, Some, if◌then◌else◌, bytes_eq}
 use Rattle.std.specs.List.{list_any, position_from}
+use Rattle.std.specs.Option.{option_map_or}
 use Rattle.jolie_trees.specs.declared.root.Root.TheVariants as root
 use Rattle.jolie_trees.specs.Data.{Tree}
 use Rattle.behaviour_tree.specs.declared.words.Kind.TheVariants as kind
@@ -53,18 +54,15 @@ undeclared f = if is_passed f.name then f else bare undeclared_fault
 -- a fault by number as the answer of a call: it is itself where its operation throws it with a value of that type
 abbrev pub read_fault : Seen → Call → Fault → Fault
 read_fault s c f =
-    elim (accepted s.parts.types (type_thrown (throws_sent s.parts s.service c.port c.op) f.name) f.value) [
-      | Some v ↦ record { name = f.name; value = v }
-      | None ↦ undeclared f
-    ]
+    option_map_or (λ v. record { name = f.name; value = v })
+    (accepted s.parts.types (type_thrown (throws_sent s.parts s.service c.port c.op) f.name) f.value)
+    (undeclared f)
 
 -- a fault by its name as the answer of a call: a name that the program has not is no fault of the operation
 abbrev pub read_named : Seen → Call → List ℕ → Tree → Fault
 read_named s c name v =
-    elim (number_of s.parts name) [
-      | None ↦ bare undeclared_fault
-      | Some f ↦ read_fault s c (record { name = f; value = v })
-    ]
+    option_map_or (λ f. read_fault s c (record { name = f; value = v })) (number_of s.parts name)
+    (bare undeclared_fault)
 
 -- a refusal as a fault: Refused has its code as a long
 abbrev pub read_refusal : Reason → Fault
@@ -75,10 +73,8 @@ read_refusal r = record { name = refused; value = alone (root.Long (code_of r)) 
 -- the outcome of a call as its caller reads it
 abbrev pub read : Seen → Call → Outcome → Read
 read s c (outcome.Value v) =
-    elim (accepted s.parts.types (response_sent s.parts s.service c.port c.op) v) [
-      | Some w ↦ answered w
-      | None ↦ faulted (bare type_mismatch)
-    ]
+    option_map_or answered (accepted s.parts.types (response_sent s.parts s.service c.port c.op) v)
+    (faulted (bare type_mismatch))
 read s c (outcome.Fault name v) = faulted (read_named s c name v)
 read s c (outcome.Refused r) = faulted (read_refusal r)
 

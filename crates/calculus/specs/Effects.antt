@@ -20,9 +20,8 @@ stored store = if is_store store then stores store else faults store_too_large
 
 -- the root of a value at a path; either may fault
 abbrev pub assigned : Tree → Option (List Step) → Option Tree → Effect
-assigned store None v = faults expr_fault
-assigned store (Some path) None = faults expr_fault
 assigned store (Some path) (Some v) = stored (set_root path (root_of v) store)
+assigned store path v = faults expr_fault
 
 -- what an assignment does to a store
 abbrev pub effect_of : Tree → PathTree → Exp → Effect
@@ -30,9 +29,8 @@ effect_of store p e = assigned store (steps_of store p) (value store e)
 
 -- the whole tree of a value in place of the node at a path; either may fault
 abbrev pub put : Tree → Option (List Step) → Option Tree → Effect
-put store None v = faults expr_fault
-put store (Some path) None = faults expr_fault
 put store (Some path) (Some v) = stored (set path v store)
+put store path v = faults expr_fault
 
 -- what a copy does to a store
 abbrev pub copied : Tree → PathTree → Exp → Effect

@@ -1,19 +1,14 @@
 -- In: a message comes to a choice.
-use Rattle.std.specs.Prelude.{ℕ, suc, List, [], ◌∷◌, Option, None, Some, if◌then◌else◌, nat_eq}
+use Rattle.std.specs.Prelude.{ℕ, suc, List, Option, None, Some, if◌then◌else◌, nat_eq}
 use Rattle.jolie_trees.specs.Data.{Tree}
 use Rattle.behaviour_tree.specs.declared.words.Kind.TheVariants as kind
 use Rattle.behaviour_tree.specs.declared.words.Need.TheVariants as need
 use Rattle.behaviour_tree.specs.declared.words.Given.TheVariants as given
 use Rattle.behaviour_tree.specs.Data.{PathTree, Proc, no_procs, proc, Branches, no_branches, one_way, request}
+use Rattle.behaviour_tree.specs.FormedBehaviours.{branch_operations}
 use Rattle.calculus.specs.Terms.{Term, seq, exec}
 use Rattle.calculus.specs.Effects.{Effect, faults, stores, received}
 use Rattle.calculus.specs.Moves.{Seen, Made, Move, moved_to, within, event_of, unchanged, starts, instead}
-
--- the operations of branches, in order
-abbrev pub ops_of : Branches → List ℕ
-ops_of no_branches = []
-ops_of (one_way o x p bs) = o ∷ ops_of bs
-ops_of (request o x y body p bs) = o ∷ ops_of bs
 
 -- a message that came to a choice: its number, operation and value, the operations that the choice takes, and the
 -- number of the branch that it has come to
@@ -55,8 +50,7 @@ comes s m (request o x y body p bs) =
 
 -- the event of a choice, for a message that the office gave
 abbrev pub inputs : Seen → Branches → Option (Move Term)
-inputs s bs =
-    elim s.gift [
-      | given.Mail m o v ↦ comes s (record { message = m; op = o; value = v; ops = ops_of bs; branch = 0 }) bs
-      | _ ↦ None
-    ]
+inputs s bs = elim s.gift [
+  | given.Mail m o v ↦ comes s (record { message = m; op = o; value = v; ops = branch_operations bs; branch = 0 }) bs
+  | _ ↦ None
+]

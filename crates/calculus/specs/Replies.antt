@@ -1,5 +1,6 @@
 -- Reply: a request is answered.
 use Rattle.std.specs.Prelude.{ℕ, Option, None, Some}
+use Rattle.std.specs.Option.{option_map_or}
 use Rattle.jolie_trees.specs.Data.{Tree}
 use Rattle.jolie_trees.specs.Trees.{void_tree}
 use Rattle.behaviour_tree.specs.declared.words.Kind.TheVariants as kind
@@ -26,10 +27,8 @@ outcome_of_fault parts f = outcome.Fault (name_at parts f.name) f.value
 -- the answer of a request whose body is done: the value, as the response type takes it, or the fault TypeMismatch
 abbrev pub reply_of : Seen → ℕ → Option PathTree → Outcome
 reply_of s o y =
-    elim (accepted s.parts.types (response_of s.parts s.service o) (reply_value s.store y)) [
-      | Some v ↦ outcome.Value v
-      | None ↦ outcome_of_fault s.parts (bare type_mismatch)
-    ]
+    option_map_or outcome.Value (accepted s.parts.types (response_of s.parts s.service o) (reply_value s.store y))
+    (outcome_of_fault s.parts (bare type_mismatch))
 
 -- message m is answered, and a form goes on
 abbrev pub replies : Seen → ℕ → Outcome → Term → Move Term

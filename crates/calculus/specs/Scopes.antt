@@ -9,7 +9,7 @@ use Rattle.behaviour_tree.specs.declared.words.Need.TheVariants as need
 use Rattle.behaviour_tree.specs.Data.{HandlerList}
 use Rattle.behaviour_tree.specs.Values.{stepped}
 use Rattle.calculus.specs.Names.{name_at}
-use Rattle.calculus.specs.Tables.{Table, entry, without, over, completed, or_nothing, plus}
+use Rattle.calculus.specs.Tables.{Table, entry, without, over, or_nothing, plus}
 use Rattle.calculus.specs.Terms.{Fault, Term, done, in_scope, State, live, caught, term, last}
 use Rattle.calculus.specs.Moves.{Seen, Move, moved_to, within, event_of, unchanged, quietly, starts}
 
@@ -50,7 +50,7 @@ handles_end s q h =
 abbrev pub ends : Seen → ℕ → Table → Move Term
 ends s q h =
     moved_to done (record (unchanged s (event_of s kind.EndScope 0 q 0) need.Nothing) {
-      table = record s.table { scopes = over (completed h) s.table.scopes };
+      table = record s.table { scopes = over h.scopes s.table.scopes };
     })
 
 -- the event of scope q whose body is done. One whose last handler is through, or that a fault left, is itself done

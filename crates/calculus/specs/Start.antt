@@ -3,6 +3,7 @@
 use Rattle.std.specs.Prelude.{ℕ, ◌+◌, suc}
 use Rattle.behaviour_tree.specs.Data.{Proc, nothing, inner_handler, block, sequence}
 use Rattle.behaviour_tree.specs.Data.{parallel, scope, Procs, no_procs, proc}
+use Rattle.behaviour_tree.specs.FormedBehaviours.{count_of}
 use Rattle.calculus.specs.Tables.{empty}
 use Rattle.calculus.specs.Terms.{Term, Strands, done, place, seq, par, in_scope, exec, fail, prot}
 use Rattle.calculus.specs.Terms.{no_strands, strand, live, seq_of, par_of, prot_of, scope_of}
@@ -19,11 +20,6 @@ begun t n = record { form = t; next = n }
 -- what stands around a form that has begun
 abbrev pub around : {A B : Type 0} → (A → B) → Begun A → Begun B
 around f b = begun (f b.form) b.next
-
--- how many behaviours there are
-abbrev pub count_of : Procs → ℕ
-count_of no_procs = 0
-count_of (proc p ps) = suc (count_of ps)
 
 abbrev mutual
   -- the form as it starts where n is the next strand. A sequence starts its head; a parallel draws the numbers of its

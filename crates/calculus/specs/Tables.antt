@@ -1,7 +1,7 @@
 -- The handlers that are installed in a scope: two finite maps to behaviours, from faults and from scopes; and what
 -- installing, spending and ending a scope make of them.
 use Rattle.std.specs.Prelude.{ℕ, ◌+◌, suc, Bool, true, ◌&&◌, nat_le, nat_eq, max}
-use Rattle.std.specs.Prelude.{List, [], ◌∷◌, Option, None, Some, if◌then◌else◌}
+use Rattle.std.specs.Prelude.{List, [], ◌∷◌, Option, None, Some, unwrap_or, if◌then◌else◌}
 use Rattle.std.specs.Ordering.{nat_cmp}
 use Rattle.std.specs.BTreeMap.{insert_entry}
 use Rattle.behaviour_tree.specs.declared.behaviour.HandlerKey.{HandlerKey}
@@ -42,14 +42,9 @@ pub record Table : Type 0 where
 abbrev pub empty : Table
 empty = record { faults = []; scopes = [] }
 
--- the entries of a scope that ended, which pass to the scope around it
-abbrev pub completed : Table → Entries
-completed h = h.scopes
-
 -- a behaviour that may be missing: nothing runs in its place
 abbrev pub or_nothing : Option Proc → Proc
-or_nothing None = nothing
-or_nothing (Some p) = p
+or_nothing p = unwrap_or p nothing
 
 -- ---- keys
 
@@ -110,64 +105,43 @@ plus q h list = put_over q h list h
 -- ---- how large a handler is
 
 abbrev mutual
-  -- the forms of a behaviour, those of inner handlers included
-  pub forms : Proc → ℕ
-  forms (sequence ps) = suc (forms_of ps)
-  forms (parallel ps) = suc (forms_of ps)
-  forms (choose e p q) = suc (forms p + forms q)
-  forms (repeat e p) = suc (forms p)
-  forms (choice bs) = suc (forms_of_branches bs)
-  forms (solicit port op e x list) = suc (forms_of_handlers list)
-  forms (install list) = suc (forms_of_handlers list)
-  forms (scope q p) = suc (forms p)
-  forms (block p) = suc (forms p)
-  forms p = 1
+  -- the extent of a behaviour: one more than that of its parts, inner handlers included; `join` takes two as one
+  pub extent : (ℕ → ℕ → ℕ) → Proc → ℕ
+  extent join (sequence ps) = suc (extent_of join ps)
+  extent join (parallel ps) = suc (extent_of join ps)
+  extent join (choose e p q) = suc (join (extent join p) (extent join q))
+  extent join (repeat e p) = suc (extent join p)
+  extent join (choice bs) = suc (extent_of_branches join bs)
+  extent join (solicit port op e x list) = suc (extent_of_handlers join list)
+  extent join (install list) = suc (extent_of_handlers join list)
+  extent join (scope q p) = suc (extent join p)
+  extent join (block p) = suc (extent join p)
+  extent join p = 1
 
-  -- those of behaviours
-  pub forms_of : Procs → ℕ
-  forms_of no_procs = 0
-  forms_of (proc p ps) = forms p + forms_of ps
+  -- that of behaviours
+  pub extent_of : (ℕ → ℕ → ℕ) → Procs → ℕ
+  extent_of join no_procs = 0
+  extent_of join (proc p ps) = join (extent join p) (extent_of join ps)
 
-  -- those of branches
-  pub forms_of_branches : Branches → ℕ
-  forms_of_branches no_branches = 0
-  forms_of_branches (one_way o x p bs) = forms p + forms_of_branches bs
-  forms_of_branches (request o x y body p bs) = forms body + forms p + forms_of_branches bs
+  -- that of branches
+  pub extent_of_branches : (ℕ → ℕ → ℕ) → Branches → ℕ
+  extent_of_branches join no_branches = 0
+  extent_of_branches join (one_way o x p bs) = join (extent join p) (extent_of_branches join bs)
+  extent_of_branches join (request o x y body p bs) =
+      join (join (extent join body) (extent join p)) (extent_of_branches join bs)
 
-  -- those of handlers
-  pub forms_of_handlers : HandlerList → ℕ
-  forms_of_handlers no_handlers = 0
-  forms_of_handlers (handler k p list) = forms p + forms_of_handlers list
+  -- that of handlers
+  pub extent_of_handlers : (ℕ → ℕ → ℕ) → HandlerList → ℕ
+  extent_of_handlers join no_handlers = 0
+  extent_of_handlers join (handler k p list) = join (extent join p) (extent_of_handlers join list)
 
-abbrev mutual
-  -- the levels of a behaviour: one more than those of its deepest part
-  pub levels : Proc → ℕ
-  levels (sequence ps) = suc (levels_of ps)
-  levels (parallel ps) = suc (levels_of ps)
-  levels (choose e p q) = suc (max (levels p) (levels q))
-  levels (repeat e p) = suc (levels p)
-  levels (choice bs) = suc (levels_of_branches bs)
-  levels (solicit port op e x list) = suc (levels_of_handlers list)
-  levels (install list) = suc (levels_of_handlers list)
-  levels (scope q p) = suc (levels p)
-  levels (block p) = suc (levels p)
-  levels p = 1
+-- the forms of a behaviour: those of its parts add up
+abbrev pub forms : Proc → ℕ
+forms p = extent ◌+◌ p
 
-  -- those of the deepest of some behaviours
-  pub levels_of : Procs → ℕ
-  levels_of no_procs = 0
-  levels_of (proc p ps) = max (levels p) (levels_of ps)
-
-  -- those of the deepest part of branches
-  pub levels_of_branches : Branches → ℕ
-  levels_of_branches no_branches = 0
-  levels_of_branches (one_way o x p bs) = max (levels p) (levels_of_branches bs)
-  levels_of_branches (request o x y body p bs) = max (max (levels body) (levels p)) (levels_of_branches bs)
-
-  -- those of the deepest handler
-  pub levels_of_handlers : HandlerList → ℕ
-  levels_of_handlers no_handlers = 0
-  levels_of_handlers (handler k p list) = max (levels p) (levels_of_handlers list)
+-- the levels of a behaviour: those of its deepest part count
+abbrev pub levels : Proc → ℕ
+levels p = extent max p
 
 -- the most forms of a handler
 abbrev pub most_forms : ℕ

@@ -5,12 +5,11 @@ use Rattle.behaviour_tree.specs.declared.words.Kind.TheVariants as kind
 use Rattle.behaviour_tree.specs.declared.words.Given.{Given}
 use Rattle.behaviour_tree.specs.declared.words.Given.TheVariants as given
 use Rattle.behaviour_tree.specs.Data.{Exp, Proc, nothing, inner_handler, block, sequence, parallel, scope, choose, repeat, choice, comp, Procs, no_procs, proc, Branches, no_branches, one_way, request, ProgramParts}
-use Rattle.behaviour_tree.specs.FormedBehaviours.{parallel_members, members_within, members_of_branches, members_of_handlers}
-use Rattle.behaviour_tree.specs.FormedBehaviours as formed
+use Rattle.behaviour_tree.specs.FormedBehaviours.{parallel_members, members_within, members_of_branches, members_of_handlers, count_of}
 use Rattle.calculus.specs.Names.{handler_too_large}
 use Rattle.calculus.specs.Tables.{Table, entry, without, over, or_nothing, most_forms, fits}
 use Rattle.calculus.specs.Terms.{Fault, bare, Term, Strands, done, place, thrown, seq, par, in_scope, exec, fail, wait, dead_wait, prot, no_strands, strand, State, live, caught, term, last, zombie, seq_of, all_done, par_of, prot_of, scope_of, stands_in}
-use Rattle.calculus.specs.Start.{Begun, count_of, start, start_head, start_members, begin, normal}
+use Rattle.calculus.specs.Start.{Begun, start, start_head, start_members, begin, normal}
 use Rattle.calculus.specs.Kill.{kill, kill_members}
 use Rattle.calculus.specs.Ready.{ready}
 use Rattle.calculus.specs.Throw.{Carried, up, caught_at, ended_at, blocked, absent, surrounded, at_live, at_scope, throw, throw_among}
@@ -28,11 +27,6 @@ use Rattle.calculus_laws.proofs.Settling.{Settles, settles-begin, settles-normal
 use Rattle.calculus_laws.proofs.Handlers.{few_entries, few-without, few-over, few-entry, few-plus}
 use Rattle.calculus_laws.proofs.Events.{of_event}
 
--- both definitions count alike
-count-same : (ps : Procs) → count_of ps ≡ formed.count_of ps
-count-same no_procs = refl
-count-same (proc p ps) = ap suc (count-same ps)
-
 -- a head with its rests has the members of both
 members-seq_of : (t : Term) (ps : Procs) → members_in (seq_of t ps) ≡ members_in t + members_within ps
 members-seq_of t no_procs = omega arith
@@ -45,7 +39,7 @@ mutual
   adds-start inner_handler n = omega arith
   adds-start (block p) n = adds-start p n
   adds-start (sequence ps) n = adds-start_head ps n
-  adds-start (parallel ps) n = omega (arith, adds-start_members ps n (n + count_of ps), count-same ps)
+  adds-start (parallel ps) n = omega (arith, adds-start_members ps n (n + count_of ps))
   adds-start (scope q p) n = adds-start p n
   adds-start p n = le_refl (n + parallel_members p)
 

@@ -10,7 +10,8 @@ use Rattle.calculus.specs.Throw.{Carried, up, caught_at, ended_at, blocked, abse
 use Rattle.calculus.specs.Moves.{Seen, Move, inside}
 use Rattle.calculus.specs.Effects.{Effect, faults, stores, received}
 use Rattle.calculus.specs.Faults.{binding, fault_of, fault_in, fault_among}
-use Rattle.calculus.specs.Inputs.{Coming, ops_of, past, goes_on, comes}
+use Rattle.behaviour_tree.specs.FormedBehaviours.{branch_operations}
+use Rattle.calculus.specs.Inputs.{Coming, past, goes_on, comes}
 use Rattle.calculus.specs.Replies.{outcome_of_fault, reply_of}
 use Rattle.calculus.specs.Calls.{message_value}
 use Rattle.calculus.specs.After.{Config, Done, moves, is_finished, raised, finishes, seen_by, after}
@@ -25,7 +26,7 @@ blind s = record s { gift = given.Nothing }
 
 -- what a behaviour asks of the office
 abbrev need_of : Seen → Proc → Need
-need_of s (choice bs) = need.Take (ops_of bs)
+need_of s (choice bs) = need.Take (branch_operations bs)
 need_of s (notify port op e) =
     elim (message_value s port op e) [ None ↦ need.Nothing | Some v ↦ need.Send s.call port op v false ]
 need_of s (solicit port op e x list) =

@@ -5,7 +5,8 @@ use Rattle.behaviour_tree.specs.declared.words.Given.TheVariants as given
 use Rattle.behaviour_tree.specs.Data.{Proc, nothing, block, sequence, parallel, scope, choice, Procs, no_procs, proc, Branches, no_branches, one_way, request, ProgramParts}
 use Rattle.calculus.specs.Tables.{Table, entry, or_nothing}
 use Rattle.calculus.specs.Terms.{Fault, Term, Strands, done, place, thrown, seq, par, in_scope, exec, fail, prot, no_strands, strand, State, live, caught, last, zombie, seq_of, all_done, par_of, prot_of, scope_of, stands_in}
-use Rattle.calculus.specs.Start.{Begun, count_of, start, start_head, start_members, begin, normal}
+use Rattle.behaviour_tree.specs.FormedBehaviours.{count_of}
+use Rattle.calculus.specs.Start.{Begun, start, start_head, start_members, begin, normal}
 use Rattle.calculus.specs.Kill.{kill, kill_members}
 use Rattle.calculus.specs.Ready.{ready}
 use Rattle.calculus.specs.Throw.{Carried, up, caught_at, ended_at, blocked, absent, surrounded, at_live, at_scope, throw, throw_among}

@@ -4,7 +4,8 @@ use Rattle.std.proofs.lemmas.Bool.{and_from}
 use Rattle.behaviour_tree.specs.Data.{Proc, nothing, inner_handler, block, sequence, parallel, scope, Procs, no_procs, proc}
 use Rattle.calculus.specs.Tables.{Table, empty}
 use Rattle.calculus.specs.Terms.{Term, Strands, done, place, seq, par, in_scope, no_strands, strand, State, live, seq_of, all_done, par_of, scope_of}
-use Rattle.calculus.specs.Start.{count_of, start, start_head, start_members, begin}
+use Rattle.behaviour_tree.specs.FormedBehaviours.{count_of}
+use Rattle.calculus.specs.Start.{start, start_head, start_members, begin}
 use Rattle.calculus.specs.Open.{held, held_among}
 use Rattle.calculus.specs.Sound.{is_exposed, are_exposed}
 use Rattle.calculus_laws.proofs.Settling.{Settles, settles-begin}

@@ -8,7 +8,7 @@ use Rattle.behaviour_tree.specs.declared.behaviour.HandlerKey.{HandlerKey}
 use Rattle.behaviour_tree.specs.declared.behaviour.HandlerKey.TheVariants as key
 use Rattle.behaviour_tree.specs.Data.{Proc, sequence, parallel, choose, repeat, choice, solicit, install, scope, block, Procs, no_procs, proc, Branches, no_branches, one_way, request, HandlerList, no_handlers, handler}
 use Rattle.behaviour_tree.specs.FormedBehaviours.{parallel_members, members_within, members_of_branches, members_of_handlers, count_of}
-use Rattle.calculus.specs.Tables.{Entries, entry, with, without, over, Table, or_nothing, with_handler, taken_in, put_over, plus, forms, forms_of, forms_of_branches, forms_of_handlers, levels, most_forms, most_levels, is_handler, fits}
+use Rattle.calculus.specs.Tables.{Entries, entry, with, without, over, Table, or_nothing, with_handler, taken_in, put_over, plus, extent_of, extent_of_branches, extent_of_handlers, forms, levels, most_forms, most_levels, is_handler, fits}
 use Rattle.calculus.specs.Members.{has_few, handlers_have_few}
 
 -- ---- a handler has more forms than members
@@ -28,19 +28,19 @@ mutual
   members-forms p = omega arith
 
   -- behaviours
-  members-forms_of : (ps : Procs) → count_of ps + members_within ps ≤ forms_of ps
+  members-forms_of : (ps : Procs) → count_of ps + members_within ps ≤ extent_of ◌+◌ ps
   members-forms_of no_procs = omega arith
   members-forms_of (proc p ps) = omega (arith, members-forms p, members-forms_of ps)
 
   -- branches
-  members-forms_of_branches : (bs : Branches) → members_of_branches bs ≤ forms_of_branches bs
+  members-forms_of_branches : (bs : Branches) → members_of_branches bs ≤ extent_of_branches ◌+◌ bs
   members-forms_of_branches no_branches = omega arith
   members-forms_of_branches (one_way o x p bs) = omega (arith, members-forms p, members-forms_of_branches bs)
   members-forms_of_branches (request o x y body p bs) =
       omega (arith, members-forms body, members-forms p, members-forms_of_branches bs)
 
   -- handlers
-  members-forms_of_handlers : (list : HandlerList) → members_of_handlers list ≤ forms_of_handlers list
+  members-forms_of_handlers : (list : HandlerList) → members_of_handlers list ≤ extent_of_handlers ◌+◌ list
   members-forms_of_handlers no_handlers = omega arith
   members-forms_of_handlers (handler k p list) = omega (arith, members-forms p, members-forms_of_handlers list)
 

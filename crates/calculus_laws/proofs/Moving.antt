@@ -13,7 +13,8 @@ use Rattle.calculus.specs.Terms.{Fault, bare, Term, Strands, done, place, thrown
 use Rattle.calculus.specs.Moves.{Seen, Move, moved_to, within, quietly, starts, instead, ungiven, inside, in_its_scope}
 use Rattle.calculus.specs.Effects.{Effect, faults, stores, effect_of, copied, effect_of_undef, received}
 use Rattle.calculus.specs.Faults.{binding}
-use Rattle.calculus.specs.Inputs.{Coming, ops_of, comes, inputs}
+use Rattle.behaviour_tree.specs.FormedBehaviours.{branch_operations}
+use Rattle.calculus.specs.Inputs.{Coming, comes, inputs}
 use Rattle.calculus.specs.Replies.{outcome_of_fault, reply_of, replies}
 use Rattle.calculus.specs.Calls.{message_value, notifies, solicits, binds, asks_to_bind}
 use Rattle.calculus.specs.Answers.{Read, answered, faulted, Call, call_of, read, with_handlers, answer_comes, sets_target, answers, dead_answers, with_answer}
@@ -40,7 +41,7 @@ pub record Alone (s : Seen) (k : ℕ) : Type 0 where
 
 -- a message as it comes to the first branch
 abbrev pub coming : ℕ → ℕ → Tree → Branches → Coming
-coming m o v bs = record { message = m; op = o; value = v; ops = ops_of bs; branch = 0 }
+coming m o v bs = record { message = m; op = o; value = v; ops = branch_operations bs; branch = 0 }
 
 -- P holds of every move of a form, and Q of every move of members: P holds where a form acts, and both pass outward
 pub record Keeps (P : Seen → ℕ → Term → Move Term → Type 0) (Q : Seen → Strands → Move Strands → Type 0) : Type 0 where

@@ -3,7 +3,8 @@ use Rattle.std.proofs.Common.{◌≡◌, ℕ, suc, ◌+◌, Option, refl, sym, s
 use Rattle.behaviour_tree.specs.Data.{PathTree, Proc, nothing, inner_handler, block, sequence, parallel, scope, Procs, no_procs, proc}
 use Rattle.calculus.specs.Tables.{Table, empty}
 use Rattle.calculus.specs.Terms.{Fault, Term, Strands, done, place, thrown, seq, par, in_scope, exec, fail, wait, dead_wait, prot, no_strands, strand, State, live, seq_of, par_of, prot_of, scope_of}
-use Rattle.calculus.specs.Start.{Begun, begun, count_of, start, start_head, start_members, settle, settle_head, settle_members, begin_rest, begin, then_rest, normal, normal_members}
+use Rattle.behaviour_tree.specs.FormedBehaviours.{count_of}
+use Rattle.calculus.specs.Start.{Begun, begun, start, start_head, start_members, settle, settle_head, settle_members, begin_rest, begin, then_rest, normal, normal_members}
 use Rattle.calculus_laws.proofs.Moving.{NotDone}
 
 -- a form that has no form in it

@@ -1,7 +1,7 @@
 -- What a run over connections posted and wrote.
 use Rattle.std.specs.Prelude.{◌≡◌, ◌⊎◌, ℕ, Bool, true, false, List, length, map, nat_eq}
 use Rattle.std.specs.Prelude.{Option, Some, slice_get}
-use Rattle.std.specs.List.{list_all}
+use Rattle.std.specs.List.{list_all, AllZip}
 use Rattle.office_core.specs.declared.history.Entry.{Entry}
 use Rattle.office_core.specs.Limits.{Setting, first_worker}
 use Rattle.office_core.specs.Accepted.{past_of}
@@ -10,7 +10,7 @@ use Rattle.run_record.specs.declared.record.Traffic.{Traffic}
 use Rattle.run_record.specs.Postings.{posts_by, posts_of}
 use Rattle.branch_workers.specs.Texts.{Came, posting_of, response}
 use Rattle.connection_runs.specs.Ports.{has_door}
-use Rattle.connection_runs.specs.Visits.{Visit, came_at, AreTaken, HavePassed}
+use Rattle.connection_runs.specs.Visits.{Visit, came_at, AreTaken, HasPassed}
 
 -- whose request each posting is, and what it brings in, in the order of the postings
 pub record Requests : Type 0 where
@@ -37,7 +37,7 @@ pub record IsServed (w : Setting) (h : List Entry) (halted : Bool) (traffic : Li
   pub visits : List Visit
   pub all : Requests
   pub doors : list_all (λ (visit : Visit). has_door w.parts visit.service) visits ≡ true
-  pub passed : HavePassed visits traffic
+  pub passed : AllZip HasPassed visits traffic
   pub taken : AreTaken visits all.asked
   pub came : map (came_at visits) all.asked ≡ map Some all.came
   pub posted : posts_by first_worker h ≡ posts_of 0 (map posting_of all.came)

@@ -1,5 +1,5 @@
 -- What connections bring in, and how they stand.
-use Rattle.std.specs.Prelude.{◌≡◌, ◌≢◌, ℕ, List, [], ◌∷◌, length, take, count_by}
+use Rattle.std.specs.Prelude.{◌≡◌, ◌≢◌, ℕ, List, length, take, count_by}
 use Rattle.std.specs.Prelude.{Option, option_map, option_and_then, Some, slice_get}
 use Rattle.jsonrpc_text.specs.Posted.{posted}
 use Rattle.office_front.specs.Dealings.{Asked}
@@ -47,10 +47,3 @@ pub record HasPassed (visit : Visit) (traffic : Traffic) : Type 0 where
   pub keeps : (reading : Reading traffic.read)
       → ∥ Keeps visit.stage (holding traffic.read reading)
       (log traffic.read traffic.written visit.bodies visit.texts) ∥₁
-
--- the connections have these bytes, in order
-abbrev pub HavePassed : List Visit → List Traffic → Type 0
-HavePassed [] [] = Unit {0}
-HavePassed [] (t ∷ ts) = ⊥
-HavePassed (v ∷ vs) [] = ⊥
-HavePassed (v ∷ vs) (t ∷ ts) = HasPassed v t × HavePassed vs ts

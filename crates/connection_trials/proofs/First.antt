@@ -1,7 +1,7 @@
 -- What a run posted first, on which connection it came, and what is written there.
 use Rattle.std.proofs.Common.{◌≡◌, ◌<◌, ℕ, zero, suc, Bool, true, false, ◌||◌, List, [], ◌∷◌, ◌++◌, length, take, map, Option, Some, None, sym, refl, ap, ◌∙◌, subst, true≢false, arith}
 use Rattle.std.specs.Prelude.{◌≢◌, bytes_eq, slice_get, option_map, option_and_then, nat_eq, count_by}
-use Rattle.std.specs.List.{list_all}
+use Rattle.std.specs.List.{list_all, AllZip}
 use Rattle.std.specs.Io.{StartsWith}
 use Rattle.std.proofs.Math.Logic.{∥∥₁_elim}
 use Rattle.std.proofs.Math.Seq.{take-length}
@@ -26,7 +26,7 @@ use Rattle.http_connection.specs.declared.stage.Stage.TheVariants as Stages
 use Rattle.http_connection.specs.Talking.{log}
 use Rattle.http_connection.specs.Law.{holding, bodies_of, talk_of, Keeps}
 use Rattle.connection_runs.specs.Ports.{has_door}
-use Rattle.connection_runs.specs.Visits.{Visit, came_with, came_of, came_at, AreTaken, HasPassed, HavePassed}
+use Rattle.connection_runs.specs.Visits.{Visit, came_with, came_of, came_at, AreTaken, HasPassed}
 use Rattle.connection_runs.specs.Served.{Requests, AreResponses, is_told, IsServed}
 use Rattle.connection_trials.proofs.Requests.{bodies_by, talk_by, cons_nil, head_same}
 
@@ -193,7 +193,7 @@ module _ (t : Traffic) (r : Reading t.read) (fs : List Fed) (gives : given t.rea
       ∥∥₁_elim (passed.keeps r) (λ x y. absurd x) (λ k. wrong (stands_at v.service v.stage v.bodies v.texts passed.stage k))
 
 -- each visit has its bytes
-passed_at : (vs : List Visit) (ts : List Traffic) → HavePassed vs ts → (k : ℕ) (v : Visit) → slice_get vs k ≡ Some v
+passed_at : (vs : List Visit) (ts : List Traffic) → AllZip HasPassed vs ts → (k : ℕ) (v : Visit) → slice_get vs k ≡ Some v
     → (t : Traffic) × (slice_get ts k ≡ Some t) × HasPassed v t
 passed_at [] ts passed k v there = absurd (none-some v there)
 passed_at (u ∷ vs) [] passed k v there = absurd passed
@@ -256,7 +256,7 @@ module _ (w : Setting) (h : List Entry) where
 
 -- ---- one connection
 
-alone : (visits : List Visit) (t : Traffic) → HavePassed visits (t ∷ []) → (v : Visit) × (visits ≡ v ∷ [])
+alone : (visits : List Visit) (t : Traffic) → AllZip HasPassed visits (t ∷ []) → (v : Visit) × (visits ≡ v ∷ [])
 alone [] t passed = absurd passed
 alone (v ∷ []) t passed = (v, refl)
 alone (u ∷ v ∷ visits) t passed = absurd passed.1

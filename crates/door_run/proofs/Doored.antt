@@ -1,11 +1,11 @@
 -- A run over doors by what its front and its worker say, and by what was opened and came back.
 use Rattle.std.proofs.Common.{◌≡◌, ◌≤◌, ◌+◌, refl, sym, ap, subst, ◌∙◌, ℕ, Bool, true, false, not, ◌||◌, List, [], ◌∷◌, length, map, arith}
 use Rattle.std.proofs.Common.{inl, inr, nat_eq, nat_lt, sum_by, count_by, true≢false}
-use Rattle.std.specs.List.{list_all, list_any}
+use Rattle.std.specs.List.{list_all, list_any, items_where_true}
 use Rattle.std.proofs.lemmas.List.Sums.{sum_by-cons}
 use Rattle.outside_traits.specs.Causes.{Rose}
 use Rattle.outside_doors.specs.Counts.{DoorTold}
-use Rattle.outside_doors.specs.Returns.{Lists}
+use Rattle.outside_traits.specs.Told.{Lists}
 use Rattle.office_core.specs.Limits.{Setting, run_of}
 use Rattle.office_core.specs.declared.history.Entry.{Entry}
 use Rattle.run_record.specs.declared.record.Record.{Record}
@@ -22,9 +22,9 @@ use Rattle.http_connection.specs.Seen.{Line}
 use Rattle.door_front.specs.Keeping.{PortTold, Keeping, AreNew, IsEmpty, services_of}
 use Rattle.door_front.specs.Dealt.{Sides, HasDealt, MayHaveDealt}
 use Rattle.line_run.specs.declared.run.Ended.{Ended}
-use Rattle.door_run.specs.Used.{DoorsTold, Used, IsUsed, RoseWhere, marked, came_at_door, leads_to, wires_to, some_failed, has_failed, with_wires, with_doors, location_of}
+use Rattle.door_run.specs.Used.{DoorsTold, Used, IsUsed, RoseWhere, came_at_door, leads_to, wires_to, has_failed, with_wires, with_doors, location_of}
 use Rattle.door_run.specs.Doored.{Task, Outside, outside, faults_of, rules_of, AreNoted, IsDoored}
-use Rattle.door_run.specs.Steps.{Opens, opened_by, port_at, GivesBack, traffic_of, wire_of, door_of, with_traffic, status_of}
+use Rattle.door_run.specs.Steps.{Opens, opened_by, port_at, GivesBack, traffic_of, wire_of, door_of, some_failed, with_traffic, status_of}
 use Rattle.door_run.proofs.Lists.{length_map, any_map, all_map}
 use Rattle.door_run.proofs.Leading.{service_at, service_in, wires_at, leads_as}
 use Rattle.door_run.proofs.Serving.{served_so, as_many}
@@ -67,12 +67,12 @@ services_at [] = refl
 services_at (p ∷ ps) = ap (λ l. p.service ∷ l) (services_at ps)
 
 -- of the doors that were opened each leads to a service of the program
-pub within_so : (t : Task) (opened : List Bool) (kept : Keeping) → kept.ports ≡ map port_at (marked opened (doors_of t.parts))
+pub within_so : (t : Task) (opened : List Bool) (kept : Keeping) → kept.ports ≡ map port_at (items_where_true opened (doors_of t.parts))
     → list_all (λ n. nat_lt n (length t.parts.services)) (services_of kept) ≡ true
 within_so t opened kept ports =
     ap (λ ps. list_all (λ n. nat_lt n (length t.parts.services)) (map service_in ps)) ports
-    ∙ ap (list_all (λ n. nat_lt n (length t.parts.services))) (services_at (marked opened (doors_of t.parts)))
-    ∙ all_map (λ n. nat_lt n (length t.parts.services)) service_at (marked opened (doors_of t.parts))
+    ∙ ap (list_all (λ n. nat_lt n (length t.parts.services))) (services_at (items_where_true opened (doors_of t.parts)))
+    ∙ all_map (λ n. nat_lt n (length t.parts.services)) service_at (items_where_true opened (doors_of t.parts))
     ∙ all_marked (λ (door : DoorAt). nat_lt door.service (length t.parts.services)) opened (doors_of t.parts)
     (subst (λ n. list_all (λ (door : DoorAt). nat_lt door.service n) (doors_of t.parts) ≡ true) (same (length t.parts.services))
     (all_from 0 t.parts.services))
@@ -103,7 +103,7 @@ module _ (IsMade : Line → Type 0) (t : Task) (before mid after : DoorsTold) (p
 
   -- the doors that were opened
   abbrev opened : List DoorAt
-  opened = marked o.opened (doors_of t.parts)
+  opened = items_where_true o.opened (doors_of t.parts)
 
   -- what was done with doors
   abbrev used : Used
@@ -205,7 +205,6 @@ module _ (IsMade : Line → Type 0) (t : Task) (before mid after : DoorsTold) (p
     halted = d.said.halted;
     run = run_with (run_of t.parts) t.budget finished.report (map traffic_of now.kept.links) alone d.said.halted ran.run;
     program = ran.program;
-    posters = ran.dealt.posters;
     served = served_so IsMade t.parts h first now d f ran.dealt doors_so;
     accepted = accepted;
     noted = noted;

@@ -1,7 +1,7 @@
 -- Why a run over doors asked for no posting any more, and what of its notes was written.
 use Rattle.std.proofs.Common.{◌≡◌, ◌<◌, ◌≤◌, ◌-◌, ◌^◌, min, ℕ, suc, Bool, true, false, ◌||◌, List, [], ◌∷◌, length, map, take}
 use Rattle.std.proofs.Common.{refl, sym, ap, subst, ◌∙◌, arith, ◌⊎◌, inl, inr, ⊎_elim, true≢false, nat_eq, nat_le, count_by, slice_get}
-use Rattle.std.specs.List.{list_all}
+use Rattle.std.specs.List.{list_all, AllByRecursion}
 use Rattle.std.specs.Io.KnownBytes.{Appends}
 use Rattle.outside_traits.specs.Causes.{Rose}
 use Rattle.outside_doors.specs.Counts.{has_ended}
@@ -21,7 +21,7 @@ use Rattle.sink_writing.specs.Sinks.{Taking}
 use Rattle.door_front.specs.Dealt.{Sides, AreLinks, HasDealt, HasNoted, entire, in_part, HadNone, most_open}
 use Rattle.door_front.specs.Dealt.{HadNoAnswer as HadNoneYet, WereBusy as WereBusyThen, HaveWaited}
 use Rattle.door_run.specs.Steps.{door_of}
-use Rattle.door_run.specs.Through.{HadNoAnswer, WereBusy, no_more, AllWaitedLong, IsThrough}
+use Rattle.door_run.specs.Through.{HadNoAnswer, WereBusy, no_more, waited_long, IsThrough}
 use Rattle.door_run.specs.Doored.{AreNoted}
 use Rattle.door_run.proofs.Covered.{is_in}
 use Rattle.door_run.proofs.Lists.{any_map, all_map, proper_front}
@@ -64,7 +64,7 @@ no_more_is kept visits most is long =
 enough : (n waits : ℕ) → n ≡ most_waits → min n (2 ^ 64 - 1) ≤ waits → most_waits ≤ waits
 enough n waits is h = let least : min most_waits (2 ^ 64 - 1) ≤ waits = subst (λ m. min m (2 ^ 64 - 1) ≤ waits) is h in omega (arith, least)
 
-waited_so : (n : ℕ) → n ≡ most_waits → (ports : List PortTold) → HaveWaited n ports → AllWaitedLong (map door_of ports)
+waited_so : (n : ℕ) → n ≡ most_waits → (ports : List PortTold) → HaveWaited n ports → AllByRecursion waited_long (map door_of ports)
 waited_so n is [] k = tt
 waited_so n is (p ∷ ps) k =
     (⊎_elim (λ ended. inl ended) (λ long. inr (enough n p.door.waits is long)) k.0, waited_so n is ps k.1)
@@ -101,7 +101,7 @@ module _ (IsMade : Line → Type 0) (parts : ProgramParts) (h : List Entry) (fir
     -- why no posting came, by the doors and the connections
     why_so : (n : HadNone now.kept d) → (d.brought.ended ≡ true) ⊎ (d.brought.waits ≡ most_waits) → (b : Bool) → d.brought.ended ≡ b
         → (no_more most f.visits (map door_of now.kept.ports) ≡ true)
-        ⊎ ((most_open ≤ count_by (λ (x : Bool). x) n.busy) ⊎ AllWaitedLong (map door_of now.kept.ports))
+        ⊎ ((most_open ≤ count_by (λ (x : Bool). x) n.busy) ⊎ AllByRecursion waited_long (map door_of now.kept.ports))
     why_so n so true e =
         inl (sym (no_more_is now.kept f.visits most is_most (as_many IsMade now.kept.links f.visits f.links)) ∙ n.over e)
     why_so n (inl ended) false e = absurd (true≢false (sym ended ∙ e))

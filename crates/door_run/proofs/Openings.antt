@@ -1,7 +1,7 @@
 -- Doors are opened, one after another.
 use Rattle.std.proofs.Common.{◌≡◌, ◌<◌, ◌+◌, min, ℕ, zero, suc, take, get_or, Bool, true, false, not, ◌||◌, List, [], ◌∷◌, ◌++◌, length, map, cond}
 use Rattle.std.proofs.Common.{refl, sym, ap, subst, ◌∙◌, arith, append_assoc, append-nil, length-append, nat_lt}
-use Rattle.std.specs.List.{list_all, list_any, filter}
+use Rattle.std.specs.List.{list_all, list_any, filter, items_where_true}
 use Rattle.std.proofs.lemmas.List.{map-append, length-take}
 use Rattle.outside_traits.specs.Causes.{Rose}
 use Rattle.outside_doors.specs.Counts.{with_opened}
@@ -10,10 +10,10 @@ use Rattle.behaviour_tree.specs.declared.program.Port.{Port}
 use Rattle.behaviour_tree.specs.declared.program.Service.{Service}
 use Rattle.std.proofs.lemmas.Bool.{lt-ltb}
 use Rattle.behaviour_tree.specs.Data.{PortPart, ServicePart}
-use Rattle.outside_doors.specs.Returns.{Lists}
+use Rattle.outside_traits.specs.Told.{Lists}
 use Rattle.connection_runs.specs.Ports.{DoorAt, is_door, locations_of, doors_from}
 use Rattle.door_front.specs.Keeping.{PortTold}
-use Rattle.door_run.specs.Used.{DoorsTold, RoseWhere, marked, location_of, with_openings}
+use Rattle.door_run.specs.Used.{DoorsTold, RoseWhere, location_of, with_openings}
 use Rattle.door_run.specs.Steps.{door_to, location_in, doors_at, port_at, Opened, opened_by, Opens}
 use Rattle.door_run.proofs.Lists.{length_map}
 use Rattle.door_run.proofs.Telling.{Lists-nil, Lists-then, rose_then, with_openings-append}
@@ -30,7 +30,7 @@ one_less m n e = omega (arith, e)
 
 -- those that are marked of two lists behind one another
 pub marked-append : {A : Type 0} (ms ns : List Bool) (xs ys : List A) → length ms ≡ length xs
-    → marked (ms ++ ns) (xs ++ ys) ≡ marked ms xs ++ marked ns ys
+    → items_where_true (ms ++ ns) (xs ++ ys) ≡ items_where_true ms xs ++ items_where_true ns ys
 marked-append [] ns [] ys e = refl
 marked-append [] ns (x ∷ xs) ys e = absurd (no_suc (length xs) e)
 marked-append (m ∷ ms) ns [] ys e = absurd (no_suc (length ms) (sym e))
@@ -39,14 +39,14 @@ marked-append (true ∷ ms) ns (x ∷ xs) ys e =
 marked-append (false ∷ ms) ns (x ∷ xs) ys e = marked-append ms ns xs ys (one_less (length ms) (length xs) e)
 
 -- what holds of all holds of those that are marked
-pub all_marked : {A : Type 0} (p : A → Bool) (ms : List Bool) (xs : List A) → list_all p xs ≡ true → list_all p (marked ms xs) ≡ true
+pub all_marked : {A : Type 0} (p : A → Bool) (ms : List Bool) (xs : List A) → list_all p xs ≡ true → list_all p (items_where_true ms xs) ≡ true
 all_marked p [] xs h = none xs h
   where
-    none : (ys : List _) → list_all p ys ≡ true → list_all p (marked [] ys) ≡ true
+    none : (ys : List _) → list_all p ys ≡ true → list_all p (items_where_true [] ys) ≡ true
     none ys g = refl
 all_marked p (m ∷ ms) [] h = refl
 all_marked p (true ∷ ms) (x ∷ xs) h =
-    both_true (p x) (list_all p (marked ms xs)) (left_true (p x) (list_all p xs) h)
+    both_true (p x) (list_all p (items_where_true ms xs)) (left_true (p x) (list_all p xs) h)
     (all_marked p ms xs (right_true (p x) (list_all p xs) h))
 all_marked p (false ∷ ms) (x ∷ xs) h = all_marked p ms xs (right_true (p x) (list_all p xs) h)
 
@@ -55,13 +55,13 @@ or_more true b c f h = refl
 or_more false b c f h = f h
 
 -- one that is marked is one of all
-pub any_marked : {A : Type 0} (p : A → Bool) (ms : List Bool) (xs : List A) → list_any p (marked ms xs) ≡ true → list_any p xs ≡ true
+pub any_marked : {A : Type 0} (p : A → Bool) (ms : List Bool) (xs : List A) → list_any p (items_where_true ms xs) ≡ true → list_any p xs ≡ true
 any_marked p [] xs h = absurd (clash h)
   where
     clash : false ≡ true → ⊥
     clash e = let b : false ≡ true = e in cc
 any_marked p (m ∷ ms) [] h = h
-any_marked p (true ∷ ms) (x ∷ xs) h = or_more (p x) (list_any p (marked ms xs)) (list_any p xs) (any_marked p ms xs) h
+any_marked p (true ∷ ms) (x ∷ xs) h = or_more (p x) (list_any p (items_where_true ms xs)) (list_any p xs) (any_marked p ms xs) h
 any_marked p (false ∷ ms) (x ∷ xs) h = true_right (p x) (list_any p xs) (any_marked p ms xs h)
 
 -- ---- doors are opened
@@ -90,7 +90,7 @@ opens_none a = record {
 -- some and then others
 pub opens_more : (xs ys : List DoorAt) (a b c : Opened) → Opens xs a b → Opens ys b c → Opens (xs ++ ys) a c
 opens_more xs ys a b c k l =
-    let both : marked (k.opened ++ l.opened) (xs ++ ys) ≡ marked k.opened xs ++ marked l.opened ys =
+    let both : items_where_true (k.opened ++ l.opened) (xs ++ ys) ≡ items_where_true k.opened xs ++ items_where_true l.opened ys =
     marked-append k.opened l.opened xs ys k.tried in
     record {
       opened = k.opened ++ l.opened;
@@ -98,16 +98,16 @@ opens_more xs ys a b c k l =
           length-append k.opened l.opened ∙ ap (λ n. n + length l.opened) k.tried ∙ ap (λ n. length xs + n) l.tried
           ∙ sym (length-append xs ys);
       ports =
-          l.ports ∙ ap (λ ps. ps ++ map port_at (marked l.opened ys)) k.ports
-          ∙ append_assoc a.ports (map port_at (marked k.opened xs)) (map port_at (marked l.opened ys))
-          ∙ ap (λ ps. a.ports ++ ps) (sym (map-append port_at (marked k.opened xs) (marked l.opened ys)))
+          l.ports ∙ ap (λ ps. ps ++ map port_at (items_where_true l.opened ys)) k.ports
+          ∙ append_assoc a.ports (map port_at (items_where_true k.opened xs)) (map port_at (items_where_true l.opened ys))
+          ∙ ap (λ ps. a.ports ++ ps) (sym (map-append port_at (items_where_true k.opened xs) (items_where_true l.opened ys)))
           ∙ ap (λ ps. a.ports ++ map port_at ps) (sym both);
       tally =
-          l.tally ∙ ap (with_openings (marked l.opened ys)) k.tally
-          ∙ sym (with_openings-append (marked k.opened xs) (marked l.opened ys) a.doors.tally)
+          l.tally ∙ ap (with_openings (items_where_true l.opened ys)) k.tally
+          ∙ sym (with_openings-append (items_where_true k.opened xs) (items_where_true l.opened ys) a.doors.tally)
           ∙ ap (λ ps. with_openings ps a.doors.tally) (sym both);
       locations = subst (λ ls. Lists a.doors.locations c.doors.locations ls)
-          (sym (map-append location_of (marked k.opened xs) (marked l.opened ys)) ∙ ap (map location_of) (sym both))
+          (sym (map-append location_of (items_where_true k.opened xs) (items_where_true l.opened ys)) ∙ ap (map location_of) (sym both))
           (Lists-then a.doors.locations b.doors.locations c.doors.locations _ _ k.locations l.locations);
       returned = l.returned ∙ k.returned;
       faults = subst (λ x. RoseWhere x a.doors.faults c.doors.faults) (sym (any_append not k.opened l.opened))

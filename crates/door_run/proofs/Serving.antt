@@ -2,7 +2,7 @@
 use Rattle.std.proofs.Common.{◌≡◌, ◌≢◌, ◌<◌, ◌≤◌, ℕ, zero, suc, true, false, List, [], ◌∷◌, length, map, take}
 use Rattle.std.proofs.Common.{refl, sym, ap, subst, ◌∙◌, arith, ◌⊎◌, ⊎_elim, true≢false, count_by, nat_eq}
 use Rattle.std.proofs.Common.{Option, Some, option_map, slice_get, Contains}
-use Rattle.std.specs.List.{list_all, list_any}
+use Rattle.std.specs.List.{list_all, list_any, AllZip}
 use Rattle.behaviour_tree.specs.Data.{ProgramParts}
 use Rattle.office_core.specs.declared.history.Entry.{Entry}
 use Rattle.office_core.specs.Limits.{run_of, first_worker}
@@ -15,7 +15,7 @@ use Rattle.posting_texts.specs.Told.{response_told}
 use Rattle.posting_texts.proofs.Responses.{response_told-of}
 use Rattle.run_alone.specs.Ran.{Dealt}
 use Rattle.connection_runs.specs.Ports.{has_door}
-use Rattle.connection_runs.specs.Visits.{Visit, came_at, HasPassed, HavePassed}
+use Rattle.connection_runs.specs.Visits.{Visit, came_at, HasPassed}
 use Rattle.connection_runs.specs.Served.{IsServed, is_told}
 use Rattle.http_connection.specs.Law.{holding, Keeps}
 use Rattle.http_connection.specs.Talking.{log}
@@ -41,7 +41,7 @@ module _ (IsMade : Line → Type 0) where
         (sym k.stage) ((keeps_word k.first l.seen v.bodies v.texts k.talks).keeps reading);
   }
 
-  pub links_passed : (ls : List LinkTold) (vs : List Visit) → AreLinks IsMade ls vs → HavePassed vs (map traffic_of ls)
+  pub links_passed : (ls : List LinkTold) (vs : List Visit) → AreLinks IsMade ls vs → AllZip HasPassed vs (map traffic_of ls)
   links_passed [] [] k = tt
   links_passed [] (v ∷ vs) k = absurd k
   links_passed (l ∷ ls) [] k = absurd k

@@ -1,11 +1,12 @@
 -- The status of a run over doors is by its causes.
 use Rattle.std.proofs.Common.{◌≡◌, ◌≢◌, refl, sym, Bool, true, false, arith, inl, inr, true≢false}
-use Rattle.branch_workers.specs.Statuses.{Faults, Halted, DoorsRose, IsCalm, HasStatus}
+use Rattle.outside_traits.specs.Causes.{Rose}
+use Rattle.branch_workers.specs.Statuses.{Faults, Halted, IsCalm, HasStatus}
 use Rattle.door_run.specs.Steps.{status_of}
 
 pub status_so : (halted failed spent : Bool) (before now : Faults) (IsMore : Type 0)
     → (halted ≡ true → Halted before now) → (halted ≡ false → IsCalm before now)
-    → (failed ≡ true → DoorsRose before now) → (failed ≡ false → now.doors ≡ before.doors)
+    → (failed ≡ true → Rose before.doors now.doors) → (failed ≡ false → now.doors ≡ before.doors)
     → now.source ≡ before.source → (spent ≡ true → IsMore) → (IsMore → spent ≡ true)
     → HasStatus (status_of halted failed spent) before now IsMore
 status_so true failed spent before now IsMore halts calm fails sound source more less = record {

@@ -4,7 +4,8 @@ use Rattle.std.proofs.Common.{refl, sym, ap, subst, ◌∙◌, arith, append_ass
 use Rattle.std.specs.List.{list_any}
 use Rattle.outside_traits.specs.Causes.{Rose}
 use Rattle.outside_doors.specs.Counts.{DoorTold, Tally}
-use Rattle.outside_doors.specs.Returns.{WireTold, Lists}
+use Rattle.outside_traits.specs.Told.{Lists}
+use Rattle.outside_doors.specs.Returns.{WireTold}
 use Rattle.connection_runs.specs.Ports.{DoorAt}
 use Rattle.door_run.specs.Used.{DoorsTold, RoseWhere, with_openings, with_wires, with_doors, has_failed}
 use Rattle.door_run.specs.Steps.{GivesWires, GivesDoors, wire_of, door_of, traffic_of}

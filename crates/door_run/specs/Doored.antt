@@ -1,6 +1,6 @@
 -- What a run of a program over doors leaves, by what its doors and its notes tell.
 use Rattle.std.specs.Prelude.{◌≡◌, ℕ, ◌<◌, ◌≤◌, Bool, true, false, List, [], length, count_by}
-use Rattle.std.specs.List.{list_all}
+use Rattle.std.specs.List.{list_all, items_where_true}
 use Rattle.std.specs.Io.KnownBytes.{Appends}
 use Rattle.outside_traits.specs.Causes.{Rose}
 use Rattle.behaviour_tree.specs.Data.{ProgramParts}
@@ -9,7 +9,7 @@ use Rattle.office_core.specs.Limits.{Setting, run_of}
 use Rattle.office_core.specs.Accepted.{past_of}
 use Rattle.run_record.specs.Outside.{notes}
 use Rattle.run_record.specs.Run.{alone, IsRun, IsSpent}
-use Rattle.branch_workers.specs.Lines.{is_by_first, most_postings, IsProperFront}
+use Rattle.branch_workers.specs.Lines.{most_postings, IsProperFront}
 use Rattle.branch_workers.specs.Statuses.{Faults, HasStatus}
 use Rattle.run_alone.specs.Ran.{AreVoid, Rules}
 use Rattle.run_alone.specs.Picks.{TookPicks}
@@ -18,7 +18,7 @@ use Rattle.connection_runs.specs.Served.{IsServed}
 use Rattle.http_connection.specs.Seen.{Line}
 use Rattle.sink_writing.specs.Sinks.{Taking}
 use Rattle.line_run.specs.declared.run.Ended.{Ended}
-use Rattle.door_run.specs.Used.{DoorsTold, Used, marked, came_at_door, leads_to, wires_to, IsUsed, AreWires}
+use Rattle.door_run.specs.Used.{DoorsTold, Used, came_at_door, leads_to, wires_to, IsUsed, AreWires}
 use Rattle.door_run.specs.Through.{HadNoAnswer, IsThrough}
 
 -- the outside of a run over doors: the doors, and the sink of its notes
@@ -71,7 +71,6 @@ pub record IsDoored (IsMade : Line → Type 0) (t : Task) (before now : Outside)
   pub halted : Bool
   pub run : IsRun (run_of t.parts) t.budget alone halted ended.report
   pub program : ended.report.program ≡ t.text
-  pub posters : list_all is_by_first (history_of ended) ≡ true
   pub served : IsServed (run_of t.parts) (history_of ended) halted ended.report.traffic
   pub accepted : length served.visits ≤ t.connections
   pub noted : AreNoted (run_of t.parts) (history_of ended) halted before.notes now.notes
@@ -80,9 +79,9 @@ pub record IsDoored (IsMade : Line → Type 0) (t : Task) (before now : Outside)
   pub used : Used
   pub uses : IsUsed (doors_of t.parts) before.doors now.doors used
   pub wires : AreWires IsMade served.visits ended.report.traffic used.wires
-  pub doors : list_all (came_at_door (marked used.opened (doors_of t.parts))) served.visits ≡ true
+  pub doors : list_all (came_at_door (items_where_true used.opened (doors_of t.parts))) served.visits ≡ true
   pub led : (n : ℕ)
-      → wires_to n (marked used.opened (doors_of t.parts)) used.doors ≡ count_by (leads_to n) served.visits
+      → wires_to n (items_where_true used.opened (doors_of t.parts)) used.doors ≡ count_by (leads_to n) served.visits
   pub through : halted ≡ false → length served.all.asked < most_postings
       → IsThrough (HadNoAnswer (run_of t.parts) (history_of ended) served.all.asked)
       t.connections served.visits used.doors

@@ -1,15 +1,16 @@
 -- These definitions serve the proofs alone: no promise speaks of them.
 -- How the doors of a run are opened and come back, and how its record and its status are made.
 use Rattle.std.specs.Prelude.{◌≡◌, ℕ, Bool, not, ◌||◌, if◌then◌else◌, List, ◌++◌, length, map}
-use Rattle.std.specs.List.{list_any, filter}
+use Rattle.std.specs.List.{list_any, filter, items_where_true}
 use Rattle.outside_doors.specs.Counts.{DoorTold, untried}
-use Rattle.outside_doors.specs.Returns.{WireTold, wire_told, Lists}
+use Rattle.outside_traits.specs.Told.{Lists}
+use Rattle.outside_doors.specs.Returns.{WireTold, wire_told}
 use Rattle.behaviour_tree.specs.Data.{PortPart}
 use Rattle.run_record.specs.declared.record.Record.{Record}
 use Rattle.run_record.specs.declared.record.Traffic.{Traffic}
 use Rattle.connection_runs.specs.Ports.{DoorAt, is_door}
 use Rattle.door_front.specs.Keeping.{PortTold, LinkTold}
-use Rattle.door_run.specs.Used.{DoorsTold, RoseWhere, marked, location_of, has_failed}
+use Rattle.door_run.specs.Used.{DoorsTold, Used, RoseWhere, location_of, has_failed}
 use Rattle.door_run.specs.Used.{with_openings, with_wires, with_doors}
 
 -- ---- doors are opened
@@ -44,9 +45,9 @@ opened_by doors ports failed = record { doors = doors; ports = ports; failed = f
 pub record Opens (places : List DoorAt) (before now : Opened) : Type 0 where
   pub opened : List Bool
   pub tried : length opened ≡ length places
-  pub ports : now.ports ≡ before.ports ++ map port_at (marked opened places)
-  pub tally : now.doors.tally ≡ with_openings (marked opened places) before.doors.tally
-  pub locations : Lists before.doors.locations now.doors.locations (map location_of (marked opened places))
+  pub ports : now.ports ≡ before.ports ++ map port_at (items_where_true opened places)
+  pub tally : now.doors.tally ≡ with_openings (items_where_true opened places) before.doors.tally
+  pub locations : Lists before.doors.locations now.doors.locations (map location_of (items_where_true opened places))
   pub returned : now.doors.returned ≡ before.doors.returned
   pub faults : RoseWhere (list_any not opened) before.doors.faults now.doors.faults
   pub failed : now.failed ≡ (before.failed || list_any not opened)
@@ -86,6 +87,10 @@ abbrev pub door_of : PortTold → DoorTold
 door_of port = port.door
 
 -- ---- the end
+
+-- a door could not be opened, or it came back and had failed
+abbrev pub some_failed : Used → Bool
+some_failed used = list_any not used.opened || list_any has_failed used.doors
 
 -- the record of a run with the bytes of its connections as its traffic
 abbrev pub with_traffic : Record → List Traffic → Record

@@ -1,7 +1,7 @@
 -- Why a run over connections asked for no posting any more.
 use Rattle.std.specs.Prelude.{◌≡◌, ◌⊎◌, ℕ, suc, ◌≤◌, Bool, true, false, ◌||◌, List, [], ◌∷◌, length, nat_eq, nat_le}
-use Rattle.std.specs.Prelude.{Some, count_by, slice_get}
-use Rattle.std.specs.List.{list_all, list_any}
+use Rattle.std.specs.Prelude.{Some, MatchBool, count_by, slice_get}
+use Rattle.std.specs.List.{list_all, list_any, AllByRecursion}
 use Rattle.outside_doors.specs.Counts.{DoorTold, has_ended}
 use Rattle.office_core.specs.declared.history.Entry.{Entry}
 use Rattle.office_core.specs.Limits.{Setting}
@@ -19,15 +19,10 @@ pub record HadNoAnswer (w : Setting) (h : List Entry) (asked : List Asked) (k : 
   pub traffic : whose.traffic ≡ k
   pub unfinished : list_any (nat_eq place) (finished_early w h (length asked)) ≡ false
 
--- connection k waited for an answer, or it was over
-abbrev pub WasBusy : (ℕ → Type 0) → ℕ → Bool → Visit → Type 0
-WasBusy Waited k true visit = Waited k
-WasBusy Waited k false visit = IsOver visit.stage
-
--- the same of each connection, the first of which has the number k
+-- each connection, the first of which has the number k, waited for an answer, where it is marked so, or it was over
 abbrev pub WereBusy : (ℕ → Type 0) → ℕ → List Bool → List Visit → Type 0
 WereBusy Waited k [] [] = Unit {0}
-WereBusy Waited k (b ∷ bs) (v ∷ vs) = WasBusy Waited k b v × WereBusy Waited (suc k) bs vs
+WereBusy Waited k (b ∷ bs) (v ∷ vs) = MatchBool b (Waited k) (IsOver v.stage) × WereBusy Waited (suc k) bs vs
 WereBusy Waited k bs vs = ⊥
 
 -- no connection can come any more: as many were accepted as may be, or each door has ended
@@ -38,11 +33,6 @@ no_more most visits doors = nat_le most (length visits) || list_all has_ended do
 abbrev pub waited_long : DoorTold → Type 0
 waited_long door = (has_ended door ≡ true) ⊎ (most_waits ≤ door.waits)
 
--- the same of each door
-abbrev pub AllWaitedLong : List DoorTold → Type 0
-AllWaitedLong [] = Unit {0}
-AllWaitedLong (d ∷ ds) = waited_long d × AllWaitedLong ds
-
 -- A run asked for no posting any more, with connections that each waited for an answer or were over. No connection
 -- could come any more; or one could, and for as many looks as a run makes in a row so many were open as may be, or
 -- nobody came at any door.
@@ -50,4 +40,4 @@ pub record IsThrough (Waited : ℕ → Type 0) (most : ℕ) (visits : List Visit
   pub busy : List Bool
   pub each : WereBusy Waited 0 busy visits
   pub why : (no_more most visits doors ≡ true)
-      ⊎ ((most_open ≤ count_by (λ (b : Bool). b) busy) ⊎ AllWaitedLong doors)
+      ⊎ ((most_open ≤ count_by (λ (b : Bool). b) busy) ⊎ AllByRecursion waited_long doors)

@@ -1,11 +1,12 @@
 -- What a run did with doors: where it opened them, and what came back to them.
-use Rattle.std.specs.Prelude.{◌≡◌, ◌↔◌, ℕ, ◌+◌, ◌<◌, ◌==◌, Bool, true, false, not, ◌||◌, if◌then◌else◌}
-use Rattle.std.specs.Prelude.{List, [], ◌∷◌, length, map, sum_by, Option, nat_eq}
-use Rattle.std.specs.List.{list_any}
+use Rattle.std.specs.Prelude.{◌≡◌, ◌↔◌, ℕ, ◌+◌, ◌<◌, ◌==◌, Bool, true, not, ◌||◌, MatchBool, if◌then◌else◌}
+use Rattle.std.specs.Prelude.{List, [], ◌∷◌, length, map, fold, sum_by, Option, nat_eq}
+use Rattle.std.specs.List.{list_any, items_where_true}
 use Rattle.std.specs.Io.KnownBytes.{Appends}
 use Rattle.outside_traits.specs.Causes.{Rose}
 use Rattle.outside_doors.specs.Counts.{DoorTold, Tally, with_opened, with_door, with_wire}
-use Rattle.outside_doors.specs.Returns.{WireTold, Lists}
+use Rattle.outside_traits.specs.Told.{Lists}
+use Rattle.outside_doors.specs.Returns.{WireTold}
 use Rattle.run_record.specs.declared.record.Traffic.{Traffic}
 use Rattle.connection_runs.specs.Ports.{DoorAt}
 use Rattle.connection_runs.specs.Visits.{Visit}
@@ -35,12 +36,6 @@ pub record Used : Type 0 where
 
 -- ---- where doors are opened
 
--- those of a list that are marked
-abbrev pub marked : {A : Type 0} → List Bool → List A → List A
-marked [] xs = []
-marked (m ∷ ms) [] = []
-marked (m ∷ ms) (x ∷ xs) = if m then x ∷ marked ms xs else marked ms xs
-
 -- the location of a door
 abbrev pub location_of : DoorAt → List ℕ
 location_of door = door.location
@@ -63,43 +58,36 @@ wires_to n (p ∷ ps) (d ∷ ds) = (if nat_eq n p.service then d.wires else 0) +
 
 -- doors were opened there
 abbrev pub with_openings : List DoorAt → Tally → Tally
-with_openings [] tally = tally
-with_openings (place ∷ places) tally = with_openings places (with_opened tally)
+with_openings places tally = fold (λ counts place. with_opened counts) tally places
 
 -- these wires came back
 abbrev pub with_wires : List WireTold → Tally → Tally
-with_wires [] tally = tally
-with_wires (w ∷ ws) tally = with_wires ws (with_wire w.faults w.ended tally)
+with_wires wires tally = fold (λ counts (wire : WireTold). with_wire wire.faults wire.ended counts) tally wires
 
 -- these doors came back
 abbrev pub with_doors : List DoorTold → Tally → Tally
-with_doors [] tally = tally
-with_doors (d ∷ ds) tally = with_doors ds (with_door d tally)
+with_doors doors tally = fold (λ counts door. with_door door counts) tally doors
 
--- a count of faults rose where this is true; else it is as it was
+-- a count of faults rose where the test is true; else it is as it was
 abbrev pub RoseWhere : Bool → ℕ → ℕ → Type 0
-RoseWhere true before now = Rose before now
-RoseWhere false before now = now ≡ before
+RoseWhere test before now = MatchBool test (Rose before now) (now ≡ before)
 
 -- a door has failed
 abbrev pub has_failed : DoorTold → Bool
 has_failed door = not (door.faults == 0)
 
--- a door could not be opened, or it came back and had failed
-abbrev pub some_failed : Used → Bool
-some_failed used = list_any not used.opened || list_any has_failed used.doors
-
 -- Doors were opened at these locations, in order; where one could not be opened it was left out. All of them came back,
--- and as many wires as they gave; and the doors count and tell just this.
+-- and as many wires as they gave; and the doors count and tell just this, with a fault where a door was not opened or
+-- came back and had failed.
 pub record IsUsed (places : List DoorAt) (before now : DoorsTold) (used : Used) : Type 0 where
   pub tried : length used.opened ≡ length places
-  pub back : length used.doors ≡ length (marked used.opened places)
+  pub back : length used.doors ≡ length (items_where_true used.opened places)
   pub given : sum_by (λ (door : DoorTold). door.wires) used.doors ≡ length used.wires
   pub tally : now.tally
-      ≡ with_doors used.doors (with_wires used.wires (with_openings (marked used.opened places) before.tally))
-  pub locations : Lists before.locations now.locations (map location_of (marked used.opened places))
+      ≡ with_doors used.doors (with_wires used.wires (with_openings (items_where_true used.opened places) before.tally))
+  pub locations : Lists before.locations now.locations (map location_of (items_where_true used.opened places))
   pub returned : Lists before.returned now.returned used.wires
-  pub faults : RoseWhere (some_failed used) before.faults now.faults
+  pub faults : RoseWhere (list_any not used.opened || list_any has_failed used.doors) before.faults now.faults
 
 -- ---- wires
 

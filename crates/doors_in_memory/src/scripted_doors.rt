@@ -2,7 +2,8 @@ ghost use Rattle.std.specs.Prelude.{◌≡◌, ◌++◌, [], ◌∷◌, Some, No
 ghost use Rattle.outside_traits.specs.Causes.{HasCause};
 ghost use Rattle.outside_doors.specs.Counts.{with_opened};
 ghost use Rattle.doors_in_memory.specs.Memory.{Opens};
-ghost use Rattle.outside_doors.specs.Returns.{Lists, no_book};
+ghost use Rattle.outside_traits.specs.Told.{Lists};
+ghost use Rattle.outside_doors.specs.Returns.{no_book};
 
 use crate::queue::Queue;
 use crate::scripted_door::ScriptedDoor;

@@ -119,7 +119,7 @@ impl Table {
 
     /// What passes to the scope around once this one ended.
     pub fn completed(self) -> Handlers
-        ensures entries { entries_in (handlers_view result) ≡ spec.completed (table_view self) }
+        ensures entries { entries_in (handlers_view result) ≡ (table_view self).scopes }
         ensures keys { are_of_scopes (handlers_view result) ≡ true }
     {
         Handlers {

@@ -2,7 +2,7 @@
 use Rattle.std.proofs.Common.{◌≡◌, ℕ, ◌+◌, ◌⊎◌, inl, inr, Bool, List, [], ◌∷◌, ◌++◌, length, take, None, Some, sym, refl, ap, ◌∙◌, subst, arith, length-append, append_assoc, append-nil}
 use Rattle.std.specs.Prelude.{Option}
 use Rattle.std.proofs.Math.Seq.{take-append_seam}
-use Rattle.outside_traits.specs.Calls.{Notes}
+use Rattle.outside_traits.specs.Told.{Lists}
 use Rattle.outside_traits.specs.declared.calls.WireCall.{WireCall}
 use Rattle.outside_traits.specs.declared.calls.WireCall.TheVariants.{Read, Wrote}
 use Rattle.http_port.specs.Prompt.{read_in, written_in}
@@ -11,11 +11,11 @@ use Rattle.http_connection.specs.Talking.{Log, log}
 use Rattle.http_connection.specs.Prompt.{IsDone, log_by, IsPrompt, OnlyWrites}
 use Rattle.http_connection.specs.Steps.{Front, Stop, Called}
 
-Notes-nil : (a b : Option (List WireCall)) → b ≡ a → Notes a b []
-Notes-nil None b e = subst (λ x. Notes None x []) (sym e) tt
-Notes-nil (Some x) b e = subst (λ y. Notes (Some x) y []) (sym e) (sym (append-nil x))
+Notes-nil : (a b : Option (List WireCall)) → b ≡ a → Lists a b []
+Notes-nil None b e = subst (λ x. Lists None x []) (sym e) tt
+Notes-nil (Some x) b e = subst (λ y. Lists (Some x) y []) (sym e) (sym (append-nil x))
 
-Notes-trans : (a b c : Option (List WireCall)) (xs ys : List WireCall) → Notes a b xs → Notes b c ys → Notes a c (xs ++ ys)
+Notes-trans : (a b c : Option (List WireCall)) (xs ys : List WireCall) → Lists a b xs → Lists b c ys → Lists a c (xs ++ ys)
 Notes-trans None None None xs ys p q = tt
 Notes-trans None None (Some z) xs ys p q = absurd q
 Notes-trans None (Some y) c xs ys p q = absurd p
@@ -149,7 +149,7 @@ called_writes a b was is w read = record {
 }
 
 -- it was read once, where all was done
-pub called_read : (a b : Option (List WireCall)) (was is : Log) (came : List ℕ) (n : ℕ) → Notes a b (Read n ∷ []) → n ≡ length came
+pub called_read : (a b : Option (List WireCall)) (was is : Log) (came : List ℕ) (n : ℕ) → Lists a b (Read n ∷ []) → n ≡ length came
     → is.read ≡ was.read ++ came → is.written ≡ was.written → IsDone was → Called a b was is
 called_read a b was is came n noted count read written done = record {
   calls = Read n ∷ [];

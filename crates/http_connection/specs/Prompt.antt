@@ -1,6 +1,6 @@
 -- When a connection does what its bytes call for: before it reads on.
 use Rattle.std.specs.Prelude.{◌≡◌, ◌+◌, ℕ, Option, List, ◌∷◌, ◌++◌, length, take}
-use Rattle.outside_traits.specs.Calls.{Notes}
+use Rattle.outside_traits.specs.Told.{Lists}
 use Rattle.outside_traits.specs.declared.calls.WireCall.{WireCall}
 use Rattle.outside_traits.specs.declared.calls.WireCall.TheVariants.{Read}
 use Rattle.http_port.specs.Connections.{Reading}
@@ -25,7 +25,7 @@ log_by was now early =
 -- done that is due for the bytes so far.
 pub record IsPrompt (before now : Option (List WireCall)) (was is : Log) : Type 0 where
   pub calls : List WireCall
-  pub noted : Notes before now calls
+  pub noted : Lists before now calls
   pub prompt : (early late : List WireCall) (count : ℕ) → calls ≡ early ++ Read count ∷ late
       → IsDone (log_by was is early)
 
@@ -34,6 +34,6 @@ pub record OnlyWrites (before now : Option (List WireCall)) (was is : List ℕ) 
   pub went : List ℕ
   pub grows : is ≡ was ++ went
   pub calls : List WireCall
-  pub noted : Notes before now calls
+  pub noted : Lists before now calls
   pub writes : AreWrites calls
   pub count : written_in calls ≡ length went

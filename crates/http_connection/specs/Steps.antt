@@ -3,7 +3,7 @@
 use Rattle.std.specs.Prelude.{◌≡◌, ◌<◌, ◌≤◌, ◌+◌, ℕ, Bool, true, false, List, ◌∷◌, ◌++◌, length, take}
 use Rattle.std.specs.Prelude.{Option, None, Some, Result, Ok, IsErr}
 use Rattle.std.specs.Io.KnownBytes.{Appends}
-use Rattle.outside_traits.specs.Calls.{Notes}
+use Rattle.outside_traits.specs.Told.{Lists}
 use Rattle.outside_traits.specs.Causes.{Rose}
 use Rattle.outside_traits.specs.declared.calls.WireCall.{WireCall}
 use Rattle.outside_traits.specs.declared.calls.WireCall.TheVariants.{Read}
@@ -134,7 +134,7 @@ pub record Called (before now : Option (List WireCall)) (was is : Log) : Type 0 
   pub calls : List WireCall
   pub came : List ℕ
   pub went : List ℕ
-  pub noted : Notes before now calls
+  pub noted : Lists before now calls
   pub read : is.read ≡ was.read ++ came
   pub written : is.written ≡ was.written ++ went
   pub reads : read_in calls ≡ length came

@@ -3,7 +3,7 @@ use Rattle.std.proofs.Common.{◌≡◌, ◌<◌, ◌≤◌, ℕ, Bool, true, fa
 use Rattle.std.specs.Prelude.{Option}
 use Rattle.std.specs.Io.KnownBytes.{Appends}
 use Rattle.std.proofs.KnownBytes.{Appends-nil, Appends-trans}
-use Rattle.outside_traits.specs.Calls.{Notes}
+use Rattle.outside_traits.specs.Told.{Lists}
 use Rattle.outside_traits.specs.Causes.{Rose}
 use Rattle.outside_traits.specs.declared.calls.WireCall.{WireCall}
 use Rattle.outside_traits.specs.declared.calls.WireCall.TheVariants.{Read}
@@ -14,7 +14,7 @@ use Rattle.http_link.specs.Trips.{Reads, no_more, gives, ends, most_read}
 use Rattle.http_link.specs.Steps.{Heard, HeardInPart}
 
 -- calls behind calls
-pub Notes-trans : (a b c : Option (List WireCall)) (xs ys : List WireCall) → Notes a b xs → Notes b c ys → Notes a c (xs ++ ys)
+pub Notes-trans : (a b c : Option (List WireCall)) (xs ys : List WireCall) → Lists a b xs → Lists b c ys → Lists a c (xs ++ ys)
 Notes-trans None None None xs ys p q = tt
 Notes-trans None None (Some z) xs ys p q = absurd q
 Notes-trans None (Some y) c xs ys p q = absurd p
@@ -51,7 +51,7 @@ heard_nothing t was bounded = record {
 pub record Did (before now : WireTraffic) (piece : List ℕ) (count : ℕ) : Type 0 where
   pub given : Appends before.given now.given piece
   pub taken : now.taken ≡ before.taken
-  pub noted : Notes before.calls now.calls (Read count ∷ [])
+  pub noted : Lists before.calls now.calls (Read count ∷ [])
   pub faults : now.faults ≡ before.faults
 
 -- one more, which gave some bytes
@@ -80,7 +80,7 @@ heard_end first before now was came next [] count h open_ did e long none bounde
   given = subst (Appends first.given now.given) (append-nil h.piece) (Appends-trans first.given before.given now.given h.piece [] h.given did.given);
   taken = did.taken ∙ h.taken;
   calls = h.calls ++ Read 0 ∷ [];
-  noted = subst (λ n. Notes first.calls now.calls (h.calls ++ Read n ∷ [])) none
+  noted = subst (λ n. Lists first.calls now.calls (h.calls ++ Read n ∷ [])) none
       (Notes-trans first.calls before.calls now.calls h.calls (Read count ∷ []) h.noted did.noted);
   reads = subst (λ l. Reads was (h.calls ++ Read 0 ∷ []) l true) (sym (e ∙ append-nil came)) (ends was came h.calls h.reads open_);
   bounded = bounded;
@@ -90,7 +90,7 @@ heard_end first before now was came next (b ∷ piece) count h open_ did e long 
 
 -- one more, which failed
 pub heard_cut : (first before now : WireTraffic) (was came next : List ℕ) → Heard first before was came false → next ≡ came
-    → Appends before.given now.given [] → now.taken ≡ before.taken → Notes before.calls now.calls (Read 0 ∷ [])
+    → Appends before.given now.given [] → now.taken ≡ before.taken → Lists before.calls now.calls (Read 0 ∷ [])
     → before.faults ≤ now.faults → Rose before.faults now.faults → HeardInPart first now was next
 heard_cut first before now was came next h e given taken noted later rose = record {
   piece = h.piece;
@@ -127,7 +127,7 @@ heard_on_cut first mid now was came next h k = record {
   given = Appends-trans first.given mid.given now.given h.piece k.piece h.given k.given;
   taken = k.taken ∙ h.taken;
   calls = h.calls ++ k.calls;
-  noted = subst (Notes first.calls now.calls) (sym (append_assoc h.calls k.calls (Read 0 ∷ [])))
+  noted = subst (Lists first.calls now.calls) (sym (append_assoc h.calls k.calls (Read 0 ∷ [])))
       (Notes-trans first.calls mid.calls now.calls h.calls (k.calls ++ Read 0 ∷ []) h.noted k.noted);
   reads = reads_on was came next h.calls k.calls false h.reads k.reads;
   later = subst (λ n. n ≤ now.faults) h.faults k.later;

@@ -6,7 +6,7 @@ use Rattle.std.specs.Io.{StartsWith}
 use Rattle.std.specs.Io.KnownBytes.{Appends}
 use Rattle.std.proofs.KnownBytes.{Appends-nil}
 use Rattle.std.proofs.lemmas.List.{length-take}
-use Rattle.outside_traits.specs.Calls.{Notes}
+use Rattle.outside_traits.specs.Told.{Lists}
 use Rattle.outside_traits.specs.Causes.{Rose}
 use Rattle.outside_traits.specs.declared.calls.WireCall.{WireCall}
 use Rattle.outside_traits.specs.declared.calls.WireCall.TheVariants.{Read}
@@ -66,11 +66,11 @@ cut_in_writing before now sent count taken w given rose =
 
 -- what is told of a wire that came back
 shows : (blank : WireTraffic) (told : Option WireTraffic) (t : WireTraffic) (went came : List ℕ) (calls : List WireCall) → Tells told t
-    → Appends blank.taken t.taken went → Appends blank.given t.given came → Notes blank.calls t.calls calls
+    → Appends blank.taken t.taken went → Appends blank.given t.given came → Lists blank.calls t.calls calls
     → Shows blank told went came calls
 shows blank None t went came calls e taken given noted = tt
 shows blank (Some last) t went came calls e taken given noted =
-    subst (λ (x : WireTraffic). Appends blank.taken x.taken went × Appends blank.given x.given came × Notes blank.calls x.calls calls)
+    subst (λ (x : WireTraffic). Appends blank.taken x.taken went × Appends blank.given x.given came × Lists blank.calls x.calls calls)
     (sym e) (taken, given, noted)
 
 -- the exchange on a new wire that came back

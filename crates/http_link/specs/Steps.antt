@@ -6,7 +6,7 @@ use Rattle.std.specs.Io.KnownBytes.{Appends}
 use Rattle.httparse.specs.Grammar.{ResponseHead, print_response}
 use Rattle.httparse.specs.Spans.{IsWithin, span_bytes}
 use Rattle.httparse.specs.declared.spans.Span.{Span}
-use Rattle.outside_traits.specs.Calls.{Notes}
+use Rattle.outside_traits.specs.Told.{Lists}
 use Rattle.outside_traits.specs.Causes.{Rose}
 use Rattle.outside_traits.specs.declared.calls.WireCall.{WireCall}
 use Rattle.outside_traits.specs.declared.calls.WireCall.TheVariants.{Read}
@@ -58,7 +58,7 @@ pub record Heard (before now : WireTraffic) (was came : List ℕ) (ended : Bool)
   pub given : Appends before.given now.given piece
   pub taken : now.taken ≡ before.taken
   pub calls : List WireCall
-  pub noted : Notes before.calls now.calls calls
+  pub noted : Lists before.calls now.calls calls
   pub reads : Reads was calls came ended
   pub bounded : length came ≤ most_read
   pub faults : now.faults ≡ before.faults
@@ -70,7 +70,7 @@ pub record HeardInPart (before now : WireTraffic) (was came : List ℕ) : Type 0
   pub given : Appends before.given now.given piece
   pub taken : now.taken ≡ before.taken
   pub calls : List WireCall
-  pub noted : Notes before.calls now.calls (calls ++ Read 0 ∷ [])
+  pub noted : Lists before.calls now.calls (calls ++ Read 0 ∷ [])
   pub reads : Reads was calls came false
   pub later : before.faults ≤ now.faults
   pub rose : Rose before.faults now.faults
@@ -83,7 +83,7 @@ pub record Exchanged (before now : WireTraffic) (sent came : List ℕ) (ended : 
   pub given : Appends before.given now.given came
   pub writes : List WireCall
   pub reads : List WireCall
-  pub noted : Notes before.calls now.calls (writes ++ reads)
+  pub noted : Lists before.calls now.calls (writes ++ reads)
   pub written : IsWritten (Some []) (Some writes) sent true
   pub read : Reads [] reads came ended
   pub bounded : length came ≤ most_read
@@ -92,10 +92,10 @@ pub record Exchanged (before now : WireTraffic) (sent came : List ℕ) (ended : 
 -- the wire failed, behind a front of the request or behind all of it
 pub data CutOff (before now : WireTraffic) (sent : List ℕ) : Type 0 where
   in_writing : (count : ℕ) (writes : List WireCall) → Appends before.taken now.taken (take count sent)
-      → Appends before.given now.given [] → Notes before.calls now.calls writes
+      → Appends before.given now.given [] → Lists before.calls now.calls writes
       → IsWritten (Some []) (Some writes) (take count sent) false → Rose before.faults now.faults
       → CutOff before now sent
   in_reading : (came : List ℕ) (writes reads : List WireCall) → Appends before.taken now.taken sent
-      → Appends before.given now.given came → Notes before.calls now.calls (writes ++ (reads ++ Read 0 ∷ []))
+      → Appends before.given now.given came → Lists before.calls now.calls (writes ++ (reads ++ Read 0 ∷ []))
       → IsWritten (Some []) (Some writes) sent true → Reads [] reads came false → Rose before.faults now.faults
       → CutOff before now sent

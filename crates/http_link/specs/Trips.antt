@@ -2,7 +2,7 @@
 use Rattle.std.specs.Prelude.{◌≡◌, ◌<◌, ◌≤◌, ℕ, Bool, true, false, List, [], ◌∷◌, ◌++◌, length, Option, Some, IfSome}
 use Rattle.std.specs.Io.{StartsWith}
 use Rattle.std.specs.Io.KnownBytes.{Appends}
-use Rattle.outside_traits.specs.Calls.{Notes}
+use Rattle.outside_traits.specs.Told.{Lists}
 use Rattle.outside_traits.specs.Causes.{Rose}
 use Rattle.outside_traits.specs.declared.calls.WireCall.{WireCall}
 use Rattle.outside_traits.specs.declared.calls.WireCall.TheVariants.{Read}
@@ -31,7 +31,7 @@ pub data Reads : List ℕ → List WireCall → List ℕ → Bool → Type 0 whe
 -- nothing of it is told, this says nothing.
 abbrev pub Shows : WireTraffic → Option WireTraffic → List ℕ → List ℕ → List WireCall → Type 0
 Shows blank told went came calls = IfSome told (λ t.
-    Appends blank.taken t.taken went × Appends blank.given t.given came × Notes blank.calls t.calls calls)
+    Appends blank.taken t.taken went × Appends blank.given t.given came × Lists blank.calls t.calls calls)
 
 -- the most bytes that a trip reads: those of the longest head part and the longest body, and one more
 abbrev pub most_read : ℕ

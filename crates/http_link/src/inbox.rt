@@ -2,7 +2,7 @@
 ghost use Rattle.std.specs.Prelude.{◌≡◌, ◌<◌, ◌≤◌, ◌+◌, ◌++◌, [], ◌∷◌, ℕ, List, MatchResult, IfOk, length};
 ghost use Rattle.std.specs.Io.KnownBytes.{Appends};
 ghost use Rattle.httparse.specs.Spans.{IsWithin, span_bytes};
-ghost use Rattle.outside_traits.specs.Calls.{Notes};
+ghost use Rattle.outside_traits.specs.Told.{Lists};
 ghost use Rattle.outside_traits.specs.declared.calls.WireCall.TheVariants.{Read};
 ghost use Rattle.outside_traits.specs.Causes.{HasCause};
 ghost use Rattle.http_link.specs.Trips.{most_read};
@@ -63,9 +63,9 @@ impl Inbox {
         ensures read { MatchResult result
             (λ count. (piece : List ℕ) × (length piece ≡ count) × (self.new ≡ self.old ++ piece)
             × Appends (W.given wire.old) (W.given wire.new) piece
-            × Notes (W.calls wire.old) (W.calls wire.new) (Read count ∷ []))
+            × Lists (W.calls wire.old) (W.calls wire.new) (Read count ∷ []))
             (λ _. (self.new ≡ self.old) × Appends (W.given wire.old) (W.given wire.new) []
-            × Notes (W.calls wire.old) (W.calls wire.new) (Read 0 ∷ [])) }
+            × Lists (W.calls wire.old) (W.calls wire.new) (Read 0 ∷ [])) }
         ensures bounded { length self.new ≤ most_read }
         ensures taken { W.taken wire.new ≡ W.taken wire.old }
         ensures cause { HasCause (W.faults wire.old) (W.faults wire.new) result }

@@ -2,7 +2,7 @@
 use Rattle.std.proofs.Common.{◌≡◌, ◌<◌, ℕ, ◌+◌, Bool, true, false, ◌⊎◌, inl, inr, List, [], ◌∷◌, ◌++◌, length, take, None, Some, sym, refl, ap, ◌∙◌, subst, arith, length-append, append_assoc, append-nil}
 use Rattle.std.specs.Prelude.{Option}
 use Rattle.std.proofs.Math.Seq.{take-append_seam}
-use Rattle.outside_traits.specs.Calls.{Notes}
+use Rattle.outside_traits.specs.Told.{Lists}
 use Rattle.outside_traits.specs.declared.calls.WireCall.{WireCall}
 use Rattle.outside_traits.specs.declared.calls.WireCall.TheVariants.{Read, Wrote}
 use Rattle.http_port.specs.Feeding.{Place}
@@ -12,11 +12,11 @@ use Rattle.http_port.specs.Writing.{AllMove, AreWrites, IsWritten, Moves}
 use Rattle.http_port.specs.declared.serve.Said.{Said}
 use Rattle.http_port.specs.declared.serving.WireEnd.TheVariants as Ends
 
-pub Notes-nil : (a : Option (List WireCall)) → Notes a a []
+pub Notes-nil : (a : Option (List WireCall)) → Lists a a []
 Notes-nil None = tt
 Notes-nil (Some x) = sym (append-nil x)
 
-Notes-trans : (a b c : Option (List WireCall)) (xs ys : List WireCall) → Notes a b xs → Notes b c ys → Notes a c (xs ++ ys)
+Notes-trans : (a b c : Option (List WireCall)) (xs ys : List WireCall) → Lists a b xs → Lists b c ys → Lists a c (xs ++ ys)
 Notes-trans None None None xs ys p q = tt
 Notes-trans None None (Some z) xs ys p q = absurd q
 Notes-trans None (Some y) c xs ys p q = absurd p
@@ -82,7 +82,7 @@ written_so a b xs true w = w
 written_so a b xs false w = record { calls = w.calls; noted = w.noted; writes = w.writes; count = w.count; moves = all_stop w.calls w.moves }
 
 -- one write more, of these bytes
-pub written_more : (a b c : Option (List WireCall)) (xs ys : List ℕ) (n : ℕ) → IsWritten a b xs true → Notes b c (Wrote n ∷ []) → n ≡ length ys → 0 < n → IsWritten a c (xs ++ ys) true
+pub written_more : (a b c : Option (List WireCall)) (xs ys : List ℕ) (n : ℕ) → IsWritten a b xs true → Lists b c (Wrote n ∷ []) → n ≡ length ys → 0 < n → IsWritten a c (xs ++ ys) true
 written_more a b c xs ys n w p e some = record {
   calls = w.calls ++ Wrote n ∷ [];
   noted = Notes-trans a b c w.calls (Wrote n ∷ []) w.noted p;
@@ -94,7 +94,7 @@ written_more a b c xs ys n w p e some = record {
 }
 
 -- a write that failed
-pub written_still : (a b c : Option (List WireCall)) (xs : List ℕ) → IsWritten a b xs true → Notes b c (Wrote 0 ∷ []) → IsWritten a c xs false
+pub written_still : (a b c : Option (List WireCall)) (xs : List ℕ) → IsWritten a b xs true → Lists b c (Wrote 0 ∷ []) → IsWritten a c xs false
 written_still a b c xs w p = record {
   calls = w.calls ++ Wrote 0 ∷ [];
   noted = Notes-trans a b c w.calls (Wrote 0 ∷ []) w.noted p;
@@ -180,7 +180,7 @@ Stops was did calls = (front after : List WireCall) (count : ℕ) → calls ≡ 
 
 -- the calls of a wire that tells them so, with which this was done
 pub record Called (was : Place) (before now : Option (List WireCall)) (did : Service) (calls : List WireCall) : Type 0 where
-  pub noted : Notes before now calls
+  pub noted : Lists before now calls
   pub read : read_in calls ≡ length did.came
   pub written : written_in calls ≡ length did.went
   pub stops : Stops was did calls
@@ -232,7 +232,7 @@ called_turn was a b c came bodies said went calls k more_bodies more_said more_w
 -- a read more, of these bytes, where serving could have ended
 pub called_read : (was : Place) (a b c : Option (List WireCall)) (came : List ℕ) (bodies : List (List ℕ)) (said : List Said) (went : List ℕ) (calls : List WireCall)
     → Called was a b (done came bodies said went) calls → length bodies ≡ length said → Serves was (done came bodies said went) Ends.Ended
-    → (next : List ℕ) (n : ℕ) → Notes b c (Read n ∷ []) → n ≡ length next
+    → (next : List ℕ) (n : ℕ) → Lists b c (Read n ∷ []) → n ≡ length next
     → Called was a c (done (came ++ next) bodies said went) (calls ++ Read n ∷ [])
 called_read was a b c came bodies said went calls k each serves next n noted count = record {
   noted = Notes-trans a b c calls (Read n ∷ []) k.noted noted;

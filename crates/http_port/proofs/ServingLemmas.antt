@@ -7,7 +7,7 @@ use Rattle.std.proofs.KnownBytes.{Appends-nil, Appends-trans, Consumes-nil, Cons
 use Rattle.std.proofs.Math.Logic.{∥∥₁_map, ∥∥₁_elim, ∥∥₁_prop}
 use Rattle.std.proofs.Math.Seq.{take-append_seam}
 use Rattle.std.proofs.lemmas.List.Folds.{concat-append}
-use Rattle.outside_traits.specs.Calls.{Notes}
+use Rattle.outside_traits.specs.Told.{Lists}
 use Rattle.outside_traits.specs.declared.calls.WireCall.{WireCall}
 use Rattle.outside_traits.specs.declared.calls.WireCall.TheVariants.{Read}
 use Rattle.http_port.specs.declared.head_reader.Fed.{Fed}
@@ -381,7 +381,7 @@ could_end was asks before mid at piece g now turned t reacts end at_end =
 -- the calls of the wire with one turn more and a read of these bytes
 read_calls : (was : Place) → AsksWhereGiven was → (before : Told) (mid : Place) (at : Told) (piece : List ℕ) → (g : Going was before mid at piece)
     → (now : Place) (turned : Told) → (t : Turned mid at piece now turned) → Reacts t.fed t.said t.went Turns.Waits
-    → (after : Told) (next : List ℕ) (n : ℕ) → Notes turned.calls after.calls (Read n ∷ []) → n ≡ length next
+    → (after : Told) (next : List ℕ) (n : ℕ) → Lists turned.calls after.calls (Read n ∷ []) → n ≡ length next
     → Called was before.calls after.calls (done_with was before mid at piece g now turned t next) (g.calls ++ t.written.calls ++ Read n ∷ [])
 read_calls was asks before mid at piece g now turned t reacts after next n noted count =
     called_read was before.calls turned.calls after.calls (concat g.pieces ++ piece) (bodies_in (g.feds ++ t.fed ∷ [])) (g.said ++ t.said) (g.went ++ t.went) (g.calls ++ t.written.calls)
@@ -427,7 +427,7 @@ go_on was before mid at piece g now turned t reacts whole =
 -- a turn that waits, and what is read then
 pub read_on : (was : Place) → AsksWhereGiven was → (before : Told) (mid : Place) (at : Told) (piece : List ℕ) → (g : Going was before mid at piece)
     → (now : Place) (turned : Told) → (t : Turned mid at piece now turned) → Reacts t.fed t.said t.went Turns.Waits → t.whole ≡ true
-    → (after : Told) (next : List ℕ) → ReadOn turned after next → (n : ℕ) → Notes turned.calls after.calls (Read n ∷ []) → n ≡ length next → 0 < n
+    → (after : Told) (next : List ℕ) → ReadOn turned after next → (n : ℕ) → Lists turned.calls after.calls (Read n ∷ []) → n ≡ length next → 0 < n
     → Going was before now after next
 read_on was asks before mid at piece g now turned t reacts whole after next r n noted count some =
     going_on was before mid at piece g now turned t (spoke_waiting t.fed t.said t.went reacts) after next r
@@ -440,7 +440,7 @@ Finished was before now after end = (did : Service) × (calls : List WireCall)
     × Appends before.given after.given did.came
     × Consumes before.left after.left did.came
     × Appends before.taken after.taken did.went
-    × Notes before.calls after.calls calls
+    × Lists before.calls after.calls calls
     × Grows before.heard after.heard did.bodies
     × Grows before.said after.said did.said
     × IsFed was did end now
@@ -498,7 +498,7 @@ given_nothing (Ends.Later close) at fed e = absurd at
 -- serving ends where more is to be read
 pub finish_read : (was : Place) → AsksWhereGiven was → (before : Told) (mid : Place) (at : Told) (piece : List ℕ) → (g : Going was before mid at piece)
     → (now : Place) (turned : Told) → (t : Turned mid at piece now turned) → Reacts t.fed t.said t.went Turns.Waits → t.whole ≡ true
-    → (after : Told) → ReadOn turned after [] → Notes turned.calls after.calls (Read 0 ∷ []) → (end : WireEnd) → IsRead end → Finished was before now after end
+    → (after : Told) → ReadOn turned after [] → Lists turned.calls after.calls (Read 0 ∷ []) → (end : WireEnd) → IsRead end → Finished was before now after end
 finish_read was asks before mid at piece g now turned t reacts whole after r noted end at_end =
     let waits = waiting_turn t.fed t.said t.went reacts in
     finished was before mid at piece g now turned t after r end (given_nothing end at_end t.fed waits.0)

@@ -42,14 +42,12 @@ pub data End : Type 0 where
 abbrev pub request_read : List ℕ → Admission → RequestRead
 request_read bytes a = record { interim = a.interim; body = body_of bytes a; close = a.close }
 
--- the requests of a reading
+-- the requests of a reading; one that ends otherwise has none more
 abbrev pub requests : (bytes : List ℕ) → Reading bytes → List RequestRead
-requests bytes (waits _ judged) = []
-requests bytes (refuses _ status judged) = []
-requests bytes (lacks _ a judged short) = []
 requests bytes (closes _ a judged whole close) = request_read bytes a ∷ []
 requests bytes (goes_on _ a judged whole stays rest) =
     request_read bytes a ∷ requests (drop (a.head + a.body) bytes) rest
+requests bytes reading = []
 
 -- how they end
 abbrev pub end_of : (bytes : List ℕ) → Reading bytes → End

@@ -1,7 +1,7 @@
 -- The bytes that answer a connection.
 use Rattle.std.specs.Prelude.{ℕ, Bool, true, if◌then◌else◌, List, [], ◌∷◌, ◌++◌, Option, None, Some}
 use Rattle.http_port.specs.Responses.{interim, response}
-use Rattle.http_port.specs.Connections.{RequestRead, End, Unfinished, WithInterim, Closed, RefusedBy}
+use Rattle.http_port.specs.Connections.{RequestRead, End, WithInterim, RefusedBy}
 
 -- the answer of a request: a text, or that there is nothing to say
 abbrev pub answer : Option (List ℕ) → Bool → List ℕ
@@ -14,10 +14,9 @@ interim_of request = if request.interim then interim else []
 
 -- what is said behind the last request
 abbrev pub last_words : End → List ℕ
-last_words Unfinished = []
 last_words WithInterim = interim
-last_words Closed = []
 last_words (RefusedBy status) = response status [] true
+last_words end = []
 
 -- the interim lines and the responses in order, up to the first request whose text is not given, its interim line
 -- included

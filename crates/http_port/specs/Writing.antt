@@ -1,6 +1,6 @@
 -- What is told of the bytes that are written on a wire.
 use Rattle.std.specs.Prelude.{◌≡◌, ◌<◌, ℕ, Bool, true, false, Option, List, [], ◌∷◌, length}
-use Rattle.outside_traits.specs.Calls.{Notes}
+use Rattle.outside_traits.specs.Told.{Lists}
 use Rattle.outside_traits.specs.declared.calls.WireCall.{WireCall}
 use Rattle.outside_traits.specs.declared.calls.WireCall.TheVariants.{Read, Wrote}
 use Rattle.http_port.specs.Prompt.{bytes_of, written_in, StopsAtNothing}
@@ -24,7 +24,7 @@ Moves false calls = StopsAtNothing calls
 -- a wire that tells its calls so was called to write these bytes, and for nothing else; where whole, it did not fail
 pub record IsWritten (before now : Option (List WireCall)) (went : List ℕ) (whole : Bool) : Type 0 where
   pub calls : List WireCall
-  pub noted : Notes before now calls
+  pub noted : Lists before now calls
   pub writes : AreWrites calls
   pub count : written_in calls ≡ length went
   pub moves : Moves whole calls

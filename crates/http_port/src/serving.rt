@@ -5,7 +5,7 @@ ghost use Rattle.http_port.specs.Asking.{Grows};
 ghost use Rattle.http_port.specs.Feeding.{Spent};
 ghost use Rattle.http_port.specs.Serving.{Service, IsFed, Serves, CountsFault};
 ghost use Rattle.http_port.specs.Prompt.{IsPrompt, StopsAtNothing};
-ghost use Rattle.outside_traits.specs.Calls.{Notes};
+ghost use Rattle.outside_traits.specs.Told.{Lists};
 ghost use Rattle.outside_traits.specs.declared.calls.WireCall.{WireCall};
 
 use crate::head_reader::HeadReader;
@@ -41,7 +41,7 @@ pub fn serve_wire<W: Wire, S: Serve>(
         × Appends (W.given wire.old) (W.given wire.new) did.came
         × Consumes (W.left wire.old) (W.left wire.new) did.came
         × Appends (W.taken wire.old) (W.taken wire.new) did.went
-        × Notes (W.calls wire.old) (W.calls wire.new) calls
+        × Lists (W.calls wire.old) (W.calls wire.new) calls
         × Grows (S.heard serve.old) (S.heard serve.new) did.bodies
         × Grows (S.said serve.old) (S.said serve.new) did.said
         × IsFed reader.old did end reader.new
@@ -71,7 +71,7 @@ fn serve_each<W: Wire, S: Serve>(
         × Appends (W.given wire.old) (W.given wire.new) did.came
         × Consumes (W.left wire.old) (W.left wire.new) did.came
         × Appends (W.taken wire.old) (W.taken wire.new) did.went
-        × Notes (W.calls wire.old) (W.calls wire.new) calls
+        × Lists (W.calls wire.old) (W.calls wire.new) calls
         × Grows (S.heard serve.old) (S.heard serve.new) did.bodies
         × Grows (S.said serve.old) (S.said serve.new) did.said
         × IsFed reader.old did end reader.new

@@ -1,6 +1,7 @@
 -- A number that is read from a text is the number that the text writes.
 use Rattle.std.proofs.Common.{◌≡◌, ℕ, ℤ, pos, neg_ℤ, List, [], ◌∷◌, Bool, true, false, ◌==◌, Option, None, Some, Result, Ok, Err, refl, sym, ap, ◌∙◌, eqb-true, arith, rules}
 use Rattle.std.specs.Prelude.{option_map, option_and_then, FitsSigned}
+use Rattle.std.specs.List.{list_all}
 use Rattle.std.specs.Result.{OkIff, result_ok}
 use Rattle.std.specs.Str.Parse.{IsNumeral, ParsesSigned, digits_value}
 use Rattle.std.proofs.lemmas.Bool.{false≢true}
@@ -8,20 +9,20 @@ use Rattle.std.proofs.lemmas.Str.Parse.{IsNumeralModel, IsDigitsTest, numerals_b
 use Rattle.jolie_trees.specs.declared.root.Root.{Root}
 use Rattle.jolie_trees.specs.declared.root.Root.TheVariants as root
 use Rattle.behaviour_tree.specs.Numbers.{int_root, long_root}
-use Rattle.behaviour_tree.specs.Texts.{are_digits, digits_in, number_in}
+use Rattle.behaviour_tree.specs.Texts.{is_digit, digits_in, number_in}
 use Rattle.jolie_expr.specs.Signs.{begins_with_plus}
 use Rattle.jolie_expr.proofs.Ranges.{int_fits, int_passes, long_fits, long_passes}
 use mir.Syntax.{Width, w32, w64}
 
-tells : IsDigitsTest (λ ds. are_digits ds ≡ true)
+tells : IsDigitsTest (λ ds. list_all is_digit ds ≡ true)
 tells = search rules
 
-own : IsNumeralModel (λ ds. are_digits ds ≡ true) (digits_value 10)
+own : IsNumeralModel (λ ds. list_all is_digit ds ≡ true) (digits_value 10)
 own = numerals_by_value _ tells
 
 -- at a kind of numbers that holds those that fit a width
 module _ (w : Width) (make : ℤ → Root) (within : ℤ → Option Root) (fits : (z : ℤ) → FitsSigned w z → Some (make z) ≡ within z) (passes : (z : ℤ) → ¬ FitsSigned w z → None ≡ within z) where
-  by_test : {E : Type 0} (f : ℕ → ℤ) (d : ℕ) (ds : List ℕ) (b : Bool) → are_digits (d ∷ ds) ≡ b → (r : Result ℤ E)
+  by_test : {E : Type 0} (f : ℕ → ℤ) (d : ℕ) (ds : List ℕ) (b : Bool) → list_all is_digit (d ∷ ds) ≡ b → (r : Result ℤ E)
       → OkIff r (IsNumeral 10 (d ∷ ds) × FitsSigned w (f (digits_value 10 (d ∷ ds)))) (f (digits_value 10 (d ∷ ds)))
       → option_map make (result_ok r) ≡ option_and_then within (option_map f (digits_in (d ∷ ds)))
   by_test f d ds true e (Ok z) h = rw e (ap (λ (x : ℤ). Some (make x)) h.1 ∙ fits _ h.0.1)
@@ -34,7 +35,7 @@ module _ (w : Width) (make : ℤ → Root) (within : ℤ → Option Root) (fits 
       → option_map make (result_ok r) ≡ option_and_then within (option_map f (digits_in ds))
   by_digits f [] (Ok z) h = absurd (omega (arith, h.0.0.0))
   by_digits f [] (Err x) h = refl
-  by_digits f (d ∷ ds) r h = by_test f d ds (are_digits (d ∷ ds)) refl r h
+  by_digits f (d ∷ ds) r h = by_test f d ds (list_all is_digit (d ∷ ds)) refl r h
 
   by_sign : {E : Type 0} (b : ℕ) (bs : List ℕ) (m : Bool) → (b == 45) ≡ m → (r : Result ℤ E) → (b == 43) ≡ false → ParsesSigned w 10 (b ∷ bs) r
       → option_map make (result_ok r) ≡ option_and_then within (number_in (b ∷ bs))

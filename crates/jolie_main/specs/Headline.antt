@@ -116,11 +116,8 @@ Does IsMade c text ended a = elim c.action [
 -- what a command writes of a file that can't be read: `explain` says so, and the others write nothing
 abbrev pub TellsOfFile : Command → Taking → Taking → Type 0
 TellsOfFile c before now = elim c.action [
-  | action.Check ↦ now ≡ before
   | action.Explain ↦ IsWritten (unreadable_line c.file) before now
-  | action.Print ↦ now ≡ before
-  | action.Run ↦ now ≡ before
-  | action.Serve ↦ now ≡ before
+  | _ ↦ now ≡ before
 ]
 
 -- A command over a file: it does so with the text that is read of it, or the file failed, and then the status is 2,

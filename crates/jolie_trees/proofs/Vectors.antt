@@ -3,10 +3,11 @@ use Rattle.std.proofs.Common.{◌≡◌, ◌≤◌, ◌<◌, ℕ, zero, suc, Lis
 use mir.Val.{bool_byte}
 use Rattle.std.proofs.lemmas.Bool.Decides.{nat_tests}
 use Rattle.std.specs.List.{remove}
+use Rattle.std.specs.Option.{option_len}
 use Rattle.jolie_trees.specs.declared.root.Root.{Root}
 use Rattle.jolie_trees.specs.declared.path.Step.{Step}
 use Rattle.jolie_trees.specs.Data.{Tree, node, Fields, Trees, no_trees, tree}
-use Rattle.jolie_trees.specs.Trees.{void_tree, nth, index_of, count_of, levels, trees_levels, one_if, with_last, without_nth, change_nth, change_nth_if_there, change_if_there, undef}
+use Rattle.jolie_trees.specs.Trees.{void_tree, nth, index_of, count_of, levels, trees_levels, with_last, without_nth, change_nth, change_nth_if_there, change_if_there, undef}
 use Rattle.jolie_trees.specs.Changes.{undef_below}
 use Rattle.jolie_trees.specs.TreeView.{trees_of}
 
@@ -122,10 +123,10 @@ trees_of-none [] h = refl
 trees_of-none (x ∷ xs) h = absurd (omega (arith, h))
 
 -- one node where the index is within a vector, else none
-pub one_if-nth : (n : ℕ) (xs : List Tree) → one_if (nth n (trees_of xs)) ≡ cond (ltb n (length xs)) 1 0
-one_if-nth n [] = grind (arith, nat_tests)
-one_if-nth zero (x ∷ xs) = grind (arith, nat_tests)
-one_if-nth (suc n) (x ∷ xs) = let more = one_if-nth n xs in grind (arith, nat_tests, more)
+pub option_len-nth : (n : ℕ) (xs : List Tree) → option_len (nth n (trees_of xs)) ≡ cond (ltb n (length xs)) 1 0
+option_len-nth n [] = grind (arith, nat_tests)
+option_len-nth zero (x ∷ xs) = grind (arith, nat_tests)
+option_len-nth (suc n) (x ∷ xs) = let more = option_len-nth n xs in grind (arith, nat_tests, more)
 
 pub bool_byte-cond : (b : Bool) → bool_byte b ≡ cond b 1 0
 bool_byte-cond true = refl

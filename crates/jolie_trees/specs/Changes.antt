@@ -1,11 +1,12 @@
 -- These definitions serve the proofs alone: no promise speaks of them.
 -- A change in place, as the calls that change a tree make it.
 use Rattle.std.specs.Prelude.{ℕ, List, [], ◌∷◌, Option, None, Some}
+use Rattle.std.specs.Option.{option_len}
 use Rattle.jolie_trees.specs.declared.tree.change.Change.{Change}
 use Rattle.jolie_trees.specs.declared.tree.change.Change.TheVariants.{Whole, OnlyRoot}
 use Rattle.jolie_trees.specs.Data.{Tree, node, Trees}
 use Rattle.jolie_trees.specs.Trees.{with_root, change_under, undef, left_of, change_nth_if_there, index_of}
-use Rattle.jolie_trees.specs.Trees.{count_of, one_if, nth}
+use Rattle.jolie_trees.specs.Trees.{count_of, nth}
 use Rattle.jolie_trees.specs.declared.path.Step.{Step}
 
 -- what a change makes of a node
@@ -25,4 +26,4 @@ undef_below s (s' ∷ p) = change_nth_if_there (index_of s) (undef (s' ∷ p))
 -- how many nodes of a vector a step without its name names
 abbrev pub count_in : Option ℕ → Trees → ℕ
 count_in None ts = count_of ts
-count_in (Some n) ts = one_if (nth n ts)
+count_in (Some n) ts = option_len (nth n ts)

@@ -1,6 +1,7 @@
 -- What stands at a path of a tree, and what a change there makes of the tree.
 use Rattle.std.specs.Prelude.{ℕ, zero, suc, ◌+◌, max, List, [], ◌∷◌, length, if◌then◌else◌, bytes_eq}
 use Rattle.std.specs.Prelude.{Option, None, Some, option_and_then, option_map, unwrap_or}
+use Rattle.std.specs.Option.{option_len}
 use Rattle.std.specs.Ordering.{nat_cmp, match_ordering}
 use Rattle.std.specs.Cmp.Lexicographic.{slice_cmp}
 use Rattle.jolie_trees.specs.declared.root.Root.{Root}
@@ -54,15 +55,10 @@ abbrev pub get : List Step → Tree → Option Tree
 get [] t = Some t
 get (s ∷ p) t = option_and_then (get p) (child s t)
 
--- 1 where there is a node, else 0
-abbrev pub one_if : {A : Type 0} → Option A → ℕ
-one_if None = 0
-one_if (Some t) = 1
-
--- how many nodes a last step names: the whole vector where it has no index
+-- how many nodes a last step names: the whole vector where it has no index, else the one of its index, if it is there
 abbrev pub count_at : List ℕ → Option ℕ → Tree → ℕ
 count_at name None (node r fs) = count_of (under name fs)
-count_at name (Some n) (node r fs) = one_if (nth n (under name fs))
+count_at name (Some n) (node r fs) = option_len (nth n (under name fs))
 
 -- how many nodes a path names, a last step without an index naming the whole vector
 abbrev pub count : List Step → Tree → ℕ
@@ -177,13 +173,10 @@ abbrev mutual
   trees_levels no_trees = 0
   trees_levels (tree t ts) = max (levels t) (trees_levels ts)
 
--- the bytes of a root's text
+-- the bytes of a root's text; no other root has any
 abbrev pub root_bytes : Root → ℕ
 root_bytes (root.Text text) = length text
-root_bytes root.Void = 0
-root_bytes (root.Bool b) = 0
-root_bytes (root.Int n) = 0
-root_bytes (root.Long n) = 0
+root_bytes r = 0
 
 -- the bytes of all texts and names, a name counting once for its vector
 abbrev mutual

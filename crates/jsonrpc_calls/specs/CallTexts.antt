@@ -43,10 +43,7 @@ id_of out = if out.wants then Some (call_id out.session out.call) else None
 -- a root as params: the one element of an array, and no params where it is void
 abbrev pub root_params : Root → Option Data
 root_params root.Void = None
-root_params (root.Bool b) = Some (array (item (root_data (root.Bool b)) no_items))
-root_params (root.Int z) = Some (array (item (root_data (root.Int z)) no_items))
-root_params (root.Long z) = Some (array (item (root_data (root.Long z)) no_items))
-root_params (root.Text text) = Some (array (item (root_data (root.Text text)) no_items))
+root_params r = Some (array (item (root_data r) no_items))
 
 -- a value under the type of its request as params: its root where it has no children, else its object
 abbrev pub params_of : List TypeTree → TypeTree → Tree → Option Data

@@ -14,9 +14,9 @@ use Rattle.serde_json.proofs.Views.{get_member-put}
 use Rattle.jolie_trees.specs.declared.root.Root.{Root}
 use Rattle.jolie_trees.specs.declared.root.Root.TheVariants as root
 use Rattle.jolie_trees.specs.Data.{Tree, node, Fields, no_fields, field, Trees, no_trees, tree}
-use Rattle.jolie_trees.specs.Trees.{count_of}
+use Rattle.jolie_trees.specs.Trees.{count_of, field_if}
 use Rattle.behaviour_tree.specs.Data.{TypeTree, TypeFields}
-use Rattle.jsonrpc_text.specs.FromJson.{root_name, integer_root, root_in, root_of_member, node_of, and_under, and_tree, only, tree_in, children_in, vector_in, trees_in}
+use Rattle.jsonrpc_text.specs.FromJson.{root_name, integer_root, root_in, root_of_member, of_both, only, tree_in, children_in, vector_in, trees_in}
 use Rattle.jsonrpc_text.specs.ToJson.{root_data, with_root, FieldPart, field_part, fields_of_type, repeats, member_type, are_there, json_of, members_json, vector_json, items_json}
 use Rattle.jsonrpc_text.specs.Laws.{is_int, is_long, is_in_range, is_some_tree, can_be_written, fields_can_be_written, trees_can_be_written, root_read_back, read_back, fields_read_back, trees_read_back, TreesReadBack}
 
@@ -149,13 +149,13 @@ or-none true ts h = absurd (false≢true (sym h))
 or-none false no_trees h = refl
 or-none false (tree t ts) h = absurd (false≢true (sym h))
 
-node-back : (r : Root) (fs : Fields) (o : Option Root) (p : Option Fields) → o ≡ Some r → p ≡ Some fs → node_of o p ≡ Some (node r fs)
+node-back : (r : Root) (fs : Fields) (o : Option Root) (p : Option Fields) → o ≡ Some r → p ≡ Some fs → of_both node o p ≡ Some (node r fs)
 node-back r fs o p h k = rw (h, k) refl
 
-under-back : (name : List ℕ) (t : Tree) (ts : Trees) (fs : Fields) (o : Option Trees) (p : Option Fields) → o ≡ Some (tree t ts) → p ≡ Some fs → and_under name o p ≡ Some (field name (tree t ts) fs)
+under-back : (name : List ℕ) (t : Tree) (ts : Trees) (fs : Fields) (o : Option Trees) (p : Option Fields) → o ≡ Some (tree t ts) → p ≡ Some fs → of_both (field_if name) o p ≡ Some (field name (tree t ts) fs)
 under-back name t ts fs o p h k = rw (h, k) refl
 
-tree-back : (t : Tree) (ts : Trees) (o : Option Tree) (p : Option Trees) → o ≡ Some t → p ≡ Some ts → and_tree o p ≡ Some (tree t ts)
+tree-back : (t : Tree) (ts : Trees) (o : Option Tree) (p : Option Trees) → o ≡ Some t → p ≡ Some ts → of_both tree o p ≡ Some (tree t ts)
 tree-back t ts o p h k = rw (h, k) refl
 
 member-back : (b : Bool) (x y z : Option Fields) → b ≡ false → y ≡ z → (if b then x else y) ≡ z

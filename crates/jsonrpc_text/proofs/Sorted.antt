@@ -11,8 +11,8 @@ use Rattle.serde_json.specs.View.{view, items_view, members_view}
 use Rattle.serde_json.specs.declared.value.Value.{Value}
 use Rattle.jolie_trees.specs.declared.root.Root.{Root}
 use Rattle.jolie_trees.specs.Data.{Tree, node, Fields, no_fields, field, Trees, no_trees, tree}
-use Rattle.jolie_trees.specs.Trees.{with_last, change_under}
-use Rattle.jsonrpc_text.specs.FromJson.{root_name, params_tree, node_of, under_name, and_under, and_tree, only, tree_in, children_in, vector_in, trees_in}
+use Rattle.jolie_trees.specs.Trees.{with_last, change_under, field_if}
+use Rattle.jsonrpc_text.specs.FromJson.{root_name, params_tree, of_both, only, tree_in, children_in, vector_in, trees_in}
 use Rattle.jsonrpc_text.specs.Putting.{with_tree, with_items, with_member, with_members}
 
 -- the names of members
@@ -81,7 +81,7 @@ longer name r fs t ts (Some us) = ap (λ x. Some (ending name r fs x)) (followed
 
 items-step : (name : List ℕ) (r : Root) (fs : Fields) (ds : Items) (ts : Trees) (o : Option Tree) → IsAfter name fs
     → ((us : Trees) → with_items name ds (ending name r fs us) ≡ option_map (λ vs. ending name r fs (followed us vs)) (trees_in ds))
-    → option_and_then (with_items name ds) (with_tree name o (ending name r fs ts)) ≡ option_map (λ vs. ending name r fs (followed ts vs)) (and_tree o (trees_in ds))
+    → option_and_then (with_items name ds) (with_tree name o (ending name r fs ts)) ≡ option_map (λ vs. ending name r fs (followed ts vs)) (of_both tree o (trees_in ds))
 items-step name r fs ds ts None h later = refl
 items-step name r fs ds ts (Some t) h later =
     ap (λ gs. with_items name ds (node r gs)) (change-again name (with_last t) fs ts h) ∙ later (with_last t ts) ∙ longer name r fs t ts (trees_in ds)
@@ -94,7 +94,7 @@ items-behind name r fs (item d ds) ts h = items-step name r fs ds ts (tree_in d)
 
 -- a node with a vector, where that is not empty, behind its children
 abbrev pub and_vector : List ℕ → Root → Fields → Trees → Tree
-and_vector name r fs ts = node r (joined fs (under_name name ts no_fields))
+and_vector name r fs ts = node r (joined fs (field_if name ts no_fields))
 
 first-more : (name : List ℕ) (r : Root) (fs : Fields) (t : Tree) (o : Option Trees)
     → option_map (λ us. ending name r fs (followed (tree t no_trees) us)) o ≡ option_map (and_vector name r fs) (option_map (tree t) o)
@@ -102,7 +102,7 @@ first-more name r fs t None = refl
 first-more name r fs t (Some us) = refl
 
 first-item : (name : List ℕ) (r : Root) (fs : Fields) (ds : Items) (o : Option Tree) → IsAfter name fs
-    → option_and_then (with_items name ds) (with_tree name o (node r fs)) ≡ option_map (and_vector name r fs) (and_tree o (trees_in ds))
+    → option_and_then (with_items name ds) (with_tree name o (node r fs)) ≡ option_map (and_vector name r fs) (of_both tree o (trees_in ds))
 first-item name r fs ds None h = refl
 first-item name r fs ds (Some t) h =
     ap (λ gs. with_items name ds (node r gs)) (change-last name (with_last t) fs h) ∙ items-behind name r fs ds (tree t no_trees) h ∙ first-more name r fs t (trees_in ds)
@@ -134,20 +134,20 @@ choice true x y p q f one other = one
 choice false x y p q f one other = other
 
 same-fields : (r : Root) (fs : Fields) (name : List ℕ) (o : Option Fields)
-    → option_map (λ gs. node r (joined fs gs)) o ≡ option_map (λ gs. node r (joined fs gs)) (option_map (under_name name no_trees) o)
+    → option_map (λ gs. node r (joined fs gs)) o ≡ option_map (λ gs. node r (joined fs gs)) (option_map (field_if name no_trees) o)
 same-fields r fs name None = refl
 same-fields r fs name (Some gs) = refl
 
 more-fields : (r : Root) (fs : Fields) (name : List ℕ) (t : Tree) (ts : Trees) (o : Option Fields)
     → option_map (λ gs. node r (joined (joined fs (field name (tree t ts) no_fields)) gs)) o
-    ≡ option_map (λ gs. node r (joined fs gs)) (option_map (under_name name (tree t ts)) o)
+    ≡ option_map (λ gs. node r (joined fs gs)) (option_map (field_if name (tree t ts)) o)
 more-fields r fs name t ts None = refl
 more-fields r fs name t ts (Some gs) = ap (λ hs. Some (node r hs)) (joined-joined fs (field name (tree t ts) no_fields) gs)
 
 members-step : (name : List ℕ) (r : Root) (fs : Fields) (ms : Members) (o : Option Trees)
     → with_members ms (node r fs) ≡ option_map (λ gs. node r (joined fs gs)) (children_in ms)
     → ((ts : Trees) → with_members ms (ending name r fs ts) ≡ option_map (λ gs. node r (joined (joined fs (field name ts no_fields)) gs)) (children_in ms))
-    → option_and_then (with_members ms) (option_map (and_vector name r fs) o) ≡ option_map (λ gs. node r (joined fs gs)) (and_under name o (children_in ms))
+    → option_and_then (with_members ms) (option_map (and_vector name r fs) o) ≡ option_map (λ gs. node r (joined fs gs)) (of_both (field_if name) o (children_in ms))
 members-step name r fs ms None here later = refl
 members-step name r fs ms (Some no_trees) here later =
     ap (λ gs. with_members ms (node r gs)) (joined-none fs) ∙ here ∙ same-fields r fs name (children_in ms)
@@ -178,7 +178,7 @@ none-before no_members = tt
 none-before (member name d ms) = (tt, none-before ms)
 
 -- the members of an object, put into a node without children, are its children
-pub object-put : (ms : Members) (r : Root) → IsStrictlySortedBy (slice_cmp nat_cmp) (names_in ms) → with_members ms (node r no_fields) ≡ node_of (Some r) (children_in ms)
+pub object-put : (ms : Members) (r : Root) → IsStrictlySortedBy (slice_cmp nat_cmp) (names_in ms) → with_members ms (node r no_fields) ≡ of_both node (Some r) (children_in ms)
 object-put ms r sorted = members-put ms r no_fields (none-before ms) sorted
 
 all-names : (k : String Global) (es : List (String Global × Value)) → AllByRecursion (λ y. string_cmp k y ≡ Less) (keys_of es)
@@ -221,7 +221,7 @@ step-none e rest next t more other made = rw (more, other_from _ other, made) re
 
 -- after the last one the node is whole
 pub whole : (es rest : List Entry) (r : Root) (t : Tree) (o : Option Tree) → IsStrictlySortedBy string_cmp (keys_of es) → with_members (members_view rest) t ≡ o
-    → with_members (members_view rest) t ≡ with_members (members_view es) (node r no_fields) → o ≡ node_of (Some r) (children_in (members_view es))
+    → with_members (members_view rest) t ≡ with_members (members_view es) (node r no_fields) → o ≡ of_both node (Some r) (children_in (members_view es))
 whole es rest r t o sorted ends kept = sym ends ∙ kept ∙ object-put (members_view es) r (sorted-names es sorted)
 
 -- two items or more make no tree

@@ -17,7 +17,7 @@ use Rattle.behaviour_tree.specs.declared.words.Reason.{Reason}
 use Rattle.behaviour_tree.specs.Reasons.{code_of, message_of}
 use Rattle.jsonrpc_text.specs.declared.message.Id.{Id}
 use Rattle.jsonrpc_text.specs.FromJson.{root_name, tree_in, integer_root}
-use Rattle.jsonrpc_text.specs.ToJson.{json_of, json_under_undefined}
+use Rattle.jsonrpc_text.specs.ToJson.{json_of}
 use Rattle.jsonrpc_text.specs.Posted.{posted}
 use Rattle.jsonrpc_text.specs.Responses.{id_data, answer_data, fault_code}
 
@@ -136,7 +136,7 @@ SaysValues = (types : List TypeTree) (ty : TypeTree) (i : Id) (t : Tree)
 abbrev pub SaysFaults : Type 0
 SaysFaults = (types : List TypeTree) (ty : TypeTree) (i : Id) (name : List ℕ) (t : Tree)
     → Says (answer_data types ty i (outcome.Fault name t)) i None
-    (Some (number (of_integer fault_code))) (Some (string name)) (Some (json_under_undefined types t))
+    (Some (number (of_integer fault_code))) (Some (string name)) (Some (json_of types t undefined))
 
 -- A refusal is said by its code and its message, without data.
 abbrev pub SaysRefusals : Type 0

@@ -2,7 +2,7 @@
 use Rattle.std.specs.Prelude.{ℕ, nat_le, Bool, true, false, ◌&&◌, if◌then◌else◌, List, [], ◌∷◌, length, codes}
 use Rattle.std.specs.Prelude.{Option, None, Some, option_and_then, option_map, unwrap_or, Result, Ok, Err}
 use Rattle.std.specs.Str.{is_utf8, bytes_eq}
-use Rattle.serde_json.specs.Data.{Num, unsigned, negative, float, Data, null, boolean, number, string, array, object}
+use Rattle.serde_json.specs.Data.{Num, unsigned, negative, float, Data, null, number, string, array, object}
 use Rattle.serde_json.specs.Data.{Items, no_items, item}
 use Rattle.serde_json.specs.Read.{read}
 use Rattle.serde_json.specs.Find.{get, as_str, as_i64}
@@ -36,9 +36,7 @@ abbrev pub id_from : Data → Option Id
 id_from null = Some id.Null
 id_from (number n) = id_of_number n
 id_from (string s) = Some (id.Text s)
-id_from (boolean b) = None
-id_from (array ds) = None
-id_from (object ms) = None
+id_from d = None
 
 -- the id of a call: absent where there is no member `id`, none where that is no valid id
 abbrev pub id_of_member : Option Data → Option Id
@@ -62,9 +60,7 @@ are_params None = true
 are_params (Some null) = true
 are_params (Some (array ds)) = true
 are_params (Some (object ms)) = true
-are_params (Some (boolean b)) = false
-are_params (Some (number n)) = false
-are_params (Some (string s)) = false
+are_params params = false
 
 -- what a call says: its method and the tree of its params, or that they make none
 abbrev pub what_of : List ℕ → Option Tree → Result (List ℕ × Tree) Early
@@ -107,15 +103,11 @@ one call = record { batch = false; calls = call ∷ [] }
 abbrev pub batch_of : Items → Read
 batch_of ds = record { batch = true; calls = calls_in ds }
 
--- what a value posts: an array that is not empty is a batch, an empty one is no call
+-- what a value posts: an array that is not empty is a batch, an empty one is no call, and any other value is one call
 abbrev pub posted_in : Data → Read
 posted_in (array no_items) = one (invalid id.Null)
 posted_in (array (item d ds)) = batch_of (item d ds)
-posted_in null = one (call_in null)
-posted_in (boolean b) = one (call_in (boolean b))
-posted_in (number n) = one (call_in (number n))
-posted_in (string s) = one (call_in (string s))
-posted_in (object ms) = one (call_in (object ms))
+posted_in d = one (call_in d)
 
 -- what a text posts that is short enough to be read: a parse error where no value is read
 abbrev pub posted_by : Option Data → Read

@@ -3,7 +3,7 @@ use Rattle.std.specs.Prelude.{ℕ, ℤ, pos, neg_ℤ, List, [], ◌∷◌, ◌++
 use Rattle.serde_json.specs.Data.{Data, null, number, string, object, no_members, member, unsigned}
 use Rattle.serde_json.specs.Find.{of_integer}
 use Rattle.serde_json.specs.Written.{compact_text}
-use Rattle.behaviour_tree.specs.Data.{TypeTree}
+use Rattle.behaviour_tree.specs.Data.{TypeTree, undefined}
 use Rattle.behaviour_tree.specs.declared.words.Outcome.{Outcome}
 use Rattle.behaviour_tree.specs.declared.words.Outcome.TheVariants as outcome
 use Rattle.behaviour_tree.specs.Reasons.{code_of, message_of}
@@ -11,15 +11,14 @@ use Rattle.jsonrpc_text.specs.declared.message.Id.{Id}
 use Rattle.jsonrpc_text.specs.declared.message.Id.TheVariants as id
 use Rattle.jsonrpc_text.specs.declared.message.Early.{Early}
 use Rattle.jsonrpc_text.specs.declared.message.Early.TheVariants as early
-use Rattle.jsonrpc_text.specs.ToJson.{json_of, json_under_undefined}
+use Rattle.jsonrpc_text.specs.ToJson.{json_of}
 
--- an id as a value; an absent id is written as null
+-- an id as a value; null and an absent id are written as null
 abbrev pub id_data : Id → Data
-id_data id.Null = null
 id_data (id.Int z) = number (of_integer z)
 id_data (id.Big n) = number (unsigned n)
 id_data (id.Text s) = string s
-id_data id.None = null
+id_data i = null
 
 -- a response with a result, its members in order
 abbrev pub result_data : Data → Data → Data
@@ -56,7 +55,7 @@ fault_code = neg_ℤ (pos 32000)
 abbrev pub answer_data : List TypeTree → TypeTree → Id → Outcome → Data
 answer_data types ty i (outcome.Value t) = result_data (id_data i) (json_of types t ty)
 answer_data types ty i (outcome.Fault name t) =
-    error_data (id_data i) (full_error fault_code (json_under_undefined types t) name)
+    error_data (id_data i) (full_error fault_code (json_of types t undefined) name)
 answer_data types ty i (outcome.Refused reason) =
     error_data (id_data i) (bare_error (code_of reason) (message_of reason))
 

@@ -1,6 +1,7 @@
 -- The JSON of a tree under a type.
 use Rattle.std.specs.Prelude.{ℕ, suc, nat_le, Bool, true, false, not, ◌||◌, if◌then◌else◌, List, length, bytes_eq}
 use Rattle.std.specs.Prelude.{Option, None, Some}
+use Rattle.std.specs.Option.{option_map_or}
 use Rattle.serde_json.specs.Data.{Data, null, boolean, number, string, array, object}
 use Rattle.serde_json.specs.Data.{Items, no_items, item, Members, no_members, member, put}
 use Rattle.serde_json.specs.Find.{of_integer}
@@ -8,7 +9,7 @@ use Rattle.jolie_trees.specs.declared.root.Root.{Root}
 use Rattle.jolie_trees.specs.declared.root.Root.TheVariants as root
 use Rattle.jolie_trees.specs.Data.{Tree, node, Fields, no_fields, field, Trees, no_trees, tree}
 use Rattle.jolie_trees.specs.Trees.{count_of}
-use Rattle.behaviour_tree.specs.Data.{TypeTree, plain, named, undefined, TypeFields, no_type_fields, type_field}
+use Rattle.behaviour_tree.specs.Data.{TypeTree, plain, undefined, TypeFields, no_type_fields, type_field}
 use Rattle.behaviour_tree.specs.Conforms.{shape, at_most}
 use Rattle.jsonrpc_text.specs.FromJson.{root_name}
 
@@ -23,10 +24,7 @@ root_data (root.Text text) = string text
 -- members with a node's root as the member `$`, which a void root leaves out
 abbrev pub with_root : Root → Members → Members
 with_root root.Void ms = ms
-with_root (root.Bool b) ms = put root_name (root_data (root.Bool b)) ms
-with_root (root.Int z) ms = put root_name (root_data (root.Int z)) ms
-with_root (root.Long z) ms = put root_name (root_data (root.Long z)) ms
-with_root (root.Text text) ms = put root_name (root_data (root.Text text)) ms
+with_root r ms = put root_name (root_data r) ms
 
 -- what a type says of the members of one name: how many there may be at most (None is any number), and their type
 pub record FieldPart : Type 0 where
@@ -41,24 +39,17 @@ field_part name (type_field other least most ty rest) =
 
 -- the fields of the type behind the names, where it has any
 abbrev pub fields_behind : Option TypeTree → TypeFields
-fields_behind None = no_type_fields
 fields_behind (Some (plain k fields)) = fields
-fields_behind (Some (named i)) = no_type_fields
-fields_behind (Some undefined) = no_type_fields
+fields_behind ty = no_type_fields
 
 -- the fields of a type
 abbrev pub fields_of_type : List TypeTree → TypeTree → TypeFields
 fields_of_type types ty = fields_behind (shape types (length types) ty)
 
--- at most one occurrence
-abbrev pub at_most_one : Option ℕ → Bool
-at_most_one None = false
-at_most_one (Some n) = nat_le n 1
-
 -- a field that allows more than one occurrence
 abbrev pub repeats : Option FieldPart → Bool
 repeats None = false
-repeats (Some f) = not (at_most_one f.most)
+repeats (Some f) = not (option_map_or (λ n. nat_le n 1) f.most false)
 
 -- the type under which so many members of one name are written: that of their field where it allows
 -- as many or more than one, else undefined
@@ -97,7 +88,3 @@ abbrev mutual
   pub items_json : List TypeTree → Trees → TypeTree → Items
   items_json types no_trees ty = no_items
   items_json types (tree t ts) ty = item (json_of types t ty) (items_json types ts ty)
-
--- the JSON of a tree of which no type says anything
-abbrev pub json_under_undefined : List TypeTree → Tree → Data
-json_under_undefined types t = json_of types t undefined

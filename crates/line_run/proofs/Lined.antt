@@ -17,7 +17,7 @@ use Rattle.run_record.specs.Run.{Hands, alone, IsRun, IsSpent}
 use Rattle.branch_workers.specs.Split.{whole_lines, all_lines, said_lines}
 use Rattle.branch_workers.specs.Texts.{Came, posting_of}
 use Rattle.branch_workers.specs.Lines.{come_in, lines_in, most_postings, IsFront, IsProperFront, Output, IsAnswered, IsCutShort}
-use Rattle.branch_workers.specs.Statuses.{Faults, SourceRose, Halted, IsCalm, HasStatus}
+use Rattle.branch_workers.specs.Statuses.{Faults, Halted, IsCalm, HasStatus}
 use Rattle.branch_workers.specs.Headline.{Ending, AnswersLines, IsHalted, IsLineRun}
 use Rattle.branch_workers.specs.Headline.{whole as all_answered, cut as ended_answered, halted as cut_short, halted_at_end as all_cut_short}
 use Rattle.office_front.specs.Dealings.{Told, Dealings}
@@ -284,7 +284,6 @@ module _ (t : Task) (first now : Sides) (d : Dealings) (finished : Finished)
             run = run_with (run_of t.parts) t.budget finished.report traffic alone d.said.halted ran.run;
             traffic = traffic;
             one = refl;
-            posters = ran.dealt.posters;
             lines = k.lines;
             status = status_so failed d.said.halted finished.spent (faults_of (outside_of first)) (faults_of (outside_of now))
                 (IsSpent (run_of t.parts) t.budget (with_traffic finished.report traffic)) fails k.halts.cause k.halts.calm refl

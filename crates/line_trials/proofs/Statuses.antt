@@ -3,7 +3,7 @@ use Rattle.std.proofs.Common.{◌≡◌, ◌≢◌, ◌⊎◌, inl, inr, ℕ, su
 use Rattle.std.specs.Prelude.{nat_eq}
 use Rattle.std.specs.Cmp.{unsigned_Decides}
 use Rattle.outside_traits.specs.Causes.{Rose}
-use Rattle.branch_workers.specs.Statuses.{Faults, SourceRose, Halted, IsCalm, DoorsRose, HasStatus}
+use Rattle.branch_workers.specs.Statuses.{Faults, Halted, IsCalm, HasStatus}
 
 -- ---- the causes
 

@@ -1,8 +1,7 @@
 -- Laws of the bytes of locations.
-use Rattle.std.proofs.Common.{◌≡◌, ℕ, suc, ◌+◌, ◌*◌, ◌-◌, ◌^◌, ◌<◌, Bool, true, false, cond, List, [], ◌∷◌, ◌++◌, length, take, drop, get_or, min, refl, ap, sym, ◌∙◌, arith, Option, Some, None, Bor, eqb, eq-eqb, MatchOption, eqb-true}
-use Rattle.std.specs.Prelude.{◌&&◌, if◌then◌else◌, nat_le}
+use Rattle.std.proofs.Common.{◌≡◌, ℕ, ◌+◌, ◌*◌, ◌-◌, ◌^◌, ◌<◌, Bool, true, false, List, [], ◌∷◌, ◌++◌, length, take, drop, get_or, min, refl, ap, sym, ◌∙◌, arith, Option, Some, None, Bor, eqb, eq-eqb, MatchOption, eqb-true}
+use Rattle.std.specs.Prelude.{if◌then◌else◌, nat_le}
 use Rattle.std.specs.Option.{option_copied}
-use Rattle.std.specs.List.{prefix_len, list_all}
 use Rattle.std.specs.Char.{digit_value}
 use Rattle.std.specs.Str.Parse.{digits_value}
 use Rattle.std.specs.Str.Pattern.{FindsTextPrefix, StripsPrefix}
@@ -10,35 +9,8 @@ use Rattle.std.proofs.lemmas.Bool.Decides.{nat_tests}
 use Rattle.std.proofs.lemmas.Int.Digits.{digits_value_more}
 use Rattle.std.proofs.lemmas.Str.{digit_value_digit}
 pub use Rattle.jolie_tokens.proofs.Runs.{run_is, run_passes}
-use Rattle.behaviour_tree.specs.Locations.{behind, front, back, all_are, is_digit}
-
--- ---- fronts
-
-one_more : (n : ℕ) → suc n ≡ 1 + n
-one_more n = omega arith
-
-front_more : (p : ℕ → Bool) (b : ℕ) (bs : List ℕ) (c : Bool) → front p bs ≡ take (prefix_len p bs) bs → (if c then b ∷ front p bs else []) ≡ take (cond c (1 + prefix_len p bs) 0) (b ∷ bs)
-front_more p b bs true e = ap (λ xs. b ∷ xs) e ∙ ap (λ n. take n (b ∷ bs)) (one_more (prefix_len p bs))
-front_more p b bs false e = refl
-
--- the bytes in front that pass are the longest front that passes
-pub front_is : (p : ℕ → Bool) (bs : List ℕ) → front p bs ≡ take (prefix_len p bs) bs
-front_is p [] = refl
-front_is p (b ∷ bs) = front_more p b bs (p b) (front_is p bs)
-
-back_more : (p : ℕ → Bool) (b : ℕ) (bs : List ℕ) (c : Bool) → back p bs ≡ drop (prefix_len p bs) bs → (if c then back p bs else b ∷ bs) ≡ drop (cond c (1 + prefix_len p bs) 0) (b ∷ bs)
-back_more p b bs true e = e ∙ ap (λ n. drop n (b ∷ bs)) (one_more (prefix_len p bs))
-back_more p b bs false e = refl
-
--- the others are what is behind that front
-pub back_is : (p : ℕ → Bool) (bs : List ℕ) → back p bs ≡ drop (prefix_len p bs) bs
-back_is p [] = refl
-back_is p (b ∷ bs) = back_more p b bs (p b) (back_is p bs)
-
--- every byte passes
-pub all_are_is : (p : ℕ → Bool) (bs : List ℕ) → all_are p bs ≡ list_all p bs
-all_are_is p [] = refl
-all_are_is p (b ∷ bs) = ap (λ a. p b && a) (all_are_is p bs)
+use Rattle.behaviour_tree.specs.Texts.{is_digit}
+use Rattle.behaviour_tree.specs.Locations.{behind}
 
 -- ---- beginnings
 

@@ -1,8 +1,9 @@
-ghost use Rattle.std.specs.Prelude.{◌≡◌, ◌≤◌, ◌^◌, ◌-◌, length, min};
-ghost use Rattle.std.specs.List.{AllPass, prefix_len};
+ghost use Rattle.std.specs.Prelude.{◌≡◌, ◌≤◌, ◌^◌, ◌-◌, length, min, take_while};
+ghost use Rattle.std.specs.List.{AllPass, list_all, prefix_len};
 ghost use Rattle.std.specs.Option.{option_copied};
 ghost use Rattle.std.specs.Str.Parse.{digits_value};
 ghost use Rattle.behaviour_tree.specs.Locations as spec;
+ghost use Rattle.behaviour_tree.specs.Texts as texts;
 
 /// What a local location begins with.
 const LOCAL: &str = "local://";
@@ -63,9 +64,8 @@ fn is_address(text: &[u8]) -> bool
 }
 
 /// The bytes of a host in front, and those behind them.
-#[tactic(auto, using(crate::proofs::Addresses::front_is, crate::proofs::Addresses::back_is))]
 fn split_host(text: &[u8]) -> (&[u8], &[u8])
-    ensures host { result.0.now ≡ spec.front spec.is_host_byte text.now }
+    ensures host { result.0.now ≡ take_while spec.is_host_byte text.now }
     ensures rest { result.1.now ≡ spec.back spec.is_host_byte text.now }
 {
     text.split_at(host_len(text))
@@ -80,7 +80,7 @@ fn is_colon_and_port(text: &[u8]) -> bool
     }
 }
 
-#[tactic(auto, using(crate::proofs::Addresses::front_is, crate::proofs::Addresses::back_is, crate::proofs::Addresses::run_passes))]
+#[tactic(auto, using(crate::proofs::Addresses::run_passes))]
 fn is_port_and_path(text: &[u8]) -> bool
     ensures { result ≡ spec.is_port_and_path text.now }
 {
@@ -91,7 +91,7 @@ fn is_port_and_path(text: &[u8]) -> bool
 /// A decimal number from 1 to 65535 without a leading zero.
 #[tactic(auto, using(crate::proofs::Addresses::small_when_cut))]
 fn is_port_number(digits: &[u8]) -> bool
-    requires { AllPass spec.is_digit digits.now }
+    requires { AllPass texts.is_digit digits.now }
     ensures { result ≡ spec.is_port_number digits.now }
 {
     !digits.is_empty() && has_no_leading_zero(digits) && value_of(digits) <= LARGEST_PORT
@@ -108,7 +108,7 @@ fn has_no_leading_zero(digits: &[u8]) -> bool
 
 /// The value of digits, cut at the largest number of 32 bits.
 fn value_of(digits: &[u8]) -> u32
-    requires { AllPass spec.is_digit digits.now }
+    requires { AllPass texts.is_digit digits.now }
     ensures { result ≡ min (digits_value 10 digits.now) (2 ^ 32 - 1) }
 {
     let mut value: u32 = 0;
@@ -147,7 +147,7 @@ fn host_len(text: &[u8]) -> usize
 /// How many digits stand in front.
 #[tactic(auto, using(crate::proofs::Addresses::run_is))]
 fn digits_len(text: &[u8]) -> usize
-    ensures value { result ≡ prefix_len spec.is_digit text.now }
+    ensures value { result ≡ prefix_len texts.is_digit text.now }
     ensures within { result ≤ length text.now }
 {
     for (place, byte) in text.iter().enumerate() {
@@ -158,15 +158,14 @@ fn digits_len(text: &[u8]) -> usize
     text.len()
 }
 
-#[tactic(auto, using(crate::proofs::Addresses::all_are_is))]
 fn is_all_visible(text: &[u8]) -> bool
-    ensures { result ≡ spec.all_are spec.is_visible text.now }
+    ensures { result ≡ list_all spec.is_visible text.now }
 {
     text.iter().all(|byte| is_visible(*byte))
 }
 
 fn is_digit(byte: u8) -> bool
-    ensures { result ≡ spec.is_digit byte }
+    ensures { result ≡ texts.is_digit byte }
 {
     byte.is_ascii_digit()
 }

@@ -3,13 +3,13 @@ use Rattle.std.specs.Prelude.{ℕ, suc, ◌+◌, ◌++◌, Bool, true, false, no
 use Rattle.std.specs.Prelude.{if◌then◌else◌, Option, None, Some, is_some, option_map, option_and_then}
 use Rattle.std.specs.List.{list_any, filter_map}
 use Rattle.jolie_trees.specs.declared.root.Root.{Root}
-use Rattle.jolie_trees.specs.declared.path.Step.{Step}
 use Rattle.jolie_trees.specs.Data.{Tree}
 use Rattle.jolie_trees.specs.Trees.{get, root_of}
-use Rattle.behaviour_tree.specs.Data.{TypeTree, plain, named, undefined, AliasPart, VariablePart, SetPart}
+use Rattle.behaviour_tree.specs.Data.{TypeTree, named, AliasPart, VariablePart, SetPart}
 use Rattle.behaviour_tree.specs.Data.{ServicePart, OperationPart}
 use Rattle.behaviour_tree.specs.Comparisons.{same}
 use Rattle.behaviour_tree.specs.Operations.{operation_at}
+use Rattle.behaviour_tree.specs.Values.{stepped}
 use Rattle.correlation.specs.declared.bind_reply.BindReply.TheVariants as reply
 use Rattle.office_core.specs.declared.history.Entry.{Entry}
 use Rattle.office_core.specs.declared.history.Act.TheVariants as act
@@ -58,18 +58,13 @@ path_in t v = first (filter_map (λ (a : AliasPart). if nat_eq a.ty t then Some 
 -- where a type has a variable: by its own name, not by that of a type that it names
 abbrev pub alias_of : TypeTree → Variable → Option (List (List ℕ))
 alias_of (named t) v = path_in t v
-alias_of (plain k fields) v = None
-alias_of undefined v = None
+alias_of ty v = None
 
 -- ---- values
 
--- a step to the first node of a name
-abbrev pub step_to : List ℕ → Step
-step_to name = record { name = name; index = None }
-
--- the value at a path of names
+-- the value at a path of names, each of which leads to the first node of that name
 abbrev pub value_at : Tree → List (List ℕ) → Option Root
-value_at t path = option_map root_of (get (map step_to path) t)
+value_at t path = option_map root_of (get (map (λ name. stepped name None) path) t)
 
 -- the value of a variable in a tree of a type
 abbrev pub value_of : TypeTree → Tree → Variable → Option Root
@@ -101,11 +96,7 @@ brought_by w s v m =
 -- what an entry wrote into variable v of session s: a bind that was answered Bound
 abbrev pub bound_by : ℕ → ℕ → Entry → Option Root
 bound_by s v e = elim e.act [
-  | act.Bind u x r ↦ elim r [
-    | reply.Bound ↦ (if nat_eq s e.actor && nat_eq v u then Some x else None)
-    | reply.Held t ↦ None
-    | reply.Fixed ↦ None
-  ]
+  | act.Bind u x reply.Bound ↦ (if nat_eq s e.actor && nat_eq v u then Some x else None)
   | _ ↦ None
 ]
 

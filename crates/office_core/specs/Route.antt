@@ -117,12 +117,10 @@ route w past q = elim (is_full w past q.value) [
 
 -- the answer of a post: the number of the message, or the refusal
 abbrev pub post_reply : Past → Way → PostReply
-post_reply past (to_session s) = answer.Accepted (length past.messages)
-post_reply past to_new = answer.Accepted (length past.messages)
 post_reply past (refused_for why) = answer.Refused why
+post_reply past way = answer.Accepted (length past.messages)
 
 -- the same of a session's message
 abbrev pub send_reply : Past → Way → Placed
-send_reply past (to_session s) = at.At (length past.messages)
-send_reply past to_new = at.At (length past.messages)
 send_reply past (refused_for why) = at.Refused why
+send_reply past way = at.At (length past.messages)

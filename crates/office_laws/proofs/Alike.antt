@@ -10,8 +10,9 @@ use Rattle.behaviour_tree.specs.declared.types.RootKind.{RootKind}
 use Rattle.behaviour_tree.specs.declared.types.RootKind.TheVariants as kind
 use Rattle.behaviour_tree.specs.Comparisons.{same}
 use Rattle.behaviour_tree.specs.Conforms.{shape, field_type, wide_root, wide, wide_children, wide_members}
+use Rattle.behaviour_tree.specs.Values.{stepped}
 use Rattle.behaviour_tree.proofs.Shapes.{wide_at}
-use Rattle.office_core.specs.Keys.{Variable, step_to, alias_of, value_at, value_of}
+use Rattle.office_core.specs.Keys.{Variable, alias_of, value_at, value_of}
 
 -- ---- values
 
@@ -46,7 +47,7 @@ root_widened k r = λ j. refl
 
 -- what stands at a path in the first of some trees
 abbrev first_at : List (List ℕ) → Trees → Option Root
-first_at path ts = option_map root_of (option_and_then (get (map step_to path)) (nth 0 ts))
+first_at path ts = option_map root_of (option_and_then (get (map (λ name. stepped name None) path)) (nth 0 ts))
 
 -- a tree has at a path what it has there when it is widened by any type
 abbrev StaysAlike : List TypeTree → List (List ℕ) → Type 0

@@ -1,9 +1,10 @@
 //! Where the types of messages have the variables of correlation sets.
 
-ghost use Rattle.std.specs.Prelude.{◌≡◌, option_map};
+ghost use Rattle.std.specs.Prelude.{◌≡◌, None, option_map};
 ghost use Rattle.std.specs.Option.{option_copied};
 ghost use Rattle.jolie_trees.specs.Trees.{child};
 ghost use Rattle.behaviour_tree.specs.PartsView.{variable_view};
+ghost use Rattle.behaviour_tree.specs.Values.{stepped};
 ghost use Rattle.behaviour_tree.specs.View.{type_view};
 ghost use Rattle.office_core.specs.Keys as keys;
 ghost use Rattle.office_lookup.specs.Lookups.{has_alias, value_in, variable_of};
@@ -35,7 +36,7 @@ fn value_at<'a>(value: &'a Tree, path: &[Text]) -> Option<&'a Root>
 /// The first node of a name.
 #[tactic(auto, using(crate::proofs::Paths::first_is))]
 fn first_under<'a>(node: &'a Tree, name: &Text) -> Option<&'a Tree>
-    ensures { option_copied result ≡ child (keys.step_to name.now) node.now }
+    ensures { option_copied result ≡ child (stepped name.now None) node.now }
 {
     node.members(name).first()
 }

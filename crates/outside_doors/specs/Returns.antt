@@ -1,5 +1,5 @@
 -- What is told of the locations that were opened and of the wires that came back, and what doors keep of them.
-use Rattle.std.specs.Prelude.{◌≡◌, ℕ, Bool, false, List, [], ◌++◌, Option, None, Some}
+use Rattle.std.specs.Prelude.{ℕ, Bool, false, List, [], Option, Some}
 use Rattle.outside_doors.specs.Counts.{Tally, no_tally}
 
 -- a wire that came back: the bytes that were read and those that were written, each where the wire tells them; its
@@ -13,13 +13,6 @@ pub record WireTold : Type 0 where
 -- the same by its parts
 abbrev pub wire_told : Option (List ℕ) → Option (List ℕ) → ℕ → Bool → WireTold
 wire_told read written faults ended = record { read = read; written = written; faults = faults; ended = ended }
-
--- What is told grows by these, in their order, as long as it is told. Doors that tell it no more never begin again.
-abbrev pub Lists : {A : Type 0} → Option (List A) → Option (List A) → List A → Type 0
-Lists None None more = Unit {0}
-Lists None (Some now) more = ⊥
-Lists (Some before) None more = Unit {0}
-Lists (Some before) (Some now) more = now ≡ before ++ more
 
 -- a wire, how often a call of it has failed, and whether a read has told the end of what comes in
 pub record Counted (W : Type 0) : Type 0 where

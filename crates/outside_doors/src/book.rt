@@ -2,7 +2,8 @@
 ghost use Rattle.std.specs.Prelude.{◌≡◌, ◌≤◌, ◌==◌, [], ◌∷◌, not, IfSome};
 ghost use Rattle.outside_traits.specs.Causes.{Rose};
 ghost use Rattle.outside_doors.specs.Counts.{added, added_if, with_door, with_opened, with_wire};
-ghost use Rattle.outside_doors.specs.Returns.{Lists, no_book, wire_told};
+ghost use Rattle.outside_traits.specs.Told.{Lists};
+ghost use Rattle.outside_doors.specs.Returns.{no_book, wire_told};
 
 use crate::counted_wire::CountedWire;
 use crate::counts::{Counts, DoorCounts};

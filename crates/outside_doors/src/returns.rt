@@ -1,6 +1,7 @@
 //! What is kept of the locations that were opened and of the wires that came back.
 ghost use Rattle.std.specs.Prelude.{◌≡◌, [], ◌∷◌, Some, true, IfOk, IfSome};
-ghost use Rattle.outside_doors.specs.Returns.{Lists, wire_told};
+ghost use Rattle.outside_traits.specs.Told.{Lists};
+ghost use Rattle.outside_doors.specs.Returns.{wire_told};
 
 use crate::counted_wire::CountedWire;
 use outside_traits::Wire;

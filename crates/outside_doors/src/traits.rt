@@ -3,7 +3,8 @@ ghost use Rattle.std.specs.declared.option.Option.{Option};
 ghost use Rattle.outside_traits.specs.Causes.{HasCause, Rose};
 ghost use Rattle.outside_doors.specs.Counts.{Tally, with_door, with_opened, with_wire};
 ghost use Rattle.outside_doors.specs.Knocks.{IfCame, IsFresh, closed_after, waits_after, wires_after};
-ghost use Rattle.outside_doors.specs.Returns.{Lists, WireTold, wire_told};
+ghost use Rattle.outside_traits.specs.Told.{Lists};
+ghost use Rattle.outside_doors.specs.Returns.{WireTold, wire_told};
 
 use outside_traits::{Failed, Wire};
 

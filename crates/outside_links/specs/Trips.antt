@@ -1,5 +1,5 @@
 -- What is told of the trips of a link: those that it made, and what the next ones bring.
-use Rattle.std.specs.Prelude.{◌≡◌, ℕ, List, [], ◌∷◌, ◌++◌, Option, None, Some}
+use Rattle.std.specs.Prelude.{◌≡◌, ℕ, List, [], ◌∷◌, Option, None, Some}
 
 -- a trip: where to, with which text, and the bytes that came back, none where it failed
 pub record Made : Type 0 where
@@ -14,13 +14,6 @@ there_and_back location text bytes = record { location = location; text = text; 
 -- a trip that failed
 abbrev pub there_alone : List ℕ → List ℕ → Made
 there_alone location text = record { location = location; text = text; came = None }
-
--- What is told grows by these trips, as long as it is told. A link that tells its trips no more never begins again.
-abbrev pub Travels : Option (List Made) → Option (List Made) → List Made → Type 0
-Travels None None trips = Unit {0}
-Travels None (Some now) trips = ⊥
-Travels (Some before) None trips = Unit {0}
-Travels (Some before) (Some now) trips = now ≡ before ++ trips
 
 -- What a trip brought, bytes or none where it failed, is the first of what was told that the next trips bring, and what
 -- is told then is the rest. Behind the last of it a trip brings no bytes, without a failure.

@@ -1,6 +1,7 @@
 ghost use Rattle.std.specs.Prelude.{◌≡◌, [], ◌∷◌, None, Some, IfOk, IfSome, IsErrOf, IsOk, alloc_error, map};
 ghost use Rattle.outside_traits.specs.Causes.{HasCallCause};
-ghost use Rattle.outside_links.specs.Trips.{Brings, Travels, there_alone, there_and_back};
+ghost use Rattle.outside_traits.specs.Told.{Lists};
+ghost use Rattle.outside_links.specs.Trips.{Brings, there_alone, there_and_back};
 
 use crate::coming::Coming;
 use crate::link::Link;
@@ -57,9 +58,9 @@ impl Link for CalmLink {
 
     fn trip(&mut self, location: &str, text: &[u8]) -> Result<Vec<u8>, CallError>
         ensures calm { IsOk result }
-        ensures back { IfOk result (λ bytes. Travels self.old.trips self.new.trips (there_and_back location.now text.now bytes.items ∷ [])) }
-        ensures alone { IsErrOf result CallError.Failed → Travels self.old.trips self.new.trips (there_alone location.now text.now ∷ []) }
-        ensures unmade { IsErrOf result (CallError.Memory alloc_error) → Travels self.old.trips self.new.trips [] }
+        ensures back { IfOk result (λ bytes. Lists self.old.trips self.new.trips (there_and_back location.now text.now bytes.items ∷ [])) }
+        ensures alone { IsErrOf result CallError.Failed → Lists self.old.trips self.new.trips (there_alone location.now text.now ∷ []) }
+        ensures unmade { IsErrOf result (CallError.Memory alloc_error) → Lists self.old.trips self.new.trips [] }
         ensures brought { IfOk result (λ bytes. Brings (Some self.old.coming) (Some self.new.coming) (Some bytes.items)) }
         ensures failed { IsErrOf result CallError.Failed → Brings (Some self.old.coming) (Some self.new.coming) None }
         ensures cause { HasCallCause self.old.faults self.new.faults result }

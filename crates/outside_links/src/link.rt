@@ -1,7 +1,8 @@
 ghost use Rattle.std.specs.Prelude.{ℕ, List, [], ◌∷◌, IsErrOf, IfOk, alloc_error};
 ghost use Rattle.std.specs.declared.option.Option.{Option};
 ghost use Rattle.outside_traits.specs.Causes.{HasCallCause};
-ghost use Rattle.outside_links.specs.Trips.{Brings, Made, Travels, there_alone, there_and_back};
+ghost use Rattle.outside_traits.specs.Told.{Lists};
+ghost use Rattle.outside_links.specs.Trips.{Brings, Made, there_alone, there_and_back};
 
 use outside_traits::CallError;
 
@@ -18,10 +19,10 @@ pub trait Link {
 
     /// Takes a text to a location, once, and gives the bytes that came back.
     fn trip(&mut self, location: &str, text: &[u8]) -> Result<Vec<u8>, CallError>
-        ensures back { IfOk result (λ bytes. Travels (trips self.old) (trips self.new) (there_and_back location.now text.now bytes.items ∷ [])) }
-        ensures alone { IsErrOf result CallError.Failed → Travels (trips self.old) (trips self.new) (there_alone location.now text.now ∷ []) }
+        ensures back { IfOk result (λ bytes. Lists (trips self.old) (trips self.new) (there_and_back location.now text.now bytes.items ∷ [])) }
+        ensures alone { IsErrOf result CallError.Failed → Lists (trips self.old) (trips self.new) (there_alone location.now text.now ∷ []) }
         // A trip that there was no memory for may have been made: then the link tells its trips no more.
-        ensures unmade { IsErrOf result (CallError.Memory alloc_error) → Travels (trips self.old) (trips self.new) [] }
+        ensures unmade { IsErrOf result (CallError.Memory alloc_error) → Lists (trips self.old) (trips self.new) [] }
         ensures brought { IfOk result (λ bytes. Brings (coming self.old) (coming self.new) (Some bytes.items)) }
         ensures failed { IsErrOf result CallError.Failed → Brings (coming self.old) (coming self.new) None }
         ensures cause { HasCallCause (faults self.old) (faults self.new) result };

@@ -1,6 +1,7 @@
 //! The trips of a link, in their order.
 ghost use Rattle.std.specs.Prelude.{◌≡◌, [], ◌∷◌, Some, IfOk, IfSome, option_map};
-ghost use Rattle.outside_links.specs.Trips.{Travels, there_alone, there_and_back};
+ghost use Rattle.outside_traits.specs.Told.{Lists};
+ghost use Rattle.outside_links.specs.Trips.{there_alone, there_and_back};
 
 use std::alloc::{AllocError, Global};
 use std::marker::Model;
@@ -103,7 +104,7 @@ impl Trips {
 
     /// Notes a trip from which bytes came back.
     pub(crate) fn note_back(&mut self, location: &str, text: &[u8], bytes: &[u8])
-        ensures { Travels self.old self.new (there_and_back location.now text.now bytes.now ∷ []) }
+        ensures { Lists self.old self.new (there_and_back location.now text.now bytes.now ∷ []) }
     {
         match Trip::back(self.alloc, location, text, bytes) {
             Ok(trip) => self.note(trip),
@@ -113,7 +114,7 @@ impl Trips {
 
     /// Notes a trip that failed.
     pub(crate) fn note_alone(&mut self, location: &str, text: &[u8])
-        ensures { Travels self.old self.new (there_alone location.now text.now ∷ []) }
+        ensures { Lists self.old self.new (there_alone location.now text.now ∷ []) }
     {
         match Trip::alone(self.alloc, location, text) {
             Ok(trip) => self.note(trip),
@@ -123,7 +124,7 @@ impl Trips {
 
     /// Notes one more trip.
     fn note(&mut self, trip: Trip)
-        ensures { Travels self.old self.new (trip ∷ []) }
+        ensures { Lists self.old self.new (trip ∷ []) }
     {
         if self.noted.push(trip).is_err() {
             self.is_whole = false;

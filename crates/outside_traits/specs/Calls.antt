@@ -1,6 +1,5 @@
 -- What is told of the order in which a wire is read and written.
-use Rattle.std.specs.Prelude.{◌≡◌, ◌==◌, ◌&&◌, ℕ, Bool, false, not, Result, Ok, Err, Option, None, Some, List, ◌++◌}
-use Rattle.outside_traits.specs.declared.calls.WireCall.{WireCall}
+use Rattle.std.specs.Prelude.{◌==◌, ◌&&◌, ℕ, Bool, false, not, Result, Ok, Err}
 
 -- how many bytes a call gave or took: none where it failed
 abbrev pub moved : {E : Type 0} → Result ℕ E → ℕ
@@ -12,11 +11,3 @@ moved (Err cause) = 0
 abbrev pub tells_end : {E : Type 0} → Bool → ℕ → Result ℕ E → Bool
 tells_end closed room (Ok count) = not closed && (not (room == 0) && (count == 0))
 tells_end closed room (Err cause) = false
-
--- What is told grows by these calls, in their order, as long as it is told. A wire that tells its calls no more never
--- begins again.
-abbrev pub Notes : Option (List WireCall) → Option (List WireCall) → List WireCall → Type 0
-Notes None None calls = Unit {0}
-Notes None (Some now) calls = ⊥
-Notes (Some before) None calls = Unit {0}
-Notes (Some before) (Some now) calls = now ≡ before ++ calls

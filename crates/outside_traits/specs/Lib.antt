@@ -2,4 +2,5 @@ pub mod Adapted
 pub mod Calls
 pub mod Causes
 pub mod Memory
+pub mod Told
 pub mod Wires

@@ -1,6 +1,6 @@
 //! The calls of a wire, in their order.
 ghost use Rattle.std.specs.Prelude.{◌≡◌, [], ◌∷◌, Some, IfSome};
-ghost use Rattle.outside_traits.specs.Calls.{Notes};
+ghost use Rattle.outside_traits.specs.Told.{Lists};
 
 use std::alloc::Global;
 use std::marker::Model;
@@ -40,7 +40,7 @@ impl Calls {
 
     /// Notes one more call.
     pub(crate) fn note(&mut self, call: WireCall)
-        ensures { Notes self.old self.new (call ∷ []) }
+        ensures { Lists self.old self.new (call ∷ []) }
     {
         if self.noted.push(call).is_err() {
             self.is_whole = false;

@@ -1,7 +1,8 @@
 ghost use Rattle.std.specs.Prelude.{◌≡◌, ◌<◌, ◌≤◌, ◌||◌, ◌↔◌, ◌⊎◌, [], ◌∷◌, true, false, Ok, Some, IsTrue, IsErr, IfOk, IfSome, length, min};
 ghost use Rattle.std.specs.Io.{ReadsAtMost, WritesAtMost};
 ghost use Rattle.std.specs.Io.KnownBytes.{ReadConsumes, WriteAppends};
-ghost use Rattle.outside_traits.specs.Calls.{Notes, moved, tells_end};
+ghost use Rattle.outside_traits.specs.Calls.{moved, tells_end};
+ghost use Rattle.outside_traits.specs.Told.{Lists};
 ghost use Rattle.outside_traits.specs.declared.calls.WireCall.TheVariants.{Read, Wrote};
 ghost use Rattle.outside_traits.specs.Causes.{Rose, HasCause};
 ghost use Rattle.outside_traits.specs.Memory.{room_left};
@@ -86,7 +87,7 @@ impl CalmWire {
         ensures later { self.old.faults ≤ self.new.faults }
         ensures tape { self.new.tape ≡ self.old.tape }
         ensures shelf { self.new.shelf ≡ self.old.shelf }
-        ensures calls { Notes self.old.calls self.new.calls (Wrote 0 ∷ []) }
+        ensures calls { Lists self.old.calls self.new.calls (Wrote 0 ∷ []) }
         ensures closed { self.new.closed ≡ self.old.closed }
         ensures ended { self.new.ended ≡ self.old.ended }
     {
@@ -118,7 +119,7 @@ impl Wire for CalmWire {
         ensures bytes { ReadConsumes (Some (readable self.old.closed self.old.tape)) (Some (readable self.new.closed self.new.tape)) result into.new }
         ensures given { WriteAppends (Some self.old.tape.given) (Some self.new.tape.given) result into.new }
         ensures taken { Some self.new.shelf.taken ≡ Some self.old.shelf.taken }
-        ensures calls { Notes self.old.calls self.new.calls (Read (moved result) ∷ []) }
+        ensures calls { Lists self.old.calls self.new.calls (Read (moved result) ∷ []) }
         ensures closed { self.new.closed ≡ self.old.closed }
         ensures ended { self.new.ended ≡ (self.old.ended || tells_end self.old.closed (length into.old) result) }
         ensures shut { IsTrue self.old.closed → result ≡ Ok 0 }
@@ -143,7 +144,7 @@ impl Wire for CalmWire {
         ensures bytes { WriteAppends (Some self.old.shelf.taken) (Some self.new.shelf.taken) result from.now }
         ensures given { Some self.new.tape.given ≡ Some self.old.tape.given }
         ensures left { Some (readable self.new.closed self.new.tape) ≡ Some (readable self.old.closed self.old.tape) }
-        ensures calls { Notes self.old.calls self.new.calls (Wrote (moved result) ∷ []) }
+        ensures calls { Lists self.old.calls self.new.calls (Wrote (moved result) ∷ []) }
         ensures closed { self.new.closed ≡ self.old.closed }
         ensures ended { self.new.ended ≡ self.old.ended }
         ensures shut { IsTrue self.old.closed → IsErr result }

@@ -2,7 +2,8 @@ ghost use Rattle.std.specs.Prelude.{◌≡◌, ◌<◌, ◌≤◌, ◌||◌, Lis
 ghost use Rattle.std.specs.declared.option.Option.{Option};
 ghost use Rattle.std.specs.Io.{ReadsAtMost, WritesAtMost};
 ghost use Rattle.std.specs.Io.KnownBytes.{ReadConsumes, WriteAppends, IsAtEnd};
-ghost use Rattle.outside_traits.specs.Calls.{Notes, moved, tells_end};
+ghost use Rattle.outside_traits.specs.Calls.{moved, tells_end};
+ghost use Rattle.outside_traits.specs.Told.{Lists};
 ghost use Rattle.outside_traits.specs.declared.calls.WireCall.{WireCall};
 ghost use Rattle.outside_traits.specs.declared.calls.WireCall.TheVariants.{Read, Wrote};
 ghost use Rattle.outside_traits.specs.Causes.{HasCause, HasCallCause};
@@ -86,7 +87,7 @@ pub trait Wire {
         // What was read grows by the bytes that this call gave.
         ensures given { WriteAppends (given self.old) (given self.new) result into.new }
         ensures taken { taken self.new ≡ taken self.old }
-        ensures calls { Notes (calls self.old) (calls self.new) (Read (moved result) ∷ []) }
+        ensures calls { Lists (calls self.old) (calls self.new) (Read (moved result) ∷ []) }
         ensures closed { closed self.new ≡ closed self.old }
         ensures ended { ended self.new ≡ (ended self.old || tells_end (closed self.old) (length into.old) result) }
         ensures shut { IsTrue (closed self.old) → result ≡ Ok 0 }
@@ -99,7 +100,7 @@ pub trait Wire {
         ensures bytes { WriteAppends (taken self.old) (taken self.new) result from.now }
         ensures given { given self.new ≡ given self.old }
         ensures left { left self.new ≡ left self.old }
-        ensures calls { Notes (calls self.old) (calls self.new) (Wrote (moved result) ∷ []) }
+        ensures calls { Lists (calls self.old) (calls self.new) (Wrote (moved result) ∷ []) }
         ensures closed { closed self.new ≡ closed self.old }
         ensures ended { ended self.new ≡ ended self.old }
         ensures shut { IsTrue (closed self.old) → IsErr result }

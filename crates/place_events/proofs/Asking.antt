@@ -16,7 +16,8 @@ use Rattle.calculus.specs.After.{act, changes, tests, turn_of}
 use Rattle.calculus.specs.Calls.{message_value, notifies, solicits, binds}
 use Rattle.calculus.specs.Effects.{Effect, faults, stores, effect_of, copied, effect_of_undef, received}
 use Rattle.calculus.specs.Faults.{binding, fault_of, fault_of_effect, fault_of_missing}
-use Rattle.calculus.specs.Inputs.{Coming, comes, goes_on, ops_of, inputs, past, asked as asked_for}
+use Rattle.behaviour_tree.specs.FormedBehaviours.{branch_operations}
+use Rattle.calculus.specs.Inputs.{Coming, comes, goes_on, inputs, past, asked as asked_for}
 use Rattle.calculus.specs.Moves.{Seen, Move, ungiven, within}
 use Rattle.calculus.specs.Scopes.{installs, compensates}
 use Rattle.calculus.specs.Terms.{Term, wait}
@@ -84,16 +85,16 @@ module _ (s : Seen) where
       first_need (nat_eq o c.op) (need.Take c.ops) (within (asked_for c y p) (goes_on s c body (received s.store x c.value))) (comes s (past c) bs) m
       (goes_need c body (received s.store x c.value)) (comes_need (past c) bs m) h
 
-  choice_need : (bs : Branches) (c : Coming) (m : Move Term) → c.ops ≡ ops_of bs → comes s c bs ≡ Some m → one_of (ops_of bs) ≡ Some m.made.need
+  choice_need : (bs : Branches) (c : Coming) (m : Move Term) → c.ops ≡ branch_operations bs → comes s c bs ≡ Some m → one_of (branch_operations bs) ≡ Some m.made.need
   choice_need no_branches c m is h = cc
   choice_need (one_way o x p bs) c m is h = ap Some (ap need.Take (sym is) ∙ comes_need c (one_way o x p bs) m h)
   choice_need (request o x y body p bs) c m is h = ap Some (ap need.Take (sym is) ∙ comes_need c (request o x y body p bs) m h)
 
 -- the event of a choice asks for a message of its operations
-inputs_need : (s : Seen) (g : Given) (bs : Branches) (m : Move Term) → inputs (record s { gift = g }) bs ≡ Some m → one_of (ops_of bs) ≡ Some m.made.need
+inputs_need : (s : Seen) (g : Given) (bs : Branches) (m : Move Term) → inputs (record s { gift = g }) bs ≡ Some m → one_of (branch_operations bs) ≡ Some m.made.need
 inputs_need s given.Nothing bs m h = cc
 inputs_need s (given.Mail k o v) bs m h =
-    choice_need (record s { gift = given.Mail k o v }) bs (record { message = k; op = o; value = v; ops = ops_of bs; branch = 0 }) m refl h
+    choice_need (record s { gift = given.Mail k o v }) bs (record { message = k; op = o; value = v; ops = branch_operations bs; branch = 0 }) m refl h
 inputs_need s (given.Answer o) bs m h = cc
 inputs_need s given.Bound bs m h = cc
 inputs_need s (given.Held t) bs m h = cc
@@ -157,7 +158,7 @@ module _ (s : Seen) where
   first_there : (o : ℕ) (x : Move Term) (rest : Option (Move Term)) → (if nat_eq o o then Some x else rest) ≡ Some x
   first_there o x rest = let e = eq-eqb o o refl in rw e refl
 
-  choice_there : (bs : Branches) (n : Need) → one_of (ops_of bs) ≡ Some n → HasEventAt s (plain.choice bs)
+  choice_there : (bs : Branches) (n : Need) → one_of (branch_operations bs) ≡ Some n → HasEventAt s (plain.choice bs)
   choice_there no_branches n h = absurd cc
   choice_there (one_way o x p bs) n h = (mail_for o, _, first_there o _ _)
   choice_there (request o x y body p bs) n h = (mail_for o, _, first_there o _ _)

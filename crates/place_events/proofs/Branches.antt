@@ -11,7 +11,8 @@ use Rattle.behaviour_tree.specs.declared.behaviour.ReplyPart.{ReplyPart, out-Rep
 use Rattle.behaviour_tree.specs.View.{HandlerView, behaviour_level, branch_level, handler_level, handlers_level, reply_level, behaviour_view, path_view, reply_view}
 use Rattle.behaviour_tree.specs.Data.{HandlerList}
 use Rattle.behaviour_tree.specs.declared.words.Need.TheVariants as need
-use Rattle.calculus.specs.Inputs.{comes, ops_of}
+use Rattle.behaviour_tree.specs.FormedBehaviours.{branch_operations}
+use Rattle.calculus.specs.Inputs.{comes}
 use Rattle.place_events.specs.Asked.{one_of}
 use Rattle.calculus.specs.Moves.{Seen}
 use Rattle.std.specs.Prelude.{option_map}
@@ -38,12 +39,12 @@ branch_off xs i x h is = rw (taken_off xs i x h is)
 
 -- a branch and others take a message of their operations
 one_of_first : (o : ℕ) (x : Option PathTree) (r : Option ReplyView) (p : Proc) (bs : Branches)
-    → one_of (ops_of (branch_of o x r p bs)) ≡ Some (need.Take (ops_of (branch_of o x r p bs)))
+    → one_of (branch_operations (branch_of o x r p bs)) ≡ Some (need.Take (branch_operations (branch_of o x r p bs)))
 one_of_first o x None p bs = refl
 one_of_first o x (Some r) p bs = refl
 
 pub one_of_some : (xs : List Branch) → (length xs == 0) ≡ false
-    → one_of (ops_of (branches_of (map branch_view xs))) ≡ Some (need.Take (ops_of (branches_of (map branch_view xs))))
+    → one_of (branch_operations (branches_of (map branch_view xs))) ≡ Some (need.Take (branch_operations (branches_of (map branch_view xs))))
 one_of_some [] h = absurd cc
 one_of_some (x ∷ xs) h = let b = branch_view x in one_of_first b.op b.target b.reply b.after (branches_of (map branch_view xs))
 

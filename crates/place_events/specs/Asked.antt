@@ -7,7 +7,7 @@ use Rattle.behaviour_tree.specs.Data.{Proc, assign, undef, copy, bind, choose}
 use Rattle.behaviour_tree.specs.Data.{repeat, choice, notify, solicit, install, comp}
 use Rattle.calculus.specs.After.{act}
 use Rattle.calculus.specs.Faults.{binding, fault_of}
-use Rattle.calculus.specs.Inputs.{ops_of}
+use Rattle.behaviour_tree.specs.FormedBehaviours.{branch_operations}
 use Rattle.calculus.specs.Moves.{Seen, Move}
 use Rattle.calculus.specs.Terms.{Term}
 use Rattle.calculus.specs.Calls.{message_value}
@@ -26,7 +26,7 @@ asked s (choose e p q) = Some need.Nothing
 asked s (repeat e p) = Some need.Nothing
 asked s (install list) = Some need.Nothing
 asked s (comp r) = Some need.Nothing
-asked s (choice bs) = one_of (ops_of bs)
+asked s (choice bs) = one_of (branch_operations bs)
 asked s (notify port op e) = option_map (λ v. need.Send s.call port op v false) (message_value s port op e)
 asked s (solicit port op e x list) = option_map (λ v. need.Send s.call port op v true) (message_value s port op e)
 asked s (bind v e) = option_map (need.Bind v) (binding s.store e)

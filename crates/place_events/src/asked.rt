@@ -1,11 +1,11 @@
 ghost use Rattle.std.specs.Prelude.{◌≡◌, map, option_map, Some, IfOk};
+ghost use Rattle.behaviour_tree.specs.FormedBehaviours.{branch_operations};
 ghost use Rattle.behaviour_tree.specs.View.{behaviour_view, branch_view, branches_of, expr_view};
 ghost use Rattle.behaviour_tree.specs.declared.words.Given.TheVariants as given;
 ghost use Rattle.behaviour_tree.specs.declared.words.Given.{Given};
 ghost use Rattle.behaviour_tree.specs.declared.words.Need.TheVariants as need;
 ghost use Rattle.calculus.specs.Calls as calls;
 ghost use Rattle.calculus.specs.Faults as faults;
-ghost use Rattle.calculus.specs.Inputs as inputs;
 ghost use Rattle.place_events.specs.Asked as spec;
 ghost use Rattle.place_events.specs.Seen.{seen_by, seen_in};
 
@@ -82,7 +82,7 @@ fn asked(alloc: Global, need: Need) -> Result<Option<Box<Need>>, AllocError>
 
 /// A message of one of the operations of a choice.
 fn message_asked(alloc: Global, list: &[Branch]) -> Result<Option<Box<Need>>, AllocError>
-    ensures { IfOk result (λ n. option_map (λ b. b.value) n ≡ spec.one_of (inputs.ops_of (branches_of (map branch_view list.now)))) }
+    ensures { IfOk result (λ n. option_map (λ b. b.value) n ≡ spec.one_of (branch_operations (branches_of (map branch_view list.now)))) }
 {
     if list.is_empty() {
         return Ok(None);
@@ -93,7 +93,7 @@ fn message_asked(alloc: Global, list: &[Branch]) -> Result<Option<Box<Need>>, Al
 
 /// The operations of branches, in order.
 pub fn ops_of(alloc: Global, list: &[Branch]) -> Result<Numbers, AllocError>
-    ensures { IfOk result (λ ops. ops ≡ inputs.ops_of (branches_of (map branch_view list.now))) }
+    ensures { IfOk result (λ ops. ops ≡ branch_operations (branches_of (map branch_view list.now))) }
 {
     let mut ops = Items::new(alloc);
     for branch in list {

@@ -1,5 +1,6 @@
 ghost use Rattle.std.specs.Prelude.{◌≡◌, None, map, option_map, IfOk};
 ghost use Rattle.behaviour_tree.specs.Data as plain;
+ghost use Rattle.behaviour_tree.specs.FormedBehaviours.{branch_operations};
 ghost use Rattle.behaviour_tree.specs.View.{behaviour_view, branch_view, branches_of, path_view, reply_view};
 ghost use Rattle.behaviour_tree.specs.declared.words.Need.TheVariants as need;
 ghost use Rattle.calculus.specs.Inputs as spec;
@@ -61,7 +62,7 @@ fn comes(
     scene: Scene<'_>,
     memory: &mut Memory,
 ) -> Result<Acted, AllocError>
-    ensures { IfOk result (λ r. acted_in scene.entry (mail_of mail.entry) r memory.new ≡ came (seen_in scene.entry (mail_of mail.entry) memory.old) None (spec.comes (seen_in scene.entry (mail_of mail.entry) memory.old) (coming mail.entry (spec.ops_of (branches_of (map branch_view list.now))) 0) (branches_of (map branch_view list.now)))) }
+    ensures { IfOk result (λ r. acted_in scene.entry (mail_of mail.entry) r memory.new ≡ came (seen_in scene.entry (mail_of mail.entry) memory.old) None (spec.comes (seen_in scene.entry (mail_of mail.entry) memory.old) (coming mail.entry (branch_operations (branches_of (map branch_view list.now))) 0) (branches_of (map branch_view list.now)))) }
 {
     for i in 0..list.len() {
         let branch = &list[i];

@@ -1,5 +1,6 @@
 -- When the events of a session agree with a history: they are a run of the calculus, and its calls are the history's.
 use Rattle.std.specs.Prelude.{◌≡◌, ℕ, true, false, List, [], ◌∷◌, length, None, Some, slice_get}
+use Rattle.std.specs.List.{AllZip}
 use Rattle.behaviour_tree.specs.declared.words.Event.{Event}
 use Rattle.behaviour_tree.specs.declared.words.Need.{Need}
 use Rattle.behaviour_tree.specs.declared.words.Need.TheVariants as need
@@ -48,9 +49,7 @@ IsCall s n past a = ⊥
 
 -- the calls that are asked for are those that were made, one for one and in order
 abbrev pub AreCalls : ℕ → List Need → List Called → Type 0
-AreCalls s [] [] = Unit {0}
-AreCalls s (n ∷ needs) (c ∷ calls) = IsCall s n c.before c.act × AreCalls s needs calls
-AreCalls s needs calls = ⊥
+AreCalls s needs calls = AllZip (λ (n : Need) (c : Called). IsCall s n c.before c.act) needs calls
 
 -- The events of session s, each with what the history gave for it, are a run of the session's service that ends at this
 -- configuration, and what they asked of the office is what the history has of the session.

@@ -1,6 +1,6 @@
 -- When nothing is left to do in a record: at its end, and before each posting.
 use Rattle.std.specs.Prelude.{◌≡◌, ℕ, zero, suc, Bool, true, false, not, ◌&&◌, List, [], ◌∷◌}
-use Rattle.std.specs.Prelude.{◌++◌, length, nat_eq, if◌then◌else◌, Some, is_some, slice_get}
+use Rattle.std.specs.Prelude.{◌++◌, length, nat_eq, Some, is_some, slice_get}
 use Rattle.std.specs.List.{list_any, filter}
 use Rattle.behaviour_tree.specs.declared.words.Event.{Event}
 use Rattle.behaviour_tree.specs.declared.words.Need.{Need}
@@ -19,6 +19,7 @@ use Rattle.office_core.specs.declared.message.Call.{Call}
 use Rattle.office_core.specs.Calls.{calls, goes_out, brings, result}
 use Rattle.run_record.specs.Steps.{calls_of, makes_call}
 use Rattle.run_record.specs.Agrees.{Agrees}
+use Rattle.run_record.specs.Order.{before_first}
 
 -- ---- a session
 
@@ -56,8 +57,7 @@ pub record IsQuiet (w : Setting) (budget : ℕ) (h : List Entry) (sessions : Lis
 
 -- the entries before the stop
 abbrev pub before_stop : List Entry → List Entry
-before_stop [] = []
-before_stop (e ∷ es) = if stops e then [] else e ∷ before_stop es
+before_stop es = before_first stops es
 
 -- ---- before a posting
 

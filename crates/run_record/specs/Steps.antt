@@ -1,5 +1,6 @@
 -- The calls of a session in a history, and its events as steps, each with what the history gave for it.
 use Rattle.std.specs.Prelude.{ℕ, Bool, true, false, List, [], ◌∷◌, drop, nat_eq, Option, None, Some, slice_get}
+use Rattle.std.specs.Option.{option_map_or}
 use Rattle.behaviour_tree.specs.declared.words.Event.{Event}
 use Rattle.behaviour_tree.specs.declared.words.Kind.{Kind}
 use Rattle.behaviour_tree.specs.declared.words.Kind.TheVariants as kind
@@ -64,26 +65,19 @@ gift_of c = elim c.act [
 
 -- the gift of a call, where there is one
 abbrev pub gift_by : Option Called → Given
-gift_by None = given.Nothing
-gift_by (Some c) = gift_of c
+gift_by call = option_map_or gift_of call given.Nothing
 
 -- ---- steps
 
--- the kinds of event that make a call of the office
+-- the kinds of event that make a call of the office: all but those that a session has by itself
 abbrev pub makes_call : Kind → Bool
-makes_call kind.In = true
-makes_call kind.Bind = true
-makes_call kind.Reply = true
-makes_call kind.Notify = true
-makes_call kind.Solicit = true
-makes_call kind.Answer = true
-makes_call kind.Finish = true
 makes_call kind.Local = false
 makes_call kind.Install = false
 makes_call kind.Raise = false
 makes_call kind.Handle = false
 makes_call kind.EndScope = false
 makes_call kind.Compensate = false
+makes_call k = true
 
 -- events with their gifts: those that make a call have that of the next call, the others nothing
 abbrev pub steps_of : List Event → List Called → List TakenStep

@@ -18,7 +18,8 @@ use Rattle.office_kept.specs.Replies.{next_outgoing}
 use Rattle.office_kept.proofs.Lists.{none_not_some, itself}
 use Rattle.office_front.specs.Dealings.{Dealings}
 use Rattle.office_front.specs.Calls.{Notes}
-use Rattle.outside_links.specs.Trips.{Made, Travels}
+use Rattle.outside_traits.specs.Told.{Lists}
+use Rattle.outside_links.specs.Trips.{Made}
 use Rattle.jsonrpc_calls.specs.Console.{console_line}
 use Rattle.run_cells.specs.Crews.{State, Stays, Team, list_of, past_in}
 use Rattle.trip_laws.specs.Going.{fetch_of, answer_of, went_out, AreSettled, NotedSoFar, Toured, IsHeard}
@@ -173,7 +174,7 @@ toured_same w old mid new out before now x so first t =
 pub toured_more : (w : Setting) (old : List Entry) (mid new : State) (out : Outgoing) (m : Made)
     (before now later : TripsTold)
     → (x : Errand w kind.Remote mid new out) → AreSettled w mid.history → IsHeard w.parts out m x.answer
-    → Travels now.trips later.trips (m ∷ []) → HasCounted now.faults later.faults (m ∷ [])
+    → Lists now.trips later.trips (m ∷ []) → HasCounted now.faults later.faults (m ∷ [])
     → ToursBy w old mid.history before now → ToursBy w old new.history before later
 toured_more w old mid new out m before now later x settled heard travels counts so first t =
     subst (λ h. Toured w h first later) (sym (went x))
@@ -295,7 +296,7 @@ pub toured_of : (old mid one new : State) (out : Outgoing) (o : Outcome) (moved 
     (before now later : TripsTold) → Errands old.setting kind.Remote old mid moved
     → IsFetched kind.Remote mid one out → Stays one new (answer_of first_worker out o ∷ []) → Team new
     → IsHeard old.setting.parts out m o
-    → Travels now.trips later.trips (m ∷ []) → HasCounted now.faults later.faults (m ∷ [])
+    → Lists now.trips later.trips (m ∷ []) → HasCounted now.faults later.faults (m ∷ [])
     → ToursBy old.setting old.history mid.history before now
     → ToursBy old.setting old.history new.history before later
 unfolding errand_of

@@ -4,7 +4,8 @@ use Rattle.outside_traits.specs.Causes.{Rose}
 use Rattle.behaviour_tree.specs.Data.{ProgramParts}
 use Rattle.behaviour_tree.specs.declared.words.Outcome.{Outcome}
 use Rattle.office_core.specs.declared.outgoing.Outgoing.{Outgoing}
-use Rattle.outside_links.specs.Trips.{Made, Travels, there_alone, there_and_back}
+use Rattle.outside_traits.specs.Told.{Lists}
+use Rattle.outside_links.specs.Trips.{Made, there_alone, there_and_back}
 use Rattle.jsonrpc_calls.specs.CallTexts.{location_called, call as call_text}
 use Rattle.jsonrpc_calls.specs.Heard.{heard}
 use Rattle.trip_laws.specs.Going.{IsHeard}
@@ -24,9 +25,9 @@ counted_alone before now location text rose = record { counted = rose; calm = λ
 pub heard_of : {E : Type 0} (parts : ProgramParts) (out : Outgoing) (before now : TripsTold) (m : Made)
     (r : Result Outcome E)
     → m.location ≡ location_called parts out → m.text ≡ call_text parts out
-    → Travels before.trips now.trips (m ∷ []) → HasCounted before.faults now.faults (m ∷ [])
+    → Lists before.trips now.trips (m ∷ []) → HasCounted before.faults now.faults (m ∷ [])
     → IfOk r (λ o. o ≡ heard out m.came)
-    → IfOk r (λ o. (n : Made) × (IsHeard parts out n o) × (Travels before.trips now.trips (n ∷ []))
+    → IfOk r (λ o. (n : Made) × (IsHeard parts out n o) × (Lists before.trips now.trips (n ∷ []))
     × (HasCounted before.faults now.faults (n ∷ [])))
 heard_of parts out before now m (Ok o) location text travels counts said =
     (m, record { location = location; text = text; outcome = said }, travels, counts)

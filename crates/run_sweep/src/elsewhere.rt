@@ -3,7 +3,8 @@ ghost use Rattle.std.specs.Prelude.{◌≡◌, ℕ, List, ◌∷◌, [], IfOk, O
 ghost use Rattle.std.specs.declared.option.Option.{Option};
 ghost use Rattle.behaviour_tree.specs.PartsView.{parts_of};
 ghost use Rattle.office_core.specs.declared.outgoing.OutKind.TheVariants as kind;
-ghost use Rattle.outside_links.specs.Trips.{Made, Travels};
+ghost use Rattle.outside_traits.specs.Told.{Lists};
+ghost use Rattle.outside_links.specs.Trips.{Made};
 ghost use Rattle.run_cells.specs.Crews.{AtWork, state_of};
 ghost use Rattle.trip_laws.specs.Going.{AreSettled, IsHeard, NotedSoFar};
 ghost use Rattle.run_sweep.specs.Swept.{Cleared, ToursBy};
@@ -56,7 +57,7 @@ fn trip<L: Link>(
 ) -> Result<Outcome, AllocError>
     ensures { IfOk result
         (λ o. (m : Made) × (IsHeard (parts_of program.now) out.now m o)
-        × (Travels (L.trips link.old) (L.trips link.new) (m ∷ []))
+        × (Lists (L.trips link.old) (L.trips link.new) (m ∷ []))
         × (HasCounted (L.faults link.old) (L.faults link.new) (m ∷ []))) }
 {
     let text = call_text(alloc, out, program)?;

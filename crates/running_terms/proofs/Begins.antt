@@ -5,7 +5,8 @@ use Rattle.behaviour_tree.specs.Data.{Proc, Procs, proc}
 use Rattle.behaviour_tree.specs.View.{behaviour_view, procs_of}
 use Rattle.behaviour_tree.specs.declared.behaviour.Behaviour.{Behaviour}
 use Rattle.calculus.specs.Terms.{Term, Strands, seq, no_strands, strand, seq_of}
-use Rattle.calculus.specs.Start.{Begun, begun, around, count_of, start, start_members}
+use Rattle.behaviour_tree.specs.FormedBehaviours.{count_of}
+use Rattle.calculus.specs.Start.{Begun, begun, around, start, start_members}
 use Rattle.running_terms.specs.View.{StrandView, strands_of}
 use Rattle.running_terms.proofs.Lists.{taken_off}
 

@@ -3,7 +3,8 @@ use Rattle.std.proofs.Common.{◌≡◌, ℕ, suc, ◌+◌, refl, sym, ap, ◌�
 use Rattle.behaviour_tree.specs.Data.{Proc, block, sequence, parallel, scope, Procs, no_procs, proc}
 use Rattle.calculus.specs.Tables.{empty}
 use Rattle.calculus.specs.Terms.{Term, Strands, done, strand, live, seq_of, par_of, scope_of}
-use Rattle.calculus.specs.Start.{Begun, begun, around, start, start_head, start_members, settle, settle_head, settle_members, begin_rest, begin, then_rest, normal, normal_members, count_of}
+use Rattle.behaviour_tree.specs.FormedBehaviours.{count_of}
+use Rattle.calculus.specs.Start.{Begun, begun, around, start, start_head, start_members, settle, settle_head, settle_members, begin_rest, begin, then_rest, normal, normal_members}
 
 -- what goes on after a head
 abbrev pub goes_on : Procs → Begun Term → Begun Term

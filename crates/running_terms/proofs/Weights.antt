@@ -4,7 +4,8 @@ use Rattle.behaviour_tree.specs.Data.{Proc, block, sequence, parallel, scope, Pr
 use Rattle.behaviour_tree.specs.View.{behaviour_view, procs_of}
 use Rattle.behaviour_tree.specs.declared.behaviour.Behaviour.{Behaviour}
 use Rattle.calculus.specs.Terms.{Term, Strands, seq, par, in_scope, exec, fail, prot, no_strands, strand, seq_of}
-use Rattle.calculus.specs.Start.{start, start_head, start_members, count_of}
+use Rattle.behaviour_tree.specs.FormedBehaviours.{count_of}
+use Rattle.calculus.specs.Start.{start, start_head, start_members}
 use Rattle.running_terms.specs.View.{strand_view, members_view}
 use Rattle.running_terms.specs.declared.term.Strand.{Strand}
 use Rattle.running_terms.proofs.Lists.{taken_off, first_unvisited}

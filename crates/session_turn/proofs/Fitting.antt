@@ -19,7 +19,8 @@ use Rattle.calculus.specs.Throw.{Carried, up, caught_at, ended_at, blocked, abse
 use Rattle.calculus.specs.Moves.{Seen, Made, Move, moved_to, within, quietly, starts, ungiven, instead, inside, in_its_scope}
 use Rattle.calculus.specs.Effects.{Effect, faults, stores, effect_of, copied, effect_of_undef, received}
 use Rattle.calculus.specs.Faults.{binding, fault_in}
-use Rattle.calculus.specs.Inputs.{Coming, ops_of, past, goes_on, asked, comes, inputs}
+use Rattle.behaviour_tree.specs.FormedBehaviours.{branch_operations}
+use Rattle.calculus.specs.Inputs.{Coming, past, goes_on, asked, comes, inputs}
 use Rattle.calculus.specs.Replies.{outcome_of_fault, reply_of, replies}
 use Rattle.calculus.specs.Calls.{message_value, notifies, solicits, binds}
 use Rattle.calculus.specs.Answers.{Read, answered, faulted, Call, call_of, read, with_handlers, answer_comes, sets_target, answers, dead_answers, with_answer}
@@ -125,17 +126,17 @@ rest-any false n m rest e f h = h
 
 -- one of the operations of the rest, where it is not the first
 rest-there : (s : Seen) (c : Coming) (o : ℕ) (bs : Branches) (here : Option (Move Term))
-    → (list_any (nat_eq c.op) (ops_of bs) ≡ true → is_some (comes s (past c) bs) ≡ true)
-    → is_some here ≡ true → list_any (nat_eq c.op) (o ∷ ops_of bs) ≡ true
+    → (list_any (nat_eq c.op) (branch_operations bs) ≡ true → is_some (comes s (past c) bs) ≡ true)
+    → is_some here ≡ true → list_any (nat_eq c.op) (o ∷ branch_operations bs) ≡ true
     → is_some (if nat_eq o c.op then here else comes s (past c) bs) ≡ true
 rest-there s c o bs here later now h = go (nat_eq o c.op) refl
   where
     go : (b : Bool) → nat_eq o c.op ≡ b → is_some (if b then here else comes s (past c) bs) ≡ true
     go true e = now
-    go false e = later (rest-any (nat_eq c.op o) c.op o (list_any (nat_eq c.op) (ops_of bs)) refl e h)
+    go false e = later (rest-any (nat_eq c.op o) c.op o (list_any (nat_eq c.op) (branch_operations bs)) refl e h)
 
 -- a message of one of the operations comes
-comes-there : (s : Seen) (c : Coming) (bs : Branches) → list_any (nat_eq c.op) (ops_of bs) ≡ true
+comes-there : (s : Seen) (c : Coming) (bs : Branches) → list_any (nat_eq c.op) (branch_operations bs) ≡ true
     → is_some (comes s c bs) ≡ true
 comes-there s c no_branches h = absurd (false≢true h)
 comes-there s c (one_way o x p bs) h =
@@ -163,15 +164,15 @@ asks-comes s c (request o x y body p bs) =
 fits-inputs : (s : Seen) (bs : Branches) → Fits (inputs s bs) (λ g. inputs (given_as g s) bs)
 fits-inputs s bs = go s.gift
   where
-    suited : (m : Move Term) → m.made.need ≡ need.Take (ops_of bs) → (g : Given) → Suits m.made.need g
+    suited : (m : Move Term) → m.made.need ≡ need.Take (branch_operations bs) → (g : Given) → Suits m.made.need g
         → is_some (inputs (given_as g s) bs) ≡ true
     suited m e g k = by_gift g (subst (λ n. Suits n g) e k)
       where
-        by_gift : (g : Given) → Suits (need.Take (ops_of bs)) g → is_some (inputs (given_as g s) bs) ≡ true
+        by_gift : (g : Given) → Suits (need.Take (branch_operations bs)) g → is_some (inputs (given_as g s) bs) ≡ true
         by_gift (given.Mail i o v) k = comes-there (given_as (given.Mail i o v) s) (coming i o v bs) bs k
         by_gift g k = absurd k
 
-    there : (o : Option (Move Term)) → OnValue (λ m. m.made.need ≡ need.Take (ops_of bs)) o
+    there : (o : Option (Move Term)) → OnValue (λ m. m.made.need ≡ need.Take (branch_operations bs)) o
         → Fits o (λ g. inputs (given_as g s) bs)
     there None h = tt
     there (Some m) h = suited m h

@@ -1,7 +1,7 @@
 ghost use Rattle.std.specs.Prelude.{◌≡◌, ◌∷◌, [], None, false, IfOk, OnErr, IfSome, IsTrue};
 ghost use Rattle.outside_traits.specs.Causes.{HasCause};
 ghost use Rattle.outside_doors.specs.Counts.{with_opened};
-ghost use Rattle.outside_doors.specs.Returns.{Lists};
+ghost use Rattle.outside_traits.specs.Told.{Lists};
 ghost use Rattle.socket_doors.specs.Locations.{is_of_socket};
 ghost use Rattle.socket_doors.specs.Told.{untold_book};
 

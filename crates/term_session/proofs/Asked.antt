@@ -12,7 +12,8 @@ use Rattle.calculus.specs.Throw.{Carried, up, caught_at, ended_at, blocked, abse
 use Rattle.calculus.specs.Moves.{Seen, Move, moved_to, inside}
 use Rattle.calculus.specs.Effects.{Effect, faults, stores, received}
 use Rattle.calculus.specs.Faults.{fault_in}
-use Rattle.calculus.specs.Inputs.{Coming, ops_of, past, goes_on, comes}
+use Rattle.behaviour_tree.specs.FormedBehaviours.{branch_operations}
+use Rattle.calculus.specs.Inputs.{Coming, past, goes_on, comes}
 use Rattle.calculus.specs.Calls.{message_value}
 use Rattle.calculus.specs.After.{Config, Done, moves, is_finished, raised, acts, finishes, seen_by, after}
 use Rattle.calculus_laws.proofs.Options.{OnValue, OnValue-if, OnValue-imp}
@@ -57,14 +58,14 @@ asks-comes s m (request o x y body p bs) =
     (comes s (past m) bs) (asks-goes_on s m body (received s.store x m.value)) (asks-comes s (past m) bs)
 
 -- a choice that takes a message has branches
-asks-choice : (s : Seen) (m : Coming) (bs : Branches) → m.ops ≡ ops_of bs
-    → OnValue (λ x. one_of (ops_of bs) ≡ Some x.made.need) (comes s m bs)
+asks-choice : (s : Seen) (m : Coming) (bs : Branches) → m.ops ≡ branch_operations bs
+    → OnValue (λ x. one_of (branch_operations bs) ≡ Some x.made.need) (comes s m bs)
 asks-choice s m no_branches e = tt
 asks-choice s m (one_way o x p bs) e =
-    OnValue-imp (λ z. z.made.need ≡ need.Take m.ops) (λ z. Some (need.Take (o ∷ ops_of bs)) ≡ Some z.made.need)
+    OnValue-imp (λ z. z.made.need ≡ need.Take m.ops) (λ z. Some (need.Take (o ∷ branch_operations bs)) ≡ Some z.made.need)
     (comes s m (one_way o x p bs)) (λ z h. ap Some (sym (h ∙ ap need.Take e))) (asks-comes s m (one_way o x p bs))
 asks-choice s m (request o x y body p bs) e =
-    OnValue-imp (λ z. z.made.need ≡ need.Take m.ops) (λ z. Some (need.Take (o ∷ ops_of bs)) ≡ Some z.made.need)
+    OnValue-imp (λ z. z.made.need ≡ need.Take m.ops) (λ z. Some (need.Take (o ∷ branch_operations bs)) ≡ Some z.made.need)
     (comes s m (request o x y body p bs)) (λ z h. ap Some (sym (h ∙ ap need.Take e))) (asks-comes s m (request o x y body p bs))
 
 -- a request whose body is not done asks what its body asks
@@ -94,8 +95,8 @@ asks-keeps = record {
   installed = λ s k list a. alone s k (Some need.Nothing) a.own;
   compensated = λ s k r a. alone s k (Some need.Nothing) a.own;
   came = λ s k bs m o v own e.
-      OnValue-imp (λ x. one_of (ops_of bs) ≡ Some x.made.need) (λ x. asked_alone s k (one_of (ops_of bs)) ≡ Some x.made.need)
-      (comes s (coming m o v bs) bs) (λ x h. alone s k (one_of (ops_of bs)) own ∙ h) (asks-choice s (coming m o v bs) bs refl);
+      OnValue-imp (λ x. one_of (branch_operations bs) ≡ Some x.made.need) (λ x. asked_alone s k (one_of (branch_operations bs)) ≡ Some x.made.need)
+      (comes s (coming m o v bs) bs) (λ x h. alone s k (one_of (branch_operations bs)) own ∙ h) (asks-choice s (coming m o v bs) bs refl);
   notified = λ s k port op e v a eq.
       alone s k (option_map (λ v. need.Send s.call port op v false) (message_value s port op e)) a.own
       ∙ ap (option_map (λ v. need.Send s.call port op v false)) eq;

@@ -19,7 +19,7 @@ use Rattle.calculus.specs.Tables.{Table}
 use Rattle.calculus.specs.Moves.{Seen, Move, within, inside, in_its_scope, ungiven}
 use Rattle.calculus.specs.Effects.{Effect, faults, stores, effect_of, copied, effect_of_undef}
 use Rattle.calculus.specs.Faults.{binding, fault_of, fault_of_effect, fault_of_missing, fault_in, fault_among}
-use Rattle.calculus.specs.Inputs.{ops_of}
+use Rattle.behaviour_tree.specs.FormedBehaviours.{branch_operations}
 use Rattle.calculus.specs.Calls.{message_value, notifies, solicits, binds}
 use Rattle.calculus.specs.Replies.{outcome_of_fault, reply_of, replies}
 use Rattle.calculus.specs.Answers.{Read, call_of, answers, dead_answers, with_answer}
@@ -91,7 +91,7 @@ itself : (n : ℕ) → nat_eq n n ≡ true
 itself n = eq-eqb n n refl
 
 -- a choice
-can-take : (s : Seen) (bs : Branches) (n : Need) → one_of (ops_of bs) ≡ Some n
+can-take : (s : Seen) (bs : Branches) (n : Need) → one_of (branch_operations bs) ≡ Some n
     → is_some (act (given_for n s) (choice bs)) ≡ true
 can-take s no_branches n e = absurd (none-some _ e)
 can-take s (one_way o x p bs) n e = subst (λ n. is_some (act (given_for n s) (choice (one_way o x p bs))) ≡ true) (same _ n e) (rw (itself o) refl)

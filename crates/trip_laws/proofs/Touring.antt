@@ -3,7 +3,7 @@ use Rattle.std.proofs.Common.{◌≡◌, ℕ, Bool, true, false, cond, ◌&&◌,
 use Rattle.std.proofs.Common.{◌+◌, ◌-◌, ◌^◌, ◌≤◌, min, count_by, arith}
 use Rattle.std.proofs.Common.{sym, ap, subst, ◌∙◌, Option, None, Some, option_map, true≢false, slice_get, filter}
 use Rattle.std.proofs.Common.{filter_map, is_some, nat_eq, option_and_then, append_assoc, unwrap_or, if◌then◌else◌}
-use Rattle.std.specs.List.{list_any, list_all, cons_option}
+use Rattle.std.specs.List.{list_any, list_all, cons_option, AllZip}
 use Rattle.std.proofs.lemmas.List.{append-nil}
 use Rattle.std.proofs.lemmas.List.Sums.{sum_by-cons}
 use Rattle.std.proofs.lemmas.Option.{slice_get-get_or}
@@ -36,8 +36,9 @@ use Rattle.office_kept.proofs.Lists.{none_not_some, itself}
 use Rattle.plain_office.proofs.Sending.{speaks_of, was_sent, calls_known}
 use Rattle.session_turn.proofs.Histories.{past_on, some_of, service_stays}
 use Rattle.run_record.specs.Outside.{Trip, trips, fetched_in, trip_of, console_calls}
-use Rattle.outside_links.specs.Trips.{Made, Travels}
-use Rattle.trip_laws.specs.Trips.{TripsTold, has_failed, HasCounted, IsTrip, AreTrips, Travelled, AreVoid}
+use Rattle.outside_traits.specs.Told.{Lists}
+use Rattle.outside_links.specs.Trips.{Made}
+use Rattle.trip_laws.specs.Trips.{TripsTold, has_failed, HasCounted, IsTrip, Travelled, AreVoid}
 use Rattle.trip_laws.specs.Going.{is_inward, is_of_session, fetch_of, answer_of, went_out, goes_to, AreSettled}
 use Rattle.trip_laws.specs.Going.{IsTour, AreTours, Toured, IsHeard}
 use Rattle.trip_laws.proofs.Places.{filter_map_same, any_at, at_front}
@@ -208,7 +209,7 @@ toured_over w before now h more legal below t =
     (sessions_inward w h more legal below) legal t
 
 -- before the first call
-nothing_made : (now : Option (List Made)) → Travels now now []
+nothing_made : (now : Option (List Made)) → Lists now now []
 nothing_made None = tt
 nothing_made (Some ms) = sym (append-nil ms)
 
@@ -246,8 +247,8 @@ toured_first w now =
 -- ---- a call that goes out
 
 -- what is told of trips, one after the other
-pub travels_on : (a b c : Option (List Made)) (xs ys : List Made) → Travels a b xs → Travels b c ys
-    → Travels a c (xs ++ ys)
+pub travels_on : (a b c : Option (List Made)) (xs ys : List Made) → Lists a b xs → Lists b c ys
+    → Lists a c (xs ++ ys)
 travels_on None None None xs ys f g = tt
 travels_on None None (Some c) xs ys f g = g
 travels_on None (Some b) c xs ys f g = absurd f
@@ -336,7 +337,7 @@ toured_next : (w : Setting) (before now later : TripsTold) (h : List Entry) (c :
     → IsLegal w (went_out h first_worker (going c d) o) → AreSettled w h
     → IsOldest w (past_of w h) kind.Remote c → service_of w (past_of w h) c.session ≡ Some d
     → port_of w (past_of w h) c.session c.port ≡ Some p → IsHeard w.parts (going c d) m o
-    → Travels now.trips later.trips (m ∷ []) → HasCounted now.faults later.faults (m ∷ [])
+    → Lists now.trips later.trips (m ∷ []) → HasCounted now.faults later.faults (m ∷ [])
     → Toured w h before now → Toured w (went_out h first_worker (going c d) o) before later
 toured_next w before now later h c d p o m legal s old born ported x travels counts t =
     record {
@@ -376,7 +377,7 @@ toured_next w before now later h c d p o m legal s old born ported x travels cou
 pub toured_remote : (w : Setting) (before now later : TripsTold) (h : List Entry) (out : Outgoing)
     (o : Outcome) (m : Made)
     → IsLegal w (went_out h first_worker out o) → AreSettled w h → next_outgoing w (past_of w h) kind.Remote ≡ Some out
-    → IsHeard w.parts out m o → Travels now.trips later.trips (m ∷ []) → HasCounted now.faults later.faults (m ∷ [])
+    → IsHeard w.parts out m o → Lists now.trips later.trips (m ∷ []) → HasCounted now.faults later.faults (m ∷ [])
     → Toured w h before now → Toured w (went_out h first_worker out o) before later
 toured_remote w before now later h out o m legal s next x travels counts t =
     of_next w h kind.Remote out
@@ -407,7 +408,7 @@ trip_is w past t m x =
     }
 
 trips_are : (w : Setting) (past : Past) (ts : List Trip) (ms : List Made) → AreTours w past ts ms
-    → AreTrips w past ts ms
+    → AllZip (IsTrip w past) ts ms
 trips_are w past [] [] x = tt
 trips_are w past [] (m ∷ ms) x = x
 trips_are w past (t ∷ ts) [] x = x

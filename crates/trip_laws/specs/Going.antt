@@ -22,7 +22,8 @@ use Rattle.office_core.specs.Sessions.{service_of}
 use Rattle.office_core.specs.Calls.{calls, call, goes_out, fetches, brings, brought_in, kind_of, same_kind, outgoing}
 use Rattle.office_kept.specs.Entries.{entry}
 use Rattle.run_record.specs.Outside.{note_of, console_calls, Trip, trips}
-use Rattle.outside_links.specs.Trips.{Made, Travels}
+use Rattle.outside_traits.specs.Told.{Lists}
+use Rattle.outside_links.specs.Trips.{Made}
 use Rattle.jsonrpc_calls.specs.CallTexts.{location_called, call as call_text}
 use Rattle.jsonrpc_calls.specs.Heard.{heard}
 use Rattle.trip_laws.specs.Trips.{outgoing as out_of, TripsTold, HasCounted}
@@ -109,7 +110,7 @@ AreTours w past ts ms = ⊥
 pub record Toured (w : Setting) (h : List Entry) (before now : TripsTold) : Type 0 where
   pub made : List Made
   pub are : AreTours w (past_of w h) (trips w h first_worker) made
-  pub told : Travels before.trips now.trips made
+  pub told : Lists before.trips now.trips made
   pub counts : HasCounted before.faults now.faults made
 
 -- The trip of a call was made, and this outcome was heard of it.

@@ -12,7 +12,8 @@ use Rattle.office_core.specs.Accepted.{past_of}
 use Rattle.office_core.specs.Calls.{same_kind}
 use Rattle.office_core.specs.Legal.{IsLegal}
 use Rattle.office_kept.specs.Replies.{next_outgoing}
-use Rattle.outside_links.specs.Trips.{Made, Travels}
+use Rattle.outside_traits.specs.Told.{Lists}
+use Rattle.outside_links.specs.Trips.{Made}
 use Rattle.jsonrpc_calls.specs.Console.{console_line}
 use Rattle.trip_laws.specs.Trips.{TripsTold, HasCounted, Travelled, AreVoid}
 use Rattle.trip_laws.specs.Going.{went_out, AreSettled, NotedSoFar, IsHeard, Toured}
@@ -38,7 +39,7 @@ MakesTrip =
     (w : Setting) (before now later : TripsTold) (h : List Entry) (out : Outgoing) (o : Outcome) (m : Made)
     → IsLegal w (went_out h first_worker out o) → AreSettled w h
     → next_outgoing w (past_of w h) kind.Remote ≡ Some out → IsHeard w.parts out m o
-    → Travels now.trips later.trips (m ∷ []) → HasCounted now.faults later.faults (m ∷ [])
+    → Lists now.trips later.trips (m ∷ []) → HasCounted now.faults later.faults (m ∷ [])
     → Toured w h before now → Toured w (went_out h first_worker out o) before later
 
 -- So the trips that were made are those that the calls ask for.

@@ -1,5 +1,6 @@
 -- What calls that went out came to: the trips of a link, and the calls to the console.
-use Rattle.std.specs.Prelude.{◌≡◌, ℕ, ◌+◌, ◌-◌, ◌^◌, ◌≤◌, min, Bool, List, [], ◌∷◌, count_by, Option, Some, Contains}
+use Rattle.std.specs.Prelude.{◌≡◌, ℕ, ◌+◌, ◌-◌, ◌^◌, ◌≤◌, min, Bool, List, count_by, Option, Some, Contains}
+use Rattle.std.specs.List.{AllZip}
 use Rattle.std.specs.Option.{is_none}
 use Rattle.jolie_trees.specs.Trees.{void_tree}
 use Rattle.behaviour_tree.specs.declared.words.Outcome.{Outcome}
@@ -13,7 +14,8 @@ use Rattle.office_core.specs.Accepted.{past_of}
 use Rattle.office_core.specs.Sessions.{service_of}
 use Rattle.office_core.specs.Calls.{result}
 use Rattle.run_record.specs.Outside.{console_calls, Trip, trips}
-use Rattle.outside_links.specs.Trips.{Made, Travels}
+use Rattle.outside_traits.specs.Told.{Lists}
+use Rattle.outside_links.specs.Trips.{Made}
 use Rattle.jsonrpc_calls.specs.CallTexts.{call as call_text}
 use Rattle.jsonrpc_calls.specs.Heard.{heard}
 
@@ -61,18 +63,12 @@ pub record IsTrip (w : Setting) (past : Past) (t : Trip) (m : Made) : Type 0 whe
   pub text : m.text ≡ call_text w.parts (outgoing service t.made)
   pub outcome : result w past t.made.session t.made.number ≡ Some (heard (outgoing service t.made) m.came)
 
--- the trips that were made are those that calls ask for, one for one and in order
-abbrev pub AreTrips : Setting → Past → List Trip → List Made → Type 0
-AreTrips w past [] [] = Unit {0}
-AreTrips w past (t ∷ ts) (m ∷ ms) = IsTrip w past t m × AreTrips w past ts ms
-AreTrips w past ts ms = ⊥
-
--- The link of a run of this history made the trips that its calls to services elsewhere ask for, each once; and it
--- counted those that failed.
+-- The link of a run of this history made the trips that its calls to services elsewhere ask for, one for one and in
+-- order; and it counted those that failed.
 pub record Travelled (w : Setting) (h : List Entry) (before now : TripsTold) : Type 0 where
   pub made : List Made
-  pub are : AreTrips w (past_of w h) (trips w h first_worker) made
-  pub told : Travels before.trips now.trips made
+  pub are : AllZip (IsTrip w (past_of w h)) (trips w h first_worker) made
+  pub told : Lists before.trips now.trips made
   pub counts : HasCounted before.faults now.faults made
 
 -- ---- the console

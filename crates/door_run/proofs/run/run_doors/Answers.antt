@@ -6,7 +6,8 @@ use Rattle.connection_runs.specs.Ports.{doors_of}
 use Rattle.sink_writing.specs.Sinks.{taking}
 use Rattle.door_front.specs.Dealt.{sides_of}
 use Rattle.line_run.specs.declared.run.Ended.{Ended}
-use Rattle.door_run.specs.Used.{doors_told, marked}
+use Rattle.std.specs.List.{items_where_true}
+use Rattle.door_run.specs.Used.{doors_told}
 use Rattle.door_run.specs.Doored.{outside, task}
 use Rattle.door_run.specs.Steps.{with_traffic}
 use Rattle.door_run.proofs.Doored.{doored_by, Ends, empty_so, status_by, within_so}
@@ -17,7 +18,7 @@ new-front-requires g c =
     let o = c.in_ok-ports.ensures in
     record {
       empty =
-          empty_so c.new-kept.result (marked o.opened (doors_of (parts_of c.args.program))) (c.new-kept.ensures.ports ∙ o.ports)
+          empty_so c.new-kept.result (items_where_true o.opened (doors_of (parts_of c.args.program))) (c.new-kept.ensures.ports ∙ o.ports)
           c.new-kept.ensures.links c.new-kept.ensures.traffics c.new-kept.ensures.halted c.new-kept.ensures.spent;
     }
 

@@ -1,7 +1,7 @@
 -- What a read brings is carried along.
 use Rattle.std.proofs.Common.{rules, ◌≡◌, refl, ◌∙◌, subst, [], ◌∷◌, take}
 use Rattle.std.specs.Io.KnownBytes.{Appends, Consumes}
-use Rattle.outside_traits.specs.Calls.{Notes}
+use Rattle.outside_traits.specs.Told.{Lists}
 use Rattle.outside_traits.specs.declared.calls.WireCall.TheVariants.{Read}
 use Rattle.http_connection.specs.Talking.{log}
 use Rattle.http_connection.specs.Stages.{stage_of, IsBehindTelling}
@@ -90,7 +90,7 @@ returns-in-Ok-eq0-clause-called g c = λ first bodies texts h.
     let mid = log c.reserve.new.self.items c.stand.new.self.written.items bodies texts in
     let is = log c.finish.new.kept.read.items c.finish.new.kept.written.items bodies texts in
     called_on (calls c.args.wire.now) (calls c.read.new.self) (calls c.finish.new.wire) was mid is refl refl
-    (called_read (calls c.args.wire.now) (calls c.read.new.self) was mid [] 0 (subst (λ n. Notes (calls c.args.wire.now) (calls c.read.new.self) (Read n ∷ [])) c.in-Ok-eq0.field-0-test c.in-Ok-eq0.ensures.calls) refl (search rules) c.stand.ensures.written (done_so c.args.kept.now.reader was (waiting_fed first (seen c.args.kept.now (line_of (g.W.Wire.given c.args.wire.now) (g.W.Wire.left c.args.wire.now) (g.W.Wire.taken c.args.wire.now) (g.W.Wire.faults c.args.wire.now) (g.W.Wire.closed c.args.wire.now))) bodies texts h c.requires).given))
+    (called_read (calls c.args.wire.now) (calls c.read.new.self) was mid [] 0 (subst (λ n. Lists (calls c.args.wire.now) (calls c.read.new.self) (Read n ∷ [])) c.in-Ok-eq0.field-0-test c.in-Ok-eq0.ensures.calls) refl (search rules) c.stand.ensures.written (done_so c.args.kept.now.reader was (waiting_fed first (seen c.args.kept.now (line_of (g.W.Wire.given c.args.wire.now) (g.W.Wire.left c.args.wire.now) (g.W.Wire.taken c.args.wire.now) (g.W.Wire.faults c.args.wire.now) (g.W.Wire.closed c.args.wire.now))) bodies texts h c.requires).given))
     (called_writes (calls c.read.new.self) (calls c.finish.new.wire) mid is c.finish.ensures.wrote c.finish.ensures.finishes.read)
 
 pub returns-in-Ok-clause-called : goal.returns-in-Ok-clause-called

@@ -1,7 +1,7 @@
 use Rattle.std.proofs.Common.{[], ◌∷◌, take, refl, ap, ◌∙◌, subst, arith}
 use Rattle.std.specs.Io.KnownBytes.{Appends, Consumes}
 use Rattle.std.proofs.KnownBytes.{Appends-nil, Appends-kept, Consumes-nil, Consumes-kept}
-use Rattle.outside_traits.specs.Calls.{Notes}
+use Rattle.outside_traits.specs.Told.{Lists}
 use Rattle.outside_traits.specs.declared.calls.WireCall.TheVariants.{Read}
 use Rattle.http_port.specs.Turns.{Reacts, TurnCounts, goes}
 use Rattle.http_port.specs.declared.serving.WireEnd.TheVariants as Ends
@@ -69,7 +69,7 @@ returns-in-Ok-eq0-clause-serves g c =
     } in
     finish_read c.args.reader.now c.loop.invariant.asks before c.loop.reader at (take c.loop.count c.loop.chunk) c.loop.invariant.going c.take_turn.new.reader turned t
     (subst (Reacts turn.0 turn.1 turn.2) c.in-Waits.is turn.4) (ap goes c.in-Waits.is) after read
-    (subst (λ n. Notes turned.calls after.calls (Read n ∷ [])) c.in-Ok-eq0.field-0-test c.in-Ok-eq0.ensures.calls) Ends.Ended tt
+    (subst (λ n. Lists turned.calls after.calls (Read n ∷ [])) c.in-Ok-eq0.field-0-test c.in-Ok-eq0.ensures.calls) Ends.Ended tt
 
 pub returns-in-Err-clause-serves : goal.returns-in-Err-clause-serves
 returns-in-Err-clause-serves g c =

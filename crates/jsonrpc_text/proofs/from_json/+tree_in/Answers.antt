@@ -3,7 +3,8 @@ use Rattle.std.specs.Option.{option_copied}
 use Rattle.serde_json.specs.Find.{get_member}
 use Rattle.serde_json.specs.View.{view, members_view}
 use Rattle.serde_json.proofs.Views.{view-lookup}
-use Rattle.jsonrpc_text.specs.FromJson.{root_name, root_of_member, node_of, children_in}
+use Rattle.jolie_trees.specs.Data.{node}
+use Rattle.jsonrpc_text.specs.FromJson.{root_name, root_of_member, of_both, children_in}
 use Rattle.jsonrpc_text.specs.Putting.{with_member, with_members}
 use Rattle.jsonrpc_text.proofs.Sorted.{Entry, step-root, step-put, step-none, whole}
 use Rattle.jsonrpc_text.proofs.from_json.+tree_in.Goals as goal
@@ -46,12 +47,12 @@ unfolding root_name
 node_in-returns-in-None t c =
     let ms = c.args.members.now.entries in
     let found : option_map view (option_copied c.get.result) ≡ get_member root_name (members_view ms) = ap (option_map view) c.get.ensures.value ∙ view-lookup root_name ms in
-    ap (λ o. node_of o (children_in (members_view ms))) (sym c.in-None.is ∙ c.in_ok-root_of_member.ensures ∙ ap root_of_member found)
+    ap (λ o. of_both node o (children_in (members_view ms))) (sym c.in-None.is ∙ c.in_ok-root_of_member.ensures ∙ ap root_of_member found)
 
 pub node_in-returns-in-Some : goal.node_in-returns-in-Some
 unfolding root_name
 node_in-returns-in-Some t c =
     let ms = c.args.members.now.entries in
     let found : option_map view (option_copied c.get.result) ≡ get_member root_name (members_view ms) = ap (option_map view) c.get.ensures.value ∙ view-lookup root_name ms in
-    subst (λ o. IfOk c.with_children.result (λ tree. tree ≡ node_of o (children_in (members_view ms))))
+    subst (λ o. IfOk c.with_children.result (λ tree. tree ≡ of_both node o (children_in (members_view ms))))
     (sym c.in-Some.is ∙ c.in_ok-root_of_member.ensures ∙ ap root_of_member found) c.with_children.ensures

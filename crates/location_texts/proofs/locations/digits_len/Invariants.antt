@@ -1,5 +1,5 @@
 use Rattle.std.proofs.Common.{◌≡◌, ℕ, ◌<◌, true, get_or}
-use Rattle.behaviour_tree.specs.Locations.{is_digit}
+use Rattle.behaviour_tree.specs.Texts.{is_digit}
 use Rattle.location_texts.proofs.locations.digits_len.Given as goal
 
 abbrev pub invariant-loop-place : goal.invariant-loop-place

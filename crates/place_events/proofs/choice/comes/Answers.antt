@@ -2,7 +2,8 @@
 use Rattle.std.proofs.Common.{◌≡◌, ◌∙◌, ap, map, sym, None, Some, refl, rules}
 use Rattle.std.proofs.lemmas.List.{drop_all}
 use Rattle.behaviour_tree.specs.View.{branch_view, branches_of}
-use Rattle.calculus.specs.Inputs.{comes, ops_of}
+use Rattle.behaviour_tree.specs.FormedBehaviours.{branch_operations}
+use Rattle.calculus.specs.Inputs.{comes}
 use Rattle.place_events.specs.Came.{moved}
 use Rattle.place_events.specs.Comes.{arrives, coming, mail_of}
 use Rattle.place_events.specs.Seen.{moved_in, seen_in}
@@ -11,14 +12,14 @@ use Rattle.place_events.proofs.choice.comes.Goals as goal
 
 pub loop-i-preserved : goal.loop-i-preserved
 loop-i-preserved c =
-    let ops = ops_of (branches_of (map branch_view c.args.list.now)) in
+    let ops = branch_operations (branches_of (map branch_view c.args.list.now)) in
     let other : (branch_view c.index-list-i.result).op ≡ c.args.mail.op → ⊥ = λ e. c.if-branch-mail.false (branch_op c.index-list-i.result ∙ e) in
     ((λ s. passes_branch s c.args.mail ops c.args.list.now c.loop-i.i c.index-list-i.result c.loop-i-test.true c.index-list-i.is other ∙ c.loop-i.invariant.0 s), c.loop-i.invariant.1)
 
 pub returns-then-branch-mail : goal.returns-then-branch-mail
 returns-then-branch-mail c =
     let all = branches_of (map branch_view c.args.list.now) in
-    let ops = ops_of all in
+    let ops = branch_operations all in
     let mail = c.args.mail in
     let i = c.loop-i.i in
     let s = seen_in c.args.scene (mail_of mail) c.args.memory.now in
@@ -35,7 +36,7 @@ pub returns : goal.returns
 returns c =
     let list = c.args.list.now in
     let all = branches_of (map branch_view list) in
-    let ops = ops_of all in
+    let ops = branch_operations all in
     let mail = c.args.mail in
     let s = seen_in c.args.scene (mail_of mail) c.args.memory.now in
     let none : comes s (coming mail ops c.loop-i.i) (rest_from list c.loop-i.i) ≡ None = rw (drop_all c.loop-i.i list c.loop-i-test.false) refl in
