@@ -1,5 +1,6 @@
 -- The headline of a run over lines, in two parts: what every run has, and what is said of its lines.
 use Rattle.std.specs.Prelude.{◌≡◌, ◌⊎◌, ℕ, ◌≤◌, Bool, true, false, List, [], ◌∷◌, length, Option}
+use Rattle.std.specs.List.{list_all}
 use Rattle.std.specs.Io.KnownBytes.{IsAtEnd}
 use Rattle.outside_traits.specs.Causes.{Rose}
 use Rattle.office_core.specs.Limits.{Setting}
@@ -8,7 +9,7 @@ use Rattle.run_record.specs.declared.record.Traffic.{Traffic}
 use Rattle.run_record.specs.Run.{Hands, IsRun, IsSpent}
 use Rattle.branch_workers.specs.Split.{whole_lines, all_lines, said_lines}
 use Rattle.branch_workers.specs.Texts.{Came}
-use Rattle.branch_workers.specs.Lines.{most_postings, come_in, Output, IsAnswered, IsCutShort}
+use Rattle.branch_workers.specs.Lines.{most_postings, come_in, is_by_first, Output, IsAnswered, IsCutShort}
 use Rattle.branch_workers.specs.Statuses.{Faults, Halted, IsCalm, HasStatus}
 
 -- what a run over lines left behind: its record and status, how often the outside failed before and after it, what the
@@ -66,5 +67,6 @@ pub record IsLineRun (w : Setting) (budget : ℕ) (hands : Hands) (e : Ending) :
   pub run : IsRun w budget hands halted e.run
   pub traffic : Traffic
   pub one : e.run.traffic ≡ traffic ∷ []
+  pub posters : list_all is_by_first e.run.history.entries.items ≡ true
   pub lines : AnswersLines hands w traffic e
   pub status : HasStatus e.status e.before e.now (IsSpent w budget e.run)

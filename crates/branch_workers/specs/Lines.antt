@@ -1,8 +1,9 @@
 -- What a run over lines posts and writes.
-use Rattle.std.specs.Prelude.{◌≡◌, ◌≢◌, ◌⊎◌, ℕ, List, [], ◌∷◌, ◌++◌, length}
-use Rattle.std.specs.Prelude.{map, take, flat_map, Option, None, Some, slice_get}
+use Rattle.std.specs.Prelude.{◌≡◌, ◌≢◌, ◌⊎◌, ℕ, Bool, true, List, [], ◌∷◌, ◌++◌, length}
+use Rattle.std.specs.Prelude.{map, take, flat_map, nat_eq, Option, None, Some, slice_get}
 use Rattle.std.specs.Option.{option_map_or}
 use Rattle.jsonrpc_text.specs.Posted.{posted}
+use Rattle.office_core.specs.declared.history.Act.TheVariants as act
 use Rattle.office_core.specs.declared.history.Entry.{Entry}
 use Rattle.office_core.specs.Limits.{Setting, first_worker}
 use Rattle.office_core.specs.Past.{Past}
@@ -26,6 +27,10 @@ line_in line = record { service = 0; read = posted line }
 -- what lines bring in, in order
 abbrev pub come_in : List (List ℕ) → List Came
 come_in lines = take most_postings (map line_in lines)
+
+-- a post is by the worker that has the lines
+abbrev pub is_by_first : Entry → Bool
+is_by_first e = elim e.act [ act.Post j i q r ↦ nat_eq e.actor first_worker | _ ↦ true ]
 
 -- ---- what is written
 

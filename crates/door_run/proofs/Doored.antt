@@ -205,6 +205,7 @@ module _ (IsMade : Line → Type 0) (t : Task) (before mid after : DoorsTold) (p
     halted = d.said.halted;
     run = run_with (run_of t.parts) t.budget finished.report (map traffic_of now.kept.links) alone d.said.halted ran.run;
     program = ran.program;
+    posters = ran.dealt.posters;
     served = served_so IsMade t.parts h first now d f ran.dealt doors_so;
     accepted = accepted;
     noted = noted;

@@ -9,7 +9,7 @@ use Rattle.office_core.specs.Limits.{Setting, run_of}
 use Rattle.office_core.specs.Accepted.{past_of}
 use Rattle.run_record.specs.Outside.{notes}
 use Rattle.run_record.specs.Run.{alone, IsRun, IsSpent}
-use Rattle.branch_workers.specs.Lines.{most_postings, IsProperFront}
+use Rattle.branch_workers.specs.Lines.{is_by_first, most_postings, IsProperFront}
 use Rattle.branch_workers.specs.Statuses.{Faults, HasStatus}
 use Rattle.run_alone.specs.Ran.{AreVoid, Rules}
 use Rattle.run_alone.specs.Picks.{TookPicks}
@@ -71,6 +71,7 @@ pub record IsDoored (IsMade : Line → Type 0) (t : Task) (before now : Outside)
   pub halted : Bool
   pub run : IsRun (run_of t.parts) t.budget alone halted ended.report
   pub program : ended.report.program ≡ t.text
+  pub posters : list_all is_by_first (history_of ended) ≡ true
   pub served : IsServed (run_of t.parts) (history_of ended) halted ended.report.traffic
   pub accepted : length served.visits ≤ t.connections
   pub noted : AreNoted (run_of t.parts) (history_of ended) halted before.notes now.notes

@@ -284,6 +284,7 @@ module _ (t : Task) (first now : Sides) (d : Dealings) (finished : Finished)
             run = run_with (run_of t.parts) t.budget finished.report traffic alone d.said.halted ran.run;
             traffic = traffic;
             one = refl;
+            posters = ran.dealt.posters;
             lines = k.lines;
             status = status_so failed d.said.halted finished.spent (faults_of (outside_of first)) (faults_of (outside_of now))
                 (IsSpent (run_of t.parts) t.budget (with_traffic finished.report traffic)) fails k.halts.cause k.halts.calm refl

@@ -3,7 +3,6 @@ pub mod Growing
 pub mod Staying
 pub mod Telling
 pub mod Posting
-pub mod ByFirst
 pub mod Least
 pub mod Accepting
 pub mod Ordering

@@ -12,8 +12,7 @@ use Rattle.office_core.specs.Answers.{answers}
 use Rattle.office_core.specs.Legal.{IsLegal}
 use Rattle.run_record.specs.Order.{finished_there, numbers_from, order_alone}
 use Rattle.run_record.specs.Postings.{told}
-use Rattle.run_record.specs.Run.{alone, is_of_hand}
-use Rattle.order_laws.specs.Entries.{is_by_first, is_other, posts_under}
+use Rattle.order_laws.specs.Entries.{is_other, posts_under}
 use Rattle.order_laws.specs.Posting.{ArePosted}
 use Rattle.order_laws.specs.Ordering.{Grows, InOrder, is_answered}
 
@@ -36,12 +35,6 @@ abbrev pub PostedStays : Type 0
 PostedStays =
     (h more : List Entry) (given : List Posting)
     → list_all is_other more ≡ true → ArePosted h given → ArePosted (h ++ more) given
-
--- In a legal history of sessions and of one worker the posts are by that worker.
-abbrev pub PostsAreByFirst : Type 0
-PostsAreByFirst =
-    (w : Setting) (h : List Entry)
-    → IsLegal w h → list_all (is_of_hand alone) h ≡ true → list_all is_by_first h ≡ true
 
 -- With one posting more, of those that were not told and the new one those are told that have their answers by now.
 abbrev pub OrderGoesOn : Type 0

@@ -1,4 +1,4 @@
-ghost use Rattle.order_laws.specs.Laws.{AnswersStay, OrderEnds, OrderGoesOn, OrderSoFar, PostedStays, PostsAreByFirst, ToldStays};
+ghost use Rattle.order_laws.specs.Laws.{AnswersStay, OrderEnds, OrderGoesOn, OrderSoFar, PostedStays, ToldStays};
 
 /// Does nothing: its clauses say what stays in every longer legal history.
 pub fn answers_stay()
@@ -9,11 +9,6 @@ pub fn answers_stay()
 /// Does nothing: what was posted stays with entries that are no posts.
 pub fn postings_stay()
     ensures { PostedStays }
-{}
-
-/// Does nothing: in a run of one worker the posts are by that worker.
-pub fn posts_are_by_one()
-    ensures { PostsAreByFirst }
 {}
 
 /// Does nothing: its clauses say in which order postings are told.

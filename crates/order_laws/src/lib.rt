@@ -4,6 +4,4 @@
 
 mod laws;
 
-pub use laws::{
-    answers_stay, postings_are_told_in_order, postings_stay, posts_are_by_one, posts_are_messages,
-};
+pub use laws::{answers_stay, postings_are_told_in_order, postings_stay, posts_are_messages};

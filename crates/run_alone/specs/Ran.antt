@@ -11,8 +11,7 @@ use Rattle.run_record.specs.Postings.{posts_by, posts_of, told}
 use Rattle.run_record.specs.Order.{finished_there, numbers_from, order_alone}
 use Rattle.run_record.specs.Outside.{notes}
 use Rattle.run_record.specs.Run.{alone, IsRun, IsSpent}
-use Rattle.branch_workers.specs.Lines.{IsFront}
-use Rattle.order_laws.specs.Entries.{is_by_first}
+use Rattle.branch_workers.specs.Lines.{is_by_first, IsFront}
 use Rattle.office_front.specs.Dealings.{Told, Dealings}
 pub use Rattle.trip_laws.specs.Trips.{AreVoid, Travelled}
 pub use Rattle.run_alone.specs.Overs.{IsOver, GaveNone, most_waits}
