@@ -1,8 +1,8 @@
 -- These definitions serve the proofs alone: no promise speaks of them.
 -- What the functions of this crate compute of the bytes at the front of a text. They are proved to find the pieces and
 -- the refusals that the other files of definitions have.
-use Rattle.std.specs.Prelude.{◌≡◌, ℕ, ◌+◌, ◌-◌, min, Bool, true, false, ◌&&◌, ◌||◌, not, ◌==◌, List, [], ◌∷◌, map, length}
-use Rattle.std.specs.Prelude.{take, drop, if◌then◌else◌, Option, None, Some, Result, Ok, Err, MatchResult}
+use Rattle.std.specs.Prelude.{◌≡◌, ℕ, ◌+◌, ◌-◌, min, Bool, true, false, ◌&&◌, ◌||◌, not, ◌==◌, List, [], ◌∷◌, map}
+use Rattle.std.specs.Prelude.{length, take, drop, if◌then◌else◌, Option, None, Some, Result, Ok, Err, MatchResult}
 use Rattle.std.specs.List.{prefix_len}
 use Rattle.std.specs.Int.{is_in_range}
 use Rattle.std.specs.Str.{is_utf8}

@@ -54,8 +54,9 @@ pub record Chose (w : Setting) (h : List Entry) (t : TakenTurn) (events : List E
   pub each : (k : ℕ) → k < passed → CanActBy w h t.session events (strand_at strands (t.pick + k)) → ⊥
   pub is : event.strand ≡ strand_at strands (t.pick + passed)
 
--- A turn of a session that had had so many of its events: it was adopted, and these events agree with the history before
--- the turn. Its next event came of the turn; or none did, since the session had used its budget, or could not act.
+-- A turn of a session that had had so many of its events: it was adopted, and these events agree with the history
+-- before the turn. Its next event came of the turn; or none did, since the session had used its budget, or could not
+-- act.
 pub record WasHad (r : Rules) (h : List Entry) (sessions : List (List Event)) (t : TakenTurn) (had : ℕ) : Type 0 where
   pub events : List Event
   pub there : slice_get sessions t.session ≡ Some events
