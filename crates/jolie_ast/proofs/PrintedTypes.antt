@@ -1,5 +1,6 @@
 -- What the tokens of a type are at each form.
 use Rattle.std.proofs.Common.{◌≡◌, ℕ, List, [], ◌∷◌, ◌++◌, Some, None, ap, sym, ◌∙◌, codes, flat_map}
+use Rattle.std.specs.Option.{option_map_or}
 use Rattle.jolie_ast.specs.declared.name.Name.{Name}
 use Rattle.jolie_ast.specs.declared.types.RootKind.{RootKind}
 use Rattle.jolie_ast.specs.declared.types.TypeBody.TheOpen.{TypeBody-F}
@@ -8,8 +9,7 @@ use Rattle.jolie_ast.specs.declared.types.TypeBody.TheVariants as body
 use Rattle.jolie_ast.specs.declared.types.Field.{Field, out-Field, roll-out-Field}
 use Rattle.jolie_ast.specs.Spacing.{Token}
 use Rattle.jolie_ast.specs.PrintedExpressions.{in_braces}
-use Rattle.jolie_ast.specs.Printed.{root_token, body_level, field_level, body_tokens, field_tokens}
-use Rattle.jolie_ast.specs.PrintedParts.{maybe_cardinality}
+use Rattle.jolie_ast.specs.Printed.{root_token, cardinality_tokens, body_level, field_level, body_tokens, field_tokens}
 use Rattle.jolie_ast.proofs.Spacing.{mapped_tokens}
 
 pub root_alone : (at : ℕ) (kind : RootKind) → body_tokens (body.Root at kind None) ≡ root_token kind ∷ []
@@ -37,7 +37,7 @@ undefined_body at =
     ap body_tokens (sym (body.rolls-Undefined at))
     ∙ fold-roll-TypeBody (List Token) (List Token) body_level field_level (TypeBody-F.Undefined at)
 
-pub field_is : (f : Field) → field_tokens f ≡ (out-Field f).name.text ∷ (maybe_cardinality (out-Field f).cardinality ++ codes ":" ∷ body_tokens (out-Field f).body)
+pub field_is : (f : Field) → field_tokens f ≡ (out-Field f).name.text ∷ (option_map_or cardinality_tokens (out-Field f).cardinality [] ++ codes ":" ∷ body_tokens (out-Field f).body)
 unfolding body_tokens field_tokens
 field_is f =
     ap field_tokens (sym (roll-out-Field f))

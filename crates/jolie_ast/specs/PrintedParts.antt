@@ -2,11 +2,10 @@
 -- The tokens of parts that may be written.
 use Rattle.std.specs.Prelude.{ℤ, [], ◌∷◌, Option, Some, None}
 use Rattle.std.specs.Fmt.{signed_decimal}
-use Rattle.jolie_ast.specs.declared.types.Cardinality.{Cardinality}
 use Rattle.jolie_ast.specs.declared.interface.TypeName.{TypeName}
 use Rattle.jolie_ast.specs.Spacing.{Token, Tokens}
 use Rattle.jolie_ast.specs.PrintedExpressions.{Shown, in_parens, in_brackets}
-use Rattle.jolie_ast.specs.Printed.{cardinality_tokens, type_name_token}
+use Rattle.jolie_ast.specs.Printed.{type_name_token}
 
 -- an int in decimal
 abbrev pub int_token : ℤ → Token
@@ -21,11 +20,6 @@ maybe (Some ts) = ts
 abbrev pub index_tokens : Option Shown → Tokens
 index_tokens None = []
 index_tokens (Some value) = in_brackets value.tokens
-
--- how often a field may stand, if it is written
-abbrev pub maybe_cardinality : Option Cardinality → Tokens
-maybe_cardinality None = []
-maybe_cardinality (Some cardinality) = cardinality_tokens cardinality
 
 -- the type of a fault's data in parentheses, if one is written
 abbrev pub fault_data : Option TypeName → Tokens

@@ -1,8 +1,8 @@
-ghost use Rattle.std.specs.Prelude.{◌≡◌, OnOk, flat_map};
+ghost use Rattle.std.specs.Prelude.{◌≡◌, [], OnOk, flat_map};
+ghost use Rattle.std.specs.Option.{option_map_or};
 ghost use Rattle.jolie_ast.specs.Spacing.{after, with_token};
 ghost use Rattle.jolie_ast.specs.PrintedExpressions.{in_braces};
 ghost use Rattle.jolie_ast.specs.Printed.{body_tokens, cardinality_tokens, defined_tokens, field_tokens, most_token, root_token, type_tokens};
-ghost use Rattle.jolie_ast.specs.PrintedParts.{maybe_cardinality};
 
 use crate::printer::Printer;
 use crate::types::{Cardinality, DefinedType, Field, RootKind, TypeBody, TypeDefinition};
@@ -82,7 +82,7 @@ impl Printer {
     }
 
     fn maybe_cardinality(&mut self, cardinality: Option<Cardinality>) -> Result<(), AllocError>
-        ensures { OnOk result (self.new ≡ after self.old (maybe_cardinality cardinality)) }
+        ensures { OnOk result (self.new ≡ after self.old (option_map_or cardinality_tokens cardinality [])) }
     {
         match cardinality {
             Some(cardinality) => self.cardinality(cardinality),
