@@ -16,7 +16,7 @@ use Rattle.calculus.specs.Tables.{empty}
 use Rattle.calculus.specs.Terms.{Fault, Term, Strands, done, place, seq, par, in_scope, exec}
 use Rattle.calculus.specs.Terms.{fail, wait, dead_wait, prot, no_strands, strand, live, stands_in}
 use Rattle.calculus.specs.Start.{begin, normal}
-use Rattle.calculus.specs.Throw.{Carried, up, caught_at, ended_at, throw}
+use Rattle.calculus.specs.Throw.{Carried, up, caught_at, ended_at, blocked, absent, throw}
 use Rattle.calculus.specs.Moves.{Seen, Move, moved_to, within, quietly, starts}
 use Rattle.calculus.specs.Moves.{in_strand, ungiven, inside, in_its_scope}
 use Rattle.calculus.specs.Effects.{Effect, faults, stores, effect_of, copied, effect_of_undef}
@@ -153,7 +153,8 @@ abbrev pub raised : Config → ℕ → ℕ → Carried Term → Option Done
 raised c n f (up t) = Some (settled c t (raise_event n 2 main f))
 raised c n f (caught_at t q) = Some (settled c t (raise_event n 0 q f))
 raised c n f (ended_at t q) = Some (settled c t (raise_event n 1 q f))
-raised c n f carried = None
+raised c n f (blocked m) = None
+raised c n f absent = None
 
 -- a fault is raised where the office gave nothing
 abbrev pub raises : Config → ℕ → Given → Fault → Option Done

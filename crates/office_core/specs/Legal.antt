@@ -72,8 +72,9 @@ is_fetched past actor s k = elim (call past s k) [
   | Some c ↦ some_entry past (λ e. nat_eq actor e.actor && fetches c e) && not (some_entry past (brings c))
 ]
 
--- whether an actor may make a call; for a post, a fetch and the stop it is enough that a worker is at work
+-- whether an actor may make a call
 abbrev pub is_allowed : Setting → Past → ℕ → Act → Bool
+is_allowed w past actor (act.Post j i q r) = is_at_work past actor
 is_allowed w past s (act.Adopt d) = is_running past && not (was_adopted past s)
 is_allowed w past s (act.Take n) = is_acting w past s
 is_allowed w past s (act.Bind v x r) = is_acting w past s && has_variable w past s v
@@ -82,9 +83,10 @@ is_allowed w past s (act.Send k port op v wants r) = is_acting w past s && nat_e
 is_allowed w past s (act.Answer k o) = is_acting w past s && is_wanted past s k
 is_allowed w past s act.End = is_acting w past s
 is_allowed w past actor (act.Collect n o) = nat_le first_worker actor && is_collectable past actor n
+is_allowed w past actor (act.Fetch s k) = is_at_work past actor
 is_allowed w past actor (act.Answered s k o) = is_at_work past actor && is_fetched past actor s k
 is_allowed w past actor act.Close = is_at_work past actor && not (some_entry past closes)
-is_allowed w past actor a = is_at_work past actor
+is_allowed w past actor act.Stop = is_at_work past actor
 
 -- ---- the replies
 
@@ -108,18 +110,22 @@ bound w past s v x =
 abbrev pub next_out : Setting → Past → ℕ → ℕ → Option Call
 next_out w past s k = option_and_then (λ c. first (outgoing w past (kind_of w past c))) (call past s k)
 
--- a call with the reply that the office gives, where it gives one; a call that has no reply stays as it is
+-- a call with the reply that the office gives, where it gives one
 abbrev pub replied : Setting → Past → ℕ → Act → Option Act
 replied w past actor (act.Post j i q r) = Some (act.Post j i q (post_reply past (route w past q)))
 replied w past s (act.Adopt d) = option_map act.Adopt (service_of w past s)
 replied w past s (act.Take n) = option_map act.Take (oldest past s n)
 replied w past s (act.Bind v x r) = option_map (act.Bind v x) (bound w past s v x)
+replied w past s (act.Reply n o) = Some (act.Reply n o)
 replied w past s (act.Send k port op v wants r) =
     Some (act.Send k port op v wants (placed w past (handed_in w past s (act.Send k port op v wants r))))
 replied w past s (act.Answer k o) = option_map (act.Answer k) (result w past s k)
+replied w past s act.End = Some act.End
 replied w past actor (act.Collect n o) = option_map (act.Collect n) (first (answers w past n))
 replied w past actor (act.Fetch s k) = option_map (λ c. act.Fetch c.session c.number) (next_out w past s k)
-replied w past actor a = Some a
+replied w past actor (act.Answered s k o) = Some (act.Answered s k o)
+replied w past actor act.Close = Some act.Close
+replied w past actor act.Stop = Some act.Stop
 
 -- ---- histories
 
