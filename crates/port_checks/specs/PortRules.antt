@@ -102,11 +102,19 @@ abbrev pub unmet : List (List ℕ) → Port → List Refusal
 unmet locations port =
     refused_if (is_local port.location.text && not (is_in port.location.text locations)) UnknownPort port.location.at
 
+-- the name of a port
+abbrev pub port_name : Sided → Name
+port_name p = p.port.name
+
+-- what is refused of a port by itself, whatever its direction
+abbrev pub sided_refused : List Interface → Sided → List Refusal
+sided_refused interfaces p = port_refused interfaces p.port
+
 -- what is refused of the ports of a service
 abbrev pub ports_refused : List Interface → List (List ℕ) → Service → List Refusal
 ports_refused interfaces locations s =
-    refused DuplicateName (repeated (map (λ (p : Sided). p.port.name) (filter_map port_in s.clauses)))
-    ++ flat_map (λ (p : Sided). port_refused interfaces p.port) (filter_map port_in s.clauses)
+    refused DuplicateName (repeated (map port_name (filter_map port_in s.clauses)))
+    ++ flat_map (sided_refused interfaces) (filter_map port_in s.clauses)
     ++ input_ports_refused interfaces (input_ports s)
     ++ flat_map (operations_repeated interfaces) (output_ports s)
     ++ flat_map (unmet locations) (output_ports s)

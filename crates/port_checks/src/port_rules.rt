@@ -3,8 +3,7 @@ ghost use Rattle.std.specs.List.{filter_map};
 ghost use Rattle.jolie_ast.specs.declared.service.Port.{Port};
 ghost use Rattle.check_base.specs.Files.{input_port_in, output_port_in, port_in, services_of};
 ghost use Rattle.check_base.specs.Least.{joined};
-ghost use Rattle.port_checks.specs.PortRules.{input_locations, operations_repeated, port_refused, ports_refused, unknown_interface, unmet, wrong_local_protocol, wrong_location, wrong_protocol, wrong_socket_protocol};
-ghost use Rattle.port_checks.specs.PortParts.{port_name, sided_refused};
+ghost use Rattle.port_checks.specs.PortRules.{input_locations, operations_repeated, port_name, port_refused, ports_refused, sided_refused, unknown_interface, unmet, wrong_local_protocol, wrong_location, wrong_protocol, wrong_socket_protocol};
 
 use crate::brought::{input_ports_refused, operations_repeated};
 use check_base::{

@@ -1,5 +1,6 @@
 ghost use Rattle.std.specs.Prelude.{◌≡◌, ◌+◌, map, IfOk};
 ghost use Rattle.behaviour_tree.specs.Data.{Exp, no_procs, proc, repeat, sequence};
+ghost use Rattle.behaviour_tree.specs.FormedBehaviours.{count_of};
 ghost use Rattle.behaviour_tree.specs.View.{behaviour_view, procs_of};
 ghost use Rattle.calculus.specs.After.{turn_of};
 ghost use Rattle.calculus.specs.Start as spec;
@@ -120,7 +121,7 @@ fn started_head(alloc: Global, list: &[Behaviour], next: u64) -> Result<Begun, A
 /// The members of a parallel have their numbers, and start in order.
 #[cycle(start)]
 fn started_parallel(alloc: Global, list: &[Behaviour], next: u64) -> Result<Begun, AllocError>
-    ensures { IfOk result (λ b. begun_view b ≡ spec.around par (spec.start_members (procs_of (map behaviour_view list.now)) next (next + spec.count_of (procs_of (map behaviour_view list.now))))) }
+    ensures { IfOk result (λ b. begun_view b ≡ spec.around par (spec.start_members (procs_of (map behaviour_view list.now)) next (next + count_of (procs_of (map behaviour_view list.now))))) }
 {
     let mut after = next.checked_add(list.len() as u64).ok_or(AllocError)?;
     let mut strands = Vec::new(alloc);

@@ -22,8 +22,8 @@ use Rattle.check_base.specs.declared.refusal.Refusal.{Refusal}
 use Rattle.check_base.specs.Least.{refused}
 use Rattle.check_base.specs.Repeated.{as_name, repeated}
 use Rattle.check_base.specs.Files.{execution_of, input_port_in, input_ports, is_concurrent, output_ports, port_in, sets_of, type_names, interface_names, variables_of}
-use Rattle.port_checks.specs.PortRules.{brought_in, input_locations, input_ports_refused, operations_repeated, ports_refused, unmet}
-use Rattle.port_checks.specs.PortParts.{port_name, service_locations, sided_refused}
+use Rattle.port_checks.specs.PortRules.{brought_in, input_locations, input_ports_refused, operations_repeated, port_name, ports_refused, sided_refused, unmet}
+use Rattle.port_checks.specs.PortParts.{service_locations}
 use Rattle.type_lowering.specs.LoweredInterfaces.{lowered_interface}
 use Rattle.service_check.specs.Programs.{lowered_port_part, lowered_service}
 use Rattle.service_check.specs.ServiceRules.{clause_refused, execution_place, init_place, main_place, no_start, second, service_refused, uncorrelated}

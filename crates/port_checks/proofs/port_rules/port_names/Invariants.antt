@@ -1,7 +1,7 @@
 use Rattle.std.proofs.Common.{◌≡◌, map, take}
 use Rattle.std.specs.List.{filter_map}
 use Rattle.check_base.specs.Files.{port_in}
-use Rattle.port_checks.specs.PortParts.{port_name}
+use Rattle.port_checks.specs.PortRules.{port_name}
 use Rattle.port_checks.proofs.port_rules.port_names.Given as goal
 
 abbrev pub invariant-loop-clause : goal.invariant-loop-clause
