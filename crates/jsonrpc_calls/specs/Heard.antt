@@ -64,11 +64,16 @@ data_tree (Some d) = tree_in d
 abbrev pub fault_said : List ℕ → Option Data → Option Outcome
 fault_said name d = option_map (λ t. outcome.Fault name t) (data_tree d)
 
--- an error that has both a code and a message: the code of faults is the fault of that name, any other is a refusal
-abbrev pub error_with : Option ℤ → Option (List ℕ) → Option Data → Option Outcome
-error_with (Some code) (Some message) d =
+-- an error of a code and a message: the code of faults is the fault of that name, any other is a refusal
+abbrev pub error_by : ℤ → List ℕ → Option Data → Option Outcome
+error_by code message d =
     if int_eq code fault_code then fault_said message d else Some (outcome.Refused (reason_of code))
-error_with code message d = None
+
+-- the same, where both the code and the message are there
+abbrev pub error_with : Option ℤ → Option (List ℕ) → Option Data → Option Outcome
+error_with None message d = None
+error_with (Some code) None d = None
+error_with (Some code) (Some message) d = error_by code message d
 
 -- what an error says: its code is an integer of 64 bits, its message a string
 abbrev pub error_said : Data → Option Outcome

@@ -69,7 +69,6 @@ fn value_said(alloc: Global, found: Option<&Value>) -> Result<Option<Outcome>, A
 }
 
 /// What an error says, none where its code is no integer of 64 bits or its message no string.
-#[tactic(auto, using(crate::proofs::Codes::unequal))]
 fn error_said(alloc: Global, error: &Value) -> Result<Option<Outcome>, AllocError>
     ensures { IfOk result (λ outcome. outcome ≡ spec.error_said (view error.now)) }
 {
@@ -79,33 +78,45 @@ fn error_said(alloc: Global, error: &Value) -> Result<Option<Outcome>, AllocErro
     let Some(message) = error.get("message").and_then(Value::as_str) else {
         return Ok(None);
     };
+    error_by(alloc, code, message, error.get("data"))
+}
+
+/// What an error of a code and a message says, none where its data makes no tree.
+#[tactic(auto, using(crate::proofs::Codes::unequal))]
+fn error_by(
+    alloc: Global,
+    code: i64,
+    message: &str,
+    detail: Option<&Value>,
+) -> Result<Option<Outcome>, AllocError>
+    ensures { IfOk result (λ outcome. outcome ≡ spec.error_by code message.now (option_map view (option_copied detail.entry))) }
+{
     if code != FAULT {
         return Ok(Some(Outcome::Refused(reason_of(code))));
     }
-    let fault = fault_said(alloc, message, error.get("data"))?;
-    Ok(fault)
+    fault_said(alloc, message, detail)
 }
 
 /// The fault of a name with data, none where they make no tree.
 fn fault_said(
     alloc: Global,
     name: &str,
-    data: Option<&Value>,
+    detail: Option<&Value>,
 ) -> Result<Option<Outcome>, AllocError>
-    ensures { IfOk result (λ outcome. outcome ≡ spec.fault_said name.now (option_map view (option_copied data.entry))) }
+    ensures { IfOk result (λ outcome. outcome ≡ spec.fault_said name.now (option_map view (option_copied detail.entry))) }
 {
     let name = Text::new(alloc, name)?;
-    match data_tree(alloc, data)? {
+    match data_tree(alloc, detail)? {
         None => Ok(None),
         Some(value) => Ok(Some(Outcome::Fault { name, value })),
     }
 }
 
 /// The tree of the data of an error: void where there is none.
-fn data_tree(alloc: Global, data: Option<&Value>) -> Result<Option<Tree>, AllocError>
-    ensures { IfOk result (λ tree. tree ≡ spec.data_tree (option_map view (option_copied data.entry))) }
+fn data_tree(alloc: Global, detail: Option<&Value>) -> Result<Option<Tree>, AllocError>
+    ensures { IfOk result (λ tree. tree ≡ spec.data_tree (option_map view (option_copied detail.entry))) }
 {
-    match data {
+    match detail {
         None => Ok(Some(Tree::void(alloc))),
         Some(value) => tree_in(alloc, value),
     }
