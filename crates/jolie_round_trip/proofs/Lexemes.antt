@@ -9,7 +9,7 @@ use Rattle.jolie_tokens.specs.Pieces.{Piece, written, IsPiece, kind_of}
 use Rattle.jolie_ast.specs.PrintedExpressions.{long_token, quoted_token}
 use Rattle.jolie_ast.specs.PrintedParts.{int_token}
 use Rattle.jolie_parse.specs.declared.class.Class.{Class}
-use Rattle.jolie_parse.specs.Classes.{Spelled, class, class_of}
+use Rattle.jolie_parse.specs.Classes.{Spelled, class_of}
 
 -- a token without its place
 pub record Lexeme : Type 0 where

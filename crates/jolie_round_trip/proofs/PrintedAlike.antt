@@ -1,6 +1,7 @@
 -- Files that are the same but for places are printed as the same text.
-use Rattle.std.proofs.Common.{◌≡◌, List, [], ◌∷◌, ◌++◌, map, Option, Some, None, refl, sym, ap, ◌∙◌, codes}
+use Rattle.std.proofs.Common.{◌≡◌, ℕ, List, [], ◌∷◌, ◌++◌, map, Option, Some, None, refl, sym, ap, ◌∙◌, codes}
 use Rattle.std.specs.Prelude.{option_map}
+use Rattle.std.specs.Option.{option_map_or}
 use Rattle.std.specs.List.{flat_map}
 use Rattle.jolie_ast.specs.declared.name.Name.{Name}
 use Rattle.jolie_ast.specs.declared.interface.TypeName.{TypeName}
@@ -22,7 +23,6 @@ use Rattle.jolie_ast.specs.declared.tree.Definition.TheVariants as definition
 use Rattle.jolie_ast.specs.Spacing.{text_of}
 use Rattle.jolie_ast.specs.PrintedExpressions.{in_braces, in_parens, name_tokens}
 use Rattle.jolie_ast.specs.Printed.{type_name_token, fault_tokens, throws_tokens, request_response_tokens, one_way_tokens, group_tokens, interface_tokens, protocol_tokens, port_tokens, alias_tokens, variable_tokens, clause_tokens, service_tokens, definition_tokens, printed_text}
-use Rattle.jolie_ast.specs.PrintedParts.{fault_data}
 use Rattle.jolie_round_trip.specs.Placeless.{name_placeless, type_name_placeless, fault_placeless, request_response_placeless, one_way_placeless, group_placeless, interface_placeless, port_placeless, alias_placeless, variable_placeless, clause_placeless, service_placeless, definition_placeless}
 use Rattle.jolie_round_trip.specs.ReadsBack.{Same}
 use Rattle.jolie_round_trip.proofs.ProcessesAlike.{block_alike}
@@ -36,7 +36,11 @@ type_name_alike (type_name.Root at kind) = refl
 type_name_alike (type_name.Named name) = refl
 type_name_alike (type_name.Undefined at) = refl
 
-fault_data_alike : (ty : Option TypeName) → fault_data (option_map type_name_placeless ty) ≡ fault_data ty
+-- the type of a fault's data in parentheses, if one is written
+abbrev data_tokens : Option TypeName → List (List ℕ)
+data_tokens ty = option_map_or (λ t. in_parens (type_name_token t ∷ [])) ty []
+
+fault_data_alike : (ty : Option TypeName) → data_tokens (option_map type_name_placeless ty) ≡ data_tokens ty
 fault_data_alike None = refl
 fault_data_alike (Some ty) = ap (λ t. in_parens (t ∷ [])) (type_name_alike ty)
 

@@ -1,6 +1,7 @@
 -- What is printed of a root type and of a field, and what is kept of each form of a type without its places.
-use Rattle.std.proofs.Common.{◌≡◌, ℕ, List, ◌∷◌, ◌++◌, map, Option, Some, None, refl, sym, ap, ◌∙◌, codes}
+use Rattle.std.proofs.Common.{◌≡◌, ℕ, List, [], ◌∷◌, ◌++◌, map, Option, Some, None, refl, sym, ap, ◌∙◌, codes}
 use Rattle.std.specs.Prelude.{option_map, flat_map}
+use Rattle.std.specs.Option.{option_map_or}
 use Rattle.jolie_ast.specs.declared.name.Name.{Name}
 use Rattle.jolie_ast.specs.declared.types.RootKind.{RootKind}
 use Rattle.jolie_ast.specs.declared.types.Cardinality.{Cardinality}
@@ -11,7 +12,7 @@ use Rattle.jolie_ast.specs.declared.types.TypeBody.TheOpen.{TypeBody-F}
 use Rattle.jolie_ast.specs.declared.types.TypeBody.TheFolds.{fold-roll-TypeBody, fold-roll-Field}
 use Rattle.jolie_ast.specs.Spacing.{Token}
 use Rattle.jolie_ast.specs.PrintedExpressions.{in_braces}
-use Rattle.jolie_ast.specs.PrintedParts.{maybe, maybe_cardinality}
+use Rattle.jolie_ast.specs.PrintedParts.{maybe}
 use Rattle.jolie_ast.specs.Printed as printed
 use Rattle.jolie_ast.specs.Printed.{root_token, cardinality_tokens, body_tokens, field_tokens}
 use Rattle.jolie_ast.proofs.Spacing.{mapped_tokens}
@@ -52,7 +53,7 @@ root_printed at kind (Some fields) =
     ∙ fold-roll-TypeBody (List Token) (List Token) printed.body_level printed.field_level (TypeBody-F.Root at kind (Some fields))
     ∙ ap (λ ts. root_token kind ∷ in_braces ts) (mapped_tokens (λ ts. ts) field_tokens fields)
 
-cardinality_printed : (cardinality : Option Cardinality) → maybe_cardinality cardinality ≡ maybe (option_map cardinality_tokens cardinality)
+cardinality_printed : (cardinality : Option Cardinality) → option_map_or cardinality_tokens cardinality [] ≡ maybe (option_map cardinality_tokens cardinality)
 cardinality_printed None = refl
 cardinality_printed (Some cardinality) = refl
 

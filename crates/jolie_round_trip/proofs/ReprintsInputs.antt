@@ -1,6 +1,8 @@
 -- Blocks, inputs, choices, outputs and assignments are printed so that they are read again.
-use Rattle.std.proofs.Common.{◌≡◌, List, [], ◌∷◌, ◌++◌, map, refl, if◌then◌else◌}
+use Rattle.std.proofs.Common.{◌≡◌, List, [], ◌∷◌, ◌++◌, map, Option, Some, None, refl, if◌then◌else◌}
 use Rattle.std.specs.Prelude.{option_map, flat_map}
+use Rattle.jolie_ast.specs.declared.expression.Expr.{Expr}
+use Rattle.jolie_ast.specs.declared.expression.Path.{Path}
 use Rattle.jolie_ast.specs.declared.process.Process.TheVariants as process
 use Rattle.jolie_ast.specs.declared.process.Assignment.TheVariants as assignment
 use Rattle.jolie_ast.specs.declared.process.ForStep.TheVariants as for_step
@@ -11,8 +13,9 @@ use Rattle.jolie_ast.specs.declared.process.Input.{roll-Input}
 use Rattle.jolie_ast.specs.declared.process.Reply.{roll-Reply}
 use Rattle.jolie_ast.specs.declared.process.Branch.{Branch, roll-Branch, out-Branch}
 use Rattle.jolie_ast.specs.declared.process.Answer.{roll-Answer}
+use Rattle.jolie_ast.specs.PrintedExpressions.{in_parens, expr_tokens, path_tokens}
 use Rattle.jolie_ast.specs.PrintedParts.{maybe}
-use Rattle.jolie_ast.specs.PrintedProcesses.{count_token, assignment_tokens, for_step_tokens, path_parens, process_tokens, block_tokens, input_tokens, reply_tokens, branch_tokens, answer_tokens}
+use Rattle.jolie_ast.specs.PrintedProcesses.{count_token, assignment_tokens, for_step_tokens, path_parens, value_parens, process_tokens, block_tokens, input_tokens, reply_tokens, branch_tokens, answer_tokens}
 use Rattle.jolie_ast.proofs.PrintedProcesses.{block_made, input_made, choice_shown, output_shown, assign_shown, correlate_shown}
 use Rattle.jolie_parse.specs.declared.class.Class.{Class}
 use Rattle.jolie_parse.specs.ClassNames as c
@@ -21,8 +24,8 @@ use Rattle.jolie_parse.specs.Made as made
 use Rattle.jolie_parse.specs.Meanings as means_as
 use Rattle.jolie_parse.specs.Syntax.{Part, a_body, maybe_path, maybe_expression, an_input, some_handlers, Meant, Lang}
 use Rattle.jolie_parse.specs.Grammar.{parens, block, reply, input_parts, input, branch, choice, answer, output_parts, output, count, change, assign, correlate, last_change, loop_parts}
-use Rattle.jolie_round_trip.specs.Placeless.{path_placeless, assignment_placeless, for_step_placeless, process_placeless, block_placeless, input_placeless, reply_placeless, branch_placeless, answer_placeless}
-use Rattle.jolie_round_trip.proofs.Echo.{pair_kept}
+use Rattle.jolie_round_trip.specs.Placeless.{expr_placeless, path_placeless, assignment_placeless, for_step_placeless, process_placeless, block_placeless, input_placeless, reply_placeless, branch_placeless, answer_placeless}
+use Rattle.jolie_round_trip.proofs.Echo.{pair_kept, echo_as}
 use Rattle.jolie_round_trip.proofs.Parts.{Inner, for_parts_placeless, for_parts_tokens}
 use Rattle.jolie_round_trip.proofs.PlacelessProcesses.{block_rolled, reply_rolled, input_rolled, branch_rolled, answer_rolled, choice_placeless, output_placeless, assign_placeless, correlate_placeless}
 use Rattle.jolie_round_trip.proofs.PrintedStatements.{reply_printed, branch_printed, answer_printed}
@@ -51,6 +54,14 @@ module _ {w : (r : Part) → Lang (Meant r)} where
   unfolding count
   count_reprints = reprints_among (c.sign_increment ∷ c.sign_decrement ∷ []) (λ k. count_token (class_count k)) ((refl, refl), ((refl, refl), tt))
 
+path_in_parens_printed : (path : Option Path) → in_parens (maybe (option_map path_tokens path)) ≡ path_parens path
+path_in_parens_printed None = refl
+path_in_parens_printed (Some path) = refl
+
+value_in_parens_printed : (value : Option Expr) → in_parens (maybe (option_map expr_tokens value)) ≡ value_parens value
+value_in_parens_printed None = refl
+value_in_parens_printed (Some value) = refl
+
 module _ {w : (r : Part) → Lang (Meant r)} (inner : Inner w) where
   pub block_reprints : Reprints w block block_placeless block_tokens
   unfolding block
@@ -60,7 +71,14 @@ module _ {w : (r : Part) → Lang (Meant r)} (inner : Inner w) where
       (reprints_inside inner c.sign_open_brace a_body c.sign_close_brace refl refl)
 
   path_in_parens : Reprints w (parens maybe_path) (option_map path_placeless) path_parens
-  path_in_parens = reprints_between inner c.sign_open_paren maybe_path c.sign_close_paren refl refl
+  path_in_parens =
+      let plain = reprints_between inner c.sign_open_paren maybe_path c.sign_close_paren refl refl in
+      record { echo = λ ts v d valid. echo_as (plain.echo ts v d valid) (path_parens v) (path_in_parens_printed v) }
+
+  value_in_parens : Reprints w (parens maybe_expression) (option_map expr_placeless) value_parens
+  value_in_parens =
+      let plain = reprints_between inner c.sign_open_paren maybe_expression c.sign_close_paren refl refl in
+      record { echo = λ ts v d valid. echo_as (plain.echo ts v d valid) (value_parens v) (value_in_parens_printed v) }
 
   -- ---- inputs
 
@@ -110,7 +128,7 @@ module _ {w : (r : Part) → Lang (Meant r)} (inner : Inner w) where
       (reprints_both id_reprints
       (reprints_behind c.sign_at refl
       (reprints_both id_reprints
-      (reprints_both (reprints_between inner c.sign_open_paren maybe_expression c.sign_close_paren refl refl) (reprints_optional answer_reprints)))))
+      (reprints_both value_in_parens (reprints_optional answer_reprints)))))
 
   -- ---- assignments
 

@@ -1,6 +1,7 @@
 -- Interfaces are printed so that they are read again.
 use Rattle.std.proofs.Common.{◌≡◌, ℕ, List, [], ◌∷◌, ◌++◌, map, Option, Some, None, refl, ap, subst, ◌∙◌, codes}
-use Rattle.std.specs.Prelude.{option_map, flat_map}
+use Rattle.std.specs.Prelude.{option_map, flat_map, unwrap_or}
+use Rattle.std.specs.Option.{option_map_or}
 use Rattle.jolie_ast.specs.declared.interface.TypeName.{TypeName}
 use Rattle.jolie_ast.specs.declared.interface.Fault.{Fault}
 use Rattle.jolie_ast.specs.declared.interface.RequestResponse.{RequestResponse}
@@ -10,7 +11,7 @@ use Rattle.jolie_ast.specs.declared.interface.OperationGroup.TheVariants as grou
 use Rattle.jolie_ast.specs.declared.interface.Interface.{Interface}
 use Rattle.jolie_ast.specs.Spacing.{Token}
 use Rattle.jolie_ast.specs.PrintedExpressions.{in_parens}
-use Rattle.jolie_ast.specs.PrintedParts.{maybe, fault_data}
+use Rattle.jolie_ast.specs.PrintedParts.{maybe}
 use Rattle.jolie_ast.specs.Printed.{type_name_token, fault_tokens, throws_tokens, request_response_tokens, one_way_tokens, group_tokens, interface_tokens}
 use Rattle.jolie_parse.specs.ClassNames as c
 use Rattle.jolie_parse.specs.Classes.{place}
@@ -31,7 +32,7 @@ fault_spelled z = record { name = name_spelled z.0; ty = z.1 }
 
 -- the faults behind `throws`, if any are named
 abbrev maybe_faults : Option (List Fault) → List Fault
-maybe_faults throws = elim throws [ None ↦ [] | Some faults ↦ faults ]
+maybe_faults throws = unwrap_or throws []
 
 -- a request-response operation of its name, types and faults
 abbrev request_response_spelled : List ℕ × (TypeName × (TypeName × Option (List Fault))) → RequestResponse
@@ -49,7 +50,7 @@ interface_spelled z = record { at = 0; name = name_spelled z.0; groups = z.1 }
 abbrev type_parens : TypeName → List Token
 type_parens t = in_parens (type_name_token t ∷ [])
 
-data_printed : (ty : Option TypeName) → fault_data ty ≡ maybe (option_map type_parens ty)
+data_printed : (ty : Option TypeName) → option_map_or type_parens ty [] ≡ maybe (option_map type_parens ty)
 data_printed None = refl
 data_printed (Some ty) = refl
 

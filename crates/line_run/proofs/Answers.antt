@@ -1,6 +1,7 @@
 -- The lines that a front writes of what it was told are those that answer what came in.
 use Rattle.std.proofs.Common.{◌≡◌, refl, sym, ap, ap₂, subst, ◌∙◌, ℕ, suc, arith, List, [], ◌∷◌, ◌++◌, map}
 use Rattle.std.proofs.Common.{Option, Some, None, option_map, slice_get, Contains, flat_map}
+use Rattle.std.specs.Option.{option_map_or}
 use Rattle.std.proofs.lemmas.Option.{slice_get-map}
 use Rattle.behaviour_tree.specs.declared.words.Outcome.{Outcome}
 use Rattle.office_core.specs.declared.front.Posting.{Posting}
@@ -22,7 +23,7 @@ module _ (w : Setting) (past : Past) where
   told_at t o = elim o [ None ↦ [] | Some c ↦ line_to w.parts c t.outcomes ]
 
   abbrev answer_at : ℕ → Option Came → List ℕ
-  answer_at j o = elim o [ None ↦ [] | Some c ↦ line_if (response w past first_worker j c) ]
+  answer_at j o = option_map_or (λ c. line_if (response w past first_worker j c)) o []
 
   -- the line of a posting that was told of
   line_to-response : (c : Came) (j : ℕ) (os : List Outcome) → told w past first_worker j (posting_of c) ≡ Some os
