@@ -209,7 +209,7 @@ module _ (IsMade : Line → Type 0) (t : Task) (before mid after : DoorsTold) (p
     served = served_so IsMade t.parts h first now d f ran.dealt doors_so;
     accepted = accepted;
     noted = noted;
-    picks = record { last = picked.last; goes = picked.goes; history = picked.history; sessions = picked.sessions };
+    picks = picked;
     consoles = ran.consoles;
     used = used;
     uses = uses_so;

@@ -292,7 +292,7 @@ module _ (t : Task) (first now : Sides) (d : Dealings) (finished : Finished)
                 (λ more. ran.spent.1 (spent_without (run_of t.parts) t.budget finished.report traffic more));
           };
           program = ran.program;
-          picks = record { last = picked.last; goes = picked.goes; history = picked.history; sessions = picked.sessions };
+          picks = picked;
           read = f.brought.read;
           written = f.said.written;
           notes = f.said.noted;
