@@ -22,7 +22,7 @@ fn main(rt: HostRuntime) -> anyhow::Result<()> {
     let text = tables(&rt)?;
     let mut report = Report::new(io::writer(&rt));
     for row in &rows(rt.alloc(), text.as_str())? {
-        let have = told(rt.alloc(), row)?;
+        let have = given(rt.alloc(), row)?;
         let want = expected(rt.alloc(), row)?;
         report.row(row, have.as_str(), want.as_str())?;
     }
@@ -31,7 +31,7 @@ fn main(rt: HostRuntime) -> anyhow::Result<()> {
 }
 
 /// What the call of a row gives.
-fn told(alloc: Global, row: &Row<'_>) -> anyhow::Result<String> {
+fn given(alloc: Global, row: &Row<'_>) -> anyhow::Result<String> {
     match row.text(alloc, "call")?.as_str() {
         "words" => asked(alloc, row),
         "sentence" => refused_by(alloc, row),
@@ -42,7 +42,7 @@ fn told(alloc: Global, row: &Row<'_>) -> anyhow::Result<String> {
     }
 }
 
-/// What is expected of a row, as `told` writes it.
+/// What is expected of a row, as `given` writes it.
 fn expected(alloc: Global, row: &Row<'_>) -> anyhow::Result<String> {
     match row.text(alloc, "call")?.as_str() {
         "words" | "sentence" | "record" | "kinds" | "counts" | "trips" | "serve" => {
