@@ -42,7 +42,7 @@ check_rule check.UnknownPort =
     codes "a message goes to a port of its service, and `local://name` is an input port of the file"
 check_rule check.UnknownOperation = codes "a port has the operations of its interfaces"
 check_rule check.WrongKind =
-    codes "a call that is answered is `op@Port(x)(y)` or `op@Port(x)()`, one that is not is `op@Port(x)`"
+    codes "an answered call is `op@Port(x)(y)`, another `op@Port(x)`; a socket has `protocol: jsonrpc`, `local://` none"
 check_rule check.Uncorrelated =
     codes "an operation of a concurrent service begins a session, or a set names fields of its type"
 check_rule check.TwoSets = codes "in a service a type stands in one set at most"

@@ -71,7 +71,7 @@ fn rule_of_check(name: CheckName) -> &'static str
             "a message goes to a port of its service, and `local://name` is an input port of the file",
         CheckName::UnknownOperation => "a port has the operations of its interfaces",
         CheckName::WrongKind =>
-            "a call that is answered is `op@Port(x)(y)` or `op@Port(x)()`, one that is not is `op@Port(x)`",
+            "an answered call is `op@Port(x)(y)`, another `op@Port(x)`; a socket has `protocol: jsonrpc`, `local://` none",
         CheckName::Uncorrelated =>
             "an operation of a concurrent service begins a session, or a set names fields of its type",
         CheckName::TwoSets => "in a service a type stands in one set at most",
