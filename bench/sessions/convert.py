@@ -1,4 +1,4 @@
-"""convert.py FOLDER..: turns recorded runs (folders with case.ol and record) into a table for crates/term_session_tests.
+"""convert.py FOLDER..: turns recorded runs (folders with case.ol and record) into a table for crates/session_tests.
 
 A session is a row: before each event and at the end every strand that has an event, what each asks and what is open, and each
 event with its gift. All but the events and gifts is found by rules.py, and what that finds of the events and of their office
