@@ -1,4 +1,4 @@
-//! The statuses that a call of the program ends with.
+//! The statuses that a call of the program ends with. Those of a run, 4 to 7, come from `line_run` and `door_run`.
 
 /// All was done; of `run`, the input was read to its end.
 pub const DONE: u8 = 0;
@@ -12,17 +12,8 @@ pub const FILE_FAILED: u8 = 2;
 /// The file is refused.
 pub const REFUSED: u8 = 3;
 
-/// The input failed.
-pub const INPUT_FAILED: u8 = 4;
-
 /// The output or the notes failed.
 pub const OUTPUT_FAILED: u8 = 5;
-
-/// A session used its whole budget of events and could act all the same.
-pub const BUDGET_USED: u8 = 6;
-
-/// A location could not be listened at, or its door failed.
-pub const DOORS_FAILED: u8 = 7;
 
 /// Memory ran out: what the program makes of an error of `run`.
 pub const OUT_OF_MEMORY: u8 = 9;
@@ -32,7 +23,7 @@ pub const MEANINGS: &str = "Status:
   0  all was done
   1  invalid usage
   2  FILE can't be read
-  3  FILE is refused, by one line with the reason and the place
+  3  FILE is refused: the reason and the place are told
   4  the input failed
   5  the output or the notes failed
   6  a session used its whole budget and could act all the same

@@ -89,7 +89,7 @@ pub static COMMANDS: [CommandRow; 5] = [
     CommandRow {
         action: Action::Explain,
         name: "explain",
-        about: "Says what is wrong with FILE and where, in words",
+        about: "Says in words what is wrong with FILE and where, or what may not be meant in it",
         operands: &[FILE],
         options: &[],
     },

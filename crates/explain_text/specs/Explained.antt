@@ -63,7 +63,7 @@ line_if_any kind (b ∷ bs) = kind ++ (b ∷ bs) ++ codes "\n"
 abbrev pub explanation : List ℕ → List ℕ → Refusal → List Hint → List ℕ
 explanation file text r hints =
     pointed file text r.at (tagged_words r)
-    ++ line_if_any (codes "expected: ") (listed hints) ++ line_if_any (codes "rule: ") (rule_of r.cause)
+    ++ line_if_any (codes "expected: ") (listed hints) ++ line_if_any (codes "rule: ") (rule_of r.cause text r.at)
     ++ line_if_any (codes "advice: ") (advised_words text r)
 
 -- the bytes explain the refusal of a file's text, with what may stand there

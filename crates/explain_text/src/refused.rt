@@ -28,7 +28,11 @@ pub fn explained(
     let mut bytes = Vec::new(alloc);
     add_pointed(alloc, file, text, at, words.as_str(), &mut bytes)?;
     add_line(&mut bytes, "expected: ", listed.as_slice())?;
-    add_line(&mut bytes, "rule: ", rule(refusal.cause).as_bytes())?;
+    add_line(
+        &mut bytes,
+        "rule: ",
+        rule(refusal.cause, text, at).as_bytes(),
+    )?;
     add_line(
         &mut bytes,
         "advice: ",

@@ -1,10 +1,12 @@
 //! What a person reads of a refusal: what is wrong, and the rule that says so.
 
 ghost use Rattle.std.specs.Prelude.{◌≡◌};
+ghost use Rattle.jolie_tokens.specs.Bytes as bytes;
 ghost use Rattle.explain_text.specs.Words as spec;
 
 use file_verdicts::Cause;
 use service_check::CheckName;
+use text_places::behind;
 
 /// What is wrong.
 pub fn words(cause: Cause) -> &'static str
@@ -31,7 +33,7 @@ fn words_of_check(name: CheckName) -> &'static str
         CheckName::UnknownPort => "there is no such port, or no service at its location",
         CheckName::UnknownOperation => "the port has no such operation",
         CheckName::WrongKind => "this is of another kind than its place asks for",
-        CheckName::Uncorrelated => "messages of an operation could not find their session",
+        CheckName::Uncorrelated => "a message could not find its session, or no set has this variable",
         CheckName::TwoSets => "this type stands in another set too",
         CheckName::CompOutsideHandler => "`comp` stands in no handler",
         CheckName::ChOutsideHandler => "`cH` stands in no handler",
@@ -40,9 +42,9 @@ fn words_of_check(name: CheckName) -> &'static str
     }
 }
 
-/// The rule that is broken. Of a token that may not stand there the hints say it.
-pub fn rule(cause: Cause) -> &'static str
-    ensures { result.now ≡ spec.rule_of cause }
+/// The rule that is broken at a place of a text. Of a token that may not stand there the hints say it.
+pub fn rule(cause: Cause, text: &[u8], at: usize) -> &'static str
+    ensures { result.now ≡ spec.rule_of cause text.now at }
 {
     match cause {
         Cause::TooLong => "a file has at most 1,048,576 bytes",
@@ -55,12 +57,13 @@ pub fn rule(cause: Cause) -> &'static str
         Cause::Syntax => "",
         Cause::TooDeep =>
             "brackets, `-` and `!` before operands and `else if` open a level; there are at most 64",
-        Cause::Check(name) => rule_of_check(name),
+        Cause::Check(name) => rule_of_check(name, behind(text, at)),
     }
 }
 
-fn rule_of_check(name: CheckName) -> &'static str
-    ensures { result.now ≡ spec.check_rule name }
+/// The rule of a check, by the text from its place on.
+fn rule_of_check(name: CheckName, rest: &[u8]) -> &'static str
+    ensures { result.now ≡ spec.check_rule name rest.now }
 {
     match name {
         CheckName::DuplicateName =>
@@ -70,10 +73,8 @@ fn rule_of_check(name: CheckName) -> &'static str
         CheckName::UnknownPort =>
             "a message goes to a port of its service, and `local://name` is an input port of the file",
         CheckName::UnknownOperation => "a port has the operations of its interfaces",
-        CheckName::WrongKind =>
-            "an answered call is `op@Port(x)(y)`, another `op@Port(x)`; a socket has `protocol: jsonrpc`, `local://` none",
-        CheckName::Uncorrelated =>
-            "an operation of a concurrent service begins a session, or a set names fields of its type",
+        CheckName::WrongKind => rule_of_kind(rest),
+        CheckName::Uncorrelated => rule_of_set(rest),
         CheckName::TwoSets => "in a service a type stands in one set at most",
         CheckName::CompOutsideHandler =>
             "`comp` stands in a handler of `install`, or of the brackets behind a call",
@@ -82,4 +83,55 @@ fn rule_of_check(name: CheckName) -> &'static str
             "a file has a service, a service a `main`, and that of a concurrent one begins with an input",
         CheckName::InitNotAssignment => "a statement of `init` has `=`, `<<`, `++` or `--`",
     }
+}
+
+/// The rule of what is of another kind than its place asks for, by what stands there: a text, a set, or a name.
+fn rule_of_kind(rest: &[u8]) -> &'static str
+    ensures { result.now ≡ spec.kind_rule rest.now }
+{
+    if rest.starts_with("\"".as_bytes()) {
+        return "a location is `socket://host:port` or `local://name`, a socket has `protocol: jsonrpc`; an index of a message's path is a number";
+    }
+    if begins_with("cset", rest) {
+        return "a set stands in a service with `execution: concurrent`";
+    }
+    "an answered call is `op@Port(x)(y)`, another `op@Port(x)`; a socket has `protocol: jsonrpc`, `local://` none; an index of a message's path is a number; no port is named `Console`"
+}
+
+/// The rule of messages and their sets, by what stands at the place: a use of a variable, a service, or a type in a
+/// set.
+fn rule_of_set(rest: &[u8]) -> &'static str
+    ensures { result.now ≡ spec.set_rule rest.now }
+{
+    if begins_with("csets", rest) {
+        return "behind `csets.` stands a variable of a set of the service";
+    }
+    if begins_with("service", rest) {
+        return "an operation of a concurrent service begins a session, or a set names fields of its type";
+    }
+    "a set that names a field of a type has one of it for each of its variables"
+}
+
+/// Whether the word stands at the front, and no longer one.
+fn begins_with(word: &str, text: &[u8]) -> bool
+    ensures { result ≡ spec.begins_with word.now text.now }
+{
+    text.starts_with(word.as_bytes()) && !continues_word(behind(text, word.len()))
+}
+
+/// Whether a letter, a digit or `_` stands at the front.
+fn continues_word(text: &[u8]) -> bool
+    ensures { result ≡ bytes.begins bytes.is_word_byte text.now }
+{
+    match text.first() {
+        Some(byte) => is_word_byte(*byte),
+        None => false,
+    }
+}
+
+/// Whether a byte is a letter, a digit or `_`.
+fn is_word_byte(byte: u8) -> bool
+    ensures { result ≡ bytes.is_word_byte byte }
+{
+    byte.is_ascii_alphabetic() || byte == b'_' || byte.is_ascii_digit()
 }

@@ -100,6 +100,7 @@ heard_cut first before now was came next h e given taken noted later rose = reco
   calls = h.calls;
   noted = Notes-trans first.calls before.calls now.calls h.calls (Read 0 ∷ []) h.noted noted;
   reads = subst (λ l. Reads was h.calls l false) (sym e) h.reads;
+  bounded = subst (λ l. length l ≤ most_read) (sym e) h.bounded;
   later = subst (λ n. n ≤ now.faults) h.faults later;
   rose = subst (λ n. Rose n now.faults) h.faults rose;
 }
@@ -130,6 +131,7 @@ heard_on_cut first mid now was came next h k = record {
   noted = subst (Lists first.calls now.calls) (sym (append_assoc h.calls k.calls (Read 0 ∷ [])))
       (Notes-trans first.calls mid.calls now.calls h.calls (k.calls ++ Read 0 ∷ []) h.noted k.noted);
   reads = reads_on was came next h.calls k.calls false h.reads k.reads;
+  bounded = k.bounded;
   later = subst (λ n. n ≤ now.faults) h.faults k.later;
   rose = subst (λ n. Rose n now.faults) h.faults k.rose;
 }

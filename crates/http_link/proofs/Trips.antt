@@ -51,7 +51,7 @@ cut_in_reading before mid now sent came taken w given faults h =
     (subst (λ g. Appends g now.given came) given (subst (Appends mid.given now.given) (sym h.grown) h.given))
     (Notes-trans before.calls mid.calls now.calls w.calls (h.calls ++ Read 0 ∷ []) w.noted h.noted)
     (own_writes before.calls mid.calls sent true w)
-    h.reads
+    h.reads h.bounded
     (subst (λ n. Rose n now.faults) faults h.rose)
 
 -- a write that failed
@@ -95,8 +95,8 @@ pub failing_told : (blank t : WireTraffic) (before : Telling) (dialled : Option 
     (sent : List ℕ) → Tells last t → CutOff blank t sent → Rose before.faults faults → Failing sent before (telling blank dialled last faults)
 failing_told blank t before dialled last faults sent e (in_writing count writes taken given noted written rose) risen =
     unsent (take count sent) writes (shows blank last t (take count sent) [] writes e taken given noted) (starts_with count sent) written risen
-failing_told blank t before dialled last faults sent e (in_reading came writes reads taken given noted written read rose) risen =
-    unheard came writes reads (shows blank last t sent came (writes ++ (reads ++ Read 0 ∷ [])) e taken given noted) written read risen
+failing_told blank t before dialled last faults sent e (in_reading came writes reads taken given noted written read bounded rose) risen =
+    unheard came writes reads (shows blank last t sent came (writes ++ (reads ++ Read 0 ∷ [])) e taken given noted) written read bounded risen
 
 -- a dialler's count stands where the wire's stood
 pub count_stands : (blank t : WireTraffic) (sent came : List ℕ) (ended : Bool) (before now : ℕ) → IsNew blank → Exchanged blank t sent came ended
@@ -108,7 +108,7 @@ pub count_rises : (blank t : WireTraffic) (sent : List ℕ) (before now : ℕ) �
     → Rose before now
 count_rises blank t sent before now new (in_writing count writes taken given noted written rose) counts =
     let none = new.faults in counts.failed (omega arith)
-count_rises blank t sent before now new (in_reading came writes reads taken given noted written read rose) counts =
+count_rises blank t sent before now new (in_reading came writes reads taken given noted written read bounded rose) counts =
     let none = new.faults in counts.failed (omega arith)
 
 -- ---- by what a call answers

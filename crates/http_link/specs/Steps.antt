@@ -72,6 +72,7 @@ pub record HeardInPart (before now : WireTraffic) (was came : List ℕ) : Type 0
   pub calls : List WireCall
   pub noted : Lists before.calls now.calls (calls ++ Read 0 ∷ [])
   pub reads : Reads was calls came false
+  pub bounded : length came ≤ most_read
   pub later : before.faults ≤ now.faults
   pub rose : Rose before.faults now.faults
 
@@ -97,5 +98,5 @@ pub data CutOff (before now : WireTraffic) (sent : List ℕ) : Type 0 where
       → CutOff before now sent
   in_reading : (came : List ℕ) (writes reads : List WireCall) → Appends before.taken now.taken sent
       → Appends before.given now.given came → Lists before.calls now.calls (writes ++ (reads ++ Read 0 ∷ []))
-      → IsWritten (Some []) (Some writes) sent true → Reads [] reads came false → Rose before.faults now.faults
-      → CutOff before now sent
+      → IsWritten (Some []) (Some writes) sent true → Reads [] reads came false → length came ≤ most_read
+      → Rose before.faults now.faults → CutOff before now sent

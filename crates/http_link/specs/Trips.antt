@@ -81,8 +81,8 @@ pub data Failing (sent : List ℕ) (before now : Telling) : Type 0 where
   -- the wire failed behind the request, in a read, and came back
   unheard : (came : List ℕ) (writes reads : List WireCall)
       → Shows now.blank now.last sent came (writes ++ (reads ++ Read 0 ∷ []))
-      → IsWritten (Some []) (Some writes) sent true → Reads [] reads came false → Rose before.faults now.faults
-      → Failing sent before now
+      → IsWritten (Some []) (Some writes) sent true → Reads [] reads came false → length came ≤ most_read
+      → Rose before.faults now.faults → Failing sent before now
   -- what was read is no response, and the dialler's count stands
   unanswered : (came : List ℕ) (ended : Bool) → Exchange now sent came ended → IsNoResponse came ended
       → now.faults ≡ before.faults → Failing sent before now

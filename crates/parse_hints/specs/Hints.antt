@@ -1,9 +1,20 @@
 -- What a person reads of what may stand at a place, and a sample of each.
-use Rattle.std.specs.Prelude.{ℕ, List, codes}
+use Rattle.std.specs.Prelude.{ℕ, List, [], ◌∷◌, codes}
 use Rattle.parse_hints.specs.declared.hint.Hint.{Hint}
 use Rattle.parse_hints.specs.declared.hint.Hint.TheVariants as hint
 use Rattle.parse_hints.specs.declared.hint.SaidBy.{SaidBy}
 use Rattle.parse_hints.specs.declared.hint.SaidBy.TheVariants as said
+
+-- the hints, in the order in which they are told
+abbrev pub all_hints : List Hint
+all_hints =
+    hint.Definition ∷ hint.EndOfFile ∷ hint.Clause ∷ hint.Statement ∷ hint.Value ∷ hint.Name ∷ hint.Number ∷
+    hint.QuotedText ∷ hint.Type ∷ hint.RequestType ∷ hint.LastType ∷ hint.Location ∷ hint.Protocol ∷
+    hint.Interfaces ∷ hint.Concurrent ∷ hint.Single ∷ hint.RequestResponse ∷ hint.OneWay ∷ hint.Throws ∷ hint.This
+    ∷ hint.Else ∷ hint.If ∷ hint.Operator ∷ hint.OpenBrace ∷ hint.CloseBrace ∷ hint.OpenParen ∷ hint.CloseParen ∷
+    hint.OpenBracket ∷ hint.CloseBracket ∷ hint.Comma ∷ hint.Semicolon ∷ hint.Bar ∷ hint.Colon ∷ hint.Dot ∷
+    hint.Assign ∷ hint.DeepAssign ∷ hint.Increment ∷ hint.Decrement ∷ hint.Arrow ∷ hint.At ∷ hint.Question ∷
+    hint.Star ∷ []
 
 -- A hint as a person reads it, and a sample of it: bytes that may stand there and nowhere else, so far as the grammar
 -- has such. What begins alike and is something else goes on otherwise.

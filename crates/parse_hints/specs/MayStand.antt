@@ -12,8 +12,7 @@ use Rattle.parse_hints.specs.declared.hint.Hint.{Hint}
 use Rattle.parse_hints.specs.declared.hint.Hint.TheVariants as hint
 use Rattle.parse_hints.specs.declared.hint.SaidBy.{SaidBy}
 use Rattle.parse_hints.specs.declared.hint.SaidBy.TheVariants as said
-use Rattle.parse_hints.specs.declared.hint.TheConstants.{HINTS}
-use Rattle.parse_hints.specs.Hints.{sample_of, said_by}
+use Rattle.parse_hints.specs.Hints.{all_hints, sample_of, said_by}
 
 -- ---- bytes that are a file or begin one
 
@@ -60,7 +59,7 @@ pub data AreKept (Holds : Hint → Type 0) : List Hint → List Hint → Type 0 
 
 -- these are the hints that are told of the place
 abbrev pub AreToldAt : List ℕ → ℕ → List Hint → Type 0
-AreToldAt text at told = AreKept (IsTold text at) HINTS told
+AreToldAt text at told = AreKept (IsTold text at) all_hints told
 
 -- ---- errors
 
