@@ -26,7 +26,8 @@ impl From<AllocError> for InstallError {
     }
 }
 
-/// The handlers of a scope: behaviours under the names of faults and under the names of scopes.
+/// The handlers of a scope: behaviours under the names of faults and under the names of scopes. Of a key of `faults`
+/// the number alone is read: nothing says that it is one of a fault.
 #[derive(Drop)]
 pub struct Table {
     faults: Row,
@@ -136,7 +137,8 @@ impl Table {
         self.scopes.reserve(more as usize)
     }
 
-    /// Puts what passed from a scope that ended over the handlers under the names of scopes.
+    /// Puts what passed from a scope that ended over the handlers under the names of scopes. Of two under one name the
+    /// first stands.
     pub fn merge(&mut self, completed: Handlers)
         requires room { length (entries_in (handlers_view completed)) ≤ room self.old }
         requires keys { are_of_scopes (handlers_view completed) ≡ true }

@@ -25,7 +25,8 @@ use std::alloc::{AllocError, Global};
 use std::mem;
 
 /// The event of a scope whose body is done, in the scope around it. What is installed in it goes into the form that
-/// stands there then. None where its last handler is through, or where a fault left it: then all stays.
+/// stands there then, and what was lent as `own` is not to be used any more. None where its last handler is through, or
+/// where a fault left it: then all stays.
 pub fn scope_acts(
     alloc: Global,
     own: &mut Installed,

@@ -1,6 +1,6 @@
 use behaviour_tree::Program;
 
-/// Who acts: a strand of a session of a service, which is a number of a program.
+/// Who acts: a strand of a session, and its service by the number that it has in the program.
 #[derive(Clone, Copy)]
 pub struct Actor<'a> {
     pub program: &'a Program,

@@ -133,6 +133,6 @@ came_of {n} {old} {new} team x = go x.turned
       chose = λ e. (event, refl, chose_first refl kept enabled first (length old.history) true);
       rested = λ e. absurd (true≢false e);
     }
-    go (was_idle strands enabled stood same) = none same (inr (idle_cannot_act refl kept enabled stood))
+    go (was_idle yet fewer strands enabled stood same) = none same (inr (idle_cannot_act refl kept enabled stood))
     go (was_ended c at over same) = none same (inr (ended_cannot_act kept at over))
-    go (was_spent all same) = none same (inl all)
+    go (was_spent yet all same) = none same (inl all)

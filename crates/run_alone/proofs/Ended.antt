@@ -252,7 +252,7 @@ module _ {s0 s1 s2 s3 s4 : State} {xs0 xs1 : List Wait} {n : ℕ} (f : Finishes 
         came =
             subst (λ (ss : List (List Event)). CameThrough s2.setting s2.budget now.said.halted s2.history ss) (sym left.sessions)
             (came_through s2 team2 (subst (λ (l : Limits). l.sessions ≤ first_worker) (sym team2.limits) (le_refl first_worker))
-            f.adopt.born (λ e. quiet (said.tells.calm e)) still);
+            f.adopt.born (λ e. quiet (said.tells.halts.calm e).0) still);
         end = subst (λ (l : List Entry). Ended s2.history l) (sym left.history) (ended f team0 team2 legal);
         legal = coe 1 0 (i. IsLegal (sym setting i) (left.history i)) legal;
         opens =
@@ -266,7 +266,7 @@ module _ {s0 s1 s2 s3 s4 : State} {xs0 xs1 : List Wait} {n : ℕ} (f : Finishes 
         noted =
             subst (λ (t : List ℕ). NotedSoFar s2.setting s2.history t) (sym said.tells.noted)
             (noted_2 f team0 team2 legal mid.said.noted said.noted);
-        over = over_then before now brought (λ e. said.halted_mid (said.tells.calm e)) over;
+        over = over_then before now brought (λ e. said.halted_mid (said.tells.halts.calm e).0) over;
         asked = ap (λ (b : Brought). length b.seens) brought ∙ passed.asked
             ∙ sym (ap (λ (b : Brought). length b.given) brought ∙ passed.count);
         told_before = λ j k at.

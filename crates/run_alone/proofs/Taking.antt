@@ -323,7 +323,7 @@ module _ {s0 s1 s2 s3 : State} {xs0 xs1 xs2 xs3 : List Wait} {n : ℕ} {p : Post
               (coe 0 1 (i. NotedSoFar (sym took.sweep.setting i) s2.history mid.said.noted)
               (notes.1 (noted_posted before.said.noted b.noted legal))));
         },
-        record { brought = brought; halted = λ e. ((notes.0).notes.halts.calm (tells.calm e)).0 },
+        record { brought = brought; halted = λ e. ((notes.0).notes.halts.calm (tells.halts.calm e).0).0 },
       )
 
 -- ---- step by step, as the calls need it
@@ -440,6 +440,7 @@ module _ {s0 s1 s2 s3 : State} {xs0 xs1 xs2 xs3 : List Wait} {n : ℕ} (p : Post
           passed = subst (λ (k : ℕ). Passed s3 xs3 k told.0) (sym e) all.0;
           said = all.1;
           halted = λ stopped.
-              still_halted mid.said.halted (told.0).said.halted (told.2).calm (halted stopped mid noted.1);
+              still_halted mid.said.halted (told.0).said.halted (λ e. ((told.2).halts.calm e).0)
+              (halted stopped mid noted.1);
         },
       )

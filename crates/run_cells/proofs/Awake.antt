@@ -144,9 +144,9 @@ ended-stays {n} {old} {new} x e = go x.turned
         let h = first.happened in
         let was : h.config ≡ e.config = same_of h.config e.config (sym h.at ∙ e.at) in
         absurd (not-ended h.config.ended _ h.done h.after_is (ap (λ (c : Config). c.ended) was ∙ e.ended))
-    go (idle strands enabled stood is) = as-it-was is
+    go (idle yet fewer strands enabled stood is) = as-it-was is
     go (ended c at over is) = as-it-was is
-    go (spent all is) = as-it-was is
+    go (spent yet all is) = as-it-was is
 
 -- a turn leaves the list
 pub awake_turn : {awake : List ℕ} {n : ℕ} {old new : State} {t : Turn} → IsTurn n old new t → AreAwake awake old.stands

@@ -150,9 +150,9 @@ left_did {n} {old} {new} x d = go x.turned d
         = omega arith in
         ap suc (is ∙ ap (λ (k : ℕ). (first_worker - k) * old.budget + events_left old.budget (slice_set old.stands n x.now)) long)
         ∙ sum
-    go (was_idle strands enabled stood is) e = absurd (false≢true e)
+    go (was_idle yet fewer strands enabled stood is) e = absurd (false≢true e)
     go (has_ended c at fin is) e = absurd (false≢true e)
-    go (has_spent all is) e = absurd (false≢true e)
+    go (has_spent yet all is) e = absurd (false≢true e)
 
 pub less_did : {n : ℕ} {old new : State} {t : Turn} → IsTurn n old new t → is_did t ≡ true → left new < left old
 less_did {n} {old} {new} x d = subst (λ (k : ℕ). left new < k) (left_did x d) (below (left new))
@@ -264,9 +264,9 @@ stood_turns {n} (last old new t d x) e =
     go : {t : Turn} → Turned (play old n) (spot x.was old.history) (spot x.now new.history) t → is_did t ≡ false
         → Rests old n x.was old.history
     go (did event strands enabled first events within) e = absurd (false≢true (sym e))
-    go (was_idle strands enabled stood is) e = idle strands _ enabled stood
+    go (was_idle yet fewer strands enabled stood is) e = idle strands _ enabled stood
     go (has_ended c at fin is) e = ended c at fin
-    go (has_spent all is) e = spent all
+    go (has_spent yet all is) e = spent all
 stood_turns (more old mid new t b d x tm rest) e = absurd (true≢false e)
 
 quiet-same : (old new : State) → new.setting ≡ old.setting → new.budget ≡ old.budget → new.history ≡ old.history

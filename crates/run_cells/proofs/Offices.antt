@@ -272,6 +272,16 @@ pub stays_work : {c : Crew} (o : Office) {X E : Type 0} (r : Result X E) (f : X 
     → IfOk r (λ x. Stays (state_of c) (state_of (with_office c o)) (list_of (f x)))
 stays_work {c} o r f work a = stays_ok c o r f a
 
+-- where the call failed nothing came
+pub stays_not : (c : Crew) (o : Office) {X E : Type 0} (r : Result X E) → OnErr r (Adds None c.office o)
+    → OnErr r (Stays (state_of c) (state_of (with_office c o)) [])
+stays_not c o (Ok x) failed = tt
+stays_not c o (Err e) failed = stays_by (unchanged c o) failed
+
+pub stays_failed : {c : Crew} (o : Office) {X E : Type 0} (r : Result X E) → AtWork c → OnErr r (Adds None c.office o)
+    → OnErr r (Stays (state_of c) (state_of (with_office c o)) [])
+stays_failed {c} o r work failed = stays_not c o r failed
+
 pub works_ok : (c : Crew) (o : Office) {X E : Type 0} (r : Result X E) (f : X → Option Entry) → AtWork c
     → IfOk r (λ x. Adds (f x) c.office o) → OnOk r (o.spent ≡ false)
     → ((x : X) → ByWorker (list_of (f x))) → ((x : X) → NoStops (list_of (f x)))

@@ -108,9 +108,9 @@ idle_turn_same {n} {old} {new} x none = go x.turned none
     go : {t : Turn} → Turned (play old n) (spot x.was old.history) (spot x.now new.history) t → is_did t ≡ false
         → (new.history ≡ old.history) × (new.stands ≡ old.stands)
     go (did event strands enabled first events within) e = absurd (false≢true (sym e))
-    go (idle strands enabled stood is) e = same is
+    go (idle yet fewer strands enabled stood is) e = same is
     go (ended c at over is) e = same is
-    go (spent all is) e = same is
+    go (spent yet all is) e = same is
 
 pub turn_still : {n : ℕ} {old new : State} {t : Turn} → Team old → IsTurn n old new t → IsStillAt old → IsStillAt new
 turn_still {n} {old} {new} team x still = go x.turned
@@ -133,9 +133,9 @@ turn_still {n} {old} {new} team x still = go x.turned
         (event_at old.stands n x.was x.there) within
         (changed_events old.stands n x.was x.now (x.was.events ++ event ∷ []) x.there events)
         still)
-    go (idle strands enabled stood is) = as_before is
+    go (idle yet fewer strands enabled stood is) = as_before is
     go (ended c at over is) = as_before is
-    go (spent all is) = as_before is
+    go (spent yet all is) = as_before is
 
 -- where nothing is left to do, a turn does nothing
 pub quiet_turn_idle : {n : ℕ} {old new : State} {t : Turn} → Team old → IsQuietAt old → IsTurn n old new t
@@ -148,6 +148,6 @@ quiet_turn_idle {n} {old} {new} team quiet x = go x.turned
         (no_more {a = seat_of (play old n)} {old = moment_at x.was old.history}
         {new = moment_at x.now new.history} refl quiet
         (event_at old.stands n x.was x.there) within (team.each n x.was x.there) first.happened)
-    go (idle strands enabled stood is) = refl
+    go (idle yet fewer strands enabled stood is) = refl
     go (ended c at over is) = refl
-    go (spent all is) = refl
+    go (spent yet all is) = refl

@@ -320,9 +320,9 @@ turn_came {n} {old} {new} x = go x.turned
           is = p.seen ∙ ap (λ (h : List Entry). h ++ p.own) (grew_alone refl p.grew);
           are = gives_own p.given;
         }
-    go (idle strands enabled stood is) = same is
+    go (idle yet fewer strands enabled stood is) = same is
     go (ended c at over is) = same is
-    go (spent all is) = same is
+    go (spent yet all is) = same is
 
 -- the session of a turn is kept
 pub turn_kept : {n : ℕ} {old new : State} {t : Turn} → (x : IsTurn n old new t)
@@ -337,9 +337,9 @@ turn_kept {n} {old} {new} x k = go x.turned
     go : {t : Turn} → Turned (play old n) (spot x.was old.history) (spot x.now new.history) t
         → Kept (seat_at old.setting n) (x.now).events (moment_at x.now new.history)
     go (did event strands enabled first events within) = kept_did first events k
-    go (idle strands enabled stood is) = same is
+    go (idle yet fewer strands enabled stood is) = same is
     go (ended c at over is) = same is
-    go (spent all is) = same is
+    go (spent yet all is) = same is
 
 -- and keeps to the budget
 turn_within : {n : ℕ} {old new : State} {t : Turn} → (x : IsTurn n old new t) → length (x.was).events ≤ old.budget
@@ -355,9 +355,9 @@ turn_within {n} {old} {new} x k = go x.turned
         let m : length (x.was).events + 1 ≤ old.budget = omega arith in
         subst (λ (es : List Event). length es ≤ old.budget) (sym events)
         (subst (λ (k : ℕ). k ≤ old.budget) (sym (length-append (x.was).events (event ∷ []))) m)
-    go (idle strands enabled stood is) = same is
+    go (idle yet fewer strands enabled stood is) = same is
     go (ended c at over is) = same is
-    go (spent all is) = same is
+    go (spent yet all is) = same is
 
 -- a team stays one by a turn
 pub team_turn : {n : ℕ} {old new : State} {t : Turn} → Team old → IsTurn n old new t → IsLegal new.setting new.history

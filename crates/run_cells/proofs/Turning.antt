@@ -1,5 +1,5 @@
 -- What a turn at the desk came to, by what it says of itself.
-use Rattle.std.proofs.Common.{◌≡◌, ◌↔◌, ◌≤◌, ◌<◌, ℕ, Bool, true, false, List, [], ◌∷◌, ◌++◌, length, refl, ap, subst, Option, Some, arith}
+use Rattle.std.proofs.Common.{◌≡◌, ◌↔◌, ◌≤◌, ◌<◌, ℕ, Bool, true, false, List, [], ◌∷◌, ◌++◌, length, refl, sym, ap, subst, ◌∙◌, Option, Some, arith}
 use Rattle.std.specs.Prelude.{IfOk, IfSome, Result, Ok, Err, nat_lt}
 use Rattle.std.specs.declared.alloc.AllocError.{AllocError}
 use Rattle.std.proofs.lemmas.Bool.{false≢true}
@@ -39,6 +39,27 @@ module _ (p : Play) (old new : Spot) where
       → moment_at new.stand new.history ≡ moment_at old.stand old.history
   same_idle n = λ i. record { service = n.service i; config = n.config i; seen = grew_alone refl n.grew i }
 
+  -- a session whose turn did not say that it has ended or used its budget has not, and may have one event more
+  not_over : (t : Turn) (c : Config) → old.stand.config ≡ Some c → is_over (Ok t) ≡ false
+      → IfSome old.stand.config (λ c. (Same t turn.Ended) ↔ (c.ended ≡ true))
+      → IfSome old.stand.config (λ c. (Same t turn.Spent) ↔ ((p.budget ≤ length old.stand.events) × (c.ended ≡ false)))
+      → (c.ended ≡ false) × (length old.stand.events < p.budget)
+  not_over t c at neither ends spends = by c.ended (nat_lt (length old.stand.events) p.budget) refl refl
+    where
+      end_is : (Same t turn.Ended) ↔ (c.ended ≡ true)
+      end_is = subst (λ (o : Option Config). IfSome o (λ c. (Same t turn.Ended) ↔ (c.ended ≡ true))) at ends
+
+      spent_is : (Same t turn.Spent) ↔ ((p.budget ≤ length old.stand.events) × (c.ended ≡ false))
+      spent_is = subst (λ (o : Option Config). IfSome o (λ c. (Same t turn.Spent) ↔ ((p.budget ≤ length old.stand.events) × (c.ended ≡ false)))) at spends
+
+      by : (b l : Bool) → c.ended ≡ b → nat_lt (length old.stand.events) p.budget ≡ l
+          → (c.ended ≡ false) × (length old.stand.events < p.budget)
+      by true l e f = absurd (false≢true (sym neither ∙ ap is_over (end_is.1 e)))
+      by false true e f = let fewer : length old.stand.events < p.budget = grind (arith, nat_tests) in (e, fewer)
+      by false false e f =
+          let most : p.budget ≤ length old.stand.events = grind (arith, nat_tests) in
+          absurd (false≢true (sym neither ∙ ap is_over (spent_is.1 (most, e))))
+
   pub turned_by : (r : Result Turn AllocError) (c : Config) → old.stand.config ≡ Some c
       → ((event : Event) → r ≡ Ok (turn.Did event) → (strands : List ℕ)
       × AreEnabled (seat_of p) (moment_at old.stand old.history) strands
@@ -56,24 +77,13 @@ module _ (p : Play) (old new : Spot) where
   turned_by (Err e) c at dids idles ends spends end rest = tt
   turned_by (Ok (turn.Did event)) c at dids idles ends spends end rest =
       let d = dids event refl in
-      did event d.0 d.1 d.2 d.3 (by c.ended (nat_lt (length old.stand.events) p.budget) refl refl)
-    where
-      end_is : (Same (turn.Did event) turn.Ended) ↔ (c.ended ≡ true)
-      end_is = subst (λ (o : Option Config). IfSome o (λ c. (Same (turn.Did event) turn.Ended) ↔ (c.ended ≡ true))) at ends
-
-      spent_is : (Same (turn.Did event) turn.Spent) ↔ ((p.budget ≤ length old.stand.events) × (c.ended ≡ false))
-      spent_is = subst (λ (o : Option Config). IfSome o (λ c. (Same (turn.Did event) turn.Spent) ↔ ((p.budget ≤ length old.stand.events) × (c.ended ≡ false)))) at spends
-
-      by : (b l : Bool) → c.ended ≡ b → nat_lt (length old.stand.events) p.budget ≡ l → length old.stand.events < p.budget
-      by b true e f = grind (arith, nat_tests)
-      by true false e f = absurd (false≢true (ap is_over (end_is.1 e)))
-      by false false e f =
-          let most : p.budget ≤ length old.stand.events = grind (arith, nat_tests) in
-          absurd (false≢true (ap is_over (spent_is.1 (most, e))))
+      did event d.0 d.1 d.2 d.3 (not_over (turn.Did event) c at refl ends spends).1
   turned_by (Ok turn.Idle) c at dids idles ends spends end rest =
       let d = idles refl in
       let m : moment_at new.stand new.history ≡ moment_at old.stand old.history = same_idle d.2 in
-      idle d.0 d.1
+      let yet : (c.ended ≡ false) × (length old.stand.events < p.budget)
+      = not_over turn.Idle c at refl ends spends in
+      idle (record { config = c; at = at; going = yet.0 }) yet.1 d.0 d.1
       (subst (λ (x : Moment). NoneAllowed (seat_of p) (from_pick d.0 p.pick) (moment_at old.stand old.history) x) m d.2)
       (same_spot m d.3)
   turned_by (Ok turn.Ended) c at dids idles ends spends end rest =
@@ -85,4 +95,4 @@ module _ (p : Play) (old new : Spot) where
       let d = rest refl in
       let spent_is : (Same turn.Spent turn.Spent) ↔ ((p.budget ≤ length old.stand.events) × (c.ended ≡ false))
       = subst (λ (o : Option Config). IfSome o (λ c. (Same turn.Spent turn.Spent) ↔ ((p.budget ≤ length old.stand.events) × (c.ended ≡ false)))) at spends in
-      spent (spent_is.0 refl).0 (same_spot d.0 d.1)
+      spent (record { config = c; at = at; going = (spent_is.0 refl).1 }) (spent_is.0 refl).0 (same_spot d.0 d.1)

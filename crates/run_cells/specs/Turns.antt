@@ -75,21 +75,29 @@ pub record Spot : Type 0 where
 abbrev pub spot : Stand → List Entry → Spot
 spot st h = record { stand = st; history = h }
 
--- what a turn came to: the first allowed event from the pick on was done; or none is allowed, the session has ended, or
--- it has used its budget, and it stands where it stood
+-- A session that stands so has not ended.
+pub record HasNotEnded (st : Stand) : Type 0 where
+  pub config : Config
+  pub at : st.config ≡ Some config
+  pub going : config.ended ≡ false
+
+-- what a turn came to: the first event that is allowed from the pick on was done; or the session has not ended and not
+-- used its budget, and none is allowed; or it has ended; or it has not, and has used its budget. Where no event was done
+-- it stands where it stood
 pub data Turned (p : Play) (old new : Spot) : Turn → Type 0 where
   did : (event : Event) (strands : List ℕ) → AreEnabled (seat_of p) (moment_at old.stand old.history) strands
       → FirstDone (seat_of p) (from_pick strands p.pick) (moment_at old.stand old.history)
       (moment_at new.stand new.history) event
       → new.stand.events ≡ old.stand.events ++ event ∷ [] → length old.stand.events < p.budget
       → Turned p old new (turn.Did event)
-  idle : (strands : List ℕ) → AreEnabled (seat_of p) (moment_at old.stand old.history) strands
+  idle : HasNotEnded old.stand → length old.stand.events < p.budget
+      → (strands : List ℕ) → AreEnabled (seat_of p) (moment_at old.stand old.history) strands
       → NoneAllowed (seat_of p) (from_pick strands p.pick) (moment_at old.stand old.history)
       (moment_at old.stand old.history)
       → new ≡ old
       → Turned p old new turn.Idle
   ended : (c : Config) → old.stand.config ≡ Some c → c.ended ≡ true → new ≡ old → Turned p old new turn.Ended
-  spent : p.budget ≤ length old.stand.events → new ≡ old → Turned p old new turn.Spent
+  spent : HasNotEnded old.stand → p.budget ≤ length old.stand.events → new ≡ old → Turned p old new turn.Spent
 
 -- Session n had a turn, which took the next pick.
 pub record IsTurn (n : ℕ) (old new : State) (t : Turn) : Type 0 where

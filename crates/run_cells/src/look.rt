@@ -34,7 +34,7 @@ impl<S: Seating> Cells<'_, S> {
         Ok(false)
     }
 
-    /// Whether a session used its whole budget and could act all the same.
+    /// Whether the session of this number used its whole budget and could act all the same.
     fn could_act(&mut self, number: usize) -> Result<bool, AllocError>
         requires work { AtWork (⟦<Cells<'static, S> as Crewed>⟧.crew self.old) }
         requires there { number < length self.old.cells.items }

@@ -64,7 +64,7 @@ impl<S: Seating> Cells<'_, S> {
     }
 
     /// Leaves the session that is visited at a place for the next one, whose place it gives. One that has ended is not
-    /// visited again.
+    /// visited again: that is for speed alone, and no clause says it.
     fn leave(&mut self, place: usize, number: usize) -> usize
         requires work { AtWork (⟦<Cells<'static, S> as Crewed>⟧.crew self.old) }
         requires there { number < length self.old.cells.items }

@@ -1,5 +1,5 @@
 //! The calls of the one worker.
-ghost use Rattle.std.specs.Prelude.{◌≡◌, ◌∷◌, ◌++◌, [], true, IfOk, OnOk};
+ghost use Rattle.std.specs.Prelude.{◌≡◌, ◌∷◌, ◌++◌, [], true, IfOk, OnOk, OnErr};
 ghost use Rattle.office_core.specs.declared.history.Act.TheVariants as act;
 ghost use Rattle.office_core.specs.Answers.{answers};
 ghost use Rattle.office_core.specs.Keys.{first};
@@ -28,6 +28,7 @@ impl<S: Seating> Cells<'_, S> {
         ensures program { self.new.program ≡ self.old.program }
         ensures reply { IfOk result (λ r. r ≡ post_reply (past_in (state_of (⟦<Cells<'static, S> as Crewed>⟧.crew self.old))) (route (state_of (⟦<Cells<'static, S> as Crewed>⟧.crew self.old)).setting (past_in (state_of (⟦<Cells<'static, S> as Crewed>⟧.crew self.old))) posted)) }
         ensures added { IfOk result (λ r. Stays (state_of (⟦<Cells<'static, S> as Crewed>⟧.crew self.old)) (state_of (⟦<Cells<'static, S> as Crewed>⟧.crew self.new)) (list_of (post_entry first_worker origin posted r))) }
+        ensures unchanged { OnErr result (Stays (state_of (⟦<Cells<'static, S> as Crewed>⟧.crew self.old)) (state_of (⟦<Cells<'static, S> as Crewed>⟧.crew self.new)) []) }
         ensures work { OnOk result (AtWork (⟦<Cells<'static, S> as Crewed>⟧.crew self.new)) }
     {
         self.office.post(WORKER, origin, posted)
@@ -40,6 +41,7 @@ impl<S: Seating> Cells<'_, S> {
         ensures program { self.new.program ≡ self.old.program }
         ensures answer { IfOk result (λ o. o ≡ first (answers (state_of (⟦<Cells<'static, S> as Crewed>⟧.crew self.old)).setting (past_in (state_of (⟦<Cells<'static, S> as Crewed>⟧.crew self.old))) message)) }
         ensures added { IfOk result (λ o. Stays (state_of (⟦<Cells<'static, S> as Crewed>⟧.crew self.old)) (state_of (⟦<Cells<'static, S> as Crewed>⟧.crew self.new)) (list_of (collect_entry first_worker message o))) }
+        ensures unchanged { OnErr result (Stays (state_of (⟦<Cells<'static, S> as Crewed>⟧.crew self.old)) (state_of (⟦<Cells<'static, S> as Crewed>⟧.crew self.new)) []) }
         ensures ours { IsOurs (⟦<Cells<'static, S> as Crewed>⟧.crew self.new) }
         ensures work { AtWork (⟦<Cells<'static, S> as Crewed>⟧.crew self.old) → OnOk result (AtWork (⟦<Cells<'static, S> as Crewed>⟧.crew self.new)) }
     {
@@ -52,6 +54,7 @@ impl<S: Seating> Cells<'_, S> {
         ensures program { self.new.program ≡ self.old.program }
         ensures call { IfOk result (λ c. c ≡ next_outgoing (state_of (⟦<Cells<'static, S> as Crewed>⟧.crew self.old)).setting (past_in (state_of (⟦<Cells<'static, S> as Crewed>⟧.crew self.old))) kind) }
         ensures added { IfOk result (λ c. Stays (state_of (⟦<Cells<'static, S> as Crewed>⟧.crew self.old)) (state_of (⟦<Cells<'static, S> as Crewed>⟧.crew self.new)) (list_of (fetch_entry first_worker c))) }
+        ensures unchanged { OnErr result (Stays (state_of (⟦<Cells<'static, S> as Crewed>⟧.crew self.old)) (state_of (⟦<Cells<'static, S> as Crewed>⟧.crew self.new)) []) }
         ensures work { OnOk result (AtWork (⟦<Cells<'static, S> as Crewed>⟧.crew self.new)) }
     {
         self.office.fetch(WORKER, kind)
@@ -63,6 +66,7 @@ impl<S: Seating> Cells<'_, S> {
         requires fetched { is_fetched (past_in (state_of (⟦<Cells<'static, S> as Crewed>⟧.crew self.old))) first_worker session call ≡ true }
         ensures program { self.new.program ≡ self.old.program }
         ensures added { OnOk result (Stays (state_of (⟦<Cells<'static, S> as Crewed>⟧.crew self.old)) (state_of (⟦<Cells<'static, S> as Crewed>⟧.crew self.new)) (entry first_worker (act.Answered session call outcome) ∷ [])) }
+        ensures unchanged { OnErr result (Stays (state_of (⟦<Cells<'static, S> as Crewed>⟧.crew self.old)) (state_of (⟦<Cells<'static, S> as Crewed>⟧.crew self.new)) []) }
         ensures work { OnOk result (AtWork (⟦<Cells<'static, S> as Crewed>⟧.crew self.new)) }
     {
         self.office.answered(WORKER, session, call, outcome)

@@ -1,6 +1,6 @@
 -- Postings are told one by one: what was told and what is still to be told are together all that is told.
 use Rattle.std.proofs.Common.{◌≡◌, ℕ, Bool, true, false, not, ◌||◌, List, [], ◌∷◌, ◌++◌, map, cond, refl, sym, ap}
-use Rattle.std.proofs.Common.{subst, ◌∙◌}
+use Rattle.std.proofs.Common.{subst, ◌∙◌, IsErrAnd}
 use Rattle.std.specs.Prelude.{nat_eq, slice_get, MatchResult, Result, Ok, Err}
 use Rattle.std.specs.List.{list_any, filter}
 use Rattle.behaviour_tree.specs.declared.words.Outcome.{Outcome}
@@ -9,7 +9,8 @@ use Rattle.office_front.specs.Calls.{After, Tells, IsDue}
 use Rattle.order_laws.proofs.Lists.{false_left, false_right, turned, append_nil, append_assoc, any_append}
 use Rattle.run_posts.specs.declared.pending.Pending.{Pending}
 use Rattle.run_posts.specs.Fates.{Wait, is_finished, is_open, outcomes_in, told_of, wait_of}
-use Rattle.run_posts.specs.Telling.{Answers, AnswersNone, AreExpected, TellsAll, TellsOn}
+use Rattle.run_posts.specs.Telling.{Answers, AnswersNone, AreExpected, TellsAll, TellsOn, TellsSome}
+use Rattle.run_posts.proofs.Halting.{halts_not, halts_on}
 
 -- ---- the lists
 
@@ -59,7 +60,7 @@ pub record IsTelling (all rest : List Wait) (before now : Dealings) : Type 0 whe
 pub telling_starts : (all : List Wait) (d : Dealings) → AreExpected all d → IsTelling all all d d
 telling_starts all d h = record {
   said = [];
-  tells = record { told = sym (append_nil d.said.told); noted = refl; calm = λ c. c; brought = refl };
+  tells = record { told = sym (append_nil d.said.told); noted = refl; halts = halts_not d.said; brought = refl };
   all_of = refl;
   expected = h;
 }
@@ -106,10 +107,6 @@ expected_still x outcomes (y ∷ xs) now next t apart h = (
       (false_right (nat_eq x.place y.place) (list_any (λ (z : Wait). nat_eq x.place z.place) xs) apart) h.2,
 )
 
-halted_before : (now next : Dealings) (x : ℕ) (outcomes : List Outcome) → Tells x outcomes now next
-    → next.said.halted ≡ false → now.said.halted ≡ false
-halted_before now next x outcomes t h = (t.halts.calm h).0
-
 -- and it is told
 pub telling_turn : (all rest : List Wait) (x : Wait) (before now next : Dealings) → is_finished x ≡ true
     → Tells x.place (outcomes_in x.fates) now next → IsTelling all (x ∷ rest) before now
@@ -121,7 +118,7 @@ telling_turn all rest x before now next h t s = record {
         t.told ∙ ap (λ l. l ++ told_of x ∷ []) s.tells.told
         ∙ append_assoc before.said.told s.said (told_of x ∷ []);
     noted = t.noted ∙ s.tells.noted;
-    calm = λ c. s.tells.calm (halted_before now next x.place (outcomes_in x.fates) t c);
+    halts = halts_on before.said now.said next.said s.tells.halts t.halts;
     brought = t.brought ∙ s.tells.brought;
   };
   all_of =
@@ -136,6 +133,11 @@ pub telling_ends : (all : List Wait) (before now : Dealings) → IsTelling all [
     → TellsAll (map told_of (filter is_finished all)) before now
 telling_ends all before now t =
     subst (λ l. TellsAll l before now) (sym (append_nil t.said) ∙ t.all_of) t.tells
+
+-- the first of them were told
+telling_some : (all rest : List Wait) (before now : Dealings) → IsTelling all rest before now
+    → TellsSome (map told_of (filter is_finished all)) before now
+telling_some all rest before now t = (t.said, map told_of (filter is_finished rest), t.all_of, t.tells)
 
 -- ---- a front
 
@@ -185,3 +187,27 @@ pub tells_ends : {F : Type 0} (dealt : F → F → Dealings → Type 0) (old now
 tells_ends dealt old now all t first before was expected =
     let g : After (dealt first now) (IsTelling all [] before) = t first before was expected in
     (g.0, g.1, telling_ends all before g.0 g.2)
+
+-- ---- where memory was wanting
+
+-- what holds where a call failed
+pub failing : {T E B : Type 0} (A : Type 0) (Q : E → Type 0) (r : Result T E) → IsErrAnd r Q → B
+    → MatchResult r (λ _. A) (λ _. B)
+failing A Q (Ok x) h b = absurd h
+failing A Q (Err y) h b = b
+
+-- the first of them were told
+pub tells_some : {F : Type 0} (dealt : F → F → Dealings → Type 0) (old now : F) (all rest : List Wait)
+    → TellsOn dealt old now all (IsTelling all rest)
+    → TellsOn dealt old now all (TellsSome (map told_of (filter is_finished all)))
+tells_some dealt old now all rest t first before was expected =
+    let g : After (dealt first now) (IsTelling all rest before) = t first before was expected in
+    (g.0, g.1, telling_some all rest before g.0 g.2)
+
+-- and the next was not
+pub tells_not : {F : Type 0} (dealt : F → F → Dealings → Type 0) (old mid now : F) (all rest : List Wait) (x : Wait)
+    → is_finished x ≡ true → AnswersNone dealt mid now x → TellsOn dealt old mid all (IsTelling all (x ∷ rest))
+    → TellsOn dealt old now all (TellsSome (map told_of (filter is_finished all)))
+tells_not dealt old mid now all rest x h call t first before was expected =
+    let g : After (dealt first mid) (IsTelling all (x ∷ rest) before) = t first before was expected in
+    (g.0, call first g.0 g.1 (is_due all rest x before g.0 h g.2), telling_some all (x ∷ rest) before g.0 g.2)

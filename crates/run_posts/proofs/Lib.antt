@@ -1,5 +1,6 @@
 pub mod Added
 pub mod Settling
+pub mod Halting
 pub mod Expecting
 pub mod Fates
 pub mod Opening

@@ -4,7 +4,7 @@ use Rattle.std.specs.Prelude.{◌≡◌, true, false, List, [], ◌∷◌, ◌++
 use Rattle.std.specs.List.{list_any}
 use Rattle.office_core.specs.declared.front.Posting.{Posting}
 use Rattle.office_front.specs.Dealings.{Told, Dealings}
-use Rattle.office_front.specs.Calls.{After, Fit, IsDue, Tells}
+use Rattle.office_front.specs.Calls.{After, Fit, Halts, IsDue, Tells}
 use Rattle.run_posts.specs.Fates.{Wait, is_finished, outcomes_in}
 
 -- A posting was given and not told, and the outcomes, once all are known, are those of its calls.
@@ -20,16 +20,16 @@ AreExpected [] d = Unit {0}
 AreExpected (x ∷ xs) d =
     IsExpected x d × (list_any (λ (y : Wait). nat_eq x.place y.place) xs ≡ false) × AreExpected xs d
 
--- These postings are told, in order, and nothing else passes.
+-- These postings are told, in order, and nothing else passes, but for notes that have no text.
 pub record TellsAll (ts : List Told) (before now : Dealings) : Type 0 where
   pub told : now.said.told ≡ before.said.told ++ ts
   pub noted : now.said.noted ≡ before.said.noted
-  pub calm : now.said.halted ≡ false → before.said.halted ≡ false
+  pub halts : Halts before.said now.said
   pub brought : now.brought ≡ before.brought
 
--- some are told
-abbrev pub TellsSome : Dealings → Dealings → Type 0
-TellsSome before now = (ts : List Told) × TellsAll ts before now
+-- the first of these postings are told, in order, and nothing else passes, but for notes that have no text
+abbrev pub TellsSome : List Told → Dealings → Dealings → Type 0
+TellsSome ts before now = (said rest : List Told) × (said ++ rest ≡ ts) × TellsAll said before now
 
 -- whatever may have passed between a front and its run before these postings were told, this passed since
 abbrev pub TellsOn : {F : Type 0} → (F → F → Dealings → Type 0) → F → F → List Wait → (Dealings → Dealings → Type 0)

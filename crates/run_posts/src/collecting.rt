@@ -23,7 +23,7 @@ use std::alloc::{AllocError, Global};
 use std::mem;
 
 impl Pendings {
-    /// Collects the answers that are there.
+    /// Collects the answers that are there. After want of memory the postings that waited are gone.
     pub fn collect_all<C: Counter>(&mut self, cells: &mut C) -> Result<(), AllocError>
         requires ours { IsOurs (C.crew cells.old) }
         requires collectable { AreUncollected (past_in (state_of (C.crew cells.old))) (messages_of (waits self.old)) }

@@ -1,4 +1,4 @@
-ghost use Rattle.std.specs.Prelude.{◌≡◌, true, IfOk, OnOk};
+ghost use Rattle.std.specs.Prelude.{◌≡◌, [], true, IfOk, OnOk, OnErr};
 ghost use Rattle.office_core.specs.Answers.{answers};
 ghost use Rattle.office_core.specs.Keys.{first};
 ghost use Rattle.office_core.specs.Legal.{is_collectable};
@@ -28,6 +28,7 @@ pub trait Counter {
             (past_in (state_of (crew self.old))) posted)) }
         ensures added { IfOk result (λ r. Stays (state_of (crew self.old)) (state_of (crew self.new))
             (list_of (post_entry first_worker origin posted r))) }
+        ensures unchanged { OnErr result (Stays (state_of (crew self.old)) (state_of (crew self.new)) []) }
         ensures work { OnOk result (AtWork (crew self.new)) };
 
     /// The answer of a message that was posted; none where it has none yet.
@@ -39,6 +40,7 @@ pub trait Counter {
             ≡ first (answers (state_of (crew self.old)).setting (past_in (state_of (crew self.old))) message)) }
         ensures added { IfOk result (λ o. Stays (state_of (crew self.old)) (state_of (crew self.new))
             (list_of (collect_entry first_worker message o))) }
+        ensures unchanged { OnErr result (Stays (state_of (crew self.old)) (state_of (crew self.new)) []) }
         ensures ours { IsOurs (crew self.new) }
         ensures work { AtWork (crew self.old) → OnOk result (AtWork (crew self.new)) };
 }

@@ -14,7 +14,8 @@ use std::alloc::{AllocError, Global};
 use std::mem;
 
 impl Pendings {
-    /// Answers the postings whose calls all have their outcomes, in order.
+    /// Answers the postings whose calls all have their outcomes, in order. After want of memory the first of these were
+    /// answered, and all that waited are gone.
     pub fn tell_finished<F: Front>(
         &mut self,
         program: &Program,
@@ -25,7 +26,8 @@ impl Pendings {
         ensures told { MatchResult result
             (λ _. TellsOn (F.dealt (parts_of program.now)) front.old front.new (waits self.old)
             (TellsAll (map told_of (filter specs.is_finished (waits self.old)))))
-            (λ _. TellsOn (F.dealt (parts_of program.now)) front.old front.new (waits self.old) TellsSome) }
+            (λ _. TellsOn (F.dealt (parts_of program.now)) front.old front.new (waits self.old)
+            (TellsSome (map told_of (filter specs.is_finished (waits self.old))))) }
     {
         let waiting = mem::replace(&mut self.waiting, Vec::new(self.alloc));
         self.waiting = tell_each(self.alloc, program, front, waiting)?;
@@ -44,7 +46,8 @@ fn tell_each<F: Front>(
     ensures told { MatchResult result
         (λ _. TellsOn (F.dealt (parts_of program.now)) front.old front.new (map wait_of waiting.items)
         (TellsAll (map told_of (filter specs.is_finished (map wait_of waiting.items)))))
-        (λ _. TellsOn (F.dealt (parts_of program.now)) front.old front.new (map wait_of waiting.items) TellsSome) }
+        (λ _. TellsOn (F.dealt (parts_of program.now)) front.old front.new (map wait_of waiting.items)
+        (TellsSome (map told_of (filter specs.is_finished (map wait_of waiting.items))))) }
 {
     let mut left = Vec::new(alloc);
     for posting in waiting {

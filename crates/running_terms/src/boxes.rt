@@ -44,7 +44,7 @@ pub fn taken(form: &mut Box<Term>) -> Term
     Box::replace(form, Term::Done)
 }
 
-/// No fault ends a form any more.
+/// No fault ends a form any more. After want of memory nothing is left of it.
 pub fn protect(alloc: Global, form: &mut Box<Term>) -> Result<(), AllocError>
     ensures { IfOk result (λ _. term_view form.new.value ≡ spec.prot (term_view form.old.value)) }
 {

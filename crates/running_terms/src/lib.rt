@@ -24,6 +24,6 @@ pub use normal::{begin, begin_both, begin_rest, normalize};
 pub use open::{open_requests, waiting};
 pub use rest::Rest;
 pub use standing::strands_of;
-pub use start::{in_sequence, started, started_both, started_turn};
+pub use start::{in_sequence, started, started_both};
 pub use state::ScopeState;
 pub use term::{Strand, Term};

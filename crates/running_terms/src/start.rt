@@ -1,8 +1,7 @@
 ghost use Rattle.std.specs.Prelude.{◌≡◌, ◌+◌, map, IfOk};
-ghost use Rattle.behaviour_tree.specs.Data.{Exp, no_procs, proc, repeat, sequence};
+ghost use Rattle.behaviour_tree.specs.Data.{no_procs, proc, sequence};
 ghost use Rattle.behaviour_tree.specs.FormedBehaviours.{count_of};
 ghost use Rattle.behaviour_tree.specs.View.{behaviour_view, procs_of};
-ghost use Rattle.calculus.specs.After.{turn_of};
 ghost use Rattle.calculus.specs.Start as spec;
 ghost use Rattle.calculus.specs.Tables.{empty};
 ghost use Rattle.calculus.specs.Terms.{done, in_scope, live, par, place, seq_of};
@@ -153,16 +152,4 @@ pub fn started_both(
         form: in_sequence(alloc, form, rest)?,
         next,
     })
-}
-
-/// The body of a while starts, followed by that while.
-pub fn started_turn(
-    alloc: Global,
-    place: &Behaviour,
-    body: &Behaviour,
-    next: u64,
-) -> Result<Begun, AllocError>
-    ensures { IfOk result (λ b. (test : Exp) → behaviour_view place.now ≡ repeat test (behaviour_view body.now) → begun_view b ≡ spec.start (turn_of test (behaviour_view body.now)) next) }
-{
-    started_both(alloc, body, place, next)
 }

@@ -4,7 +4,7 @@ use crate::terms::forms;
 use behaviour_tree::Behaviour;
 use running_terms::{
     Begun, Rest, ScopeState, Term, begin, begin_both, begin_rest, boxed, in_sequence, protect,
-    started, started_both, started_turn,
+    started, started_both,
 };
 use std::alloc::Global;
 use test_behaviours::{read_behaviour, read_handlers};
@@ -13,7 +13,8 @@ use test_values::WordError;
 /// The forms that steps made and no later step took, and the next strand. A step is a line:
 ///
 /// - `begin P` and `begin_both P / P`, `started P` and `started_both P / P` make what these calls give;
-///   `begin_rest P` has the members of a sequence for its rests, and `started_turn P` is of a while.
+///   `begin_rest P` has the members of a sequence for its rests, and `turn P` starts the body of a while, followed by
+///   that while.
 /// - `done`, `place P`, `thrown F`, `wait K` and `dead K` are forms without parts, the last two with handlers.
 /// - `then P` puts a rest behind the last form, and `beside N` takes the last N forms as members of a parallel.
 /// - `scope S` puts a live scope around the last form, which `caught F`, `term`, `last` and `zombie` bring into
@@ -58,7 +59,7 @@ impl Script {
             "begin_rest" => self.begin_rest(rest),
             "started" => self.started(rest),
             "started_both" => self.started_both(rest),
-            "started_turn" => self.started_turn(rest),
+            "turn" => self.turn(rest),
             "done" => self.done(),
             "place" => self.place(rest),
             "thrown" => self.thrown(number(rest)?),
@@ -127,7 +128,7 @@ impl Script {
         self.put_begun(begun)
     }
 
-    fn started_turn(&mut self, words: &str) -> Result<(), WordError> {
+    fn turn(&mut self, words: &str) -> Result<(), WordError> {
         let behaviour = read_behaviour(self.alloc, words)?;
         let begun = turn_of(self.alloc, &behaviour, self.next)?;
         self.put_begun(begun)
@@ -239,7 +240,7 @@ fn members_of(alloc: Global, behaviour: &Behaviour) -> Result<Rest, WordError> {
 /// A turn of a while.
 fn turn_of(alloc: Global, place: &Behaviour, next: u64) -> Result<Begun, WordError> {
     match place {
-        Behaviour::While { body, .. } => Ok(started_turn(alloc, place, body, next)?),
+        Behaviour::While { body, .. } => Ok(started_both(alloc, body, place, next)?),
         _ => Err(WordError::Lacking),
     }
 }

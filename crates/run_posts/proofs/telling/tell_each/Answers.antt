@@ -8,8 +8,8 @@ use Rattle.order_laws.proofs.Lists.{append_nil}
 use Rattle.run_posts.specs.declared.pending.Pending.{Pending}
 use Rattle.run_posts.specs.Fates.{is_finished, is_open, wait_of}
 use Rattle.run_posts.specs.Telling.{TellsOn}
-use Rattle.run_posts.proofs.Expecting.{IsTelling, kept_pushed, passed_open, tells_ends, tells_passes, tells_starts}
-use Rattle.run_posts.proofs.Expecting.{tells_turn}
+use Rattle.run_posts.proofs.Expecting.{IsTelling, failing, kept_pushed, passed_open, tells_ends, tells_not}
+use Rattle.run_posts.proofs.Expecting.{tells_passes, tells_some, tells_starts, tells_turn}
 use Rattle.run_posts.proofs.telling.tell_each.Goals as goal
 
 pub loop-posting-init : goal.loop-posting-init
@@ -97,4 +97,29 @@ returns-clause-told g c =
     nil_from_length (into_iter_items at.posting-iterator) (sym at.invariant.left ∙ c.in-None.ensures.steps.0) in
     tells_ends dealt c.args.front.now at.front all
     (subst (λ (l : List Pending). TellsOn dealt c.args.front.now at.front all (IsTelling all (map wait_of l))) empty
+    at.invariant.told)
+
+-- ---- memory was wanting
+
+pub returns-in_err-tell-clause-told : goal.returns-in_err-tell-clause-told
+returns-in_err-tell-clause-told g c =
+    let dealt = g.F.Front.dealt (parts_of c.args.program.now) in
+    let at = c.loop-posting in
+    let all = map wait_of c.args.waiting.items in
+    let rest = map wait_of (into_iter_items c.next.new.self) in
+    let finished : is_finished (wait_of c.in-Some.posting) ≡ true = sym c.is_finished.ensures ∙ c.if-is_finished.true in
+    failing _ _ c.from_residual.result c.from_residual.ensures.1
+    (tells_not dealt c.args.front.now at.front c.tell.new.front all rest (wait_of c.in-Some.posting) finished
+    c.in_err-tell.ensures
+    (subst (λ (l : List Pending). TellsOn dealt c.args.front.now at.front all
+    (IsTelling all (map wait_of l))) c.in-Some.ensures.steps.0
+    at.invariant.told))
+
+pub returns-in_err-push-clause-told : goal.returns-in_err-push-clause-told
+returns-in_err-push-clause-told g c =
+    let dealt = g.F.Front.dealt (parts_of c.args.program.now) in
+    let at = c.loop-posting in
+    let all = map wait_of c.args.waiting.items in
+    failing _ _ c.from_residual-in_err-push.result c.from_residual-in_err-push.ensures.1
+    (tells_some dealt c.args.front.now at.front all (map wait_of (into_iter_items at.posting-iterator))
     at.invariant.told)

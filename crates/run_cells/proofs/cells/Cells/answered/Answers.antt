@@ -5,7 +5,7 @@ use Rattle.office_core.specs.Legal.{is_fetched}
 use Rattle.office_core.specs.Limits.{first_worker}
 use Rattle.office_kept.specs.Entries.{entry}
 use Rattle.plain_office.specs.View.{entries_of, past_in}
-use Rattle.run_cells.proofs.Offices.{along, at_work, stays_work, works_ok}
+use Rattle.run_cells.proofs.Offices.{along, at_work, stays_failed, stays_work, works_ok}
 use Rattle.run_cells.proofs.cells.Cells.answered.Goals as goal
 
 pub answered-requires-clause-works : goal.answered-requires-clause-works
@@ -20,6 +20,9 @@ pub returns-clause-added : goal.returns-clause-added
 returns-clause-added g c =
     stays_work _ c.answered.result (λ _. Some (entry first_worker (act.Answered c.args.session c.args.call c.args.outcome)))
     c.requires.work c.answered.ensures.added
+
+pub returns-clause-unchanged : goal.returns-clause-unchanged
+returns-clause-unchanged g c = stays_failed _ c.answered.result c.requires.work c.answered.ensures.unchanged
 
 pub returns-clause-work : goal.returns-clause-work
 returns-clause-work g c =

@@ -4,7 +4,7 @@ use Rattle.office_core.specs.Limits.{first_worker}
 use Rattle.office_kept.specs.Entries.{fetch_entry}
 use Rattle.office_kept.specs.Replies.{next_outgoing}
 use Rattle.plain_office.specs.View.{entries_of, past_in}
-use Rattle.run_cells.proofs.Offices.{along, at_work, fetch_goes, fetch_own, stays_work, works_ok}
+use Rattle.run_cells.proofs.Offices.{along, at_work, fetch_goes, fetch_own, stays_failed, stays_work, works_ok}
 use Rattle.run_cells.proofs.cells.Cells.fetch.Goals as goal
 
 pub fetch-requires : goal.fetch-requires
@@ -17,6 +17,9 @@ returns-clause-call g c =
 
 pub returns-clause-added : goal.returns-clause-added
 returns-clause-added g c = stays_work _ c.fetch.result (fetch_entry first_worker) c.requires.work c.fetch.ensures.added
+
+pub returns-clause-unchanged : goal.returns-clause-unchanged
+returns-clause-unchanged g c = stays_failed _ c.fetch.result c.requires.work c.fetch.ensures.unchanged
 
 pub returns-clause-work : goal.returns-clause-work
 returns-clause-work g c =

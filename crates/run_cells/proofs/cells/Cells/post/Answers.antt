@@ -4,7 +4,7 @@ use Rattle.office_core.specs.Limits.{first_worker}
 use Rattle.office_core.specs.Route.{post_reply, route}
 use Rattle.office_kept.specs.Entries.{post_entry}
 use Rattle.plain_office.specs.View.{entries_of, past_in}
-use Rattle.run_cells.proofs.Offices.{along, at_work, post_goes, post_own, stays_work, works_ok}
+use Rattle.run_cells.proofs.Offices.{along, at_work, post_goes, post_own, stays_failed, stays_work, works_ok}
 use Rattle.run_cells.proofs.cells.Cells.post.Goals as goal
 
 pub post-requires-clause-worker : goal.post-requires-clause-worker
@@ -18,6 +18,9 @@ returns-clause-reply g c =
 pub returns-clause-added : goal.returns-clause-added
 returns-clause-added g c =
     stays_work _ c.post.result (λ r. post_entry first_worker c.args.origin c.args.posted r) c.requires.work c.post.ensures.added
+
+pub returns-clause-unchanged : goal.returns-clause-unchanged
+returns-clause-unchanged g c = stays_failed _ c.post.result c.requires.work c.post.ensures.unchanged
 
 pub returns-clause-work : goal.returns-clause-work
 returns-clause-work g c =
