@@ -46,7 +46,7 @@ abbrev pub looped_role : Role → Role
 looped_role role.Thrown = role.ThrownInLoop
 looped_role r = r
 
--- behind an input that is not answered
+-- in the braces behind an input that is not answered
 abbrev pub kept_role : Role → Role
 kept_role role.Set = role.Kept
 kept_role r = r

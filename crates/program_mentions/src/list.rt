@@ -45,7 +45,7 @@ impl<'a> Mention<'a> {
     }
 }
 
-/// Mentions in the order of the text.
+/// Mentions in order, as `mentions_of` has it.
 #[derive(Drop)]
 pub struct Mentions<'a> {
     alloc: Global,

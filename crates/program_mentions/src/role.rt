@@ -10,7 +10,7 @@ pub enum Role {
     RootTaken,
     /// A variable that a statement sets, it or a field of it.
     Set,
-    /// The same, behind an input that is not answered.
+    /// The same, in the braces behind an input that is not answered.
     Kept,
     /// A variable that takes a message or an answer, it or a field of it.
     Received,

@@ -10,7 +10,8 @@ use crate::role::Role;
 use jolie_ast::{Block, Clause, Service};
 use std::alloc::{AllocError, Global};
 
-/// What a service mentions, in the order of its text.
+/// What a service mentions, in the order of its text, but that the variable a request is answered by stands before what
+/// the request takes.
 pub fn mentions_of(alloc: Global, service: &Service) -> Result<Mentions<'_>, AllocError>
     ensures { IfOk result (λ mentions. mentions ≡ service_mentions service.now) }
 {
