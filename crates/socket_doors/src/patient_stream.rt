@@ -27,17 +27,23 @@ impl<S: Read + Write + OpenStream + Drop, C: Clock + Drop> PatientStream<S, C> {
 }
 
 impl<S: Read + Write + OpenStream + Drop, C: Clock + Drop> Read for PatientStream<S, C> {
+    ghost remaining = { λ s. S.remaining s.stream };
+
     fn read(&mut self, buf: &mut [u8]) -> io::Result<usize> {
         let now = Instant::now(&self.clock)?;
         let time = some_time(self.turn.reading_time(&self.patience, now))?;
         self.stream.set_read_timeout(Some(time))?;
         let count = self.stream.read(buf)?;
-        self.turn = self.turn.after_read(count, Instant::now(&self.clock)?);
+        // Bytes that came are not lost where the clock fails behind them.
+        let later = Instant::now(&self.clock).unwrap_or(now);
+        self.turn = self.turn.after_read(count, later);
         Ok(count)
     }
 }
 
 impl<S: Read + Write + OpenStream + Drop, C: Clock + Drop> Write for PatientStream<S, C> {
+    ghost contents = { λ s. S.contents s.stream };
+
     fn write(&mut self, buf: &[u8]) -> io::Result<usize> {
         let now = Instant::now(&self.clock)?;
         let time = some_time(self.turn.writing_time(&self.patience, now))?;
