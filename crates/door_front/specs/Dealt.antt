@@ -129,7 +129,7 @@ WereBusy d k [] (l ∷ ls) = ⊥
 WereBusy d k (b ∷ bs) [] = ⊥
 WereBusy d k (b ∷ bs) (l ∷ ls) = WasBusy d k b l × WereBusy d (suc k) bs ls
 
--- a door that has not ended was tried so often without anybody coming
+-- a door has ended, or it was tried so often, in all, without anybody coming
 abbrev pub has_waited : ℕ → PortTold → Type 0
 has_waited n port = (has_ended port.door ≡ true) ⊎ (min n (2 ^ 64 - 1) ≤ port.door.waits)
 
@@ -138,9 +138,9 @@ abbrev pub HaveWaited : ℕ → List PortTold → Type 0
 HaveWaited n [] = Unit {0}
 HaveWaited n (p ∷ ps) = has_waited n p × HaveWaited n ps
 
--- The front had no posting: each connection waited for an answer or was over. Where one may come some time, so many
--- connections were open as may be, or nobody came at any door, each time that there was none in a row. Else no
--- connection can come any more.
+-- The front had no posting: each connection waited for an answer or was over. Where one may come some time, so many as
+-- may be open waited for an answer, or each door has ended, or answered at least as often, in all, that nobody has come
+-- yet as there was none in a row. Else no connection can come any more.
 pub record HadNone (kept : Keeping) (d : Dealings) : Type 0 where
   pub busy : List Bool
   pub each : WereBusy d 0 busy kept.links
@@ -185,7 +185,8 @@ pub record HasDealt (IsMade : Line → Type 0) (parts : ProgramParts) (first now
   pub seen : d.brought.seen ≤ length d.said.told
   pub none : d.said.halted ≡ false → GaveNone d → HadNone now.kept d ⊎ (most_postings ≤ length d.brought.given)
 
--- memory ran out in a call: it is known only whether the front halted
+-- Memory ran out in a call: it is known only whether the front halted. What its calls answered is not known then, not
+-- even that it was want of memory.
 abbrev pub HasRunOut : Keeping → Dealings → Type 0
 HasRunOut kept d = (kept.spent ≡ true) × (d.said.halted ≡ kept.halted)
 

@@ -29,13 +29,13 @@ WereBusy Waited k bs vs = ⊥
 abbrev pub no_more : ℕ → List Visit → List DoorTold → Bool
 no_more most visits doors = nat_le most (length visits) || list_all has_ended doors
 
--- a door has ended, or nobody came at it for as many looks as a run makes in a row
+-- a door has ended, or it has answered as often, in all, that nobody has come yet as a run looks in a row
 abbrev pub waited_long : DoorTold → Type 0
 waited_long door = (has_ended door ≡ true) ⊎ (most_waits ≤ door.waits)
 
 -- A run asked for no posting any more, with connections that each waited for an answer or were over. No connection
--- could come any more; or one could, and for as many looks as a run makes in a row so many were open as may be, or
--- nobody came at any door.
+-- could come any more; or so many as may be open waited for an answer in the end; or each door has ended, or answered
+-- as often, in all, that nobody has come yet as a run looks in a row.
 pub record IsThrough (Waited : ℕ → Type 0) (most : ℕ) (visits : List Visit) (doors : List DoorTold) : Type 0 where
   pub busy : List Bool
   pub each : WereBusy Waited 0 busy visits

@@ -1,5 +1,6 @@
 -- What a contract sees of the doors in memory.
-use Rattle.std.specs.Prelude.{◌≡◌, ◌==◌, ℕ, List, [], ◌∷◌, Option, Some, None, Result, Ok, IsErr, false, if◌then◌else◌}
+use Rattle.std.specs.Prelude.{◌≡◌, ◌==◌, ◌-◌, ℕ, false, if◌then◌else◌}
+use Rattle.std.specs.Prelude.{List, [], ◌∷◌, Option, Some, None, Result, Ok, IsErr}
 use Rattle.outside_doors.specs.Counts.{DoorTold, untried}
 use Rattle.outside_doors.specs.Returns.{BookTold, Counted, counted}
 use Rattle.outside_doors.specs.declared.traits.Knock.{Knock}
@@ -58,6 +59,11 @@ scripted_line failing piece bytes room = record {
 abbrev pub CalmlyAnswers : {E : Type 0} → List CalmLine → ℕ → Result (Knock (Counted CalmLine)) E → Type 0
 CalmlyAnswers (wire ∷ rest) quiet result = result ≡ Ok (Came (counted wire))
 CalmlyAnswers [] quiet result = result ≡ Ok (if quiet == 0 then Closed else NotYet)
+
+-- for how many tries nobody comes behind a try at a calm door: one fewer, where no wire was left
+abbrev pub quiet_after : List CalmLine → ℕ → ℕ
+quiet_after [] quiet = quiet - 1
+quiet_after (wire ∷ rest) quiet = quiet
 
 -- what a scripted door answers: what its next visit is, and behind the last of them that nobody comes any more
 abbrev pub Answers : {E : Type 0} → List Visit → Result (Knock (Counted ScriptedLine)) E → Type 0

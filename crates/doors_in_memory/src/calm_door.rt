@@ -2,7 +2,7 @@ ghost use Rattle.std.specs.Prelude.{◌≡◌, ◌++◌, [], ◌∷◌, Ok, Some
 ghost use Rattle.outside_traits.specs.Causes.{HasCause};
 ghost use Rattle.outside_doors.specs.Counts.{untried};
 ghost use Rattle.outside_doors.specs.Knocks.{IfCame, IsFresh, closed_after, waits_after, wires_after};
-ghost use Rattle.doors_in_memory.specs.Memory.{CalmlyAnswers, calm_line};
+ghost use Rattle.doors_in_memory.specs.Memory.{CalmlyAnswers, calm_line, quiet_after};
 
 use crate::new_wire::NewWire;
 use crate::queue::Queue;
@@ -90,6 +90,7 @@ impl Door for CalmDoor {
         ensures calm { IsOk result }
         ensures answer { self.old.told.closed ≡ false → CalmlyAnswers self.old.coming self.old.quiet result }
         ensures coming { self.old.told.closed ≡ false → self.new.coming ≡ drop 1 self.old.coming }
+        ensures quiet { self.old.told.closed ≡ false → self.new.quiet ≡ quiet_after self.old.coming self.old.quiet }
         ensures fresh { IfCame result (λ wire. IsFresh (Some wire.wire.tape.given) (Some wire.wire.shelf.taken) wire.wire.calls wire.faults wire.wire.closed) }
         ensures unended { IfCame result (λ wire. wire.ended ≡ false) }
         ensures wires { self.new.told.wires ≡ wires_after result self.old.told.wires }
@@ -114,7 +115,9 @@ impl Door for CalmDoor {
         Ok(Knock::NotYet)
     }
 
-    fn rest(&mut self) {}
+    fn rest(&mut self)
+        ensures same { self.new ≡ self.old }
+    {}
 }
 
 /// A wire that was not used yet.

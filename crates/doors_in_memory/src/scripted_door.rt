@@ -146,7 +146,9 @@ impl Door for ScriptedDoor {
         }
     }
 
-    fn rest(&mut self) {}
+    fn rest(&mut self)
+        ensures same { self.new ≡ self.old }
+    {}
 }
 
 /// A wire that was not used yet.

@@ -1,5 +1,6 @@
 -- What is told of a dialler: the locations that it dialled, and what was done with the last wire that came back to it.
 use Rattle.std.specs.Prelude.{◌≡◌, ◌<◌, ◌≤◌, ℕ, false, List, [], ◌∷◌, ◌++◌, Option, None, Some, IfSome}
+use Rattle.std.specs.Prelude.{Result, Ok, Err}
 use Rattle.outside_traits.specs.Causes.{Rose}
 use Rattle.outside_traits.specs.Wires.{CalmLine, ScriptedLine}
 use Rattle.outside_traits.specs.declared.calls.WireCall.{WireCall}
@@ -73,6 +74,21 @@ calm_traffic w = traffic (Some w.wire.tape.given) (Some w.wire.shelf.taken) w.wi
 -- the same of a scripted one
 abbrev pub scripted_traffic : Counted ScriptedLine → WireTraffic
 scripted_traffic w = traffic (Some w.wire.tape.given) (Some w.wire.shelf.taken) w.wire.calls w.faults
+
+-- the wire that a call gave, none where it failed
+abbrev pub wire_given : {W E : Type 0} → Result (Counted W) E → Option W
+wire_given (Ok wire) = Some wire.wire
+wire_given (Err cause) = None
+
+-- the wire that comes next of these: the first, none behind the last
+abbrev pub next_calm : List CalmLine → Option CalmLine
+next_calm [] = None
+next_calm (wire ∷ rest) = Some wire
+
+-- the same of scripted ones, and none where there is none in the first place
+abbrev pub next_scripted : List (Option ScriptedLine) → Option ScriptedLine
+next_scripted [] = None
+next_scripted (first ∷ rest) = first
 
 -- a dialler in memory: the wires that it gives next, the locations that it dialled, which are told while there is
 -- memory for them, the last wire that came back, and its count of faults

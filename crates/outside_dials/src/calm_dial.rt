@@ -1,5 +1,6 @@
-ghost use Rattle.std.specs.Prelude.{◌≡◌, [], None, Some, All, IfSome, map, option_map, string_bytes, true};
-ghost use Rattle.outside_dials.specs.Dials.{Tells, CountsWire, IsFreshCalm, blank_in_memory, calm_traffic};
+ghost use Rattle.std.specs.Prelude.{◌≡◌, [], None, Some, All, IfOk, IfSome, drop, map, option_map, string_bytes, false, true};
+ghost use Rattle.outside_traits.specs.Causes.{HasCause};
+ghost use Rattle.outside_dials.specs.Dials.{Dials, IsNew, Tells, CountsWire, IsFreshCalm, blank_in_memory, calm_traffic, next_calm, wire_given};
 
 use crate::coming::Coming;
 use crate::counted_wire::CountedWire;
@@ -19,14 +20,14 @@ pub struct CalmDial {
 }
 
 impl Model for CalmDial {
-    ghost use Rattle.std.specs.Prelude.{All};
+    ghost use Rattle.std.specs.Prelude.{◌≡◌, All, IfSome, true};
     ghost use Rattle.outside_dials.specs.Dials.{CalmSwitch, IsFreshCalm};
 
     ghost Value = { CalmSwitch };
 
     ghost view = { λ d. record { coming = d.coming; dialled = d.dialled; last = d.last; faults = d.faults } };
 
-    ghost invariant = { λ d. All IsFreshCalm d.coming };
+    ghost invariant = { λ d. All IsFreshCalm d.coming × IfSome d.last (λ last. last.wire.closed ≡ true) };
 }
 
 impl CalmDial {
@@ -55,7 +56,8 @@ impl CalmDial {
 
     /// The last wire that came back, which is closed.
     pub fn last(&self) -> Option<&CountedWire<CalmWire>>
-        ensures { option_map (λ wire. wire.now) result ≡ self.now.last }
+        ensures wire { option_map (λ wire. wire.now) result ≡ self.now.last }
+        ensures closed { IfSome self.now.last (λ last. last.wire.closed ≡ true) }
     {
         self.last.as_ref()
     }
@@ -72,7 +74,16 @@ impl Dial for CalmDial {
 
     ghost faults = { λ d. d.faults };
 
-    fn dial(&mut self, location: &str) -> Result<CountedWire<CalmWire>, Failed> {
+    fn dial(&mut self, location: &str) -> Result<CountedWire<CalmWire>, Failed>
+        ensures answer { wire_given result ≡ next_calm self.old.coming }
+        ensures coming { self.new.coming ≡ drop 1 self.old.coming }
+        ensures dialled { Dials self.old.dialled self.new.dialled location.now }
+        ensures last { option_map calm_traffic self.new.last ≡ option_map calm_traffic self.old.last }
+        ensures blank { IsNew blank_in_memory }
+        ensures fresh { IfOk result (λ wire. calm_traffic wire ≡ blank_in_memory) }
+        ensures open { IfOk result (λ wire. wire.wire.closed ≡ false) }
+        ensures cause { HasCause self.old.faults self.new.faults result }
+    {
         self.dialled.note(location);
         match self.coming.next() {
             Some(wire) => Ok(CountedWire::new(wire)),

@@ -18,7 +18,7 @@ pub trait Dial {
     /// What was done with the last wire that came back, where it is told.
     ghost last: { Self → Option WireTraffic };
 
-    /// How often a call has failed, or a wire came back that had failed.
+    /// A number that rises where a call fails or a wire comes back that had failed, and stands else.
     ghost faults: { Self → ℕ };
 
     /// A new wire to a location.

@@ -1,5 +1,6 @@
-ghost use Rattle.std.specs.Prelude.{◌≡◌, [], None, Some, All, IfSome, map, option_map, string_bytes, true};
-ghost use Rattle.outside_dials.specs.Dials.{Tells, CountsWire, IsFreshScripted, blank_in_memory, scripted_traffic};
+ghost use Rattle.std.specs.Prelude.{◌≡◌, [], None, Some, All, IfOk, IfSome, drop, map, option_map, string_bytes, false, true};
+ghost use Rattle.outside_traits.specs.Causes.{HasCause};
+ghost use Rattle.outside_dials.specs.Dials.{Dials, IsNew, Tells, CountsWire, IsFreshScripted, blank_in_memory, next_scripted, scripted_traffic, wire_given};
 
 use crate::coming::Coming;
 use crate::counted_wire::CountedWire;
@@ -19,14 +20,14 @@ pub struct ScriptedDial {
 }
 
 impl Model for ScriptedDial {
-    ghost use Rattle.std.specs.Prelude.{All, IfSome};
+    ghost use Rattle.std.specs.Prelude.{◌≡◌, All, IfSome, true};
     ghost use Rattle.outside_dials.specs.Dials.{ScriptedSwitch, IsFreshScripted};
 
     ghost Value = { ScriptedSwitch };
 
     ghost view = { λ d. record { coming = d.coming; dialled = d.dialled; last = d.last; faults = d.faults } };
 
-    ghost invariant = { λ d. All (λ o. IfSome o IsFreshScripted) d.coming };
+    ghost invariant = { λ d. All (λ o. IfSome o IsFreshScripted) d.coming × IfSome d.last (λ last. last.wire.closed ≡ true) };
 }
 
 impl ScriptedDial {
@@ -55,7 +56,8 @@ impl ScriptedDial {
 
     /// The last wire that came back, which is closed.
     pub fn last(&self) -> Option<&CountedWire<ScriptedWire>>
-        ensures { option_map (λ wire. wire.now) result ≡ self.now.last }
+        ensures wire { option_map (λ wire. wire.now) result ≡ self.now.last }
+        ensures closed { IfSome self.now.last (λ last. last.wire.closed ≡ true) }
     {
         self.last.as_ref()
     }
@@ -72,7 +74,16 @@ impl Dial for ScriptedDial {
 
     ghost faults = { λ d. d.faults };
 
-    fn dial(&mut self, location: &str) -> Result<CountedWire<ScriptedWire>, Failed> {
+    fn dial(&mut self, location: &str) -> Result<CountedWire<ScriptedWire>, Failed>
+        ensures answer { wire_given result ≡ next_scripted self.old.coming }
+        ensures coming { self.new.coming ≡ drop 1 self.old.coming }
+        ensures dialled { Dials self.old.dialled self.new.dialled location.now }
+        ensures last { option_map scripted_traffic self.new.last ≡ option_map scripted_traffic self.old.last }
+        ensures blank { IsNew blank_in_memory }
+        ensures fresh { IfOk result (λ wire. scripted_traffic wire ≡ blank_in_memory) }
+        ensures open { IfOk result (λ wire. wire.wire.closed ≡ false) }
+        ensures cause { HasCause self.old.faults self.new.faults result }
+    {
         self.dialled.note(location);
         match next_wire(&mut self.coming) {
             Some(wire) => Ok(CountedWire::new(wire)),
@@ -100,6 +111,8 @@ impl Dial for ScriptedDial {
 /// The wire that comes next, none where the call is to fail.
 fn next_wire(coming: &mut Coming<Option<ScriptedWire>>) -> Option<ScriptedWire>
     requires { All (λ o. IfSome o IsFreshScripted) coming.old }
+    ensures first { result ≡ next_scripted coming.old }
+    ensures rest { coming.new ≡ drop 1 coming.old }
     ensures fresh { IfSome result IsFreshScripted }
     ensures left { All (λ o. IfSome o IsFreshScripted) coming.new }
 {

@@ -20,7 +20,7 @@ pub enum Knock<W> {
 pub trait Door {
     type W: Wire + Drop;
 
-    /// How often a try has failed.
+    /// A number that rises with each try that fails, and stands else.
     ghost faults: { Self → ℕ };
 
     /// How many wires it gave.
@@ -54,7 +54,7 @@ pub trait Door {
 pub trait Doors {
     type D: Door + Drop;
 
-    /// How often a call has failed, or a door came back that had failed.
+    /// A number that rises where a door fails to open or one comes back that had failed, and stands else.
     ghost faults: { Self → ℕ };
 
     /// What is counted of what was opened and of what came back.

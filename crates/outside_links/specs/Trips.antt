@@ -21,3 +21,8 @@ abbrev pub Brings : Option (List (Option (List ℕ))) → Option (List (Option (
 Brings None now came = Unit {0}
 Brings (Some []) now came = (came ≡ Some []) × (now ≡ Some [])
 Brings (Some (first ∷ rest)) now came = (came ≡ first) × (now ≡ Some rest)
+
+-- What is told that the next trips bring is as it was, or it is told no more.
+abbrev pub StaysTold : Option (List (Option (List ℕ))) → Option (List (Option (List ℕ))) → Type 0
+StaysTold before None = Unit {0}
+StaysTold before (Some now) = before ≡ Some now

@@ -2,7 +2,7 @@ ghost use Rattle.std.specs.Prelude.{ℕ, List, [], ◌∷◌, IsErrOf, IfOk, all
 ghost use Rattle.std.specs.declared.option.Option.{Option};
 ghost use Rattle.outside_traits.specs.Causes.{HasCallCause};
 ghost use Rattle.outside_traits.specs.Told.{Lists};
-ghost use Rattle.outside_links.specs.Trips.{Brings, Made, there_alone, there_and_back};
+ghost use Rattle.outside_links.specs.Trips.{Brings, Made, StaysTold, there_alone, there_and_back};
 
 use outside_traits::CallError;
 
@@ -14,7 +14,7 @@ pub trait Link {
     /// What the next trips bring in order, where it is told: the bytes that come back, or none of one that fails.
     ghost coming: { Self → Option (List (Option (List ℕ))) };
 
-    /// How often a trip has failed.
+    /// A number that rises with each trip that fails, and stands else.
     ghost faults: { Self → ℕ };
 
     /// Takes a text to a location, once, and gives the bytes that came back.
@@ -25,5 +25,6 @@ pub trait Link {
         ensures unmade { IsErrOf result (CallError.Memory alloc_error) → Lists (trips self.old) (trips self.new) [] }
         ensures brought { IfOk result (λ bytes. Brings (coming self.old) (coming self.new) (Some bytes.items)) }
         ensures failed { IsErrOf result CallError.Failed → Brings (coming self.old) (coming self.new) None }
+        ensures wanted { IsErrOf result (CallError.Memory alloc_error) → StaysTold (coming self.old) (coming self.new) }
         ensures cause { HasCallCause (faults self.old) (faults self.new) result };
 }

@@ -1,4 +1,7 @@
 //! How long something may take.
+ghost use Rattle.std.specs.Prelude.{◌≡◌, ◌-◌};
+ghost use Rattle.std.specs.Duration.{as_nanos};
+ghost use Rattle.std.specs.Time.{instant_nanos};
 
 use std::io;
 use std::io::ErrorKind;
@@ -22,10 +25,17 @@ impl<C: Clock + Drop> Allowance<C> {
 
     /// The time that is left; it fails where none is.
     pub(crate) fn left(&self) -> io::Result<Duration> {
-        let left = self.most.saturating_sub(self.start.elapsed(&self.clock)?);
+        let left = self.left_at(Instant::now(&self.clock)?);
         if left.is_zero() {
             return Err(io::Error::from(ErrorKind::TimedOut));
         }
         Ok(left)
+    }
+
+    /// The time that is left at a moment.
+    fn left_at(&self, now: Instant) -> Duration
+        ensures { as_nanos result ≡ as_nanos self.now.most - (instant_nanos now - instant_nanos self.now.start) }
+    {
+        self.most.saturating_sub(now.duration_since(self.start))
     }
 }

@@ -2,6 +2,7 @@ ghost use Rattle.std.specs.Prelude.{◌≡◌, None};
 ghost use Rattle.outside_dials.specs.Dials.{traffic};
 
 use crate::allowance::Allowance;
+use crate::location::address_of;
 use crate::socket_wire::SocketWire;
 use crate::timed_stream::TimedStream;
 use outside_dials::Dial;
@@ -10,9 +11,6 @@ use std::marker::Model;
 use std::net::{Net, TcpStream, ToSocketAddrs};
 use std::rt::Clock;
 use std::time::Duration;
-
-/// What the location of a socket begins with.
-const SCHEME: &str = "socket://";
 
 /// A dialler over the TCP sockets of the system, which tells its count of faults and nothing else.
 ///
@@ -91,13 +89,4 @@ fn connected<H: Net + Clock + Copy + Drop>(
         }
     }
     None
-}
-
-/// The host and the port of a location.
-fn address_of(location: &str) -> Option<&str> {
-    let rest = location.strip_prefix(SCHEME)?;
-    match rest.split_once('/') {
-        Some((address, _)) => Some(address),
-        None => Some(rest),
-    }
 }

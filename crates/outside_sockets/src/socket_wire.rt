@@ -1,5 +1,6 @@
 ghost use Rattle.std.specs.Prelude.{◌≡◌, ◌<◌, false, None, IfOk, length};
 ghost use Rattle.std.specs.Io.{ReadsAtMost, WritesAtMost};
+ghost use Rattle.std.specs.Io.KnownBytes.{ReadConsumes, WriteAppends};
 
 use outside_traits::{Failed, Wire};
 use std::io::{ErrorKind, Read, Write};
@@ -103,6 +104,7 @@ impl<S: Read + Write + OpenStream + Drop> Wire for SocketWire<S> {
 /// One read, tried again where a signal interrupts it.
 fn read_uninterrupted<S: Read>(stream: &mut S, into: &mut [u8]) -> Result<usize, Failed>
     ensures bound { ReadsAtMost result into.new }
+    ensures bytes { ReadConsumes (S.remaining stream.old) (S.remaining stream.new) result into.new }
 {
     for _ in 0..u64::MAX {
         match stream.read(into) {
@@ -121,6 +123,7 @@ fn read_uninterrupted<S: Read>(stream: &mut S, into: &mut [u8]) -> Result<usize,
 fn write_uninterrupted<S: Write>(stream: &mut S, from: &[u8]) -> Result<usize, Failed>
     ensures bound { WritesAtMost result from.now }
     ensures some { IfOk result (λ count. 0 < length from.now → 0 < count) }
+    ensures bytes { WriteAppends (S.contents stream.old) (S.contents stream.new) result from.now }
 {
     if from.is_empty() {
         return Ok(0);

@@ -18,6 +18,8 @@ impl<S: Read + Write + OpenStream + Drop, C: Clock + Drop> TimedStream<S, C> {
 }
 
 impl<S: Read + Write + OpenStream + Drop, C: Clock + Drop> Read for TimedStream<S, C> {
+    ghost remaining = { λ s. S.remaining s.stream };
+
     fn read(&mut self, buf: &mut [u8]) -> io::Result<usize> {
         let left = self.allowance.left()?;
         self.stream.set_read_timeout(Some(left))?;
@@ -26,6 +28,8 @@ impl<S: Read + Write + OpenStream + Drop, C: Clock + Drop> Read for TimedStream<
 }
 
 impl<S: Read + Write + OpenStream + Drop, C: Clock + Drop> Write for TimedStream<S, C> {
+    ghost contents = { λ s. S.contents s.stream };
+
     fn write(&mut self, buf: &[u8]) -> io::Result<usize> {
         let left = self.allowance.left()?;
         self.stream.set_write_timeout(Some(left))?;

@@ -15,7 +15,7 @@ pub trait Files {
     /// The bytes of the file of a name, where they are told.
     ghost held: { Self → List ℕ → Option (List ℕ) };
 
-    /// How often a call has failed.
+    /// A number that rises with each call that fails, and stands else.
     ghost faults: { Self → ℕ };
 
     /// The first `most` bytes of the file, or all of it where it has fewer.
@@ -31,7 +31,7 @@ pub trait Source {
     /// The bytes that are left, where they are told.
     ghost left: { Self → Option (List ℕ) };
 
-    /// How often a call has failed.
+    /// A number that rises with each call that fails, and stands else.
     ghost faults: { Self → ℕ };
 
     /// The next bytes. With a buffer that is not empty, 0 comes at the end of input and only there.
@@ -46,7 +46,7 @@ pub trait Sink {
     /// The bytes that were taken, where they are told.
     ghost taken: { Self → Option (List ℕ) };
 
-    /// How often a call has failed.
+    /// A number that rises with each call that fails, and stands else.
     ghost faults: { Self → ℕ };
 
     /// Takes a front of the bytes.
@@ -71,7 +71,7 @@ pub trait Wire {
     /// Its reads and writes in order, where they are told.
     ghost calls: { Self → Option (List WireCall) };
 
-    /// How often a call has failed.
+    /// A number that rises with each call that fails, and stands else.
     ghost faults: { Self → ℕ };
 
     /// Whether the wire is closed.

@@ -1,4 +1,3 @@
 pub mod Arrivals
-pub mod Locations
 pub mod Patience
 pub mod Told

@@ -1,7 +1,6 @@
 //! Doors over the TCP sockets of the system: listeners, and the connections that come in at them. They count what they give and what fails, and tell no bytes.
 #![tactic(auto)]
 
-mod location;
 mod obstacle;
 mod patience;
 mod patient_stream;

@@ -1,17 +1,16 @@
-use crate::patience::{Patience, Turn};
+use crate::patience::{Patience, Waiting};
 use std::io;
-use std::io::{ErrorKind, Read, Write};
+use std::io::{Read, Write};
 use std::net::{OpenStream, Shutdown};
 use std::rt::Clock;
-use std::time::{Duration, Instant};
+use std::time::Instant;
 
 /// A stream whose peer is waited for with patience: a read or a write fails where its time is over.
 #[derive(Drop)]
 pub struct PatientStream<S: Read + Write + OpenStream + Drop, C: Clock + Drop> {
     stream: S,
     clock: C,
-    patience: Patience,
-    turn: Turn,
+    waiting: Waiting,
 }
 
 impl<S: Read + Write + OpenStream + Drop, C: Clock + Drop> PatientStream<S, C> {
@@ -20,28 +19,32 @@ impl<S: Read + Write + OpenStream + Drop, C: Clock + Drop> PatientStream<S, C> {
         PatientStream {
             stream,
             clock,
-            patience,
-            turn: Turn::Idle,
+            waiting: Waiting::new(patience),
         }
     }
 }
 
 impl<S: Read + Write + OpenStream + Drop, C: Clock + Drop> Read for PatientStream<S, C> {
+    ghost remaining = { λ s. S.remaining s.stream };
+
     fn read(&mut self, buf: &mut [u8]) -> io::Result<usize> {
         let now = Instant::now(&self.clock)?;
-        let time = some_time(self.turn.reading_time(&self.patience, now))?;
+        let time = self.waiting.before_read(now)?;
         self.stream.set_read_timeout(Some(time))?;
         let count = self.stream.read(buf)?;
-        self.turn = self.turn.after_read(count, Instant::now(&self.clock)?);
+        // Bytes that came are not lost where the clock fails behind them.
+        let later = Instant::now(&self.clock).unwrap_or(now);
+        self.waiting.note_read(count, later);
         Ok(count)
     }
 }
 
 impl<S: Read + Write + OpenStream + Drop, C: Clock + Drop> Write for PatientStream<S, C> {
+    ghost contents = { λ s. S.contents s.stream };
+
     fn write(&mut self, buf: &[u8]) -> io::Result<usize> {
         let now = Instant::now(&self.clock)?;
-        let time = some_time(self.turn.writing_time(&self.patience, now))?;
-        self.turn = self.turn.at_write(now);
+        let time = self.waiting.before_write(now)?;
         self.stream.set_write_timeout(Some(time))?;
         self.stream.write(buf)
     }
@@ -55,12 +58,4 @@ impl<S: Read + Write + OpenStream + Drop, C: Clock + Drop> OpenStream for Patien
     fn shutdown(&self, how: Shutdown) -> io::Result<()> {
         self.stream.shutdown(how)
     }
-}
-
-/// This time; it fails where none is left.
-fn some_time(time: Duration) -> io::Result<Duration> {
-    if time.is_zero() {
-        return Err(io::Error::from(ErrorKind::TimedOut));
-    }
-    Ok(time)
 }

@@ -2,15 +2,14 @@ ghost use Rattle.std.specs.Prelude.{◌≡◌, ◌∷◌, [], None, false, IfOk,
 ghost use Rattle.outside_traits.specs.Causes.{HasCause};
 ghost use Rattle.outside_doors.specs.Counts.{with_opened};
 ghost use Rattle.outside_traits.specs.Told.{Lists};
-ghost use Rattle.socket_doors.specs.Locations.{is_of_socket};
+ghost use Rattle.outside_sockets.specs.Locations.{is_of_socket};
 ghost use Rattle.socket_doors.specs.Told.{untold_book};
 
-use crate::location::address_of;
 use crate::patience::Patience;
 use crate::patient_stream::PatientStream;
 use crate::socket_door::SocketDoor;
 use outside_doors::{Counts, Doors};
-use outside_sockets::SocketWire;
+use outside_sockets::{SocketWire, address_of};
 use outside_traits::{Failed, Wire};
 use std::marker::Model;
 use std::net::{Net, OpenListener, TcpListener};

@@ -1,4 +1,4 @@
--- Where a door listens.
+-- Where a socket connects or listens.
 use Rattle.std.specs.Prelude.{ℕ, Bool, ◌==◌, List, length, take, drop, bytes_eq, codes}
 use Rattle.std.specs.List.{before_first}
 
