@@ -2,5 +2,7 @@
 #![tactic(auto)]
 
 mod laws;
+mod standard_names;
 
 pub use laws::runs_keep_their_promises;
+pub use standard_names::standard_names_have_their_texts;

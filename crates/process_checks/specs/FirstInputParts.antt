@@ -1,4 +1,4 @@
--- These definitions serve the proofs alone: no promise speaks of them.
+-- These definitions serve the proofs alone: `check` does not speak of them, the clauses of calls of this crate do.
 -- The first input of a process.
 use Rattle.std.specs.Prelude.{List, [], ◌∷◌, map, Option}
 use Rattle.jolie_ast.specs.declared.name.Name.{Name}
