@@ -102,8 +102,8 @@ pub struct Event {
     /// The strand that acted; 0 of Finish.
     pub strand: u64,
     pub kind: Kind,
-    /// The message of In and Reply, the call of Notify, Solicit and Answer, where the fault of a Raise went (`standard`), and of
-    /// Handle 0 for the handler of a fault and 1 for that of a termination.
+    /// The message of In and Reply; the call of Notify, Solicit and Answer; of Raise where the fault went, as in
+    /// `standard`; of Handle 0 where the handler is that of a fault, and 1 where it is that of a termination.
     pub number: u32,
     /// The branch of In, and the scope of Raise, Handle, EndScope and Compensate.
     pub place: u32,

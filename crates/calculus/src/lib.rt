@@ -1,4 +1,5 @@
-//! The calculus in definitions: how a behaviour begins, what each event of a session makes of it, and what holds of every run.
+//! The calculus in definitions: how a behaviour begins, what each event of a session makes of it, what holds of every
+//! run, and which texts the standard names have.
 #![tactic(auto)]
 
 mod laws;

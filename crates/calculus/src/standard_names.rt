@@ -3,8 +3,8 @@ ghost use Rattle.behaviour_tree.specs.declared.standard.TheConstants.{IO_EXCEPTI
 ghost use Rattle.calculus.specs.Names as names;
 ghost use Rattle.calculus.specs.StandardTexts.{IsNamed};
 
-/// Does nothing: its clauses say that each standard name has one number, in the code and in the calculus, and which text
-/// stands there.
+/// Does nothing: its clauses say that each standard name has one number, in the code and in the calculus, and which
+/// text stands there.
 pub fn standard_names_have_their_texts()
     ensures io_exception { IsNamed IO_EXCEPTION names.io_exception (codes "IOException") }
     ensures type_mismatch { IsNamed TYPE_MISMATCH names.type_mismatch (codes "TypeMismatch") }

@@ -8,8 +8,8 @@ use thiserror::Error;
 /// What a file is refused for.
 #[derive(Clone, Copy, Debug, PartialEq, Eq)]
 pub enum CheckName {
-    /// A name, or the location of an input port, stands a second time where each may stand once, or a service has a second
-    /// execution, init or main.
+    /// A name, or the location of an input port, stands a second time where each may stand once, or a service has a
+    /// second execution, init or main.
     DuplicateName,
     /// A type or an interface is not there, leads back to itself, or an alias leads to no value.
     UnknownType,
