@@ -1,4 +1,4 @@
-ghost use Rattle.std.specs.Prelude.{◌≡◌, [], ◌∷◌, ◌++◌, map, slice_get, option_map, MatchOption, ◌+◌};
+ghost use Rattle.std.specs.Prelude.{◌≡◌, [], ◌∷◌, ◌++◌, map, slice_get, option_map, IfNone, MatchOption, ◌+◌};
 ghost use Rattle.std.specs.List.{position_from};
 ghost use Rattle.std.specs.Option.{option_copied};
 ghost use Rattle.behaviour_tree.specs.Operations.{has_name, in_32_bits, input_interfaces, is_among, mentions, operation_at, operations_in, rest_of, service_operations};
@@ -115,8 +115,10 @@ impl<'a> InputInterfaces<'a> {
         }
     }
 
+    /// The next input interface that was not mentioned before; none where nothing is left, and then nothing comes again.
     fn next(&mut self) -> Option<u32>
-        ensures { MatchOption result (rest_of self.old ≡ []) (λ n. rest_of self.old ≡ n ∷ rest_of self.new) }
+        ensures rest { MatchOption result (rest_of self.old ≡ []) (λ n. rest_of self.old ≡ n ∷ rest_of self.new) }
+        ensures ended { IfNone result (rest_of self.new ≡ []) }
     {
         let ports = self.ports;
         while let Some(port) = ports.get(self.port) {

@@ -70,8 +70,11 @@ pub enum Given {
     Nothing,
     Mail { message: u32, op: u32, value: Tree },
     Answer { outcome: Outcome },
+    /// The correlation variable has its value.
     Bound,
+    /// The value would complete a key that a live session has, which is told by its number.
     Held(u32),
+    /// The variable was written before.
     Fixed,
 }
 
@@ -93,13 +96,18 @@ pub enum Kind {
     Finish,
 }
 
-/// An event: its strand and kind, the message or call or way of a raise, the branch or scope, and the fault.
+/// An event. What its kind has nothing for is 0.
 #[derive(Clone, Copy, Debug, PartialEq, Eq)]
 pub struct Event {
+    /// The strand that acted; 0 of Finish.
     pub strand: u64,
     pub kind: Kind,
+    /// The message of In and Reply; the call of Notify, Solicit and Answer; of Raise where the fault went, as in
+    /// `standard`; of Handle 0 where the handler is that of a fault, and 1 where it is that of a termination.
     pub number: u32,
+    /// The branch of In, and the scope of Raise, Handle, EndScope and Compensate.
     pub place: u32,
+    /// The fault of Raise, and of Handle where it is the handler of one.
     pub fault: u32,
 }
 

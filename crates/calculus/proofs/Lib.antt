@@ -5,6 +5,7 @@ mod Endings
 mod Histories
 mod Kept
 mod Options
+mod StandardTexts
 mod Steps
 mod Unblocked
 mod Upward

@@ -18,6 +18,7 @@ pub mod Replies
 pub mod Runs
 pub mod Scopes
 pub mod Sound
+pub mod StandardTexts
 pub mod Start
 pub mod Tables
 pub mod Terms

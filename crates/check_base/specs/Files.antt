@@ -74,7 +74,7 @@ type_named types name = find (λ (ty : TypeDefinition). bytes_eq ty.name.text na
 abbrev pub interface_named : List Interface → List ℕ → Option Interface
 interface_named interfaces name = find (λ (i : Interface). bytes_eq i.name.text name) interfaces
 
--- how many texts stand before the first that is this one
+-- how many texts stand before the first that is this one; all of them where none is
 abbrev pub place_in : List (List ℕ) → List ℕ → ℕ
 place_in [] text = zero
 place_in (t ∷ ts) text = if bytes_eq t text then zero else suc (place_in ts text)

@@ -1,4 +1,4 @@
-ghost use Rattle.std.specs.Prelude.{◌≡◌, [], ◌∷◌, ◌++◌, ◌<◌, IfOk, IfSome, OnOk, length, map};
+ghost use Rattle.std.specs.Prelude.{◌≡◌, [], ◌∷◌, ◌++◌, ◌<◌, IfOk, IfSome, OnErr, OnOk, length, map};
 ghost use Rattle.behaviour_tree.specs.Distinct.{is_in};
 ghost use Rattle.check_base.specs.Repeated.{place_of};
 
@@ -67,6 +67,7 @@ impl<'a> Names<'a> {
     /// Adds a text behind the others, and says whether it was there.
     pub fn add(&mut self, text: &'a str) -> Result<bool, AllocError>
         ensures added { OnOk result (self.new ≡ self.old ++ text.now ∷ []) }
+        ensures kept { OnErr result (self.new ≡ self.old) }
         ensures known { IfOk result (λ known. known ≡ is_in text.now self.old) }
     {
         let known = self.has(text);

@@ -8,13 +8,14 @@ use thiserror::Error;
 /// What a file is refused for.
 #[derive(Clone, Copy, Debug, PartialEq, Eq)]
 pub enum CheckName {
-    /// A name stands a second time where each may stand once, or a service has a second execution, init or main.
+    /// A name, or the location of an input port, stands a second time where each may stand once, or a service has a
+    /// second execution, init or main.
     DuplicateName,
     /// A type or an interface is not there, leads back to itself, or an alias leads to no value.
     UnknownType,
     /// An output to a port that is not there, or an output port at a local location that no input port has.
     UnknownPort,
-    /// An operation is not among those of the port.
+    /// The operation of an output is not among those of its port, or that of an input among those of the input ports.
     UnknownOperation,
     /// An operation, a location, a protocol, a set or an index of another kind than its place asks for, or a port that is named `Console`.
     WrongKind,

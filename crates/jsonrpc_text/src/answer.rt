@@ -18,7 +18,8 @@ use std::alloc::{AllocError, Global};
 const FAULT: i64 = -32_000;
 
 /// The text of the response to a call that ended so, whose result is written under a type: compact,
-/// its members in the order of their names. Only the error of a fault, -32000, has data.
+/// its members in the order of their names. Only the error of a fault, -32000, has data. An absent id is written as null:
+/// that a notification gets no response is up to who calls.
 pub fn answer_text(
     alloc: Global,
     id: &Id,
@@ -40,7 +41,8 @@ pub fn early_text(alloc: Global, id: &Id, early: &Early) -> Result<Text, AllocEr
     written(alloc, &refusal(alloc, id, code(*early), message(*early))?)
 }
 
-/// The text of the array of texts: the response to a batch.
+/// The text of the array of texts: the response to a batch of which some call gets one. Of no texts it is `[]`, which
+/// JSON-RPC has no place for, so that who calls sends nothing then.
 pub fn batch_text(alloc: Global, texts: &[Text]) -> Result<Text, AllocError>
     ensures { IfOk result (λ text. text ≡ spec.batch texts.now) }
 {

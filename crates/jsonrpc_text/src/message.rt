@@ -19,7 +19,7 @@ pub enum Id {
 pub enum Early {
     /// No JSON value was read.
     Parse,
-    /// The value is no request.
+    /// A value that is no request, an empty array, or a text too long to be read.
     Invalid,
     /// The params make no tree.
     Params,

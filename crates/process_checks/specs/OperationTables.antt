@@ -1,4 +1,4 @@
--- These definitions serve the proofs alone: no promise speaks of them.
+-- These definitions serve the proofs alone: `check` does not speak of them, the clauses of calls of this crate do.
 -- Operations as interfaces declare them, and those that a table keeps, each once.
 use Rattle.std.specs.Prelude.{ℕ, Bool, List, ◌++◌, Option, is_some, option_map}
 use Rattle.jolie_ast.specs.declared.interface.Interface.{Interface}

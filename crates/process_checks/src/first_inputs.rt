@@ -8,11 +8,17 @@ use check_base::Names;
 use jolie_ast::{Block, Branch, Input, Process};
 use std::alloc::{AllocError, Global};
 
-/// The first input of a process.
+/// An input that stands alone, or the branches of a choice.
 #[derive(Clone, Copy)]
-pub enum FirstInput<'a> {
+enum Form<'a> {
     Alone(&'a Input),
     Choice(&'a [Branch]),
+}
+
+/// The first input of a process, of which the names of its operations are told and not its form.
+#[derive(Clone, Copy)]
+pub struct FirstInput<'a> {
+    form: Form<'a>,
 }
 
 impl<'a> FirstInput<'a> {
@@ -21,12 +27,12 @@ impl<'a> FirstInput<'a> {
         ensures { IfOk result (λ names. names ≡ map (λ (n : Name). n.text) (operations_of self.entry)) }
     {
         let mut names = Names::new(alloc);
-        match self {
-            FirstInput::Alone(input) => {
+        match self.form {
+            Form::Alone(input) => {
                 names.add(input.operation.text.as_str())?;
                 Ok(names)
             }
-            FirstInput::Choice(branches) => names_of_branches(alloc, branches),
+            Form::Choice(branches) => names_of_branches(alloc, branches),
         }
     }
 }
@@ -60,8 +66,12 @@ fn first_input_of(process: &Process) -> Option<FirstInput<'_>>
     ensures { option_map operations_of result ≡ (beginning process.now).operations }
 {
     match process {
-        Process::Input(input) => Some(FirstInput::Alone(input)),
-        Process::Choice { branches, .. } => Some(FirstInput::Choice(branches.as_slice())),
+        Process::Input(input) => Some(FirstInput {
+            form: Form::Alone(input),
+        }),
+        Process::Choice { branches, .. } => Some(FirstInput {
+            form: Form::Choice(branches.as_slice()),
+        }),
         Process::Sequence(statements) => first_input_of_sequence(statements.as_slice()),
         Process::Scope { body, .. } => first_input(body),
         Process::Block(block) => first_input(block),

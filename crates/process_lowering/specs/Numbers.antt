@@ -1,4 +1,4 @@
--- These definitions serve the proofs alone: no promise speaks of them.
+-- These definitions serve the proofs alone: `check` does not speak of them, the clauses of calls of this crate do.
 -- What the processes of a service name by numbers, as the checker keeps it.
 use Rattle.std.specs.Prelude.{◌≡◌, ℕ, List, [], ◌∷◌, Option, option_and_then}
 use Rattle.std.specs.List.{slice_get}
@@ -10,7 +10,7 @@ use Rattle.process_lowering.specs.Behaviours.{NumberedPort, Numbering}
 use Rattle.check_base.specs.Files.{place_in}
 use Rattle.check_base.specs.Repeated.{place_of}
 
--- output ports with their names
+-- output ports with their names, as far as both lists go
 abbrev pub named_ports : List (List ℕ) → List kept.NumberedPort → List NumberedPort
 named_ports [] ports = []
 named_ports (n ∷ ns) [] = []

@@ -13,7 +13,8 @@ pub struct NumberedPort<'a> {
     pub operations: Names<'a>,
 }
 
-/// The output ports of a service in order, looked up by their names.
+/// The output ports of a service in order, looked up by their names: what stands at one place of both lists belongs
+/// together.
 #[derive(Drop)]
 pub struct Ports<'a> {
     pub names: Names<'a>,

@@ -29,7 +29,7 @@ returns-in-Some-place_named c =
     let here = map operation_view c.operations_at-operations.result.now in
     let all = c.args.parts.now.interfaces.items in
     let rest = operations_of (map interface_view all) (rest_of c.next.new.self) in
-    let step = unrolled t i c.in-Some.number _ all c.deref-in-Some.result.now _ _ here c.loop-number.invariant c.in-Some.ensures c.deref-in-Some.ensures.value c.operations_at-operations.ensures in
+    let step = unrolled t i c.in-Some.number _ all c.deref-in-Some.result.now _ _ here c.loop-number.invariant c.in-Some.ensures.rest c.deref-in-Some.ensures.value c.operations_at-operations.ensures in
     let found = position-within t i c.in-Some-place_named.place here rest (sym c.in-Some-place_named.ensures) in
     c.added.ensures ∙ sym (ap (λ o. option_and_then in_32_bits o) (step ∙ found))
 
@@ -41,7 +41,7 @@ returns-in-None c =
     let here = map operation_view operations in
     let all = c.args.parts.now.interfaces.items in
     let rest = operations_of (map interface_view all) (rest_of c.next.new.self) in
-    let step = unrolled t i c.in-Some.number _ all c.deref-in-Some.result.now _ _ here c.loop-number.invariant c.in-Some.ensures c.deref-in-Some.ensures.value c.operations_at-operations.ensures in
+    let step = unrolled t i c.in-Some.number _ all c.deref-in-Some.result.now _ _ here c.loop-number.invariant c.in-Some.ensures.rest c.deref-in-Some.ensures.value c.operations_at-operations.ensures in
     let behind = position-behind t i here rest (sym c.in_default-place_named.ensures) in
     sym (ap (λ o. option_and_then in_32_bits o) (step ∙ behind) ∙ position-beyond t (i + length here) rest (no_sum i operations c.in-None.ensures))
 
@@ -53,6 +53,6 @@ loop-number-preserved c =
     let here = map operation_view operations in
     let all = c.args.parts.now.interfaces.items in
     let rest = operations_of (map interface_view all) (rest_of c.next.new.self) in
-    let step = unrolled t i c.in-Some.number _ all c.deref-in-Some.result.now _ _ here c.loop-number.invariant c.in-Some.ensures c.deref-in-Some.ensures.value c.operations_at-operations.ensures in
+    let step = unrolled t i c.in-Some.number _ all c.deref-in-Some.result.now _ _ here c.loop-number.invariant c.in-Some.ensures.rest c.deref-in-Some.ensures.value c.operations_at-operations.ensures in
     let behind = position-behind t i here rest (sym c.in_default-place_named.ensures) in
     step ∙ behind ∙ ap (λ n. position_from t n rest) (sum-is c.in-Some-added.sum i operations c.in-Some-added.ensures)

@@ -1,6 +1,6 @@
-use Rattle.std.proofs.Common.{arith, ◌≡◌, sym, ◌∙◌, refl, ◌++◌, map, take, length, true, false}
+use Rattle.std.proofs.Common.{arith, ◌≡◌, sym, ◌∙◌, refl, [], ◌++◌, map, take, length, true, false}
 use Rattle.std.proofs.lemmas.Option.{slice_get_past, slice_get_read}
-use Rattle.behaviour_tree.specs.Operations.{inputs_of, is_among, mentions}
+use Rattle.behaviour_tree.specs.Operations.{inputs_of, is_among, mentions, rest_of}
 use Rattle.behaviour_tree.specs.PartsView.{port_view}
 use Rattle.behaviour_tree.proofs.Inputs.{inputs-none, inputs-some, inputs-repeated, rest-end, coming-at_end, rest-at_end, coming-at_more, rest-at_more}
 use Rattle.behaviour_tree.proofs.operations.InputInterfaces.next.Goals as goal
@@ -29,8 +29,8 @@ loop-port-preserved-in-None c =
       rest = c.loop-port.invariant.rest ∙ rw c.loop-port.invariant.same_ports (rest-at_end ports i j p at none);
     }
 
-pub returns-then-not-repeated : goal.returns-then-not-repeated
-returns-then-not-repeated c =
+pub returns-then-not-repeated-clause-rest : goal.returns-then-not-repeated-clause-rest
+returns-then-not-repeated-clause-rest c =
     let ports = c.args.self.now.ports.now in
     let i = c.loop-port.self.port in
     let j = c.loop-port.self.at in
@@ -67,10 +67,19 @@ loop-port-preserved c =
       rest = c.loop-port.invariant.rest ∙ rw c.loop-port.invariant.same_ports (rest-at_more ports i j n p true at some known);
     }
 
-pub returns : goal.returns
-returns c =
+pub returns-clause-rest : goal.returns-clause-rest
+returns-clause-rest c =
     let ports = c.args.self.now.ports.now in
     let i = c.loop-port.self.port in
     let j = c.loop-port.self.at in
     let none = slice_get_past ports i c.in_default.ensures.lookup.3 in
     c.loop-port.invariant.rest ∙ rw c.loop-port.invariant.same_ports (rest-end ports i j none)
+
+pub returns-clause-ended : goal.returns-clause-ended
+returns-clause-ended c =
+    let ports = c.args.self.now.ports.now in
+    let i = c.loop-port.self.port in
+    let j = c.loop-port.self.at in
+    let none = slice_get_past ports i c.in_default.ensures.lookup.3 in
+    let ended : rest_of c.loop-port.self ≡ [] = rw c.loop-port.invariant.same_ports (rest-end ports i j none) in
+    ended
