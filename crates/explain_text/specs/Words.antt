@@ -21,7 +21,7 @@ check_words check.TwoSets = codes "this type stands in another set too"
 check_words check.CompOutsideHandler = codes "`comp` stands in no handler"
 check_words check.ChOutsideHandler = codes "`cH` stands in no handler"
 check_words check.NoStart = codes "there is no service, or it has nothing to begin with"
-check_words check.InitNotAssignment = codes "this statement sets nothing"
+check_words check.InitNotAssignment = codes "`init` takes no such statement"
 
 -- what is wrong
 abbrev pub words_of : Cause → List ℕ
@@ -74,7 +74,7 @@ check_rule check.CompOutsideHandler rest =
 check_rule check.ChOutsideHandler rest = codes "`cH` stands in a handler, for the one that it replaces"
 check_rule check.NoStart rest =
     codes "a file has a service, a service a `main`, and that of a concurrent one begins with an input"
-check_rule check.InitNotAssignment rest = codes "a statement of `init` has `=`, `<<`, `++` or `--`"
+check_rule check.InitNotAssignment rest = codes "`init` sets variables by `=`, `<<`, `++` or `--`, one after another, without `csets`, braces and `|`"
 
 -- the rule that is broken at a place of a text; of a token that may not stand there the hints say it
 abbrev pub rule_of : Cause → List ℕ → ℕ → List ℕ

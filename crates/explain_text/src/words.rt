@@ -38,7 +38,7 @@ fn words_of_check(name: CheckName) -> &'static str
         CheckName::CompOutsideHandler => "`comp` stands in no handler",
         CheckName::ChOutsideHandler => "`cH` stands in no handler",
         CheckName::NoStart => "there is no service, or it has nothing to begin with",
-        CheckName::InitNotAssignment => "this statement sets nothing",
+        CheckName::InitNotAssignment => "`init` takes no such statement",
     }
 }
 
@@ -81,7 +81,7 @@ fn rule_of_check(name: CheckName, rest: &[u8]) -> &'static str
         CheckName::ChOutsideHandler => "`cH` stands in a handler, for the one that it replaces",
         CheckName::NoStart =>
             "a file has a service, a service a `main`, and that of a concurrent one begins with an input",
-        CheckName::InitNotAssignment => "a statement of `init` has `=`, `<<`, `++` or `--`",
+        CheckName::InitNotAssignment => "`init` sets variables by `=`, `<<`, `++` or `--`, one after another, without `csets`, braces and `|`",
     }
 }
 
