@@ -74,7 +74,8 @@ check_rule check.CompOutsideHandler rest =
 check_rule check.ChOutsideHandler rest = codes "`cH` stands in a handler, for the one that it replaces"
 check_rule check.NoStart rest =
     codes "a file has a service, a service a `main`, and that of a concurrent one begins with an input"
-check_rule check.InitNotAssignment rest = codes "`init` sets variables by `=`, `<<`, `++` or `--`, one after another, without `csets`, braces and `|`"
+check_rule check.InitNotAssignment rest =
+    codes "`init` sets variables by `=`, `<<`, `++` or `--`, one after another, without `csets`, braces and `|`"
 
 -- the rule that is broken at a place of a text; of a token that may not stand there the hints say it
 abbrev pub rule_of : Cause → List ℕ → ℕ → List ℕ
