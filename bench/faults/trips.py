@@ -80,6 +80,14 @@ class Services:
             except OSError:
                 pass
 
+    def settle(self):
+        """Waits until every connection that came is over: each service has one at a time, in order."""
+        for port in self.ports:
+            with socket.create_connection(("127.0.0.1", port)) as last:
+                last.shutdown(socket.SHUT_WR)
+                while last.recv(4096):
+                    pass
+
     def answer(self, connection, is_sized):
         body = body_on(connection)
         if body is None:
@@ -138,12 +146,14 @@ def trips(program, tally):
     text = FILE.replace("NEAR", str(services.ports[0])).replace("FAR", str(services.ports[1]))
     words = ["run", program.file("trips.ol", text)]
     right = program.run(words, asked(), piece=PIECE)
+    services.settle()
     tally.run("trips", None, differences(right, 0, answered(), b""))
     callers = [it % 10 for it in services.heard]
     for fault in faults_of(right.calls, ways):
         if tally.wants("trips", fault):
             services.heard.clear()
             ran = program.run(words, asked(), fault, PIECE)
+            services.settle()
             tally.run("trips", fault, problems(fault, ran, callers, services))
 
 
