@@ -42,19 +42,19 @@ begins_with word text = starts_with nat_eq text word && not (begins is_word_byte
 abbrev pub kind_rule : List ℕ → List ℕ
 kind_rule rest =
     if starts_with nat_eq rest (codes "\"") then
-        codes "a location is `socket://host:port` or `local://name`, a socket has `protocol: jsonrpc`; "
-        ++ codes "an index of a message's path is a number"
+    codes "a location is `socket://host:port` or `local://name`, a socket has `protocol: jsonrpc`; "
+    ++ codes "an index of a message's path is a number"
     else if begins_with (codes "cset") rest then codes "a set stands in a service with `execution: concurrent`"
     else
-        codes "an answered call is `op@Port(x)(y)`, another `op@Port(x)`; a socket has `protocol: jsonrpc`, "
-        ++ codes "`local://` none; an index of a message's path is a number; no port is named `Console`"
+    codes "an answered call is `op@Port(x)(y)`, another `op@Port(x)`; a socket has `protocol: jsonrpc`, "
+    ++ codes "`local://` none; an index of a message's path is a number; no port is named `Console`"
 
 -- the rule of messages and their sets, by what stands at the place: a use of a variable, a service, or a type in a set
 abbrev pub set_rule : List ℕ → List ℕ
 set_rule rest =
     if begins_with (codes "csets") rest then codes "behind `csets.` stands a variable of a set of the service"
     else if begins_with (codes "service") rest then
-        codes "an operation of a concurrent service begins a session, or a set names fields of its type"
+    codes "an operation of a concurrent service begins a session, or a set names fields of its type"
     else codes "a set that names a field of a type has one of it for each of its variables"
 
 -- the rule of a check, by the text from its place on

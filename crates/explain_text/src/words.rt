@@ -33,7 +33,8 @@ fn words_of_check(name: CheckName) -> &'static str
         CheckName::UnknownPort => "there is no such port, or no service at its location",
         CheckName::UnknownOperation => "the port has no such operation",
         CheckName::WrongKind => "this is of another kind than its place asks for",
-        CheckName::Uncorrelated => "a message could not find its session, or no set has this variable",
+        CheckName::Uncorrelated =>
+            "a message could not find its session, or no set has this variable",
         CheckName::TwoSets => "this type stands in another set too",
         CheckName::CompOutsideHandler => "`comp` stands in no handler",
         CheckName::ChOutsideHandler => "`cH` stands in no handler",
@@ -81,7 +82,8 @@ fn rule_of_check(name: CheckName, rest: &[u8]) -> &'static str
         CheckName::ChOutsideHandler => "`cH` stands in a handler, for the one that it replaces",
         CheckName::NoStart =>
             "a file has a service, a service a `main`, and that of a concurrent one begins with an input",
-        CheckName::InitNotAssignment => "`init` sets variables by `=`, `<<`, `++` or `--`, one after another, without `csets`, braces and `|`",
+        CheckName::InitNotAssignment =>
+            "`init` sets variables by `=`, `<<`, `++` or `--`, one after another, without `csets`, braces and `|`",
     }
 }
 
