@@ -85,8 +85,8 @@ responses =
     )
 
 -- they are two guests
-apart : 0 ≡ 1 → ⊥
-apart e = omega (arith, e)
+apart : (n : ℕ) → n ≡ 0 → n ≡ 1 → ⊥
+apart n one other = omega (arith, one, other)
 
 pub served : IsServed setting history false (traffic written_go written_more)
 unfolding encode
@@ -98,7 +98,7 @@ served = record {
   taken = record { in_order = in_order; all = all_taken };
   came = refl;
   posted = is_posted;
-  one_by_one = two_by_one setting history asked_go asked_more (λ same. absurd (apart same));
+  one_by_one = two_by_one setting history asked_go asked_more (λ same. absurd (apart 0 refl same));
   responses = responses;
   told = λ _. refl;
 }
@@ -136,7 +136,7 @@ served_in_another_order = record {
   taken = record { in_order = in_order_so; all = all_taken_so };
   came = refl;
   posted = is_posted_so;
-  one_by_one = two_by_one setting another_order asked_more asked_go (λ same. absurd (apart (sym same)));
+  one_by_one = two_by_one setting another_order asked_more asked_go (λ same. absurd (apart 1 same refl));
   responses = responses_so;
   told = λ _. refl;
 }
