@@ -1,5 +1,5 @@
 -- What a run over connections posted and wrote.
-use Rattle.std.specs.Prelude.{◌≡◌, ◌⊎◌, ℕ, Bool, true, false, List, length, map, nat_eq}
+use Rattle.std.specs.Prelude.{◌≡◌, ℕ, ◌<◌, Bool, true, false, List, length, map, nat_eq}
 use Rattle.std.specs.Prelude.{Option, Some, slice_get}
 use Rattle.std.specs.List.{list_all, AllZip}
 use Rattle.office_core.specs.declared.history.Entry.{Entry}
@@ -8,6 +8,7 @@ use Rattle.office_core.specs.Accepted.{past_of}
 use Rattle.office_front.specs.Dealings.{Asked}
 use Rattle.run_record.specs.declared.record.Traffic.{Traffic}
 use Rattle.run_record.specs.Postings.{posts_by, posts_of}
+use Rattle.run_record.specs.Order.{finished_at}
 use Rattle.branch_workers.specs.Texts.{Came, posting_of, response}
 use Rattle.connection_runs.specs.Ports.{has_door}
 use Rattle.connection_runs.specs.Visits.{Visit, came_at, AreTaken, HasPassed}
@@ -24,15 +25,21 @@ AreResponses w h visits all = (j : ℕ) (a : Asked) (c : Came) (visit : Visit) (
     → slice_get visits a.traffic ≡ Some visit → slice_get visit.texts a.request ≡ Some text
     → text ≡ response w (past_of w h) first_worker j c
 
+-- Of two requests of one connection the posting of the first was finished at a posting before that of the second: each
+-- of its messages had its answer before the second was posted.
+abbrev pub AreOneByOne : Setting → List Entry → List Asked → Type 0
+AreOneByOne w h asked = (i j : ℕ) (a b : Asked) → slice_get asked i ≡ Some a → slice_get asked j ≡ Some b
+    → a.traffic ≡ b.traffic → i < j → finished_at w (past_of w h) first_worker (length asked) i < j
+
 -- a text was told to each request that was taken from a connection
 abbrev pub is_told : Visit → Bool
 is_told visit = nat_eq (length visit.texts) (length visit.bodies)
 
 -- The requests that were taken from the connections of this traffic were posted to the services of their doors, each
--- once and those of one connection in their order, by the worker that has the connections. What was written on each is
--- what is to be written where the responses to its postings are told, or a front of that where it stands as failed.
--- Unless the front halted, each posting's response was told. Whether a connection that stands so has failed its wire
--- tells, when it comes back.
+-- once and those of one connection in their order, by the worker that has the connections; and, whether the front halted
+-- or not, each once the one before it on its connection was answered. What was written on each is what is to be written
+-- where the responses to its postings are told, or a front of that where it stands as failed. Unless the front halted,
+-- each posting's response was told. Whether a connection that stands so has failed its wire tells, when it comes back.
 pub record IsServed (w : Setting) (h : List Entry) (halted : Bool) (traffic : List Traffic) : Type 0 where
   pub visits : List Visit
   pub all : Requests
@@ -41,5 +48,6 @@ pub record IsServed (w : Setting) (h : List Entry) (halted : Bool) (traffic : Li
   pub taken : AreTaken visits all.asked
   pub came : map (came_at visits) all.asked ≡ map Some all.came
   pub posted : posts_by first_worker h ≡ posts_of 0 (map posting_of all.came)
+  pub one_by_one : AreOneByOne w h all.asked
   pub responses : AreResponses w h visits all
   pub told : halted ≡ false → list_all is_told visits ≡ true

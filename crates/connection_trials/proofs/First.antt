@@ -1,19 +1,22 @@
 -- What a run posted first, on which connection it came, and what is written there.
-use Rattle.std.proofs.Common.{◌≡◌, ◌<◌, ℕ, zero, suc, Bool, true, false, ◌||◌, List, [], ◌∷◌, ◌++◌, length, take, map, Option, Some, None, sym, refl, ap, ◌∙◌, subst, true≢false, arith}
-use Rattle.std.specs.Prelude.{◌≢◌, bytes_eq, slice_get, option_map, option_and_then, nat_eq, count_by}
+use Rattle.std.proofs.Common.{◌≡◌, ◌<◌, append-nil, ℕ, zero, suc, Bool, true, false, ◌||◌, List, [], ◌∷◌, ◌++◌, length, take, map, Option, Some, None, sym, refl, ap, ◌∙◌, subst, true≢false, arith}
+use Rattle.std.specs.Prelude.{◌≢◌, ◌-◌, ◌≤◌, if◌then◌else◌, bytes_eq, slice_get, option_map, option_and_then, nat_eq, count_by}
 use Rattle.std.specs.List.{list_all, AllZip}
 use Rattle.std.specs.Io.{StartsWith}
 use Rattle.std.proofs.Math.Logic.{∥∥₁_elim}
 use Rattle.std.proofs.Math.Seq.{take-length}
 use Rattle.std.proofs.lemmas.Bool.{and_parts, eqb-true}
 use Rattle.std.proofs.lemmas.Option.{none-some, same_Some, slice_get_within}
+use Rattle.office_core.specs.declared.front.CallIn.{CallIn}
+use Rattle.office_core.specs.declared.front.CallIn.TheVariants as call
 use Rattle.office_core.specs.declared.history.Entry.{Entry}
 use Rattle.office_core.specs.Limits.{Setting, first_worker}
 use Rattle.office_core.specs.Accepted.{past_of}
 use Rattle.office_front.specs.Dealings.{Asked}
 use Rattle.office_front.specs.Calls.{is_of}
 use Rattle.run_record.specs.declared.record.Traffic.{Traffic}
-use Rattle.run_record.specs.Postings.{Post, posts_by, posts_of}
+use Rattle.run_record.specs.Postings.{Post, posts_by, posts_from, posts_of}
+use Rattle.run_record.specs.Order.{least_from, is_finished}
 use Rattle.branch_workers.specs.Texts.{Came, posting_of, response}
 use Rattle.http_port.specs.declared.head_reader.Fed.{Fed}
 use Rattle.http_port.specs.declared.head_reader.Fed.TheVariants.{Request}
@@ -27,7 +30,7 @@ use Rattle.http_connection.specs.Talking.{log}
 use Rattle.http_connection.specs.Law.{holding, bodies_of, talk_of, Keeps}
 use Rattle.connection_runs.specs.Ports.{has_door}
 use Rattle.connection_runs.specs.Visits.{Visit, came_with, came_of, came_at, AreTaken, HasPassed}
-use Rattle.connection_runs.specs.Served.{Requests, AreResponses, is_told, IsServed}
+use Rattle.connection_runs.specs.Served.{Requests, AreOneByOne, AreResponses, is_told, IsServed}
 use Rattle.connection_trials.proofs.Requests.{bodies_by, talk_by, cons_nil, head_same}
 
 -- ---- lists and bytes
@@ -385,3 +388,77 @@ module _ (w : Setting) (h : List Entry) (halted : Bool) (t : Traffic) (reading :
       (slice_get_within f.visit.bodies 0 f.body f.asked)
       (λ x e. f.answered x e ∙ first_response s one f k ∙ is_text) whole in
       apart first.0 first.1)
+
+-- ---- posted before another is answered
+
+-- the posts of a posting have its number
+of_posting : (j i : ℕ) (calls : List CallIn) (k : ℕ) (p : Post) → slice_get (posts_from j i calls) k ≡ Some p → p.posting ≡ j
+of_posting j i [] k p there = absurd (none-some p there)
+of_posting j i (call.Post q ∷ calls) zero p there =
+    sym (ap (λ (x : Post). x.posting) (same_Some (record { posting = j; index = i; posted = q }) p there))
+of_posting j i (call.Post q ∷ calls) (suc k) p there = of_posting j (suc i) calls k p there
+of_posting j i (call.Answered o ∷ calls) k p there = of_posting j (suc i) calls k p there
+
+zero_one : (n : ℕ) → n ≡ 0 → n ≡ 1 → ⊥
+zero_one n none one = omega (arith, none, one)
+
+-- where the second posting has a post, two came in at least
+two_came : (came : List Came) (k : ℕ) (p : Post) → slice_get (posts_of 0 (map posting_of came)) k ≡ Some p → p.posting ≡ 1
+    → (c : Came) × (d : Came) × (others : List Came) × (came ≡ c ∷ d ∷ others)
+two_came [] k p there one = absurd (none-some p there)
+two_came (c ∷ []) k p there one =
+    let alone : slice_get (posts_from 0 0 (posting_of c).calls) k ≡ Some p =
+    ap (λ (l : List Post). slice_get l k) (sym (append-nil (posts_from 0 0 (posting_of c).calls))) ∙ there in
+    absurd (zero_one p.posting (of_posting 0 0 (posting_of c).calls k p alone) one)
+two_came (c ∷ d ∷ others) k p there one = (c, d, others, refl)
+
+low_by : (b : Bool) (i r : ℕ) → suc i ≤ r → i ≤ (if b then i else r)
+low_by true i r h = omega arith
+low_by false i r h = omega (arith, h)
+
+least_low : (p : ℕ → Bool) (i n : ℕ) → i ≤ least_from p i n
+least_low p i zero = omega arith
+least_low p i (suc n) = low_by (p i) i (least_from p (suc i) n) (least_low p (suc i) n)
+
+above : (n r : ℕ) → n ≡ r → 1 ≤ r → n < 1 → ⊥
+above n r is low less = omega (arith, is, low, less)
+
+none_left : 0 < 0 → ⊥
+none_left less = omega (arith, less)
+
+-- where the first of some numbers is none of a kind, the least of the kind is another
+not_first : (p : ℕ → Bool) (n : ℕ) → p 0 ≡ false → 0 < n → least_from p 0 n < 1 → ⊥
+not_first p zero other some less = absurd (none_left some)
+not_first p (suc n) other some less =
+    above (least_from p 0 (suc n)) (least_from p 1 n) (ap (λ (b : Bool). if b then 0 else least_from p 1 n) other) (least_low p 1 n) less
+
+some_left : (n : ℕ) → 0 < suc n - 0
+some_left n = omega arith
+
+module _ (w : Setting) (h : List Entry) (open_yet : is_finished w (past_of w h) first_worker 0 0 ≡ false) where
+  not_one_by_one : (v : Visit) (asked : List Asked) (c d : Came) (others : List Came)
+      → map (came_at (v ∷ [])) asked ≡ map Some (c ∷ d ∷ others) → AreOneByOne w h asked → ⊥
+  not_one_by_one v [] c d others is turns = absurd (cons_nil (Some c) (map Some (d ∷ others)) (sym is))
+  not_one_by_one v (a ∷ []) c d others is turns =
+      absurd (cons_nil (Some d) (map Some others) (sym (ap behind_first is)))
+  not_one_by_one v (a ∷ b ∷ asked) c d others is turns =
+      let s = is_taken (v ∷ []) a c
+      (head_same (came_at (v ∷ []) a) (Some c) (map (came_at (v ∷ [])) (b ∷ asked)) (map Some (d ∷ others)) is) in
+      let t = is_taken (v ∷ []) b d
+      (head_same (came_at (v ∷ []) b) (Some d) (map (came_at (v ∷ [])) asked) (map Some others) (ap behind_first is)) in
+      let one : a.traffic ≡ 0 = (alone_at v s.visit a.traffic s.there).0 in
+      let other : b.traffic ≡ 0 = (alone_at v t.visit b.traffic t.there).0 in
+      let first : 0 < 1 = omega arith in
+      not_first (is_finished w (past_of w h) first_worker 0) (length (a ∷ b ∷ asked) - 0) open_yet
+      (some_left (length (b ∷ asked))) (turns 0 1 a b refl refl (one ∙ sym other) first)
+
+  -- A run over one connection is refused where something is posted of the second request before the first is answered.
+  pub refused_early : (halted : Bool) (t : Traffic) (p : Post) → slice_get (posts_by first_worker h) 1 ≡ Some p → p.posting ≡ 1
+      → IsServed w h halted (t ∷ []) → ⊥
+  refused_early halted t p there one s =
+      let v = alone s.visits t s.passed in
+      let two = two_came s.all.came 1 p (ap (λ (l : List Post). slice_get l 1) (sym s.posted) ∙ there) one in
+      not_one_by_one v.0 s.all.asked two.0 two.1 two.2
+      (subst (λ (l : List Visit). map (came_at l) s.all.asked ≡ map Some (two.0 ∷ two.1 ∷ two.2)) v.1
+      (s.came ∙ ap (map Some) two.3))
+      s.one_by_one

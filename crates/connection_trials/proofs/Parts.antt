@@ -1,5 +1,5 @@
 -- What makes a run served, by lists that are written out.
-use Rattle.std.proofs.Common.{◌≡◌, ℕ, zero, suc, ◌+◌, List, [], ◌∷◌, length, take, Option, Some, sym, refl, ap, ◌∙◌, subst, arith}
+use Rattle.std.proofs.Common.{◌≡◌, ◌<◌, ℕ, zero, suc, ◌+◌, List, [], ◌∷◌, length, take, Option, Some, sym, refl, ap, ◌∙◌, subst, arith}
 use Rattle.std.specs.Prelude.{slice_get}
 use Rattle.std.proofs.Math.Seq.{take-length}
 use Rattle.std.proofs.lemmas.Option.{none-some, same_Some}
@@ -8,6 +8,7 @@ use Rattle.office_core.specs.Limits.{Setting, first_worker}
 use Rattle.office_core.specs.Accepted.{past_of}
 use Rattle.office_front.specs.Dealings.{Asked}
 use Rattle.run_record.specs.declared.record.Traffic.{Traffic}
+use Rattle.run_record.specs.Order.{finished_at}
 use Rattle.branch_workers.specs.Texts.{Came, response}
 use Rattle.http_port.specs.declared.head_reader.Fed.{Fed}
 use Rattle.http_port.specs.Connections.{Reading, given}
@@ -15,7 +16,7 @@ use Rattle.http_port.specs.Serving.{bodies_in}
 use Rattle.http_port.proofs.TalkLemmas.{spoken}
 use Rattle.http_connection.specs.declared.stage.Stage.TheVariants as Stages
 use Rattle.connection_runs.specs.Visits.{Visit, HasPassed}
-use Rattle.connection_runs.specs.Served.{AreResponses}
+use Rattle.connection_runs.specs.Served.{AreOneByOne, AreResponses}
 use Rattle.connection_trials.proofs.Requests.{bodies_by, talk_by}
 
 -- a connection that reads on, whose requests were all taken and told these texts
@@ -76,3 +77,27 @@ module _ (w : Setting) (h : List Entry) (visits : List Visit) where
       let same : 0 + j ≡ j = omega arith in
       told_at 0 asked came told j a c e f v t there at
       ∙ ap (λ (n : ℕ). response w (past_of w h) first_worker n c) same
+
+-- ---- one by one
+
+none_below : (i : ℕ) → i < 0 → ⊥
+none_below i less = omega (arith, less)
+
+none_between : (i : ℕ) → suc i < 1 → ⊥
+none_between i less = omega (arith, less)
+
+module _ (w : Setting) (h : List Entry) where
+  -- one request alone has none behind it
+  pub one_alone : (x : Asked) → AreOneByOne w h (x ∷ [])
+  one_alone x i zero a b e f same less = absurd (none_below i less)
+  one_alone x i (suc j) a b e f same less = absurd (none-some b f)
+
+  -- of two the first is finished before the second, where they came on one connection
+  pub two_by_one : (x y : Asked) → (x.traffic ≡ y.traffic → finished_at w (past_of w h) first_worker 2 0 < 1)
+      → AreOneByOne w h (x ∷ y ∷ [])
+  two_by_one x y early i zero a b e f same less = absurd (none_below i less)
+  two_by_one x y early zero (suc zero) a b e f same less =
+      early
+      (ap (λ (z : Asked). z.traffic) (same_Some x a e) ∙ same ∙ sym (ap (λ (z : Asked). z.traffic) (same_Some y b f)))
+  two_by_one x y early (suc i) (suc zero) a b e f same less = absurd (none_between i less)
+  two_by_one x y early i (suc (suc j)) a b e f same less = absurd (none-some b f)

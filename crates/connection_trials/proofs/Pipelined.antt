@@ -1,5 +1,5 @@
 -- The run of two calls over one connection, on which both were sent at once.
-use Rattle.std.specs.Prelude.{◌≡◌, ◌≢◌, ℕ, zero, suc, true, false, List, [], ◌∷◌, ◌++◌, take, length, map, count_by}
+use Rattle.std.specs.Prelude.{◌≡◌, ◌≢◌, ℕ, ◌<◌, zero, suc, true, false, List, [], ◌∷◌, ◌++◌, take, length, map, count_by}
 use Rattle.std.specs.Prelude.{Option, Some, slice_get}
 use Rattle.std.proofs.Common.{refl, sym, ap, subst, arith}
 use Rattle.std.proofs.lemmas.Bool.{eqb-true}
@@ -36,9 +36,9 @@ use Rattle.connection_runs.specs.Visits.{Visit, HasPassed}
 use Rattle.connection_runs.specs.Served.{AreResponses, IsServed}
 use Rattle.connection_trials.proofs.Requests.{judged, more_requests, cons_nil}
 use Rattle.connection_trials.proofs.Sent.{go, more, read_go, read_more, head_go, gives_more, reading_more}
-use Rattle.connection_trials.proofs.Parts.{read_on, passed_on, IsTextAt, text_at, told_responses}
-use Rattle.connection_trials.proofs.First.{differ, first_op, holds_alone, IsOther, LeadToOne, refused, refused_first}
-use Rattle.connection_trials.proofs.TwoCalls.{setting, history, another_order, call_go, call_more, text_go, text_more, written_go, written_more, came_go, came_more, is_posted, response_go, response_more}
+use Rattle.connection_trials.proofs.Parts.{read_on, passed_on, IsTextAt, text_at, told_responses, two_by_one}
+use Rattle.connection_trials.proofs.First.{differ, first_op, holds_alone, IsOther, LeadToOne, refused, refused_first, refused_early}
+use Rattle.connection_trials.proofs.TwoCalls.{setting, history, another_order, at_once, go_first, go_open, post_more, is_post_more, call_go, call_more, text_go, text_more, written_go, written_more, came_go, came_more, is_posted, response_go, response_more}
 
 -- what was read
 abbrev read : List ℕ
@@ -106,6 +106,10 @@ responses =
       (subst (IsTextAt (visit ∷ []) asked_more) response_more (text_at (visit ∷ []) asked_more visit (Some text_more) refl refl), tt),
     )
 
+none_one : 0 < 1
+none_one = omega arith
+
+-- the first was answered before the second was posted
 pub served : IsServed setting history false (wrote written ∷ [])
 unfolding encode
 served = record {
@@ -116,6 +120,7 @@ served = record {
   taken = record { in_order = in_order; all = all_taken };
   came = refl;
   posted = is_posted;
+  one_by_one = two_by_one setting history asked_go asked_more (λ _. subst (λ (n : ℕ). n < 1) (sym go_first) none_one);
   responses = responses;
   told = λ _. refl;
 }
@@ -136,6 +141,10 @@ pub spoilt_posted_in_another_order : IsServed setting another_order false (wrote
 spoilt_posted_in_another_order =
     refused_first setting another_order false (wrote written) reading go (Request more false ∷ []) (gives_read reading)
     (λ e. cons_nil _ _ e) one_door other_first
+
+-- what was sent behind the other was posted before that was answered
+pub spoilt_posted_at_once : IsServed setting at_once false (wrote written ∷ []) → ⊥
+spoilt_posted_at_once = refused_early setting at_once go_open false (wrote written) post_more is_post_more refl
 
 -- the answers were written in another order
 abbrev exchanged : List ℕ

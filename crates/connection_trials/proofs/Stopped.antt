@@ -37,7 +37,7 @@ use Rattle.http_port.specs.declared.head_reader.Fed.TheVariants.{Request}
 use Rattle.connection_runs.specs.Visits.{Visit, came_with, AreTaken, HasPassed}
 use Rattle.connection_runs.specs.Served.{AreResponses, IsServed}
 use Rattle.connection_trials.proofs.Sent.{go, read_go, gives_go}
-use Rattle.connection_trials.proofs.Parts.{read_on, passed_on, IsTextAt, text_at, told_responses}
+use Rattle.connection_trials.proofs.Parts.{read_on, passed_on, IsTextAt, text_at, told_responses, one_alone}
 
 -- the program
 abbrev pub program : ProgramParts
@@ -125,6 +125,7 @@ served = record {
   taken = one_taken visit refl;
   came = refl;
   posted = is_posted;
+  one_by_one = one_alone setting history asked;
   responses = responses visit refl;
   told = λ _. refl;
 }

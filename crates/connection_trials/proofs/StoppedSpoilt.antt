@@ -27,7 +27,7 @@ use Rattle.connection_runs.specs.Served.{IsServed}
 use Rattle.connection_trials.proofs.Requests.{bodies_by, talk_by, cons_nil}
 use Rattle.connection_trials.proofs.Sent.{go, read_go, reading_go, gives_go}
 use Rattle.connection_trials.proofs.First.{differ, behind_first, first_op, holds_alone, IsOther, LeadToOne, refused, refused_once, refused_cut}
-use Rattle.connection_trials.proofs.Parts.{IsTextAt, told_responses}
+use Rattle.connection_trials.proofs.Parts.{IsTextAt, told_responses, one_alone}
 use Rattle.connection_trials.proofs.Stopped.{setting, history, text, written, gives, asked, came, one_taken, is_response, responses, is_posted}
 
 one_door : LeadToOne setting
@@ -179,6 +179,7 @@ served_where_it_failed n = record {
   taken = one_taken failed refl;
   came = refl;
   posted = is_posted;
+  one_by_one = one_alone setting history asked;
   responses = responses failed refl;
   told = λ _. refl;
 }
@@ -209,6 +210,7 @@ served_where_it_halted = record {
   taken = one_taken owing refl;
   came = refl;
   posted = is_posted;
+  one_by_one = one_alone setting history asked;
   responses = told_responses setting history (owing ∷ []) (asked ∷ []) (came ∷ []) (owing_told, tt);
   told = λ e. absurd (true≢false e);
 }
@@ -237,6 +239,7 @@ served_before_it_is_taken = record {
   taken = record { in_order = λ j a e. absurd (none-some a e); all = none_asked };
   came = refl;
   posted = refl;
+  one_by_one = λ i j a b e. absurd (none-some a e);
   responses = λ j a c v t ea ec ev et. absurd (none-some a ea);
   told = λ _. refl;
 }

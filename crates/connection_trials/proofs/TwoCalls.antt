@@ -1,6 +1,6 @@
 -- A run of two calls, each of which has a session of its own and is answered by it.
 use Rattle.std.specs.Prelude.{◌≡◌, ℕ, ℤ, pos, true, List, [], ◌∷◌, map, codes}
-use Rattle.std.specs.Prelude.{Option, None, Some}
+use Rattle.std.specs.Prelude.{false, Option, None, Some, slice_get}
 use Rattle.std.proofs.Common.{refl}
 use lib.Utf8.{encode}
 use Rattle.std.specs.Fmt.{digits}
@@ -27,7 +27,8 @@ use Rattle.office_core.specs.declared.history.Entry.{Entry}
 use Rattle.office_core.specs.Limits.{Setting, run_of, first_worker}
 use Rattle.office_core.specs.Accepted.{past_of}
 use Rattle.office_core.specs.Legal.{IsLegal}
-use Rattle.run_record.specs.Postings.{posts_by, posts_of}
+use Rattle.run_record.specs.Postings.{Post, posts_by, posts_of}
+use Rattle.run_record.specs.Order.{finished_at, is_finished}
 use Rattle.branch_workers.specs.Texts.{Came, posting_of, response}
 use Rattle.connection_runs.specs.Visits.{came_with}
 use Rattle.connection_trials.proofs.Sent.{go, more}
@@ -82,9 +83,31 @@ history = history_of call_go call_more
 abbrev pub another_order : List Entry
 another_order = history_of call_more call_go
 
+-- both are posted before a session acts
+abbrev pub at_once : List Entry
+at_once = (
+    record { actor = 4096; act = act.Post 0 0 (record { service = 0; op = call_go.op; value = (node root.Void no_fields) }) (answer.Accepted 0) } ∷
+    record { actor = 4096; act = act.Post 1 0 (record { service = 0; op = call_more.op; value = (node root.Void no_fields) }) (answer.Accepted 1) } ∷
+    record { actor = 0; act = act.Adopt 0 } ∷
+    record { actor = 0; act = act.Take 0 } ∷
+    record { actor = 0; act = act.Reply 0 (outcome.Value (node (root.Int call_go.result) no_fields)) } ∷
+    record { actor = 0; act = act.End } ∷
+    record { actor = 1; act = act.Adopt 0 } ∷
+    record { actor = 1; act = act.Take 1 } ∷
+    record { actor = 1; act = act.Reply 1 (outcome.Value (node (root.Int call_more.result) no_fields)) } ∷
+    record { actor = 1; act = act.End } ∷
+    record { actor = 4096; act = act.Collect 0 (outcome.Value (node (root.Int call_go.result) no_fields)) } ∷
+    record { actor = 4096; act = act.Collect 1 (outcome.Value (node (root.Int call_more.result) no_fields)) } ∷
+    record { actor = 4096; act = act.Close } ∷
+    record { actor = 4096; act = act.Stop } ∷ [])
+
 pub legal : IsLegal setting history
 unfolding encode
 legal = (record { allowed = refl; reply = refl }, (record { allowed = refl; reply = refl }, (record { allowed = refl; reply = refl }, (record { allowed = refl; reply = refl }, (record { allowed = refl; reply = refl }, (record { allowed = refl; reply = refl }, (record { allowed = refl; reply = refl }, (record { allowed = refl; reply = refl }, (record { allowed = refl; reply = refl }, (record { allowed = refl; reply = refl }, (record { allowed = refl; reply = refl }, (record { allowed = refl; reply = refl }, (record { allowed = refl; reply = refl }, (record { allowed = refl; reply = refl }, tt))))))))))))))
+
+pub legal_at_once : IsLegal setting at_once
+unfolding encode
+legal_at_once = (record { allowed = refl; reply = refl }, (record { allowed = refl; reply = refl }, (record { allowed = refl; reply = refl }, (record { allowed = refl; reply = refl }, (record { allowed = refl; reply = refl }, (record { allowed = refl; reply = refl }, (record { allowed = refl; reply = refl }, (record { allowed = refl; reply = refl }, (record { allowed = refl; reply = refl }, (record { allowed = refl; reply = refl }, (record { allowed = refl; reply = refl }, (record { allowed = refl; reply = refl }, (record { allowed = refl; reply = refl }, (record { allowed = refl; reply = refl }, tt))))))))))))))
 
 -- the texts of the answers, and what is to be written
 abbrev pub text_go : List ℕ
@@ -131,3 +154,21 @@ response_more_first = refl
 pub response_go_second : Some text_go ≡ response setting (past_of setting another_order) first_worker 1 came_go
 unfolding digits escape_byte is_utf8 chars encode scan_numeral value punctuate lex content word after_number number_of root_name posted answer batch early_answer
 response_go_second = refl
+
+-- where they are posted one after the other, the first posting is finished before the second
+pub go_first : finished_at setting (past_of setting history) first_worker 2 0 ≡ 0
+unfolding encode
+go_first = refl
+
+-- where both are posted at once, it is not
+pub go_open : is_finished setting (past_of setting at_once) first_worker 0 0 ≡ false
+unfolding encode
+go_open = refl
+
+-- the second post there
+abbrev pub post_more : Post
+post_more =
+    record { posting = 1; index = 0; posted = record { service = 0; op = call_more.op; value = (node root.Void no_fields) } }
+
+pub is_post_more : slice_get (posts_by first_worker at_once) 1 ≡ Some post_more
+is_post_more = refl

@@ -1,7 +1,7 @@
 -- The run of two calls over two connections; each has the answer to its own.
 use Rattle.std.specs.Prelude.{◌≡◌, ◌≢◌, ℕ, zero, suc, true, false, List, [], ◌∷◌, take, length, count_by, codes}
 use Rattle.std.specs.Prelude.{Option, Some, slice_get}
-use Rattle.std.proofs.Common.{refl, sym, subst}
+use Rattle.std.proofs.Common.{refl, sym, subst, arith}
 use Rattle.std.proofs.lemmas.Bool.{eqb-true}
 use Rattle.std.proofs.lemmas.Option.{none-some, same_Some}
 use lib.Utf8.{encode}
@@ -31,7 +31,7 @@ use Rattle.connection_runs.specs.Visits.{Visit, AreTaken, HasPassed}
 use Rattle.connection_runs.specs.Served.{AreResponses, IsServed}
 use Rattle.connection_trials.proofs.Requests.{cons_nil}
 use Rattle.connection_trials.proofs.Sent.{go, more, read_go, read_more, gives_go, gives_more, reading_go, reading_more}
-use Rattle.connection_trials.proofs.Parts.{read_on, passed_on, IsTextAt, text_at, told_responses}
+use Rattle.connection_trials.proofs.Parts.{read_on, passed_on, IsTextAt, text_at, told_responses, two_by_one}
 use Rattle.connection_trials.proofs.First.{differ, holds_alone, IsOther, LeadToOne, refused}
 use Rattle.connection_trials.proofs.TwoCalls.{setting, history, another_order, text_go, text_more, written_go, written_more, came_go, came_more, is_posted, response_go, response_more, is_posted_so, response_more_first, response_go_second}
 
@@ -84,6 +84,10 @@ responses =
       (subst (IsTextAt visits asked_more) response_more (text_at visits asked_more visit_more (Some text_more) refl refl), tt),
     )
 
+-- they are two guests
+apart : (n : ℕ) → n ≡ 0 → n ≡ 1 → ⊥
+apart n one other = omega (arith, one, other)
+
 pub served : IsServed setting history false (traffic written_go written_more)
 unfolding encode
 served = record {
@@ -94,6 +98,7 @@ served = record {
   taken = record { in_order = in_order; all = all_taken };
   came = refl;
   posted = is_posted;
+  one_by_one = two_by_one setting history asked_go asked_more (λ same. absurd (apart 0 refl same));
   responses = responses;
   told = λ _. refl;
 }
@@ -131,6 +136,7 @@ served_in_another_order = record {
   taken = record { in_order = in_order_so; all = all_taken_so };
   came = refl;
   posted = is_posted_so;
+  one_by_one = two_by_one setting another_order asked_more asked_go (λ same. absurd (apart 1 same refl));
   responses = responses_so;
   told = λ _. refl;
 }

@@ -1,5 +1,5 @@
 -- What passed between a front over doors and its run, when it is asked for a posting.
-use Rattle.std.proofs.Common.{◌≡◌, refl, sym, ap, ap₂, ◌∙◌, subst, arith, ℕ, zero, suc, ◌<◌, ◌≤◌, Bool, true, false, ◌&&◌, ◌||◌, ◌⊎◌, inl, inr, List, [], ◌∷◌, ◌++◌, length, map, take, None, Some, count_by, nat_eq, nat_lt, nat_le, Result, Ok, Err, MatchResult}
+use Rattle.std.proofs.Common.{◌≡◌, refl, sym, ap, ap₂, ◌∙◌, subst, arith, ℕ, zero, suc, ◌<◌, ◌≤◌, Bool, true, false, ◌&&◌, ◌||◌, ◌⊎◌, inl, inr, List, [], ◌∷◌, ◌++◌, length, map, take, None, Some, count_by, slice_get, nat_eq, nat_lt, nat_le, Result, Ok, Err, MatchResult}
 use Rattle.std.specs.declared.alloc.AllocError.{AllocError}
 use Rattle.std.specs.List.{list_all, list_any, sum_by}
 use Rattle.std.proofs.lemmas.Bool.{and_parts, and_from, lt-ltb, ltb-true, ltb-false, leb-false, true≢false}
@@ -27,6 +27,7 @@ use Rattle.door_front.proofs.Leading.{led-asked}
 use Rattle.door_front.proofs.Coming.{goes-none}
 use Rattle.door_front.proofs.Requests.{Serves, serves-on, came_length}
 use Rattle.door_front.proofs.OneMore.{one_more, next_of, serves-more, service_there}
+use Rattle.door_front.proofs.OneByOne.{told_all, one_count_more, told_first-more, heard-where_reads}
 use Rattle.door_front.proofs.Waiting.{waited-none, waited-more, owes, opened_owe, owes-grow, busy-few, busy-all, busy-count}
 
 -- ---- calls
@@ -156,6 +157,7 @@ module _ (IsMade : Line → Type 0) (parts : ProgramParts) (first : Sides) (note
       all_told = h.all_told;
       places = h.places;
       answers = still_serves.answers;
+      one_by_one = record { counts = h.one_by_one.counts; each = h.one_by_one.each };
       said = said_still;
       left = refl;
       faults = h.faults;
@@ -333,6 +335,14 @@ module _ (IsMade : Line → Type 0) (parts : ProgramParts) (first : Sides) (note
         map-append (λ (a : Asked). a.traffic) h.all.asked (asker ∷ [])
         ∙ ap (λ ts. ts ++ hands.number ∷ []) (h.traffics ∙ sym g.goes.traffics) ∙ sym hands.kept
 
+    -- each request before it on its connection had been told of
+    told_before : (i : ℕ) (a : Asked) → slice_get d.brought.asked i ≡ Some a → a.traffic ≡ asker.traffic
+        → list_any (λ (t : Told). nat_eq i t.place) (take (length d.said.told) d.said.told) ≡ true
+    told_before i a there traffic =
+        told_all (λ (t : Told). nat_eq i t.place) h.heard d.said.told h.told
+        (heard-where_reads IsMade parts (services_of before) g.mid.links h.all h.heard mid_serves hands.number hands.one.link hands.one.there hands.one.read
+        i a (ap (λ xs. slice_get xs i) h.asked ∙ there) traffic)
+
     none_now : GaveNone (record { brought = brought_now; said = d.said }) → ⊥
     none_now gave = elim gave [ inl e ↦ true≢false (sym e) | inr more ↦ (omega arith) ]
 
@@ -361,6 +371,10 @@ module _ (IsMade : Line → Type 0) (parts : ProgramParts) (first : Sides) (note
       places = places_below (length h.all.asked) (length (h.all.asked ++ asker ∷ []))
           (let one = length_push h.all.asked asker in omega arith) h.heard h.places;
       answers = now_serves.answers;
+      one_by_one = record {
+        counts = one_count_more d.brought.asked d.brought.seens asker (length d.said.told) h.one_by_one.counts;
+        each = told_first-more d.brought.asked d.brought.seens d.said.told asker h.one_by_one.counts h.one_by_one.each told_before;
+      };
       said = said_still;
       left = refl;
       faults = h.faults;

@@ -11,5 +11,6 @@ pub mod Counting
 pub mod Requests
 pub mod OneMore
 pub mod Waiting
+pub mod OneByOne
 pub mod Asking
 pub mod FirstReading

@@ -31,6 +31,7 @@ use Rattle.door_front.specs.Dealt.{Sides, sides_of, OwesAt, IsLink, AreLinks, Is
 use Rattle.door_front.specs.AnswerSteps.{told_of, HasTold, HasAnswered}
 use Rattle.door_front.proofs.Changing.{eq_true, eq_false, not_eq, same_of, none_not_some, set_here, set_other, set_cases, list_all-set, slice_get-front, slice_get-last, map_alike, slice_get-mapped}
 use Rattle.door_front.proofs.Leading.{led-set, led-new}
+use Rattle.door_front.proofs.OneByOne.{one_by_one-longer}
 use Rattle.door_front.proofs.Notes.{halts_still, halts_unknown, NotesSo, said_told, said_cut, said_noted}
 
 -- ---- stages
@@ -113,6 +114,7 @@ no_answer-more d later k same ts more seen h = record {
   asked = h.asked;
   there = ap (λ (b : Brought). slice_get b.asked h.place) same ∙ h.there;
   traffic = h.traffic;
+  last = h.last ∙ sym (ap (λ (b : Brought). count_by (is_of k) b.asked) same);
   untold =
       ap (list_any (λ (t : Told). nat_eq h.place t.place))
       (ap₂ (λ (b : Brought) told. take b.seen told) same more ∙ take-append-le d.brought.seen d.said.told ts seen)
@@ -374,6 +376,7 @@ module _ (IsMade : Line → Type 0) (parts : ProgramParts) (first : Sides) (old 
             ∙ and_from (list_all (λ (t : Told). nat_lt t.place (length h.all.asked)) h.heard) (nat_lt place (length h.all.asked) && true) h.places
             (and_from (nat_lt place (length h.all.asked)) true (lt-ltb place (length h.all.asked) given_before) refl);
         answers = all_heard;
+        one_by_one = one_by_one-longer d now_dealt.said (told_of place outcomes ∷ []) refl h.one_by_one;
         said = said_told first (sides_of old notes) d.said h.said new (told_of place outcomes) a.halted;
         left = h.left;
         faults = h.faults;
@@ -414,6 +417,7 @@ module _ (IsMade : Line → Type 0) (parts : ProgramParts) (first before : Sides
         all_told = λ runs. absurd (true≢false (sym (h.said.halted ∙ cut) ∙ runs));
         places = h.places;
         answers = h.answers;
+        one_by_one = one_by_one-longer d (record d.said { told = d.said.told ++ t ∷ [] }) (t ∷ []) refl h.one_by_one;
         said = said_told first before d.said h.said before.kept t refl;
         left = h.left;
         faults = h.faults;
@@ -462,6 +466,7 @@ module _ (IsMade : Line → Type 0) (parts : ProgramParts) (first : Sides) (old 
     all_told = λ runs. h.all_told (n.stays runs) ∙ sym n.told;
     places = h.places;
     answers = h.answers;
+    one_by_one = one_by_one-longer d n.after [] (n.told ∙ sym (append-nil d.said.told)) h.one_by_one;
     said = n.said;
     left = h.left;
     faults = h.faults;
@@ -640,6 +645,7 @@ nothing_dealt IsMade parts kept notes empty within = (
     all_told = λ _. refl;
     places = refl;
     answers = λ j q c visit asked. absurd (none_not_some q asked);
+    one_by_one = record { counts = refl; each = λ i j n q r there. absurd (none_not_some q there) };
     said = record {
       notes = [];
       written = Appends-nil notes.taken;

@@ -133,7 +133,7 @@ owes-grow IsMade services (l ∷ ls) (m ∷ ms) g =
 -- ---- requests without an answer
 
 -- what is told of is found
-told_found : (j : ℕ) (heard : List Told) (t : Told) → Contains heard t → t.place ≡ j → list_any (λ (t : Told). nat_eq j t.place) heard ≡ true
+pub told_found : (j : ℕ) (heard : List Told) (t : Told) → Contains heard t → t.place ≡ j → list_any (λ (t : Told). nat_eq j t.place) heard ≡ true
 told_found j heard t c e =
     list_any_at (λ (t : Told). nat_eq j t.place) heard c.0 t c.1
     (ap (λ (x : Told). nat_eq j x.place) c.2 ∙ ap (nat_eq j) e ∙ nat_eq_same j)
@@ -179,6 +179,7 @@ module _ (IsMade : Line → Type 0) (parts : ProgramParts) (services : List ℕ)
           asked = found.1;
           there = ap (λ xs. slice_get xs found.0) (sym asked) ∙ found.2;
           traffic = sym traffic;
+          last = ap suc number ∙ sym (s.taken.all k v here.1 ∙ counts) ∙ ap (count_by (is_of k)) asked;
           untold = ap (list_any (λ (t : Told). nat_eq found.0 t.place)) (sym told) ∙ w.1;
         }
       ]

@@ -8,7 +8,7 @@ use Rattle.outside_doors.specs.Counts.{has_ended}
 use Rattle.sink_writing.specs.Sinks.{Taking}
 use Rattle.behaviour_tree.specs.Data.{ProgramParts}
 use Rattle.office_front.specs.Dealings.{Asked, Told, Said, Dealings}
-use Rattle.office_front.specs.Calls.{most_postings}
+use Rattle.office_front.specs.Calls.{most_postings, is_of}
 use Rattle.branch_workers.specs.Texts.{Came, posting_of}
 use Rattle.branch_workers.specs.Lines.{IsFront, IsProperFront}
 use Rattle.posting_texts.specs.Told.{response_told}
@@ -94,6 +94,14 @@ AreHeard parts kept visits all heard = (j : ℕ) (a : Asked) (c : Came) (visit :
     → IsHeard parts heard j c (slice_get visit.texts a.request) ⊎
     (IsOwed kept.links j a c visit × (list_any (λ (t : Told). nat_eq j t.place) heard ≡ false))
 
+-- The requests of a connection came one by one: when one was asked for, each before it on its connection had been told
+-- of. There is a count of what had been told by then for each posting.
+pub record CameOneByOne (d : Dealings) : Type 0 where
+  pub counts : length d.brought.seens ≡ length d.brought.asked
+  pub each : (i j n : ℕ) (a b : Asked) → slice_get d.brought.asked i ≡ Some a → slice_get d.brought.asked j ≡ Some b
+      → a.traffic ≡ b.traffic → i < j → slice_get d.brought.seens j ≡ Some n
+      → list_any (λ (t : Told). nat_eq i t.place) (take n d.said.told) ≡ true
+
 -- The notes were written, unless the front halted: then a front of them was, since their sink failed.
 pub data HasNoted (first now : Taking) (s : Said) (notes : List ℕ) : Type 0 where
   entire : s.halted ≡ false → now.faults ≡ first.faults → notes ≡ s.noted → HasNoted first now s notes
@@ -109,12 +117,13 @@ pub record HasSaid (first now : Sides) (s : Said) : Type 0 where
 
 -- ---- when there is no posting
 
--- when the front was asked last a request of connection k had no answer yet
+-- when the front was asked last the last request of connection k had no answer yet
 pub record HadNoAnswer (d : Dealings) (k : ℕ) : Type 0 where
   pub place : ℕ
   pub asked : Asked
   pub there : slice_get d.brought.asked place ≡ Some asked
   pub traffic : asked.traffic ≡ k
+  pub last : suc asked.request ≡ count_by (is_of k) d.brought.asked
   pub untold : list_any (λ (t : Told). nat_eq place t.place) (take d.brought.seen d.said.told) ≡ false
 
 -- when the front was asked last, connection k waited for an answer, or it was over
@@ -179,6 +188,7 @@ pub record HasDealt (IsMade : Line → Type 0) (parts : ProgramParts) (first now
   pub all_told : d.said.halted ≡ false → heard ≡ d.said.told
   pub places : list_all (λ (t : Told). nat_lt t.place (length all.asked)) heard ≡ true
   pub answers : AreHeard parts now.kept visits all heard
+  pub one_by_one : CameOneByOne d
   pub said : HasSaid first now d.said
   pub left : d.brought.left ≡ None
   pub faults : d.brought.faults ≡ 0

@@ -1,4 +1,4 @@
--- The order in which one worker answers has each posting.
+-- The order in which one worker answers has each posting; and where those are finished that are answered early.
 use Rattle.std.proofs.Common.{◌≡◌, ◌<◌, ◌≤◌, ℕ, zero, suc, ◌+◌, ◌-◌, Bool, true, false, ◌||◌, List, [], ◌∷◌, ◌++◌}
 use Rattle.std.proofs.Common.{refl, sym, ap, subst, ◌∙◌, cond, arith, nat_eq, flat_map, true≢false}
 use Rattle.std.specs.List.{filter, list_any}
@@ -103,3 +103,57 @@ order_has w h actor count j below =
 
     below_all : j < 0 + count
     below_all = omega (arith, below)
+
+-- ---- what is answered early
+
+nearer : (n k j : ℕ) → j < suc n + k → j < n + suc k
+nearer n k j less = omega (arith, less)
+
+here_within : (n k j : ℕ) → j ≡ n → j < n + suc k
+here_within n k j same = omega (arith, same)
+
+-- a number among so many from one on is below their end
+number_within : (n k j : ℕ) → is_in j (numbers_from n k) ≡ true → j < n + k
+number_within n zero j h = absurd (true≢false (sym h))
+number_within n (suc k) j h =
+    or_cases (nat_eq j n) (is_in j (numbers_from (suc n) k)) (j < n + suc k) h
+    (λ e. here_within n k j (eq_true j n e))
+    (λ e. nearer n k j (number_within (suc n) k j e))
+
+filtered_by : (p : ℕ → Bool) (j x : ℕ) (xs : List ℕ) → (is_in j (filter p xs) ≡ true → p j ≡ true) → (b : Bool) → p x ≡ b
+    → is_in j (cond b (x ∷ filter p xs) (filter p xs)) ≡ true → p j ≡ true
+filtered_by p j x xs later true is h =
+    or_cases (nat_eq j x) (is_in j (filter p xs)) (p j ≡ true) h (λ e. ap p (eq_true j x e) ∙ is) later
+filtered_by p j x xs later false is h = later h
+
+-- what is among those of a kind is of it
+filtered_is : (p : ℕ → Bool) (j : ℕ) (xs : List ℕ) → is_in j (filter p xs) ≡ true → p j ≡ true
+filtered_is p j [] h = absurd (true≢false (sym h))
+filtered_is p j (x ∷ xs) h = filtered_by p j x xs (λ g. filtered_is p j xs g) (p x) refl h
+
+-- one of some numbers gives it
+abbrev GivenBy : (ℕ → List ℕ) → ℕ → List ℕ → Type 0
+GivenBy f j xs = (i : ℕ) × (is_in i xs ≡ true) × (is_in j (f i) ≡ true)
+
+given_by : (f : ℕ → List ℕ) (j : ℕ) (xs : List ℕ) → is_in j (flat_map f xs) ≡ true → GivenBy f j xs
+given_by f j [] h = absurd (true≢false (sym h))
+given_by f j (x ∷ xs) h =
+    or_cases (is_in j (f x)) (is_in j (flat_map f xs)) (GivenBy f j (x ∷ xs))
+    (sym (any_append (nat_eq j) (f x) (flat_map f xs)) ∙ h)
+    (λ e. (x, true_left (nat_eq x x) (is_in x xs) (itself x), e))
+    (λ e.
+    let found = given_by f j xs e in (found.0, true_right (nat_eq found.0 x) (is_in found.0 xs) found.1, found.2))
+
+from_zero : (i j : ℕ) → i < 0 + j → i < j
+from_zero i j less = omega (arith, less)
+
+-- a posting among those that are finished at one before a number is finished before it
+pub finished_below : (w : Setting) (h : List Entry) (actor count i j : ℕ)
+    → is_in i (flat_map (finished_there w (past_of w h) actor count) (numbers_from 0 j)) ≡ true
+    → finished_at w (past_of w h) actor count i < j
+finished_below w h actor count i j is =
+    let found = given_by (finished_there w (past_of w h) actor count) i (numbers_from 0 j) is in
+    subst (λ n. n < j)
+    (eq_true found.0 (finished_at w (past_of w h) actor count i)
+    (filtered_is (λ m. nat_eq found.0 (finished_at w (past_of w h) actor count m)) i (numbers_from 0 count) found.2))
+    (from_zero found.0 j (number_within 0 j found.0 found.1))

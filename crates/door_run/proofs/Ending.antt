@@ -10,7 +10,7 @@ use Rattle.office_core.specs.declared.history.Entry.{Entry}
 use Rattle.office_core.specs.Limits.{Setting, run_of}
 use Rattle.run_record.specs.Outside.{notes}
 use Rattle.office_front.specs.Dealings.{Told, Said, Dealings}
-use Rattle.office_front.specs.Calls.{most_postings}
+use Rattle.office_front.specs.Calls.{most_postings, is_of}
 use Rattle.branch_workers.specs.Lines.{IsProperFront}
 use Rattle.run_alone.specs.Ran.{Dealt, AreNotes, IsOver, GaveNone, finished_early, most_waits}
 use Rattle.connection_runs.specs.Visits.{Visit}
@@ -73,13 +73,14 @@ waited_so n is (p ∷ ps) k =
 
 module _ (IsMade : Line → Type 0) (parts : ProgramParts) (h : List Entry) (first now : Sides) (d : Dealings)
     (f : HasDealt IsMade parts first now d) (k : Dealt (run_of parts) h d) where
-  -- what passed after the last request, by the history
+  -- the last request of a connection had no answer, by the history
   waited_for : GaveNone d → (n : ℕ) → HadNoneYet d n → HadNoAnswer (run_of parts) h f.all.asked n
   waited_for none n yet = record {
     place = yet.place;
     whose = yet.asked;
     there = ap (λ l. slice_get l yet.place) f.asked ∙ yet.there;
     traffic = yet.traffic;
+    last = yet.last ∙ ap (count_by (is_of n)) (sym f.asked);
     unfinished =
         ap (λ c. is_in yet.place (finished_early (run_of parts) h c)) (sym (given_long IsMade parts h first now d f k))
         ∙ ap (is_in yet.place) (sym (k.seen none))

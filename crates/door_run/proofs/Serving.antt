@@ -13,10 +13,10 @@ use Rattle.run_record.specs.Postings.{told, posts_of}
 use Rattle.branch_workers.specs.Texts.{Came, posting_of, response}
 use Rattle.posting_texts.specs.Told.{response_told}
 use Rattle.posting_texts.proofs.Responses.{response_told-of}
-use Rattle.run_alone.specs.Ran.{Dealt}
+use Rattle.run_alone.specs.Ran.{Dealt, finished_before}
 use Rattle.connection_runs.specs.Ports.{has_door}
 use Rattle.connection_runs.specs.Visits.{Visit, came_at, HasPassed}
-use Rattle.connection_runs.specs.Served.{IsServed, is_told}
+use Rattle.connection_runs.specs.Served.{AreOneByOne, IsServed, is_told}
 use Rattle.http_connection.specs.Law.{holding, Keeps}
 use Rattle.http_connection.specs.Talking.{log}
 use Rattle.http_connection.specs.Seen.{Line}
@@ -24,7 +24,7 @@ use Rattle.http_connection.proofs.Words.{keeps_word}
 use Rattle.door_front.specs.Keeping.{LinkTold}
 use Rattle.door_front.specs.Dealt.{Sides, IsLink, AreLinks, IsHeard, IsOwed, HasDealt}
 use Rattle.door_run.specs.Steps.{traffic_of}
-use Rattle.door_run.proofs.Covered.{order_has, is_in}
+use Rattle.door_run.proofs.Covered.{order_has, is_in, finished_below}
 use Rattle.door_run.proofs.Requests.{IsNth, nth_of}
 use Rattle.door_run.proofs.Texts.{texts_within}
 use Rattle.door_run.proofs.Lists.{get_past, get_within, get_some, get_map, length_map, all_by_place, any_map, contains_front}
@@ -110,6 +110,27 @@ module _ (IsMade : Line → Type 0) (parts : ProgramParts) (h : List Entry) (fir
       ⊎_elim (λ heard. heard_response j c came (slice_get visit.texts a.request) text is heard)
       (λ owed. absurd (owed_none j a c visit text is owed.0)) (f.answers j a c visit asked came there)
 
+  -- ---- one by one
+
+  -- there is a count of what had been told when a posting was asked for
+  told_count : (j : ℕ) (a : Asked) → slice_get f.all.asked j ≡ Some a → (n : ℕ) × (slice_get d.brought.seens j ≡ Some n)
+  told_count j a there =
+      get_some d.brought.seens j
+      (subst (λ n. j < n) (ap length f.asked ∙ sym f.one_by_one.counts) (get_within f.all.asked j a there))
+
+  asked_there : (j : ℕ) (a : Asked) → slice_get f.all.asked j ≡ Some a → slice_get d.brought.asked j ≡ Some a
+  asked_there j a there = ap (λ l. slice_get l j) (sym f.asked) ∙ there
+
+  -- each request of a connection was finished before the next was posted
+  pub one_by_one_so : AreOneByOne (run_of parts) h f.all.asked
+  one_by_one_so i j a b early late same less =
+      let n = told_count j b late in
+      finished_below (run_of parts) h first_worker (length f.all.asked) i j
+      (ap (λ c. is_in i (finished_before (run_of parts) h c j)) (sym given_long)
+      ∙ ap (is_in i) (sym (k.told_before j n.0 n.1))
+      ∙ any_map (nat_eq i) (λ (t : Told). t.place) (take n.0 d.said.told)
+      ∙ f.one_by_one.each i j n.0 a b (asked_there i a early) (asked_there j b late) same less n.1)
+
   -- ---- all were told
 
   module _ (running : d.said.halted ≡ false) where
@@ -184,6 +205,7 @@ module _ (IsMade : Line → Type 0) (parts : ProgramParts) (h : List Entry) (fir
       taken = record { in_order = f.taken.in_order; all = f.taken.all };
       came = f.came;
       posted = k.posted ∙ ap (posts_of 0) f.given;
+      one_by_one = one_by_one_so;
       responses = response_so;
       told = all_told_so;
     }

@@ -6,6 +6,7 @@ use Rattle.outside_doors.specs.Counts.{DoorTold, has_ended}
 use Rattle.office_core.specs.declared.history.Entry.{Entry}
 use Rattle.office_core.specs.Limits.{Setting}
 use Rattle.office_front.specs.Dealings.{Asked}
+use Rattle.office_front.specs.Calls.{is_of}
 use Rattle.run_alone.specs.Ran.{finished_early, most_waits}
 use Rattle.connection_runs.specs.Visits.{Visit}
 use Rattle.http_connection.specs.Stages.{IsOver}
@@ -17,6 +18,7 @@ pub record HadNoAnswer (w : Setting) (h : List Entry) (asked : List Asked) (k : 
   pub whose : Asked
   pub there : slice_get asked place ≡ Some whose
   pub traffic : whose.traffic ≡ k
+  pub last : suc whose.request ≡ count_by (is_of k) asked
   pub unfinished : list_any (nat_eq place) (finished_early w h (length asked)) ≡ false
 
 -- each connection, the first of which has the number k, waited for an answer, where it is marked so, or it was over
