@@ -38,8 +38,9 @@ is_told visit = nat_eq (length visit.texts) (length visit.bodies)
 -- The requests that were taken from the connections of this traffic were posted to the services of their doors, each
 -- once and those of one connection in their order, by the worker that has the connections; and, whether the front halted
 -- or not, each once the one before it on its connection was answered. What was written on each is what is to be written
--- where the responses to its postings are told, or a front of that where it stands as failed. Unless the front halted,
--- each posting's response was told. Whether a connection that stands so has failed its wire tells, when it comes back.
+-- where the responses to its postings are told; where it stands as failed the last of these, or what is due behind it,
+-- may have been cut. Unless the front halted, each posting's response was told. Whether a connection that stands so has
+-- failed its wire tells, when it comes back.
 pub record IsServed (w : Setting) (h : List Entry) (halted : Bool) (traffic : List Traffic) : Type 0 where
   pub visits : List Visit
   pub all : Requests

@@ -1,5 +1,5 @@
 -- What a run posted first, on which connection it came, and what is written there.
-use Rattle.std.proofs.Common.{◌≡◌, ◌<◌, append-nil, ℕ, zero, suc, Bool, true, false, ◌||◌, List, [], ◌∷◌, ◌++◌, length, take, map, Option, Some, None, sym, refl, ap, ◌∙◌, subst, true≢false, arith}
+use Rattle.std.proofs.Common.{◌≡◌, ◌<◌, append-nil, ℕ, zero, suc, Bool, true, false, ◌||◌, List, [], ◌∷◌, ◌++◌, length, take, map, Option, Some, None, sym, refl, ap, ◌∙◌, subst, true≢false, arith, ◌≤◌, ◌⊎◌, ◌+◌, inl, inr, length-append}
 use Rattle.std.specs.Prelude.{◌≢◌, ◌-◌, ◌≤◌, if◌then◌else◌, bytes_eq, slice_get, option_map, option_and_then, nat_eq, count_by}
 use Rattle.std.specs.List.{list_all, AllZip}
 use Rattle.std.specs.Io.{StartsWith}
@@ -27,11 +27,13 @@ use Rattle.http_port.proofs.TalkLemmas.{spoken}
 use Rattle.http_connection.specs.declared.stage.Stage.{Stage}
 use Rattle.http_connection.specs.declared.stage.Stage.TheVariants as Stages
 use Rattle.http_connection.specs.Talking.{log}
-use Rattle.http_connection.specs.Law.{holding, bodies_of, talk_of, Keeps}
+use Rattle.http_connection.specs.Law.{holding, bodies_of, talk_of, HasEnded, IsCutOff, Keeps}
+use Rattle.http_connection.proofs.Words.{begins_from}
 use Rattle.connection_runs.specs.Ports.{has_door}
 use Rattle.connection_runs.specs.Visits.{Visit, came_with, came_of, came_at, AreTaken, HasPassed}
 use Rattle.connection_runs.specs.Served.{Requests, AreOneByOne, AreResponses, is_told, IsServed}
 use Rattle.connection_trials.proofs.Requests.{bodies_by, talk_by, cons_nil, head_same}
+use Rattle.connection_trials.proofs.Parts.{IsCut}
 
 -- ---- lists and bytes
 
@@ -65,6 +67,38 @@ no_second : {A : Type 0} (n : ℕ) (x y : A) (some : List A) → some ≡ take n
 no_second {A = A} zero x y some e f = none-some y (ap (λ (l : List A). slice_get l 1) (sym e) ∙ f)
 no_second {A = A} (suc zero) x y some e f = none-some y (ap (λ (l : List A). slice_get l 1) (sym e) ∙ f)
 no_second {A = A} (suc (suc n)) x y some e f = none-some y (ap (λ (l : List A). slice_get l 1) (sym e) ∙ f)
+
+-- the second of some is the second of all
+second_same : (n : ℕ) (x y z : List ℕ) (xs some : List (List ℕ)) → some ≡ take n (x ∷ y ∷ xs) → slice_get some 1 ≡ Some z → z ≡ y
+second_same zero x y z xs some e f = absurd (none-some z (ap (λ (l : List (List ℕ)). slice_get l 1) (sym e) ∙ f))
+second_same (suc zero) x y z xs some e f = absurd (none-some z (ap (λ (l : List (List ℕ)). slice_get l 1) (sym e) ∙ f))
+second_same (suc (suc n)) x y z xs some e f = same_Some z y (sym f ∙ ap (λ (l : List (List ℕ)). slice_get l 1) e)
+
+-- all but the last, and the last
+but_last : (x : Option (List ℕ)) (xs : List (Option (List ℕ)))
+    → (early : List (Option (List ℕ))) × (last : Option (List ℕ)) × (x ∷ xs ≡ early ++ last ∷ [])
+but_last x [] = ([], x, refl)
+but_last x (y ∷ ys) =
+    let b = but_last y ys in (x ∷ b.0, b.1, ap (λ (l : List (Option (List ℕ))). x ∷ l) b.2)
+
+few_at_most : (n : ℕ) → n ≤ 1 → 1 < n → ⊥
+few_at_most n few many = omega (arith, few, many)
+
+two_at_least : (n : ℕ) → 1 < suc (suc n)
+two_at_least n = omega arith
+
+below_none : (n : ℕ) → n < 0 → ⊥
+below_none n e = omega (arith, e)
+
+below_itself : (n : ℕ) → n < n → ⊥
+below_itself n e = omega (arith, e)
+
+-- what begins with two texts is no shorter than the first of them
+none_shorter : (xs ys zs : List ℕ) → StartsWith xs (ys ++ zs) → length xs < length ys → ⊥
+none_shorter xs ys zs s short =
+    let b = begins_from xs (ys ++ zs) s in
+    let whole : length xs ≡ length (ys ++ zs) + length b.0 = ap length b.1 ∙ length-append (ys ++ zs) b.0 in
+    omega (arith, short, whole, length-append ys zs)
 
 -- a test that holds of one thing
 pub holds_alone : (b : Bool) → (b || false) ≡ true → b ≡ true
@@ -147,11 +181,14 @@ is_first w h halted traffic s some =
 -- ---- how a connection stands
 
 -- The reader of a connection gives this of its bytes: the bodies that were taken are the first of it, and what was
--- written is a front of what is to be written; and all of that where the connection has not failed.
+-- written is a front of what is to be written. It is all of that, or it was cut; and all where the connection has not
+-- failed. From one that has failed all was taken, or it was cut.
 pub record Stands (fs : List Fed) (v : Visit) (written : List ℕ) : Type 0 where
   pub bodies : v.bodies ≡ take (length v.bodies) (bodies_in fs)
   pub front : StartsWith (spoken fs v.texts) written
+  pub wrote : (written ≡ spoken fs v.texts) ⊎ IsCut fs v.texts written
   pub whole : v.stage ≢ Stages.Faulted → written ≡ spoken fs v.texts
+  pub failed : v.stage ≡ Stages.Faulted → (v.bodies ≡ bodies_in fs) ⊎ IsCut fs v.texts written
 
 module _ (t : Traffic) (r : Reading t.read) (fs : List Fed) (gives : given t.read r ≡ fs) where
   first_bodies : (bodies : List (List ℕ)) → bodies ≡ take (length bodies) (bodies_of (holding t.read r).queue)
@@ -163,13 +200,36 @@ module _ (t : Traffic) (r : Reading t.read) (fs : List Fed) (gives : given t.rea
   all_bodies bodies e = sym (take-length bodies) ∙ ap (take (length bodies)) (e ∙ bodies_by t.read r fs gives)
 
   well : (v : Visit) → v.bodies ≡ take (length v.bodies) (bodies_in fs) → t.written ≡ talk_of (holding t.read r) v.texts
-      → Stands fs v t.written
-  well v bodies e =
+      → (v.stage ≡ Stages.Faulted → v.bodies ≡ bodies_in fs) → Stands fs v t.written
+  well v bodies e all =
       let whole : t.written ≡ spoken fs v.texts = e ∙ talk_by t.read r fs v.texts gives in
       record {
         bodies = bodies;
         front = subst (λ (l : List ℕ). StartsWith l t.written) whole (take-length t.written);
+        wrote = inl whole;
         whole = λ _. whole;
+        failed = λ faulted. inl (all faulted);
+      }
+
+  cut_at : (v : Visit) → IsCutOff (holding t.read r) (log t.read t.written v.bodies v.texts) → IsCut fs v.texts t.written
+  cut_at v k = record {
+    front = subst (λ (l : List ℕ). StartsWith l t.written) (talk_by t.read r fs v.texts gives) k.front;
+    part = subst (λ (l : List ℕ). length t.written < length l) (talk_by t.read r fs v.texts gives) k.part;
+    before = λ early last e. subst (StartsWith t.written) (talk_by t.read r fs early gives) (k.before early last e);
+  }
+
+  failed_at : (v : Visit) → v.stage ≡ Stages.Faulted
+      → HasEnded (holding t.read r) (log t.read t.written v.bodies v.texts) ⊎ IsCutOff (holding t.read r) (log t.read t.written v.bodies v.texts)
+      → Stands fs v t.written
+  failed_at v faulted (inl k) = well v (all_bodies v.bodies k.0.bodies) k.1 (λ _. k.0.bodies ∙ bodies_by t.read r fs gives)
+  failed_at v faulted (inr k) =
+      let cut = cut_at v k in
+      record {
+        bodies = first_bodies v.bodies k.in_order.bodies;
+        front = cut.front;
+        wrote = inr cut;
+        whole = λ other. absurd (other faulted);
+        failed = λ _. inr cut;
       }
 
   stands_at : (service : ℕ) (stage : Stage) (bodies : List (List ℕ)) (texts : List (Option (List ℕ))) → stage ≢ Stages.Spent
@@ -177,17 +237,18 @@ module _ (t : Traffic) (r : Reading t.read) (fs : List Fed) (gives : given t.rea
       → Stands fs (record { service = service; stage = stage; bodies = bodies; texts = texts }) t.written
   stands_at service Stages.Reads bodies texts memory k =
       well (record { service = service; stage = Stages.Reads; bodies = bodies; texts = texts }) (first_bodies bodies k.0.bodies) k.1
+      (λ e. absurd (let clash : Stages.Reads ≡ Stages.Faulted = e in cc))
   stands_at service Stages.Owes bodies texts memory k =
       well (record { service = service; stage = Stages.Owes; bodies = bodies; texts = texts }) (first_bodies bodies k.0.bodies) k.1
+      (λ e. absurd (let clash : Stages.Owes ≡ Stages.Faulted = e in cc))
   stands_at service Stages.Ended bodies texts memory k =
       well (record { service = service; stage = Stages.Ended; bodies = bodies; texts = texts }) (all_bodies bodies k.0.bodies) k.1
+      (λ _. k.0.bodies ∙ bodies_by t.read r fs gives)
   stands_at service Stages.Closed bodies texts memory k =
       well (record { service = service; stage = Stages.Closed; bodies = bodies; texts = texts }) (all_bodies bodies k.0.bodies) k.1
-  stands_at service Stages.Faulted bodies texts memory k = record {
-    bodies = first_bodies bodies k.0.bodies;
-    front = subst (λ (l : List ℕ). StartsWith l t.written) (talk_by t.read r fs texts gives) k.1;
-    whole = λ other. absurd (other refl);
-  }
+      (λ _. k.0.bodies ∙ bodies_by t.read r fs gives)
+  stands_at service Stages.Faulted bodies texts memory k =
+      failed_at (record { service = service; stage = Stages.Faulted; bodies = bodies; texts = texts }) refl k
   stands_at service Stages.Spent bodies texts memory k = absurd (memory refl)
 
   -- what is false of a connection however it stands
@@ -271,7 +332,8 @@ count_one m n r e f =
 
 -- what came in second was taken second from the only connection
 second_taken : (v : Visit) (a b : Asked) (asked : List Asked) (c d : Came) → AreTaken (v ∷ []) (a ∷ b ∷ asked)
-    → came_at (v ∷ []) a ≡ Some c → came_at (v ∷ []) b ≡ Some d → (body : List ℕ) × (slice_get v.bodies 1 ≡ Some body)
+    → came_at (v ∷ []) a ≡ Some c → came_at (v ∷ []) b ≡ Some d
+    → (body : List ℕ) × (slice_get v.bodies 1 ≡ Some body) × (d ≡ came_with v.service body)
 second_taken v a b asked c d taken is also =
     let s = is_taken (v ∷ []) a c is in
     let t = is_taken (v ∷ []) b d also in
@@ -281,6 +343,7 @@ second_taken v a b asked c d taken is also =
       t.body,
       subst (λ (u : Visit). slice_get u.bodies 1 ≡ Some t.body) (sym second.1)
           (subst (λ (n : ℕ). slice_get t.visit.bodies n ≡ Some t.body) request t.asked),
+      subst (λ (u : Visit). d ≡ came_with u.service t.body) (sym second.1) t.brings,
     )
 
 -- the operation that is posted first
@@ -304,6 +367,41 @@ no_others v n body one (a ∷ b ∷ asked) c (d ∷ others) taken is =
     (head_same (came_at (v ∷ []) a) (Some c) (map (came_at (v ∷ [])) (b ∷ asked)) (map Some (d ∷ others)) is)
     (head_same (came_at (v ∷ []) b) (Some d) (map (came_at (v ∷ [])) asked) (map Some others) (ap behind_first is)) in
     absurd (no_second n body second.0 v.bodies one second.1)
+
+-- where more than one came in, more than one was taken
+two_taken : (v : Visit) (asked : List Asked) (c d : Came) (others : List Came) → AreTaken (v ∷ []) asked
+    → map (came_at (v ∷ [])) asked ≡ map Some (c ∷ d ∷ others) → 1 < length v.bodies
+two_taken v [] c d others taken is = absurd (cons_nil (Some c) (map Some (d ∷ others)) (sym is))
+two_taken v (a ∷ []) c d others taken is = absurd (cons_nil (Some d) (map Some others) (sym (ap behind_first is)))
+two_taken v (a ∷ b ∷ asked) c d others taken is =
+    let second = second_taken v a b asked c d taken
+    (head_same (came_at (v ∷ []) a) (Some c) (map (came_at (v ∷ [])) (b ∷ asked)) (map Some (d ∷ others)) is)
+    (head_same (came_at (v ∷ []) b) (Some d) (map (came_at (v ∷ [])) asked) (map Some others) (ap behind_first is)) in
+    slice_get_within v.bodies 1 second.0 second.1
+
+-- What came in second: the body that was taken second.
+record IsSecond (v : Visit) (others : List Came) : Type 0 where
+  body : List ℕ
+  taken : slice_get v.bodies 1 ≡ Some body
+  more : List Came
+  came : others ≡ came_with v.service body ∷ more
+
+-- where more than one was taken, more than one came in
+second_came : (v : Visit) (asked : List Asked) (c : Came) (others : List Came) → AreTaken (v ∷ []) asked
+    → map (came_at (v ∷ [])) asked ≡ map Some (c ∷ others) → 1 < length v.bodies → IsSecond v others
+second_came v [] c others taken is many = absurd (cons_nil (Some c) (map Some others) (sym is))
+second_came v (a ∷ []) c others taken is many =
+    let t = is_taken (v ∷ []) a c (head_same (came_at (v ∷ []) a) (Some c) [] (map Some others) is) in
+    let first : a.traffic ≡ 0 = (alone_at v t.visit a.traffic t.there).0 in
+    let one : length v.bodies ≡ 1 = sym (taken.all 0 v refl) ∙ count_one 0 a.traffic a.request refl first in
+    absurd (few_at_most (length v.bodies) (omega (arith, one)) many)
+second_came v (a ∷ b ∷ asked) c [] taken is many =
+    absurd (cons_nil (came_at (v ∷ []) b) (map (came_at (v ∷ [])) asked) (ap behind_first is))
+second_came v (a ∷ b ∷ asked) c (d ∷ others) taken is many =
+    let second = second_taken v a b asked c d taken
+    (head_same (came_at (v ∷ []) a) (Some c) (map (came_at (v ∷ [])) (b ∷ asked)) (map Some (d ∷ others)) is)
+    (head_same (came_at (v ∷ []) b) (Some d) (map (came_at (v ∷ [])) asked) (map Some others) (ap behind_first is)) in
+    record { body = second.0; taken = second.1; more = others; came = ap (λ (x : Came). x ∷ others) second.2 }
 
 none_told : (length_of : ℕ) → 0 ≡ length_of → 0 < length_of → ⊥
 none_told n e some = omega (arith, e, some)
@@ -351,6 +449,53 @@ module _ (w : Setting) (h : List Entry) (halted : Bool) (t : Traffic) (reading :
         (subst (λ (l : List Visit). map (came_at l) s.all.asked ≡ map Some (came_with f.visit.service f.body ∷ f.others)) v.1
         (s.came ∙ ap (map Some) f.first))
 
+    -- the only connection
+    only : (f : IsFirst w h s.visits s.all.came) → (v : Visit) × (s.visits ≡ v ∷ []) × (v ≡ f.visit)
+    only f =
+        let v = alone s.visits t s.passed in
+        (v.0, v.1, (alone_at v.0 f.visit f.number (ap (λ (l : List Visit). slice_get l f.number) (sym v.1) ∙ f.there)).1)
+
+    only_taken : (v : Visit) → s.visits ≡ v ∷ [] → AreTaken (v ∷ []) s.all.asked
+    only_taken v e =
+        subst (λ (l : List Visit). AreTaken l s.all.asked) e (record { in_order = s.taken.in_order; all = s.taken.all })
+
+    only_came : (f : IsFirst w h s.visits s.all.came) (v : Visit) → s.visits ≡ v ∷ []
+        → map (came_at (v ∷ [])) s.all.asked ≡ map Some (came_with f.visit.service f.body ∷ f.others)
+    only_came f v e =
+        subst (λ (l : List Visit). map (came_at l) s.all.asked ≡ map Some (came_with f.visit.service f.body ∷ f.others)) e
+        (s.came ∙ ap (map Some) f.first)
+
+    -- where others came in, more than one was taken
+    more_taken : (f : IsFirst w h s.visits s.all.came) (others : List Came) → f.others ≡ others → others ≢ []
+        → 1 < length f.visit.bodies
+    more_taken f [] e some = absurd (some refl)
+    more_taken f (d ∷ others) e some =
+        let v = only f in
+        subst (λ (u : Visit). 1 < length u.bodies) v.2
+        (two_taken v.0 s.all.asked (came_with f.visit.service f.body) d others (only_taken v.0 v.1)
+        (only_came f v.0 v.1 ∙ ap (λ (l : List Came). map Some (came_with f.visit.service f.body ∷ l)) e))
+
+    -- where more than one was taken, the second was posted
+    second_posted : LeadToOne w → (f : IsFirst w h s.visits s.all.came) → Stands (Request body false ∷ later) f.visit t.written
+        → (other : List ℕ) (rest : List Fed) → later ≡ Request other false ∷ rest → 1 < length f.visit.bodies
+        → (others : List Came) × (posts_by first_worker h ≡ posts_of 0 (map posting_of (came_with 0 body ∷ came_with 0 other ∷ others)))
+    second_posted one f k other rest is many =
+        let v = only f in
+        let z = second_came v.0 s.all.asked (came_with f.visit.service f.body) f.others (only_taken v.0 v.1) (only_came f v.0 v.1)
+        (subst (λ (u : Visit). 1 < length u.bodies) (sym v.2) many) in
+        let service : v.0.service ≡ 0 =
+        ap (λ (u : Visit). u.service) v.2
+        ∙ one f.visit.service (all_at (λ (u : Visit). has_door w.parts u.service) s.visits f.number f.visit s.doors f.there) in
+        let second : z.body ≡ other =
+        second_same (length f.visit.bodies) body other z.body (bodies_in rest) f.visit.bodies
+        (k.bodies ∙ ap (λ (l : List Fed). take (length f.visit.bodies) (body ∷ bodies_in l)) is)
+        (ap (λ (u : Visit). slice_get u.bodies 1) (sym v.2) ∙ z.taken) in (
+          z.more,
+          first_posted one f k
+              ∙ ap (λ (l : List Came). posts_of 0 (map posting_of (came_with 0 body ∷ l)))
+              (z.came ∙ ap (λ (n : ℕ). came_with n z.body ∷ z.more) service ∙ ap (λ (b : List ℕ). came_with 0 b ∷ z.more) second),
+        )
+
   -- A run over one connection is refused unless what it posts first is the first request.
   pub refused_first : posts_by first_worker h ≢ [] → LeadToOne w
       → ((others : List Came) → posts_by first_worker h ≡ posts_of 0 (map posting_of (came_with 0 body ∷ others)) → ⊥)
@@ -388,6 +533,84 @@ module _ (w : Setting) (h : List Entry) (halted : Bool) (t : Traffic) (reading :
       (slice_get_within f.visit.bodies 0 f.body f.asked)
       (λ x e. f.answered x e ∙ first_response s one f k ∙ is_text) whole in
       apart first.0 first.1)
+
+  -- what was written begins with the first answer, where more than one request was told its own
+  answer_behind : (texts : List (Option (List ℕ))) (text : Option (List ℕ))
+      → (t.written ≡ spoken (Request body false ∷ later) texts) ⊎ IsCut (Request body false ∷ later) texts t.written
+      → 1 < length texts → ((x : Option (List ℕ)) → slice_get texts 0 ≡ Some x → x ≡ text)
+      → (others : List (Option (List ℕ))) × StartsWith t.written (answer text false ++ spoken later others)
+  answer_behind [] text wrote many answered = absurd (few_at_most 0 (omega arith) many)
+  answer_behind (x ∷ []) text wrote many answered = absurd (few_at_most 1 (omega arith) many)
+  answer_behind (x ∷ y ∷ more) text (inl whole) many answered = (
+    y ∷ more,
+    subst (StartsWith t.written)
+        (whole ∙ ap (λ (u : Option (List ℕ)). answer u false ++ spoken later (y ∷ more)) (answered x refl))
+        (take-length t.written),
+  )
+  answer_behind (x ∷ y ∷ more) text (inr cut) many answered =
+      let b = but_last y more in (
+        b.0,
+        subst (λ (u : Option (List ℕ)). StartsWith t.written (answer u false ++ spoken later b.0)) (answered x refl)
+            (cut.before (x ∷ b.0) b.1 (ap (λ (l : List (Option (List ℕ))). x ∷ l) b.2)),
+      )
+
+  -- It is refused where less was written than the first answer, and another request was posted, unless it halted; also
+  -- where the connection has failed.
+  pub refused_behind : halted ≡ false → posts_by first_worker h ≢ [] → LeadToOne w → (text : Option (List ℕ))
+      → response w (past_of w h) first_worker 0 (came_with 0 body) ≡ text
+      → (posts_by first_worker h ≡ posts_of 0 (map posting_of (came_with 0 body ∷ [])) → ⊥)
+      → length t.written < length (answer text false) → IsServed w h halted (t ∷ []) → ⊥
+  refused_behind goes some one text is_text apart short s =
+      with_first s some
+      (λ f number k.
+      let many = more_taken s f f.others refl
+      (λ none. apart (first_posted s one f k ∙ ap (λ (l : List Came). posts_of 0 (map posting_of (came_with 0 body ∷ l))) none)) in
+      let told : length f.visit.texts ≡ length f.visit.bodies =
+      eqb-true (length f.visit.texts) (length f.visit.bodies) (all_at is_told s.visits f.number f.visit (s.told goes) f.there) in
+      let first = answer_behind f.visit.texts text k.wrote (subst (λ (n : ℕ). 1 < n) (sym told) many)
+      (λ x e. f.answered x e ∙ first_response s one f k ∙ is_text) in
+      none_shorter t.written (answer text false) (spoken later first.0) first.1 short)
+
+  -- not all was cut of what is to be written, where the first answer alone was written
+  not_cut : (texts : List (Option (List ℕ))) (text : Option (List ℕ)) → (1 < length texts → ⊥)
+      → ((x : Option (List ℕ)) → slice_get texts 0 ≡ Some x → x ≡ text) → (other : List ℕ) (rest : List Fed)
+      → later ≡ Request other false ∷ rest → t.written ≡ answer text false
+      → length t.written < length (spoken (Request body false ∷ later) texts) → ⊥
+  not_cut [] text few answered other rest is wrote part = below_none (length t.written) part
+  not_cut (x ∷ []) text few answered other rest is wrote part =
+      let same : spoken (Request body false ∷ later) (x ∷ []) ≡ t.written =
+      ap (λ (l : List Fed). answer x false ++ spoken l []) is
+      ∙ append-nil (answer x false) ∙ ap (λ (u : Option (List ℕ)). answer u false) (answered x refl) ∙ sym wrote in
+      below_itself (length t.written) (subst (λ (l : List ℕ). length t.written < length l) same part)
+  not_cut (x ∷ y ∷ more) text few answered other rest is wrote part = absurd (few (two_at_least (length more)))
+
+  -- Where the connection has failed, it is refused where the first answer alone was written and the second request, which
+  -- is whole, was not posted.
+  pub refused_untaken : halted ≡ false → posts_by first_worker h ≢ [] → LeadToOne w → (text : Option (List ℕ))
+      → response w (past_of w h) first_worker 0 (came_with 0 body) ≡ text → (other : List ℕ) (rest : List Fed)
+      → later ≡ Request other false ∷ rest
+      → ((others : List Came) → posts_by first_worker h ≡ posts_of 0 (map posting_of (came_with 0 body ∷ came_with 0 other ∷ others)) → ⊥)
+      → t.written ≡ answer text false → (s : IsServed w h halted (t ∷ []))
+      → ((v : Visit) → slice_get s.visits 0 ≡ Some v → v.stage ≡ Stages.Faulted) → ⊥
+  refused_untaken goes some one text is_text other rest is apart wrote s faulted =
+      with_first s some (λ f number k. wrong f k (k.failed (faulted f.visit (subst (λ (n : ℕ). slice_get s.visits n ≡ Some f.visit) number f.there))))
+    where
+      not_two : (f : IsFirst w h s.visits s.all.came) → Stands (Request body false ∷ later) f.visit t.written
+          → 1 < length f.visit.bodies → ⊥
+      not_two f k many =
+          let z = second_posted s one f k other rest is many in apart z.0 z.1
+
+      wrong : (f : IsFirst w h s.visits s.all.came) → Stands (Request body false ∷ later) f.visit t.written
+          → (f.visit.bodies ≡ bodies_in (Request body false ∷ later)) ⊎ IsCut (Request body false ∷ later) f.visit.texts t.written → ⊥
+      wrong f k (inl all) =
+          let two : length f.visit.bodies ≡ suc (suc (length (bodies_in rest))) =
+          ap length all ∙ ap (λ (l : List Fed). suc (length (bodies_in l))) is in
+          not_two f k (subst (λ (n : ℕ). 1 < n) (sym two) (two_at_least (length (bodies_in rest))))
+      wrong f k (inr cut) =
+          let told : length f.visit.texts ≡ length f.visit.bodies =
+          eqb-true (length f.visit.texts) (length f.visit.bodies) (all_at is_told s.visits f.number f.visit (s.told goes) f.there) in
+          not_cut f.visit.texts text (λ many. not_two f k (subst (λ (n : ℕ). 1 < n) told many))
+          (λ x e. f.answered x e ∙ first_response s one f k ∙ is_text) other rest is wrote cut.part
 
 -- ---- posted before another is answered
 

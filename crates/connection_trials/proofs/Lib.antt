@@ -7,3 +7,4 @@ pub mod StoppedSpoilt
 pub mod TwoCalls
 pub mod TwoGuests
 pub mod Pipelined
+pub mod Failed

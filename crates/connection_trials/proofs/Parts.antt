@@ -1,6 +1,7 @@
 -- What makes a run served, by lists that are written out.
-use Rattle.std.proofs.Common.{◌≡◌, ◌<◌, ℕ, zero, suc, ◌+◌, List, [], ◌∷◌, length, take, Option, Some, sym, refl, ap, ◌∙◌, subst, arith}
+use Rattle.std.proofs.Common.{◌≡◌, ◌<◌, ℕ, zero, suc, ◌+◌, List, [], ◌∷◌, length, take, Option, Some, sym, refl, ap, ◌∙◌, subst, arith, inl, inr, false, ◌++◌}
 use Rattle.std.specs.Prelude.{slice_get}
+use Rattle.std.specs.Io.{StartsWith}
 use Rattle.std.proofs.Math.Seq.{take-length}
 use Rattle.std.proofs.lemmas.Option.{none-some, same_Some}
 use Rattle.office_core.specs.declared.history.Entry.{Entry}
@@ -11,10 +12,11 @@ use Rattle.run_record.specs.declared.record.Traffic.{Traffic}
 use Rattle.run_record.specs.Order.{finished_at}
 use Rattle.branch_workers.specs.Texts.{Came, response}
 use Rattle.http_port.specs.declared.head_reader.Fed.{Fed}
-use Rattle.http_port.specs.Connections.{Reading, given}
+use Rattle.http_port.specs.Connections.{Reading, end_of, given}
 use Rattle.http_port.specs.Serving.{bodies_in}
 use Rattle.http_port.proofs.TalkLemmas.{spoken}
 use Rattle.http_connection.specs.declared.stage.Stage.TheVariants as Stages
+use Rattle.http_connection.proofs.Histories.{closes_in, closing_given, unclosed}
 use Rattle.connection_runs.specs.Visits.{Visit, HasPassed}
 use Rattle.connection_runs.specs.Served.{AreOneByOne, AreResponses}
 use Rattle.connection_trials.proofs.Requests.{bodies_by, talk_by}
@@ -35,6 +37,48 @@ passed_on t fs texts gives even written = record {
     },
     written ∙ sym (talk_by t.read r fs texts (gives r)),
   ) ∣₁;
+}
+
+-- a connection that has failed, from which these were taken and which was told these texts
+abbrev pub failed_on : List (List ℕ) → List (Option (List ℕ)) → Visit
+failed_on bodies texts = record { service = 0; stage = Stages.Faulted; bodies = bodies; texts = texts }
+
+-- it has passed, where all was taken and written, and nothing closes it
+pub passed_to_the_end : (t : Traffic) (fs : List Fed) (texts : List (Option (List ℕ))) → ((r : Reading t.read) → given t.read r ≡ fs)
+    → length texts ≡ length (bodies_in fs) → closes_in fs ≡ false → t.written ≡ spoken fs texts
+    → HasPassed (failed_on (bodies_in fs) texts) t
+passed_to_the_end t fs texts gives even stays written = record {
+  stage = λ e. let clash : Stages.Faulted ≡ Stages.Spent = e in cc;
+  keeps = λ r. ∣ (inl (
+    record { bodies = sym (bodies_by t.read r fs (gives r)); texts = even },
+    written ∙ sym (talk_by t.read r fs texts (gives r)),
+    unclosed (end_of t.read r) (closing_given t.read r ∙ ap closes_in (gives r) ∙ stays),
+  )) ∣₁;
+}
+
+-- What is due last was cut: a front of what is to be written was written, and not all of it; and all that stands before
+-- the last answer.
+pub record IsCut (fs : List Fed) (texts : List (Option (List ℕ))) (written : List ℕ) : Type 0 where
+  pub front : StartsWith (spoken fs texts) written
+  pub part : length written < length (spoken fs texts)
+  pub before : (early : List (Option (List ℕ))) (last : Option (List ℕ)) → texts ≡ early ++ last ∷ []
+      → StartsWith written (spoken fs early)
+
+-- it has passed, where it was cut
+pub passed_in_part : (t : Traffic) (fs : List Fed) (bodies : List (List ℕ)) (texts : List (Option (List ℕ)))
+    → ((r : Reading t.read) → given t.read r ≡ fs) → bodies ≡ take (length bodies) (bodies_in fs)
+    → length bodies ≡ length texts + 0 → IsCut fs texts t.written → HasPassed (failed_on bodies texts) t
+passed_in_part t fs bodies texts gives first even p = record {
+  stage = λ e. let clash : Stages.Faulted ≡ Stages.Spent = e in cc;
+  keeps = λ r. ∣ (inr (record {
+    in_order = record {
+      bodies = first ∙ ap (take (length bodies)) (sym (bodies_by t.read r fs (gives r)));
+      texts = even;
+    };
+    front = subst (λ (l : List ℕ). StartsWith l t.written) (sym (talk_by t.read r fs texts (gives r))) p.front;
+    part = subst (λ (l : List ℕ). length t.written < length l) (sym (talk_by t.read r fs texts (gives r))) p.part;
+    before = λ early last e. subst (StartsWith t.written) (sym (talk_by t.read r fs early (gives r))) (p.before early last e);
+  })) ∣₁;
 }
 
 -- a text that is told to a request is this

@@ -41,7 +41,7 @@ use Rattle.connection_trials.proofs.First.{differ, first_op, holds_alone, IsOthe
 use Rattle.connection_trials.proofs.TwoCalls.{setting, history, another_order, at_once, go_first, go_open, post_more, is_post_more, call_go, call_more, text_go, text_more, written_go, written_more, came_go, came_more, is_posted, response_go, response_more}
 
 -- what was read
-abbrev read : List ℕ
+abbrev pub read : List ℕ
 read = read_go ++ read_more
 
 judged_read : Judges read (verdict_of (head_of head_go))
@@ -49,28 +49,28 @@ unfolding httparse_on_literals eq_ignore_case encode
 judged_read = judged read 48 head_go refl refl (47 ∷ [], (refl, refl)) refl refl
 
 -- what a reader gives of it
-abbrev gives : List Fed
+abbrev pub gives : List Fed
 gives = Request go false ∷ Request more false ∷ []
 
-gives_read : (r : Reading read) → given read r ≡ gives
+pub gives_read : (r : Reading read) → given read r ≡ gives
 unfolding httparse_on_literals eq_ignore_case encode
 gives_read r =
     more_requests read (head_of head_go) 50 (Request more false ∷ []) refl refl (omega arith) (λ s. gives_more s) r
     (tail_of read _ judged_read r)
 
-reading : Reading read
+pub reading : Reading read
 unfolding httparse_on_literals eq_ignore_case encode
 reading = goes_on read (admission (head_of head_go) 50) judged_read (omega arith) refl reading_more
 
 -- the connection, on which this was written
-abbrev wrote : List ℕ → Traffic
+abbrev pub wrote : List ℕ → Traffic
 wrote bytes = record { read = read; written = bytes }
 
 -- both answers
-abbrev written : List ℕ
+abbrev pub written : List ℕ
 written = written_go ++ written_more
 
-abbrev texts : List (Option (List ℕ))
+abbrev pub texts : List (Option (List ℕ))
 texts = Some text_go ∷ Some text_more ∷ []
 
 abbrev visit : Visit
@@ -127,7 +127,7 @@ served = record {
 
 -- ---- spoilt
 
-one_door : LeadToOne setting
+pub one_door : LeadToOne setting
 unfolding encode
 one_door n e = eqb-true n 0 (holds_alone _ e)
 

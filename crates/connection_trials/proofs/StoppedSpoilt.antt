@@ -1,9 +1,9 @@
 -- Copies of the run Stopped that are refused; and what becomes of it where its wire failed, or its front halted.
-use Rattle.std.specs.Prelude.{◌≡◌, ◌≢◌, ℕ, zero, suc, true, false, List, [], ◌∷◌, ◌++◌, take, length, count_by, codes}
-use Rattle.std.specs.Prelude.{None, Some, slice_get}
+use Rattle.std.specs.Prelude.{◌≡◌, ◌≢◌, ◌<◌, ◌≤◌, ℕ, zero, suc, true, false, List, [], ◌∷◌, ◌++◌, take, length, count_by, codes}
+use Rattle.std.specs.Prelude.{Option, None, Some, slice_get}
 use Rattle.std.specs.Io.{StartsWith}
-use Rattle.std.proofs.Common.{refl, sym, ap, subst, ◌∙◌, true≢false}
-use Rattle.std.proofs.lemmas.Bool.{eqb-true}
+use Rattle.std.proofs.Common.{refl, sym, ap, subst, ◌∙◌, inl, inr, arith, length-take-le, take_all, true≢false}
+use Rattle.std.proofs.lemmas.Bool.{cases_lt, eqb-true}
 use Rattle.std.proofs.lemmas.Option.{none-some, same_Some}
 use lib.Utf8.{encode}
 use Rattle.std.specs.Fmt.{digits}
@@ -21,13 +21,15 @@ use Rattle.run_record.specs.declared.record.Traffic.{Traffic}
 use Rattle.run_record.specs.Postings.{posts_by}
 use Rattle.branch_workers.specs.Texts.{response}
 use Rattle.http_port.specs.Talk.{answer as answer_bytes}
+use Rattle.http_port.proofs.TalkLemmas.{spoken}
 use Rattle.http_connection.specs.declared.stage.Stage.TheVariants as Stages
+use Rattle.http_connection.proofs.Words.{same_early}
 use Rattle.connection_runs.specs.Visits.{Visit, HasPassed}
 use Rattle.connection_runs.specs.Served.{IsServed}
 use Rattle.connection_trials.proofs.Requests.{bodies_by, talk_by, cons_nil}
 use Rattle.connection_trials.proofs.Sent.{go, read_go, reading_go, gives_go}
 use Rattle.connection_trials.proofs.First.{differ, behind_first, first_op, holds_alone, IsOther, LeadToOne, refused, refused_once, refused_cut}
-use Rattle.connection_trials.proofs.Parts.{IsTextAt, told_responses, one_alone}
+use Rattle.connection_trials.proofs.Parts.{IsTextAt, told_responses, one_alone, failed_on, IsCut, passed_to_the_end, passed_in_part}
 use Rattle.connection_trials.proofs.Stopped.{setting, history, text, written, gives, asked, came, one_taken, is_response, responses, is_posted}
 
 one_door : LeadToOne setting
@@ -149,25 +151,36 @@ pub spoilt_unwritten : (s : IsServed setting history false (wrote [] ∷ []))
 unfolding digits
 spoilt_unwritten = not_whole [] (differ (answer_bytes (Some text) false) [] refl refl)
 
--- Each front of it is served where the connection may have failed; whether its wire has is not said here.
+-- Each front of it is served where the connection may have failed, in a write that cut it or behind it in a read; whether
+-- its wire has failed is not said here.
 abbrev failed : Visit
-failed = record { service = 0; stage = Stages.Faulted; bodies = go ∷ []; texts = Some text ∷ [] }
+failed = failed_on (go ∷ []) (Some text ∷ [])
 
 front_of : (n : ℕ) (bytes : List ℕ) → StartsWith bytes (take n bytes)
 front_of zero bytes = refl
 front_of (suc n) [] = refl
 front_of (suc n) (b ∷ bytes) = ap (λ (l : List ℕ). b ∷ l) (front_of n bytes)
 
-failed_passed : (n : ℕ) → HasPassed failed (wrote (take n written))
+-- a front of it that is not all
+cut_at : (n : ℕ) → n < length written → IsCut gives (Some text ∷ []) (take n written)
 unfolding digits
-failed_passed n = record {
-  stage = λ e. let clash : Stages.Faulted ≡ Stages.Spent = e in cc;
-  keeps = λ r. ∣ (
-    record { bodies = sym (ap (take 1) (bodies_by read_go r gives (gives_go r))); texts = refl },
-    subst (λ (l : List ℕ). StartsWith l (take n written)) (sym (talk_by read_go r gives (Some text ∷ []) (gives_go r)))
-        (front_of n written),
-  ) ∣₁;
+cut_at n short = record {
+  front = front_of n written;
+  part = subst (λ (m : ℕ). m < length written) (sym (length-take-le n written (omega (arith, short)))) short;
+  before = λ early last e.
+      subst (λ (l : List (Option (List ℕ))). StartsWith (take n written) (spoken gives l)) (same_early [] early (Some text) last e) refl;
 }
+
+-- all of it
+all_at_most : (n : ℕ) → length written ≤ n → take n written ≡ spoken gives (Some text ∷ [])
+unfolding digits
+all_at_most n full = take_all n written full
+
+failed_passed : (n : ℕ) → HasPassed failed (wrote (take n written))
+failed_passed n = elim (cases_lt n (length written)) [
+  | inl short ↦ passed_in_part (wrote (take n written)) gives (go ∷ []) (Some text ∷ []) gives_go refl refl (cut_at n short)
+  | inr full ↦ passed_to_the_end (wrote (take n written)) gives (Some text ∷ []) gives_go refl refl (all_at_most n full)
+]
 
 pub served_where_it_failed : (n : ℕ) → IsServed setting history false (wrote (take n written) ∷ [])
 unfolding encode

@@ -83,6 +83,18 @@ history = history_of call_go call_more
 abbrev pub another_order : List Entry
 another_order = history_of call_more call_go
 
+-- go alone
+abbrev pub go_alone : List Entry
+go_alone = (
+    record { actor = 4096; act = act.Post 0 0 (record { service = 0; op = call_go.op; value = (node root.Void no_fields) }) (answer.Accepted 0) } ∷
+    record { actor = 0; act = act.Adopt 0 } ∷
+    record { actor = 0; act = act.Take 0 } ∷
+    record { actor = 0; act = act.Reply 0 (outcome.Value (node (root.Int call_go.result) no_fields)) } ∷
+    record { actor = 0; act = act.End } ∷
+    record { actor = 4096; act = act.Collect 0 (outcome.Value (node (root.Int call_go.result) no_fields)) } ∷
+    record { actor = 4096; act = act.Close } ∷
+    record { actor = 4096; act = act.Stop } ∷ [])
+
 -- both are posted before a session acts
 abbrev pub at_once : List Entry
 at_once = (
@@ -172,3 +184,12 @@ post_more =
 
 pub is_post_more : slice_get (posts_by first_worker at_once) 1 ≡ Some post_more
 is_post_more = refl
+
+-- the same where go was posted alone
+pub is_posted_alone : posts_by first_worker go_alone ≡ posts_of 0 (map posting_of (came_go ∷ []))
+unfolding digits escape_byte is_utf8 chars encode scan_numeral value punctuate lex content word after_number number_of root_name posted answer batch early_answer
+is_posted_alone = refl
+
+pub response_go_alone : Some text_go ≡ response setting (past_of setting go_alone) first_worker 0 came_go
+unfolding digits escape_byte is_utf8 chars encode scan_numeral value punctuate lex content word after_number number_of root_name posted answer batch early_answer
+response_go_alone = refl

@@ -68,7 +68,7 @@ passed_long (Stands.Owes close) place l some k = asked_long close place l k
 passed_long (Stands.Over Ends.Ended) place l some k = same_is_most _ _ (given_long NotYet place l k)
 passed_long (Stands.Over Ends.Closed) place l some k = same_is_most _ _ (written_long k.0 k.1 _ place l k.3)
 passed_long (Stands.Over Ends.ReadFailed) place l some k = same_is_most _ _ (given_long NotYet place l k)
-passed_long (Stands.Over Ends.WriteFailed) place l some k = same_is_most _ _ (written_long k.0 k.1 _ place l k.3)
+passed_long (Stands.Over Ends.WriteFailed) place l some k = same_is_most _ _ (written_long k.0 k.1 _ place l k.4)
 passed_long Stands.Spent place l some k = absurd (some refl)
 
 -- no more texts than bodies

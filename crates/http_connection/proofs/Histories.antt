@@ -13,7 +13,7 @@ use Rattle.http_port.specs.Serving.{bodies_in}
 use Rattle.http_port.specs.Talk.{answer}
 use Rattle.http_port.proofs.ReadingLemmas.{Went, shown, step, run_goes}
 use Rattle.http_port.proofs.TalkLemmas.{spoken, talk_given, bodies_given}
-use Rattle.http_port.proofs.TurnLemmas.{bodies_on, bodies-append}
+use Rattle.http_port.proofs.TurnLemmas.{bodies_on, bodies-append, Begins, begins_behind}
 use Rattle.http_connection.specs.Talking.{Log, log, Answered, IsAnswered, HasGiven, due, told_to}
 use Rattle.http_connection.specs.Law.{Holding, holding, bodies_of, talk_of, IsUnclosed, IsClosing}
 
@@ -50,6 +50,25 @@ answered_on (Request b c ∷ fs) ts w p gs us =
     ∙ ap (λ l. answer p.0 c ++ l) (answered_on fs p.1 p.2 p.6 gs us)
     ∙ sym (append_assoc (answer p.0 c) p.2 (spoken gs us)) ∙ ap (λ l. l ++ spoken gs us) (sym p.5)
 answered_on (Refused status ∷ fs) ts w p gs us = absurd p
+
+-- what is to be written before the answer of a request that was answered was written
+pub answered_before : (fs : List Fed) (ts : List (Option (List ℕ))) (w : List ℕ) → Answered fs ts w → (gs : List Fed) (early : List (Option (List ℕ))) (text : Option (List ℕ))
+    → ts ≡ early ++ text ∷ [] → Begins w (spoken (without_waits fs ++ gs) early)
+answered_before [] ts w p gs [] text e = let f = sym p.0 ∙ e in absurd (cc)
+answered_before [] ts w p gs (x ∷ early) text e = let f = sym p.0 ∙ e in absurd (cc)
+answered_before (NotYet ∷ fs) ts w p gs early text e = answered_before fs ts w p gs early text e
+answered_before (Interim ∷ fs) ts w p gs early text e =
+    begins_behind interim p.0 (spoken (without_waits fs ++ gs) early) w p.1 (answered_before fs ts p.0 p.2 gs early text e)
+answered_before (Request b c ∷ fs) ts w p gs [] text e = (w, refl)
+answered_before (Request b c ∷ fs) ts w p gs (x ∷ early) text e =
+    let f : p.0 ∷ p.1 ≡ x ∷ (early ++ text ∷ []) = sym p.4 ∙ e in
+    let same : p.0 ≡ x = cc in
+    let more : p.1 ≡ early ++ text ∷ [] = cc in
+    subst (Begins w)
+    (sym (ap (λ u. spoken (Request b c ∷ (without_waits fs ++ gs)) (u ∷ early)) (sym same)
+    ∙ ap (λ u. answer p.0 c ++ cond u [] (spoken (without_waits fs ++ gs) early)) p.3))
+    (begins_behind (answer p.0 c) p.2 (spoken (without_waits fs ++ gs) early) w p.5 (answered_before fs p.1 p.2 p.6 gs early text more))
+answered_before (Refused status ∷ fs) ts w p gs early text e = absurd p
 
 -- a text was told to each request
 pub count_told : (fs : List Fed) (ts : List (Option (List ℕ))) (w : List ℕ) → Answered fs ts w → length ts ≡ length (bodies_in fs)
@@ -166,7 +185,8 @@ lacking : (i : Bool) → is_closing (cond i WithInterim Unfinished) ≡ closes_i
 lacking true = refl
 lacking false = refl
 
-closing_given : (bytes : List ℕ) (r : Reading bytes) → is_closing (end_of bytes r) ≡ closes_in (given bytes r)
+-- bytes end with what closes the connection where what a reader gives of them does
+pub closing_given : (bytes : List ℕ) (r : Reading bytes) → is_closing (end_of bytes r) ≡ closes_in (given bytes r)
 closing_given bytes (waits _ k) = refl
 closing_given bytes (refuses _ s k) = refl
 closing_given bytes (lacks _ a k short) = lacking a.interim
@@ -198,6 +218,8 @@ pub record Knows (h : Holding) (l : Log) (rest : List Fed) : Type 0 where
   pub ends : is_closing h.end ≡ closes_in rest
   pub over : behind_close rest ≡ []
   pub count : length l.texts ≡ length l.bodies
+  -- all was written that stands before the answer of the last request to which a text was told
+  pub before : (early : List (Option (List ℕ))) (text : Option (List ℕ)) → l.texts ≡ early ++ text ∷ [] → Begins l.written (talk_of h early)
 
 -- what is to come behind what was given last
 abbrev Leads : List Fed → Fed → Place → (bytes : List ℕ) → Reading bytes → Type 0
@@ -238,5 +260,8 @@ known last place l g bytes e r = ∥∥₁_map (led bytes (ap (λ x. x ++ g.piec
         ends = closing_given bytes r ∙ ap closes_in x.1 ∙ closes_on a.feds l.texts l.written a.answered (shown last ++ x.0);
         over = sym (behind_on a.feds l.texts l.written a.answered (shown last ++ x.0)) ∙ sym (ap behind_close x.1) ∙ behind_given bytes r;
         count = count_told a.feds l.texts l.written a.answered ∙ ap length a.bodies;
+        before = λ early text e.
+            subst (Begins l.written) (sym (talk_given bytes r early ∙ ap (λ fs. spoken fs early) x.1))
+            (answered_before a.feds l.texts l.written a.answered (shown last ++ x.0) early text e);
       },
     )

@@ -272,7 +272,8 @@ sent_failing first was mid now last text bodies texts g s f =
         last,
         text,
         s.front.0,
-        subst (λ w. HasWritten last text w now.kept.reader (log_of now bodies_now texts_now)) s.front.1
+        s.front.1,
+        subst (λ w. HasWritten last text w now.kept.reader (log_of now bodies_now texts_now)) s.front.2
             (finished_written first was mid now last text bodies texts true Ends.WriteFailed g s f),
       );
     }
@@ -453,7 +454,7 @@ pub sends : (text : List ℕ) (count : ℕ) (was now : Seen) → Takes text coun
 sends text count was now t written read reader next = elim (cases_lt count (length text)) [
   | inl short ↦ subst (λ cut. Sends text cut was now) (sym (lt-ltb count (length text) short)) (record {
     went = take count text;
-    front = (count, refl);
+    front = (count, short, refl);
     written = written;
     taken = t.taken;
     counts = (t.later, t.cause short);

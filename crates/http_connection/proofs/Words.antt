@@ -1,5 +1,5 @@
 -- What holds of all that passes on a connection.
-use Rattle.std.proofs.Common.{◌≡◌, ℕ, ◌+◌, Bool, true, false, cond, List, [], ◌∷◌, ◌++◌, length, take, drop, sym, refl, ap, ◌∙◌, subst, arith, append_assoc, append-nil, length-append, take-append-drop}
+use Rattle.std.proofs.Common.{◌≡◌, ◌<◌, ◌⊎◌, ℕ, ◌+◌, inl, inr, Bool, true, false, cond, List, [], ◌∷◌, ◌++◌, length, take, drop, sym, refl, ap, ◌∙◌, subst, arith, append_assoc, append-nil, length-append, length-take-le, take-append-drop}
 use Rattle.std.specs.Prelude.{Option}
 use Rattle.std.specs.Io.{StartsWith}
 use Rattle.std.proofs.Math.Logic.{∥∥₁_map, ∥∥₁_elim, ∥∥₁_prop}
@@ -23,8 +23,29 @@ use Rattle.http_connection.specs.Stages.{stage_of}
 use Rattle.http_connection.specs.Seen.{Line, Seen}
 use Rattle.http_connection.specs.Talking.{Log, log, log_of, HasGiven, due, told_to, Closes, HasWritten, Passed, IsTalking}
 use Rattle.http_connection.specs.Prompt.{IsDone}
-use Rattle.http_connection.specs.Law.{Holding, holding, bodies_of, talk_of, IsInOrder, IsComplete, IsAllWritten, Keeps, StaysFront, KeepsWord}
+use Rattle.http_connection.specs.Law.{Holding, holding, bodies_of, talk_of, IsInOrder, IsComplete, IsAllWritten, HasEnded, IsCutOff, Keeps, StaysFront, KeepsWord}
 use Rattle.http_connection.proofs.Histories.{closes_in, behind_close, unclosed, closing, Knows, known}
+
+-- ---- what begins with what
+
+begins_same : (xs ys : List ℕ) → ys ≡ xs → Begins xs ys
+begins_same xs ys e = ([], sym e ∙ sym (append-nil ys))
+
+pub begins_from : (xs ys : List ℕ) → StartsWith xs ys → Begins xs ys
+begins_from xs ys s = (drop (length ys) xs, sym (take-append-drop (length ys) xs) ∙ ap (λ l. l ++ drop (length ys) xs) s)
+
+begins_trans : (xs ys zs : List ℕ) → Begins xs ys → Begins ys zs → Begins xs zs
+begins_trans xs ys zs b c = (c.0 ++ b.0, b.1 ∙ ap (λ l. l ++ b.0) c.1 ∙ append_assoc zs c.0 b.0)
+
+-- what begins with a text is longer than a front of the text that is not all of it
+begins_longer : (count : ℕ) (all text : List ℕ) → count < length text → Begins all text → length (take count text) < length all
+begins_longer count all text short b =
+    let took : length (take count text) ≡ count = length-take-le count text (omega (arith, short)) in
+    let whole : length all ≡ length text + length b.0 = ap length b.1 ∙ length-append text b.0 in
+    omega (arith, short, took, whole)
+
+pub shorter_behind : (front xs ys : List ℕ) → length xs < length ys → length (front ++ xs) < length (front ++ ys)
+shorter_behind front xs ys short = omega (arith, short, length-append front xs, length-append front ys)
 
 -- ---- what is known of a history
 
@@ -43,6 +64,10 @@ all_written h l rest k none =
 
 complete : (h : Holding) (l : Log) → Knows h l [] → IsComplete h l
 complete h l k = record { bodies = sym (k.bodies ∙ append-nil l.bodies); texts = k.count }
+
+-- where nothing is to come all was done
+ended_so : (h : Holding) (l : Log) → Knows h l [] → HasEnded h l
+ended_so h l k = (complete h l k, all_written h l [] k refl, unclosed h.end k.ends)
 
 -- where the reader waits for more nothing is to come
 waits_so : (place : Place) (l : Log) (g : HasGiven NotYet place l) (bytes : List ℕ) → l.read ≡ bytes → (r : Reading bytes) → ∥ Knows (holding bytes r) l [] ∥₁
@@ -126,25 +151,54 @@ closed_so h l last text place c w k = (
   closing h.end (k.ends ∙ closes_shown last c),
 )
 
-failed_so : (h : Holding) (l : Log) (last : Fed) (text : Option (List ℕ)) (count : ℕ) (place : Place) (w : HasWritten last text (take count (due last text)) place l) (gs : List Fed)
-    → Knows h w.early (shown last ++ gs) → Keeps Stages.Faulted h l
-failed_so h l last text count place w gs k =
+none_is_last : (xs : List (Option (List ℕ))) (x : Option (List ℕ)) → [] ≡ xs ++ x ∷ [] → ⊥
+none_is_last [] x e = cc
+none_is_last (y ∷ xs) x e = cc
+
+pub same_early : (xs ys : List (Option (List ℕ))) (x y : Option (List ℕ)) → xs ++ x ∷ [] ≡ ys ++ y ∷ [] → xs ≡ ys
+same_early [] [] x y e = refl
+same_early [] (z ∷ ys) x y e = let f : [] ≡ ys ++ y ∷ [] = cc in absurd (none_is_last ys y f)
+same_early (z ∷ xs) [] x y e = let f : [] ≡ xs ++ x ∷ [] = cc in absurd (none_is_last xs x f)
+same_early (z ∷ xs) (u ∷ ys) x y e =
+    let f : xs ++ x ∷ [] ≡ ys ++ y ∷ [] = cc in
+    let g : z ≡ u = cc in
+    ap (λ l. z ∷ l) (same_early xs ys x y f) ∙ ap (λ v. v ∷ ys) g
+
+-- what stands before the answer of the last request that is told a text was written before that
+before_last : (h : Holding) (early : Log) (last : Fed) (text : Option (List ℕ)) (gs : List Fed) → Knows h early (shown last ++ gs)
+    → (front : List (Option (List ℕ))) (x : Option (List ℕ)) → early.texts ++ told_to last text ≡ front ++ x ∷ [] → Begins early.written (talk_of h front)
+before_last h early NotYet text gs k front x e = k.before front x (sym (append-nil early.texts) ∙ e)
+before_last h early Interim text gs k front x e = k.before front x (sym (append-nil early.texts) ∙ e)
+before_last h early (Request body close) text gs k front x e =
+    begins_same early.written (talk_of h front)
+    (ap (talk_of h) (sym (same_early early.texts front text x e) ∙ sym (append-nil early.texts)) ∙ k.talks [] ∙ append-nil early.written)
+before_last h early (Refused status) text gs k front x e = k.before front x (sym (append-nil early.texts) ∙ e)
+
+-- what is due last was cut
+cut_so : (h : Holding) (l : Log) (last : Fed) (text : Option (List ℕ)) (count : ℕ) (place : Place) → count < length (due last text)
+    → (w : HasWritten last text (take count (due last text)) place l) (gs : List Fed) → Knows h w.early (shown last ++ gs) → IsCutOff h l
+cut_so h l last text count place short w gs k =
     let went = take count (due last text) in
-    let said = spoken (shown last ++ gs) (told_to last text) in (
-      record {
+    let said = spoken (shown last ++ gs) (told_to last text) in
+    let all = talk_of h l.texts in
+    let talks : all ≡ w.early.written ++ said = told_talks h l last text went place w gs k in
+    record {
+      in_order = record {
         bodies = front_of l.bodies (bodies_in gs) ∙ ap (take (length l.bodies)) (sym (told_bodies h l last text went place w gs k));
         texts = let e = told_counts h l last text went place w gs k in omega arith;
-      },
-      subst (StartsWith (talk_of h l.texts)) (sym w.written)
-          (starts_with (talk_of h l.texts) (w.early.written ++ went)
-          (begins_behind w.early.written said went (talk_of h l.texts) (told_talks h l last text went place w gs k)
-          (front_begins count said (due last text) (due_first last text gs)))),
-    )
+      };
+      front = subst (StartsWith all) (sym w.written)
+          (starts_with all (w.early.written ++ went)
+          (begins_behind w.early.written said went all talks (front_begins count said (due last text) (due_first last text gs))));
+      part = subst (λ v. length v < length all) (sym w.written)
+          (subst (λ v. length (w.early.written ++ went) < length v) (sym talks)
+          (shorter_behind w.early.written went said (begins_longer count said (due last text) short (due_first last text gs))));
+      before = λ front x e.
+          starts_with l.written (talk_of h front)
+          (begins_trans l.written w.early.written (talk_of h front) (went, w.written) (before_last h w.early last text gs k front x (sym w.texts ∙ e)));
+    }
 
 -- ---- by the stage
-
-begins_same : (xs ys : List ℕ) → ys ≡ xs → Begins xs ys
-begins_same xs ys e = ([], sym e ∙ sym (append-nil ys))
 
 whole_front : (h : Holding) (l : Log) → IsAllWritten h l → StartsWith (talk_of h l.texts) l.written
 whole_front h l w = starts_with (talk_of h l.texts) l.written (begins_same (talk_of h l.texts) l.written w)
@@ -171,20 +225,18 @@ keeps_so (Stands.Owes close) place l a r =
     ∥∥₁_map (known (Request a.body close) place (log l.read l.written a.early l.texts) a.given l.read refl r)
     (λ x. owes_so (holding l.read r) l a.body a.early close x.0 a.bodies x.2)
 keeps_so (Stands.Over Ends.Ended) place l g r =
-    ∥∥₁_map (waits_so place l g l.read refl r)
-    (λ k. (complete (holding l.read r) l k, all_written (holding l.read r) l [] k refl, unclosed (holding l.read r).end k.ends))
+    ∥∥₁_map (waits_so place l g l.read refl r) (λ k. ended_so (holding l.read r) l k)
 keeps_so (Stands.Over Ends.Closed) place l p r =
     let h = holding l.read r in
     let w = p.3 in
     ∥∥₁_map (known p.0 place w.early w.given l.read (sym w.read) r)
     (λ x. closed_so h l p.0 p.1 place p.2 w (subst (λ gs. Knows h w.early (shown p.0 ++ gs)) (nothing_behind p.0 x.0 p.2 x.2.over) x.2))
 keeps_so (Stands.Over Ends.ReadFailed) place l g r =
-    ∥∥₁_map (waits_so place l g l.read refl r)
-    (λ k. (in_order (holding l.read r) l [] k, whole_front (holding l.read r) l (all_written (holding l.read r) l [] k refl)))
+    ∥∥₁_map (waits_so place l g l.read refl r) (λ k. inl (ended_so (holding l.read r) l k))
 keeps_so (Stands.Over Ends.WriteFailed) place l p r =
-    let w = p.3 in
+    let w = p.4 in
     ∥∥₁_map (known p.0 place w.early w.given l.read (sym w.read) r)
-    (λ x. failed_so (holding l.read r) l p.0 p.1 p.2 place w x.0 x.2)
+    (λ x. inr (cut_so (holding l.read r) l p.0 p.1 p.2 place p.3 w x.0 x.2))
 keeps_so Stands.Spent place l p r = ∣ tt ∣₁
 
 -- ---- whatever is told later
@@ -198,23 +250,21 @@ talk_grows (request ∷ queue) end (text ∷ texts) more =
     begins_behind (interim_of request ++ answer text request.close) (talk queue end (texts ++ more)) (talk queue end texts)
     (talk (request ∷ queue) end (text ∷ (texts ++ more))) refl (talk_grows queue end texts more)
 
-begins_from : (xs ys : List ℕ) → StartsWith xs ys → Begins xs ys
-begins_from xs ys s = (drop (length ys) xs, sym (take-append-drop (length ys) xs) ∙ ap (λ l. l ++ drop (length ys) xs) s)
-
-begins_trans : (xs ys zs : List ℕ) → Begins xs ys → Begins ys zs → Begins xs zs
-begins_trans xs ys zs b c = (c.0 ++ b.0, b.1 ∙ ap (λ l. l ++ b.0) c.1 ∙ append_assoc zs c.0 b.0)
-
 stays_so : (h : Holding) (l : Log) → StartsWith (talk_of h l.texts) l.written → (more : List (Option (List ℕ))) → StartsWith (talk_of h (l.texts ++ more)) l.written
 stays_so h l s more =
     starts_with (talk_of h (l.texts ++ more)) l.written
     (begins_trans (talk_of h (l.texts ++ more)) (talk_of h l.texts) l.written (talk_grows h.queue h.end l.texts more) (begins_from (talk_of h l.texts) l.written s))
+
+failed_front : (h : Holding) (l : Log) → HasEnded h l ⊎ IsCutOff h l → StartsWith (talk_of h l.texts) l.written
+failed_front h l (inl ended) = whole_front h l ended.1
+failed_front h l (inr cut) = cut.front
 
 stays : (stage : Stage) (h : Holding) (l : Log) → Keeps stage h l → StaysFront stage h l
 stays Stages.Reads h l k = stays_so h l (whole_front h l k.1)
 stays Stages.Owes h l k = stays_so h l (whole_front h l k.1)
 stays Stages.Ended h l k = stays_so h l (whole_front h l k.1)
 stays Stages.Closed h l k = stays_so h l (whole_front h l k.1)
-stays Stages.Faulted h l k = stays_so h l k.1
+stays Stages.Faulted h l k = stays_so h l (failed_front h l k)
 stays Stages.Spent h l k = tt
 
 pub keeps_word : (first : Line) (now : Seen) (bodies : List (List ℕ)) (texts : List (Option (List ℕ))) → IsTalking first now bodies texts → KeepsWord first now bodies texts

@@ -1,6 +1,6 @@
 -- What holds of all that passes on a connection, whatever the pieces in which its bytes come and whenever its answers
 -- do.
-use Rattle.std.specs.Prelude.{◌≡◌, ◌+◌, ◌⊎◌, ℕ, Option, List, ◌++◌, length, map, take}
+use Rattle.std.specs.Prelude.{◌≡◌, ◌+◌, ◌<◌, ◌⊎◌, ℕ, Option, List, [], ◌∷◌, ◌++◌, length, map, take}
 use Rattle.std.specs.Io.{StartsWith}
 use Rattle.std.specs.Io.KnownBytes.{Appends}
 use Rattle.http_port.specs.Connections.{Reading, RequestRead, requests, end_of}
@@ -51,13 +51,28 @@ IsUnclosed end = (end ≡ Unfinished) ⊎ (end ≡ WithInterim)
 abbrev pub IsClosing : End → Type 0
 IsClosing end = (end ≡ Closed) ⊎ ((status : ℕ) × (end ≡ RefusedBy status))
 
--- What passed on a connection whose bytes hold this, by its stage. Where memory ran out nothing is said.
+-- all was done that is due for the bytes, and nothing in them closes the connection
+abbrev pub HasEnded : Holding → Log → Type 0
+HasEnded h l = IsComplete h l × IsAllWritten h l × IsUnclosed h.end
+
+-- The wire failed in a write, which cut what was due last. The bodies are those of the first requests, and a text was
+-- told to each; what was written is a front of what is to be written, and not all of it; and all of it was written that
+-- stands before the answer of the last request to which a text was told.
+pub record IsCutOff (h : Holding) (l : Log) : Type 0 where
+  pub in_order : IsInOrder h l 0
+  pub front : StartsWith (talk_of h l.texts) l.written
+  pub part : length l.written < length (talk_of h l.texts)
+  pub before : (early : List (Option (List ℕ))) (last : Option (List ℕ)) → l.texts ≡ early ++ last ∷ []
+      → StartsWith l.written (talk_of h early)
+
+-- What passed on a connection whose bytes hold this, by its stage. One that has failed did so in a read, behind which
+-- all is done as on one that ended, or in a write. Where memory ran out nothing is said.
 abbrev pub Keeps : Stage → Holding → Log → Type 0
 Keeps Stages.Reads h l = IsInOrder h l 0 × IsAllWritten h l
 Keeps Stages.Owes h l = IsInOrder h l 1 × IsAllWritten h l
-Keeps Stages.Ended h l = IsComplete h l × IsAllWritten h l × IsUnclosed h.end
+Keeps Stages.Ended h l = HasEnded h l
 Keeps Stages.Closed h l = IsComplete h l × IsAllWritten h l × IsClosing h.end
-Keeps Stages.Faulted h l = IsInOrder h l 0 × StartsWith (talk_of h l.texts) l.written
+Keeps Stages.Faulted h l = HasEnded h l ⊎ IsCutOff h l
 Keeps Stages.Spent h l = Unit {0}
 
 -- what was written stays a front of what is to be written, whatever is told later

@@ -42,10 +42,10 @@ is_interim Interim = true
 is_interim (Request body close) = false
 is_interim (Refused status) = false
 
--- all of the text went out, or a front of it where that was cut
+-- all of the text went out; or, where that was cut, a front of it and not all
 abbrev pub IsFrontOf : Bool → List ℕ → List ℕ → Type 0
 IsFrontOf false text went = went ≡ text
-IsFrontOf true text went = (count : ℕ) × (went ≡ take count text)
+IsFrontOf true text went = (count : ℕ) × (count < length text) × (went ≡ take count text)
 
 -- a wire that had failed so often before failed since then where what went out was cut
 abbrev pub Counts : Bool → ℕ → ℕ → Type 0
@@ -63,7 +63,7 @@ pub record Takes (text : List ℕ) (count : ℕ) (before now : Line) : Type 0 wh
   pub left : now.left ≡ before.left
   pub closed : now.closed ≡ before.closed
 
--- The text was written and kept, or a front of it where the wire failed.
+-- The text was written and kept, or a front of it and not all where the wire failed.
 pub record Sends (text : List ℕ) (cut : Bool) (was now : Seen) : Type 0 where
   pub went : List ℕ
   pub front : IsFrontOf cut text went

@@ -1,5 +1,5 @@
 -- What passed between a connection and its user, as the calls carry it along. What it comes to is said in Law.
-use Rattle.std.specs.Prelude.{◌≡◌, ◌≤◌, ℕ, Bool, true, false, List, [], ◌∷◌, ◌++◌, take}
+use Rattle.std.specs.Prelude.{◌≡◌, ◌<◌, ◌≤◌, ℕ, Bool, true, false, List, [], ◌∷◌, ◌++◌, length, take}
 use Rattle.std.specs.Prelude.{Option, None, Some, IfSome}
 use Rattle.std.specs.List.{concat}
 use Rattle.std.specs.Io.{StartsWith}
@@ -102,7 +102,8 @@ pub record HasAsked (close : Bool) (place : Place) (l : Log) : Type 0 where
   pub bodies : l.bodies ≡ early ++ body ∷ []
   pub given : HasGiven (Request body close) place (log l.read l.written early l.texts)
 
--- what passed on a connection that stands so
+-- What passed on a connection that stands so. Behind a read that failed it is what passes where no more bytes come; a
+-- write that failed cut what is due for what the reader gave last.
 abbrev pub Passed : Standing → Place → Log → Type 0
 Passed Stands.Waits place l = HasGiven NotYet place l
 Passed (Stands.Holds body close) place l = HasGiven (Request body close) place l
@@ -112,7 +113,8 @@ Passed (Stands.Over Ends.Closed) place l =
     (last : Fed) × (text : Option (List ℕ)) × Closes last × HasWritten last text (due last text) place l
 Passed (Stands.Over Ends.ReadFailed) place l = HasGiven NotYet place l
 Passed (Stands.Over Ends.WriteFailed) place l =
-    (last : Fed) × (text : Option (List ℕ)) × (count : ℕ) × HasWritten last text (take count (due last text)) place l
+    (last : Fed) × (text : Option (List ℕ)) × (count : ℕ) × (count < length (due last text))
+    × HasWritten last text (take count (due last text)) place l
 Passed Stands.Spent place l = Unit {0}
 
 -- the wire is open, and did not fail since it was as first
