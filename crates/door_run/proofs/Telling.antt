@@ -3,7 +3,7 @@ use Rattle.std.proofs.Common.{◌≡◌, ◌≤◌, ◌+◌, ◌-◌, ◌^◌, m
 use Rattle.std.proofs.Common.{refl, sym, ap, subst, ◌∙◌, arith, append_assoc, append-nil, Option, None, Some, map}
 use Rattle.std.specs.List.{list_any}
 use Rattle.outside_traits.specs.Causes.{Rose}
-use Rattle.outside_doors.specs.Counts.{DoorTold, Tally}
+use Rattle.outside_doors.specs.Counts.{DoorTold, Tally, door_told}
 use Rattle.outside_traits.specs.Told.{Lists}
 use Rattle.outside_doors.specs.Returns.{WireTold}
 use Rattle.connection_runs.specs.Ports.{DoorAt}
@@ -55,16 +55,29 @@ Lists-then (Some x) (Some y) (Some z) xs ys p q = q ∙ ap (λ l. l ++ ys) p ∙
 
 -- none yet
 pub no_wires : (a : DoorsTold) → GivesWires [] a a
-no_wires a = record { tally = refl; returned = Lists-nil a.returned; locations = refl; faults = refl }
+no_wires a = record {
+  tally = refl;
+  returned = Lists-nil a.returned;
+  came_back = refl;
+  locations = refl;
+  faults = refl;
+}
 
 pub no_doors : (a : DoorsTold) → GivesDoors [] a a
-no_doors a = record { tally = refl; returned = refl; locations = refl; faults = refl }
+no_doors a = record {
+  tally = refl;
+  returned = refl;
+  came_back = Lists-nil a.returned_doors;
+  locations = refl;
+  faults = refl;
+}
 
 -- some and then others
 pub more_wires : (xs ys : List WireTold) (a b c : DoorsTold) → GivesWires xs a b → GivesWires ys b c → GivesWires (xs ++ ys) a c
 more_wires xs ys a b c k l = record {
   tally = l.tally ∙ ap (with_wires ys) k.tally ∙ sym (with_wires-append xs ys a.tally);
   returned = Lists-then a.returned b.returned c.returned xs ys k.returned l.returned;
+  came_back = l.came_back ∙ k.came_back;
   locations = l.locations ∙ k.locations;
   faults = l.faults ∙ k.faults;
 }
@@ -73,10 +86,20 @@ pub more_doors : (xs ys : List DoorTold) (a b c : DoorsTold) → GivesDoors xs a
 more_doors xs ys a b c k l = record {
   tally = l.tally ∙ ap (with_doors ys) k.tally ∙ sym (with_doors-append xs ys a.tally);
   returned = l.returned ∙ k.returned;
+  came_back = Lists-then a.returned_doors b.returned_doors c.returned_doors xs ys k.came_back l.came_back;
   locations = l.locations ∙ k.locations;
   faults = subst (λ x. RoseWhere x a.faults c.faults) (sym (any_append has_failed xs ys))
       (rose_then (list_any has_failed xs) (list_any has_failed ys) a.faults b.faults c.faults k.faults l.faults);
 }
+
+-- a door by what it told
+pub same_door : (door : DoorTold) (faults wires waits : ℕ) (closed : Bool) → faults ≡ door.faults → wires ≡ door.wires
+    → waits ≡ door.waits → closed ≡ door.closed → door_told faults wires waits closed ≡ door
+same_door door faults wires waits closed f w l c =
+    ap (λ n. door_told n wires waits closed) f
+    ∙ ap (λ n. door_told door.faults n waits closed) w
+    ∙ ap (λ n. door_told door.faults door.wires n closed) l
+    ∙ ap (λ b. door_told door.faults door.wires door.waits b) c
 
 -- one door that came back, by whether it had failed
 pub rose_if : (failed : Bool) (before now : ℕ) → (failed ≡ true → Rose before now) → (failed ≡ false → now ≡ before) → RoseWhere failed before now
