@@ -3,7 +3,7 @@ use Rattle.std.proofs.Common.{◌≡◌, ◌≤◌, ◌+◌, ◌-◌, ◌^◌, m
 use Rattle.std.proofs.Common.{refl, sym, ap, subst, ◌∙◌, arith, append_assoc, append-nil, Option, None, Some, map}
 use Rattle.std.specs.List.{list_any}
 use Rattle.outside_traits.specs.Causes.{Rose}
-use Rattle.outside_doors.specs.Counts.{DoorTold, Tally, door_told}
+use Rattle.outside_doors.specs.Counts.{DoorTold, Tally}
 use Rattle.outside_traits.specs.Told.{Lists}
 use Rattle.outside_doors.specs.Returns.{WireTold}
 use Rattle.connection_runs.specs.Ports.{DoorAt}
@@ -91,15 +91,6 @@ more_doors xs ys a b c k l = record {
   faults = subst (λ x. RoseWhere x a.faults c.faults) (sym (any_append has_failed xs ys))
       (rose_then (list_any has_failed xs) (list_any has_failed ys) a.faults b.faults c.faults k.faults l.faults);
 }
-
--- a door by what it told
-pub same_door : (door : DoorTold) (faults wires waits : ℕ) (closed : Bool) → faults ≡ door.faults → wires ≡ door.wires
-    → waits ≡ door.waits → closed ≡ door.closed → door_told faults wires waits closed ≡ door
-same_door door faults wires waits closed f w l c =
-    ap (λ n. door_told n wires waits closed) f
-    ∙ ap (λ n. door_told door.faults n waits closed) w
-    ∙ ap (λ n. door_told door.faults door.wires n closed) l
-    ∙ ap (λ b. door_told door.faults door.wires door.waits b) c
 
 -- one door that came back, by whether it had failed
 pub rose_if : (failed : Bool) (before now : ℕ) → (failed ≡ true → Rose before now) → (failed ≡ false → now ≡ before) → RoseWhere failed before now
