@@ -8,7 +8,7 @@
 make_crate 'door_trials: socket_doors outside_doors outside_sockets outside_traits anyhow' <<'EOF'
 //! Follows the lines of its input at doors over sockets, and says what came of each: `open LOCATION`; `accept`, `rest`
 //! and `shut` of the door that was opened last; `read`, `write TEXT`, `fill COUNT` and `back` of the wire that came
-//! last; and `told`.
+//! last; `doors`, what each door told that was shut: connections, waits and failures; and `told`.
 #![tactic(auto)]
 
 use outside_doors::{Door, Doors, Knock};
@@ -32,7 +32,7 @@ fn main(rt: HostRuntime) -> anyhow::Result<()> {
     let alloc = rt.alloc();
     let mut house = House {
         alloc,
-        doors: SocketDoors::new(&rt, patience()),
+        doors: SocketDoors::new(alloc, &rt, patience()),
         open: Vec::new(alloc),
         wires: Vec::new(alloc),
     };
@@ -64,6 +64,7 @@ impl<H: Net + Clock + Copy + Drop> House<H> {
             "write" => self.write(rest.as_bytes()),
             "fill" => self.fill(rest.parse().unwrap_or(0)),
             "back" => self.back(),
+            "doors" => self.returned(),
             _ => self.told(),
         }
     }
@@ -153,6 +154,16 @@ impl<H: Net + Clock + Copy + Drop> House<H> {
             self.doors.wire_back(wire);
         }
         self.say("back")
+    }
+
+    fn returned(&mut self) -> Result<String, AllocError> {
+        let mut said = String::new(self.alloc);
+        for door in self.doors.returned_doors() {
+            let (wires, waits, faults) = (door.wires(), door.waits(), door.faults());
+            let one = format!(in self.alloc; "{wires} {waits} {faults};")?;
+            said.push_str(one.as_str())?;
+        }
+        Ok(said)
     }
 
     fn told(&mut self) -> Result<String, AllocError> {

@@ -244,6 +244,7 @@ def few_files(rows, program):
     rows.row("it was the last file", house.say("accept"), "not yet")
     house.say("shut")
     rows.row("no door has failed", house.say("told"), "doors 1 1 0 wires 5 1 0 waits 10 faults 0")
+    rows.row("the door tells so", house.say("doors"), "5 10 0;")
     rows.row("it ends", house.end(), 0)
     for guest in guests:
         guest.close()
@@ -297,6 +298,7 @@ def failing_accepts(rows, program, preloaded):
     rows.row("who waited through all of it", house.say("accept"), "came")
     house.say("shut")
     rows.row("none was a failure", house.say("told"), f"doors 1 1 0 wires 1 0 0 waits {len(errors)} faults 0")
+    rows.row("the door tells so", house.say("doors"), f"1 {len(errors)} 0;")
     rows.row("it ends then", house.end(), 0)
     guest.close()
     for number in FAULTS:
@@ -306,6 +308,7 @@ def failing_accepts(rows, program, preloaded):
         house.say("shut")
         rows.row(f"{errno.errorcode[number]} is told", house.say("told"),
                  "doors 1 1 1 wires 0 0 0 waits 0 faults 1")
+        rows.row(f"{errno.errorcode[number]} is told of its door", house.say("doors"), "0 0 1;")
         house.end()
 
 

@@ -6,10 +6,6 @@ use Rattle.outside_doors.specs.Counts.{DoorTold, untried, has_ended}
 use Rattle.http_connection.specs.Seen.{Seen}
 use Rattle.door_front.specs.declared.link.Owed.{Owed}
 
--- what a door tells of itself, by its parts
-abbrev pub door_told : ℕ → ℕ → ℕ → Bool → DoorTold
-door_told faults wires waits closed = record { faults = faults; wires = wires; waits = waits; closed = closed }
-
 -- a door, and the service to which it leads
 pub record PortTold : Type 0 where
   pub service : ℕ

@@ -16,8 +16,8 @@ pub struct Port<D: Door + Drop> {
 
 impl<D: Door + Drop> Model for Port<D> {
     ghost use Rattle.std.specs.Prelude.{◌≡◌, ◌==◌, not};
-    ghost use Rattle.outside_doors.specs.Counts.{has_ended};
-    ghost use Rattle.door_front.specs.Keeping.{PortTold, door_told};
+    ghost use Rattle.outside_doors.specs.Counts.{door_told, has_ended};
+    ghost use Rattle.door_front.specs.Keeping.{PortTold};
 
     ghost Value = { PortTold };
 

@@ -138,6 +138,8 @@ module _ (IsMade : Line → Type 0) (t : Task) (before mid after : DoorsTold) (p
         (sym (back.doors_then.locations ∙ back.wires_first.locations)) o.locations;
     returned = subst (λ x. Lists x after.returned used.wires) o.returned
         (subst (λ x. Lists mid.returned x used.wires) (sym back.doors_then.returned) back.wires_first.returned);
+    came_back = subst (λ x. Lists x after.returned_doors used.doors) (back.wires_first.came_back ∙ o.came_back)
+        back.doors_then.came_back;
     faults = rose_then (list_any not o.opened) (list_any has_failed used.doors) before.faults mid.faults after.faults o.faults
         (subst (λ n. RoseWhere (list_any has_failed used.doors) n after.faults) back.wires_first.faults back.doors_then.faults);
   }

@@ -83,6 +83,7 @@ opens_none a = record {
   tally = refl;
   locations = Lists-nil a.doors.locations;
   returned = refl;
+  came_back = refl;
   faults = refl;
   failed = or_false a.failed;
 }
@@ -110,6 +111,7 @@ opens_more xs ys a b c k l =
           (sym (map-append location_of (items_where_true k.opened xs) (items_where_true l.opened ys)) ∙ ap (map location_of) (sym both))
           (Lists-then a.doors.locations b.doors.locations c.doors.locations _ _ k.locations l.locations);
       returned = l.returned ∙ k.returned;
+      came_back = l.came_back ∙ k.came_back;
       faults = subst (λ x. RoseWhere x a.doors.faults c.doors.faults) (sym (any_append not k.opened l.opened))
           (rose_then (list_any not k.opened) (list_any not l.opened) a.doors.faults b.doors.faults c.doors.faults k.faults l.faults);
       failed =
@@ -206,29 +208,33 @@ or_true false = refl
 module _ (place : DoorAt) (a b : DoorsTold) (ports : List PortTold) (failed : Bool) where
   -- it is opened
   pub opens_one : (more : List PortTold) → b.tally ≡ with_opened a.tally → Lists a.locations b.locations (place.location ∷ [])
-      → b.returned ≡ a.returned → b.faults ≡ a.faults → more ≡ ports ++ port_at place ∷ []
+      → b.returned ≡ a.returned → b.returned_doors ≡ a.returned_doors → b.faults ≡ a.faults
+      → more ≡ ports ++ port_at place ∷ []
       → Opens (place ∷ []) (opened_by a ports failed) (opened_by b more failed)
-  opens_one more tally locations returned faults is = record {
+  opens_one more tally locations returned came_back faults is = record {
     opened = true ∷ [];
     tried = refl;
     ports = is;
     tally = tally;
     locations = locations;
     returned = returned;
+    came_back = came_back;
     faults = faults;
     failed = or_false failed;
   }
 
   -- it can't be opened
-  pub opens_failed : b.tally ≡ a.tally → b.locations ≡ a.locations → b.returned ≡ a.returned → Rose a.faults b.faults
+  pub opens_failed : b.tally ≡ a.tally → b.locations ≡ a.locations → b.returned ≡ a.returned
+      → b.returned_doors ≡ a.returned_doors → Rose a.faults b.faults
       → Opens (place ∷ []) (opened_by a ports failed) (opened_by b ports true)
-  opens_failed tally locations returned rose = record {
+  opens_failed tally locations returned came_back rose = record {
     opened = false ∷ [];
     tried = refl;
     ports = sym (append-nil ports);
     tally = tally;
     locations = subst (λ l. Lists a.locations l []) (sym locations) (Lists-nil a.locations);
     returned = returned;
+    came_back = came_back;
     faults = rose;
     failed = or_true failed;
   }

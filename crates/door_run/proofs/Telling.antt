@@ -55,16 +55,29 @@ Lists-then (Some x) (Some y) (Some z) xs ys p q = q ∙ ap (λ l. l ++ ys) p ∙
 
 -- none yet
 pub no_wires : (a : DoorsTold) → GivesWires [] a a
-no_wires a = record { tally = refl; returned = Lists-nil a.returned; locations = refl; faults = refl }
+no_wires a = record {
+  tally = refl;
+  returned = Lists-nil a.returned;
+  came_back = refl;
+  locations = refl;
+  faults = refl;
+}
 
 pub no_doors : (a : DoorsTold) → GivesDoors [] a a
-no_doors a = record { tally = refl; returned = refl; locations = refl; faults = refl }
+no_doors a = record {
+  tally = refl;
+  returned = refl;
+  came_back = Lists-nil a.returned_doors;
+  locations = refl;
+  faults = refl;
+}
 
 -- some and then others
 pub more_wires : (xs ys : List WireTold) (a b c : DoorsTold) → GivesWires xs a b → GivesWires ys b c → GivesWires (xs ++ ys) a c
 more_wires xs ys a b c k l = record {
   tally = l.tally ∙ ap (with_wires ys) k.tally ∙ sym (with_wires-append xs ys a.tally);
   returned = Lists-then a.returned b.returned c.returned xs ys k.returned l.returned;
+  came_back = l.came_back ∙ k.came_back;
   locations = l.locations ∙ k.locations;
   faults = l.faults ∙ k.faults;
 }
@@ -73,6 +86,7 @@ pub more_doors : (xs ys : List DoorTold) (a b c : DoorsTold) → GivesDoors xs a
 more_doors xs ys a b c k l = record {
   tally = l.tally ∙ ap (with_doors ys) k.tally ∙ sym (with_doors-append xs ys a.tally);
   returned = l.returned ∙ k.returned;
+  came_back = Lists-then a.returned_doors b.returned_doors c.returned_doors xs ys k.came_back l.came_back;
   locations = l.locations ∙ k.locations;
   faults = subst (λ x. RoseWhere x a.faults c.faults) (sym (any_append has_failed xs ys))
       (rose_then (list_any has_failed xs) (list_any has_failed ys) a.faults b.faults c.faults k.faults l.faults);

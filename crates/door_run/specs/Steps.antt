@@ -49,6 +49,7 @@ pub record Opens (places : List DoorAt) (before now : Opened) : Type 0 where
   pub tally : now.doors.tally ≡ with_openings (items_where_true opened places) before.doors.tally
   pub locations : Lists before.doors.locations now.doors.locations (map location_of (items_where_true opened places))
   pub returned : now.doors.returned ≡ before.doors.returned
+  pub came_back : now.doors.returned_doors ≡ before.doors.returned_doors
   pub faults : RoseWhere (list_any not opened) before.doors.faults now.doors.faults
   pub failed : now.failed ≡ (before.failed || list_any not opened)
 
@@ -58,6 +59,7 @@ pub record Opens (places : List DoorAt) (before now : Opened) : Type 0 where
 pub record GivesWires (wires : List WireTold) (before now : DoorsTold) : Type 0 where
   pub tally : now.tally ≡ with_wires wires before.tally
   pub returned : Lists before.returned now.returned wires
+  pub came_back : now.returned_doors ≡ before.returned_doors
   pub locations : now.locations ≡ before.locations
   pub faults : now.faults ≡ before.faults
 
@@ -65,6 +67,7 @@ pub record GivesWires (wires : List WireTold) (before now : DoorsTold) : Type 0 
 pub record GivesDoors (doors : List DoorTold) (before now : DoorsTold) : Type 0 where
   pub tally : now.tally ≡ with_doors doors before.tally
   pub returned : now.returned ≡ before.returned
+  pub came_back : Lists before.returned_doors now.returned_doors doors
   pub locations : now.locations ≡ before.locations
   pub faults : RoseWhere (list_any has_failed doors) before.faults now.faults
 

@@ -15,17 +15,24 @@ use Rattle.http_connection.specs.Seen.{Line}
 use Rattle.door_front.specs.Dealt.{IsNewLine}
 
 -- What doors tell of themselves: how often a door failed to open or came back that had failed, their counts, and, where
--- they are told, the locations that were opened and the wires that came back.
+-- they are told, the locations that were opened, the wires that came back, and what each door told that came back.
 pub record DoorsTold : Type 0 where
   pub faults : ℕ
   pub tally : Tally
   pub locations : Option (List (List ℕ))
   pub returned : Option (List WireTold)
+  pub returned_doors : Option (List DoorTold)
 
 -- the same by its parts
-abbrev pub doors_told : ℕ → Tally → Option (List (List ℕ)) → Option (List WireTold) → DoorsTold
-doors_told faults tally locations returned =
-    record { faults = faults; tally = tally; locations = locations; returned = returned }
+abbrev pub doors_told : ℕ → Tally → Option (List (List ℕ)) → Option (List WireTold) → Option (List DoorTold)
+    → DoorsTold
+doors_told faults tally locations returned returned_doors = record {
+  faults = faults;
+  tally = tally;
+  locations = locations;
+  returned = returned;
+  returned_doors = returned_doors;
+}
 
 -- What a run did with doors: for each location whether a door was opened there, what each of these doors told when it
 -- came back, and what the wire of each connection told when it came back.
@@ -76,9 +83,9 @@ RoseWhere test before now = MatchBool test (Rose before now) (now ≡ before)
 abbrev pub has_failed : DoorTold → Bool
 has_failed door = not (door.faults == 0)
 
--- Doors were opened at these locations, in order; where one could not be opened it was left out. All of them came back,
--- and as many wires as they gave; and the doors count and tell just this, with a fault where a door was not opened or
--- came back and had failed.
+-- Doors were opened at these locations, in order; where one could not be opened it was left out. All of them came back
+-- in this order, and as many wires as they gave; and the doors count and tell just this, with a fault where a door was
+-- not opened or came back and had failed.
 pub record IsUsed (places : List DoorAt) (before now : DoorsTold) (used : Used) : Type 0 where
   pub tried : length used.opened ≡ length places
   pub back : length used.doors ≡ length (items_where_true used.opened places)
@@ -87,6 +94,7 @@ pub record IsUsed (places : List DoorAt) (before now : DoorsTold) (used : Used) 
       ≡ with_doors used.doors (with_wires used.wires (with_openings (items_where_true used.opened places) before.tally))
   pub locations : Lists before.locations now.locations (map location_of (items_where_true used.opened places))
   pub returned : Lists before.returned now.returned used.wires
+  pub came_back : Lists before.returned_doors now.returned_doors used.doors
   pub faults : RoseWhere (list_any not used.opened || list_any has_failed used.doors) before.faults now.faults
 
 -- ---- wires

@@ -7,7 +7,7 @@ ghost use Rattle.outside_doors.specs.Returns.{no_book};
 
 use crate::calm_door::CalmDoor;
 use crate::queue::Queue;
-use outside_doors::{Book, CountedWire, Counts, Doors, Location, Return};
+use outside_doors::{Book, CountedWire, Counts, DoorCounts, Doors, Location, Return};
 use outside_traits::{CalmWire, Failed};
 use std::alloc::{AllocError, Global};
 use std::marker::Model;
@@ -77,6 +77,13 @@ impl CalmDoors {
     {
         self.book.wires()
     }
+
+    /// What each door counted that came back, in order: all, where they are told.
+    pub fn returned_doors(&self) -> &[DoorCounts]
+        ensures { IfSome self.now.book.doors (λ doors. result.now ≡ doors) }
+    {
+        self.book.doors()
+    }
 }
 
 impl Doors for CalmDoors {
@@ -89,6 +96,8 @@ impl Doors for CalmDoors {
     ghost locations = { λ d. d.book.locations };
 
     ghost returned = { λ d. d.book.wires };
+
+    ghost returned_doors = { λ d. d.book.doors };
 
     fn open(&mut self, location: &str) -> Result<CalmDoor, Failed>
         ensures calm { IsOk result }
@@ -103,6 +112,7 @@ impl Doors for CalmDoors {
         ensures listed { IfOk result (λ _. Lists self.old.book.locations self.new.book.locations (location.now ∷ [])) }
         ensures unlisted { OnErr result (self.new.book.locations ≡ self.old.book.locations) }
         ensures returned { self.new.book.wires ≡ self.old.book.wires }
+        ensures returned_doors { self.new.book.doors ≡ self.old.book.doors }
         ensures cause { HasCause self.old.book.faults self.new.book.faults result }
     {
         self.book.open(location);

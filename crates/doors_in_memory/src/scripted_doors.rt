@@ -7,7 +7,7 @@ ghost use Rattle.outside_doors.specs.Returns.{no_book};
 
 use crate::queue::Queue;
 use crate::scripted_door::ScriptedDoor;
-use outside_doors::{Book, CountedWire, Counts, Doors, Location, Return};
+use outside_doors::{Book, CountedWire, Counts, DoorCounts, Doors, Location, Return};
 use outside_traits::{Failed, ScriptedWire};
 use std::alloc::{AllocError, Global};
 use std::marker::Model;
@@ -87,6 +87,13 @@ impl ScriptedDoors {
     {
         self.book.wires()
     }
+
+    /// What each door counted that came back, in order: all, where they are told.
+    pub fn returned_doors(&self) -> &[DoorCounts]
+        ensures { IfSome self.now.book.doors (λ doors. result.now ≡ doors) }
+    {
+        self.book.doors()
+    }
 }
 
 impl Doors for ScriptedDoors {
@@ -100,6 +107,8 @@ impl Doors for ScriptedDoors {
 
     ghost returned = { λ d. d.book.wires };
 
+    ghost returned_doors = { λ d. d.book.doors };
+
     fn open(&mut self, location: &str) -> Result<ScriptedDoor, Failed>
         ensures scripted { Opens self.old.coming result }
         ensures coming { self.new.coming ≡ drop 1 self.old.coming }
@@ -112,6 +121,7 @@ impl Doors for ScriptedDoors {
         ensures listed { IfOk result (λ _. Lists self.old.book.locations self.new.book.locations (location.now ∷ [])) }
         ensures unlisted { OnErr result (self.new.book.locations ≡ self.old.book.locations) }
         ensures returned { self.new.book.wires ≡ self.old.book.wires }
+        ensures returned_doors { self.new.book.doors ≡ self.old.book.doors }
         ensures cause { HasCause self.old.book.faults self.new.book.faults result }
     {
         let door = match self.coming.next() {

@@ -20,6 +20,10 @@ pub record DoorTold : Type 0 where
   -- whether it has answered that nobody comes any more
   pub closed : Bool
 
+-- the same by its parts
+abbrev pub door_told : ℕ → ℕ → ℕ → Bool → DoorTold
+door_told faults wires waits closed = record { faults = faults; wires = wires; waits = waits; closed = closed }
+
 -- a door that was not tried yet
 abbrev pub untried : DoorTold
 untried = record { faults = 0; wires = 0; waits = 0; closed = false }

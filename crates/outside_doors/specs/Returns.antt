@@ -1,6 +1,7 @@
--- What is told of the locations that were opened and of the wires that came back, and what doors keep of them.
+-- What is told of the locations that were opened and of the wires that came back, and what doors keep of these and of the
+-- doors that came back.
 use Rattle.std.specs.Prelude.{ℕ, Bool, false, List, [], Option, Some}
-use Rattle.outside_doors.specs.Counts.{Tally, no_tally}
+use Rattle.outside_doors.specs.Counts.{DoorTold, Tally, no_tally}
 
 -- a wire that came back: the bytes that were read and those that were written, each where the wire tells them; its
 -- count of faults; and whether a read had told the end of what comes in
@@ -25,13 +26,14 @@ abbrev pub counted : {W : Type 0} → W → Counted W
 counted wire = record { wire = wire; faults = 0; ended = false }
 
 -- What doors keep: their counts, how often one of their calls has failed, and, while there is room for them, the
--- locations opened and the wires that came back.
+-- locations opened, the wires that came back, and what each door told that came back.
 pub record BookTold : Type 0 where
   pub tally : Tally
   pub faults : ℕ
   pub locations : Option (List (List ℕ))
   pub wires : Option (List WireTold)
+  pub doors : Option (List DoorTold)
 
 -- before anything was opened
 abbrev pub no_book : BookTold
-no_book = record { tally = no_tally; faults = 0; locations = Some []; wires = Some [] }
+no_book = record { tally = no_tally; faults = 0; locations = Some []; wires = Some []; doors = Some [] }

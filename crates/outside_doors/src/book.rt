@@ -7,18 +7,19 @@ ghost use Rattle.outside_doors.specs.Returns.{no_book, wire_told};
 
 use crate::counted_wire::CountedWire;
 use crate::counts::{Counts, DoorCounts};
-use crate::returns::{Location, Locations, Return, Returns};
+use crate::returns::{Location, Locations, Return, ReturnedDoors, Returns};
 use outside_traits::Wire;
 use std::alloc::{AllocError, Global};
 use std::marker::Model;
 
-/// What doors tell: their counts, how often a call has failed, the locations that were opened and the wires that came back.
+/// What doors tell: their counts, how often a call has failed, the locations that were opened, and the wires and doors that came back.
 #[derive(Drop)]
 pub struct Book<W: Wire + Drop> {
     counts: Counts,
     faults: u64,
     locations: Locations,
     returns: Returns<W>,
+    doors: ReturnedDoors,
 }
 
 impl<W: Wire + Drop> Model for Book<W> {
@@ -26,7 +27,7 @@ impl<W: Wire + Drop> Model for Book<W> {
 
     ghost Value = { BookTold };
 
-    ghost view = { λ b. record { tally = b.counts; faults = b.faults; locations = b.locations; wires = b.returns } };
+    ghost view = { λ b. record { tally = b.counts; faults = b.faults; locations = b.locations; wires = b.returns; doors = b.doors } };
 }
 
 impl<W: Wire + Drop> Book<W> {
@@ -39,6 +40,7 @@ impl<W: Wire + Drop> Book<W> {
             faults: 0,
             locations: Locations::new(alloc),
             returns: Returns::new(alloc),
+            doors: ReturnedDoors::new(alloc),
         }
     }
 
@@ -55,6 +57,7 @@ impl<W: Wire + Drop> Book<W> {
         ensures faults { self.new.faults ≡ self.old.faults }
         ensures locations { Lists self.old.locations self.new.locations (location.now ∷ []) }
         ensures wires { self.new.wires ≡ self.old.wires }
+        ensures doors { self.new.doors ≡ self.old.doors }
     {
         self.counts.add_opened();
         self.locations.keep(location);
@@ -75,6 +78,7 @@ impl<W: Wire + Drop> Book<W> {
         ensures faults { self.new.faults ≡ self.old.faults }
         ensures locations { self.new.locations ≡ self.old.locations }
         ensures wires { Lists self.old.wires self.new.wires (wire_told (W.given wire.wire) (W.taken wire.wire) wire.faults wire.ended ∷ []) }
+        ensures doors { self.new.doors ≡ self.old.doors }
     {
         self.counts.add_wire(wire.faults(), wire.has_ended());
         self.returns.keep(wire);
@@ -86,8 +90,10 @@ impl<W: Wire + Drop> Book<W> {
         ensures faults { self.new.faults ≡ added_if (not (door.now.faults == 0)) self.old.faults }
         ensures locations { self.new.locations ≡ self.old.locations }
         ensures wires { self.new.wires ≡ self.old.wires }
+        ensures doors { Lists self.old.doors self.new.doors (door.now ∷ []) }
     {
         self.counts.add_door(door);
+        self.doors.keep(door);
         if door.faults() != 0 {
             self.faults = self.faults.saturating_add(1);
         }
@@ -119,5 +125,12 @@ impl<W: Wire + Drop> Book<W> {
         ensures { IfSome self.now.wires (λ wires. result.now ≡ wires) }
     {
         self.returns.kept()
+    }
+
+    /// What each door counted that came back, in order: all, where they are told.
+    pub fn doors(&self) -> &[DoorCounts]
+        ensures { IfSome self.now.doors (λ doors. result.now ≡ doors) }
+    {
+        self.doors.kept()
     }
 }

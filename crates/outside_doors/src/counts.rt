@@ -35,6 +35,18 @@ impl DoorCounts {
         }
     }
 
+    /// The same counts once more.
+    pub(crate) fn copy(&self) -> DoorCounts
+        ensures { result ≡ self.now }
+    {
+        DoorCounts {
+            faults: self.faults,
+            wires: self.wires,
+            waits: self.waits,
+            is_closed: self.is_closed,
+        }
+    }
+
     /// How often a try has failed.
     pub fn faults(&self) -> u64
         ensures { result ≡ self.now.faults }

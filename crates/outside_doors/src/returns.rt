@@ -1,9 +1,10 @@
-//! What is kept of the locations that were opened and of the wires that came back.
+//! What is kept of the locations that were opened and of the wires and doors that came back.
 ghost use Rattle.std.specs.Prelude.{◌≡◌, [], ◌∷◌, Some, true, IfOk, IfSome};
 ghost use Rattle.outside_traits.specs.Told.{Lists};
 ghost use Rattle.outside_doors.specs.Returns.{wire_told};
 
 use crate::counted_wire::CountedWire;
+use crate::counts::DoorCounts;
 use outside_traits::Wire;
 use std::alloc::{AllocError, Global};
 use std::marker::Model;
@@ -186,6 +187,50 @@ impl<W: Wire + Drop> Returns<W> {
     /// The wires that were kept: all, where they are told.
     pub(crate) fn kept(&self) -> &[Return<W>]
         ensures { IfSome self.now (λ wires. result.now ≡ wires) }
+    {
+        self.kept.as_slice()
+    }
+}
+
+/// What each door counted that came back, in order, which is kept for as long as there is memory for it.
+#[derive(Drop)]
+pub struct ReturnedDoors {
+    kept: Vec<DoorCounts>,
+    is_whole: bool,
+}
+
+impl Model for ReturnedDoors {
+    ghost use Rattle.std.specs.Prelude.{Option, None, Some, List, if◌then◌else◌};
+    ghost use Rattle.outside_doors.specs.Counts.{DoorTold};
+
+    ghost Value = { Option (List DoorTold) };
+
+    ghost view = { λ d. if d.is_whole then Some d.kept.items else None };
+}
+
+impl ReturnedDoors {
+    /// Those before one came back.
+    pub fn new(alloc: Global) -> ReturnedDoors
+        ensures { result ≡ Some [] }
+    {
+        ReturnedDoors {
+            kept: Vec::new(alloc),
+            is_whole: true,
+        }
+    }
+
+    /// Keeps what one more door counted.
+    pub fn keep(&mut self, door: &DoorCounts)
+        ensures { Lists self.old self.new (door.now ∷ []) }
+    {
+        if self.kept.push(door.copy()).is_err() {
+            self.is_whole = false;
+        }
+    }
+
+    /// What the doors counted that were kept: all, where they are told.
+    pub fn kept(&self) -> &[DoorCounts]
+        ensures { IfSome self.now (λ doors. result.now ≡ doors) }
     {
         self.kept.as_slice()
     }

@@ -1,7 +1,7 @@
 ghost use Rattle.std.specs.Prelude.{◌≡◌, ◌<◌, ℕ, Bool, false, List, [], ◌∷◌, Ok, IsTrue, IfOk, OnErr};
 ghost use Rattle.std.specs.declared.option.Option.{Option};
 ghost use Rattle.outside_traits.specs.Causes.{HasCause, Rose};
-ghost use Rattle.outside_doors.specs.Counts.{Tally, with_door, with_opened, with_wire};
+ghost use Rattle.outside_doors.specs.Counts.{DoorTold, Tally, door_told, with_door, with_opened, with_wire};
 ghost use Rattle.outside_doors.specs.Knocks.{IfCame, IsFresh, closed_after, waits_after, wires_after};
 ghost use Rattle.outside_traits.specs.Told.{Lists};
 ghost use Rattle.outside_doors.specs.Returns.{WireTold, wire_told};
@@ -66,6 +66,9 @@ pub trait Doors {
     /// The wires that came back in order, where they are told.
     ghost returned: { Self → Option (List WireTold) };
 
+    /// What each door told that came back, in order, where it is told.
+    ghost returned_doors: { Self → Option (List DoorTold) };
+
     /// Opens a door at a location.
     fn open(&mut self, location: &str) -> Result<Self::D, Failed>
         ensures faultless { IfOk result (λ door. Self.D.faults door ≡ 0) }
@@ -77,18 +80,21 @@ pub trait Doors {
         ensures listed { IfOk result (λ _. Lists (locations self.old) (locations self.new) (location.now ∷ [])) }
         ensures unlisted { OnErr result (locations self.new ≡ locations self.old) }
         ensures returned { returned self.new ≡ returned self.old }
+        ensures returned_doors { returned_doors self.new ≡ returned_doors self.old }
         ensures cause { HasCause (faults self.old) (faults self.new) result };
 
     /// Takes a wire that its user is through with, and closes it.
     fn wire_back(&mut self, wire: <Self::D as Door>::W)
         ensures tally { tally self.new ≡ with_wire (Self.D.W.faults wire) (Self.D.W.ended wire) (tally self.old) }
         ensures listed { Lists (returned self.old) (returned self.new) (wire_told (Self.D.W.given wire) (Self.D.W.taken wire) (Self.D.W.faults wire) (Self.D.W.ended wire) ∷ []) }
+        ensures returned_doors { returned_doors self.new ≡ returned_doors self.old }
         ensures locations { locations self.new ≡ locations self.old }
         ensures faults { faults self.new ≡ faults self.old };
 
     /// Takes a door that its user is through with, and closes it.
     fn door_back(&mut self, door: Self::D)
-        ensures tally { tally self.new ≡ with_door (record { faults = Self.D.faults door; wires = Self.D.wires door; waits = Self.D.waits door; closed = Self.D.closed door }) (tally self.old) }
+        ensures tally { tally self.new ≡ with_door (door_told (Self.D.faults door) (Self.D.wires door) (Self.D.waits door) (Self.D.closed door)) (tally self.old) }
+        ensures listed { Lists (returned_doors self.old) (returned_doors self.new) (door_told (Self.D.faults door) (Self.D.wires door) (Self.D.waits door) (Self.D.closed door) ∷ []) }
         ensures locations { locations self.new ≡ locations self.old }
         ensures returned { returned self.new ≡ returned self.old }
         ensures raised { 0 < Self.D.faults door → Rose (faults self.old) (faults self.new) }

@@ -39,7 +39,7 @@ fn main(rt: HostRuntime) -> ExitCode {
         input: Inputs::new(rt.stdin()),
         output: Outputs::new(rt.stdout()),
         notes: Outputs::new(rt.stderr()),
-        doors: SocketDoors::new(&rt, patience()),
+        doors: SocketDoors::new(alloc, &rt, patience()),
         links,
     };
     match run(alloc, &words, &mut world) {

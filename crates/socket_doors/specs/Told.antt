@@ -1,4 +1,5 @@
--- What a contract sees of doors over sockets. They tell what they count, and neither locations nor wires.
+-- What a contract sees of doors over sockets. They tell what they count, and what each door counted that came back, and
+-- neither locations nor wires.
 use Rattle.std.specs.Prelude.{None}
 use Rattle.outside_doors.specs.Returns.{BookTold, no_book}
 

@@ -8,20 +8,22 @@ ghost use Rattle.socket_doors.specs.Told.{untold_book};
 use crate::patience::Patience;
 use crate::patient_stream::PatientStream;
 use crate::socket_door::SocketDoor;
-use outside_doors::{Counts, Doors};
+use outside_doors::{Counts, DoorCounts, Doors, ReturnedDoors};
 use outside_sockets::{SocketWire, address_of};
 use outside_traits::{Failed, Wire};
+use std::alloc::Global;
 use std::marker::Model;
 use std::net::{Net, OpenListener, TcpListener};
 use std::rt::Clock;
 
-/// Doors over the TCP sockets of the system. They tell what they count, and neither locations nor wires: to tell these they would have to keep them, and the wires have no end.
+/// Doors over the TCP sockets of the system. They tell what they count, and what each door counted that came back, for as long as there is memory to keep it. They tell neither locations nor wires: to tell these they would have to keep them, and the wires have no end.
 #[derive(Drop)]
 pub struct SocketDoors<H: Net + Clock + Copy + Drop> {
     host: H,
     patience: Patience,
     counts: Counts,
     faults: u64,
+    returned_doors: ReturnedDoors,
 }
 
 impl<H: Net + Clock + Copy + Drop> Model for SocketDoors<H> {
@@ -30,12 +32,12 @@ impl<H: Net + Clock + Copy + Drop> Model for SocketDoors<H> {
 
     ghost Value = { BookTold };
 
-    ghost view = { λ d. record { tally = d.counts; faults = d.faults; locations = None; wires = None } };
+    ghost view = { λ d. record { tally = d.counts; faults = d.faults; locations = None; wires = None; doors = d.returned_doors } };
 }
 
 impl<H: Net + Clock + Copy + Drop> SocketDoors<H> {
     /// Doors at which those who come are waited for with this patience.
-    pub fn new(host: H, patience: Patience) -> SocketDoors<H>
+    pub fn new(alloc: Global, host: H, patience: Patience) -> SocketDoors<H>
         ensures { result ≡ untold_book }
     {
         SocketDoors {
@@ -43,6 +45,7 @@ impl<H: Net + Clock + Copy + Drop> SocketDoors<H> {
             patience,
             counts: Counts::new(),
             faults: 0,
+            returned_doors: ReturnedDoors::new(alloc),
         }
     }
 
@@ -59,6 +62,13 @@ impl<H: Net + Clock + Copy + Drop> SocketDoors<H> {
     {
         self.faults
     }
+
+    /// What each door counted that came back, in order: all, where they are told.
+    pub fn returned_doors(&self) -> &[DoorCounts]
+        ensures { IfSome self.now.doors (λ doors. result.now ≡ doors) }
+    {
+        self.returned_doors.kept()
+    }
 }
 
 impl<H: Net + Clock + Copy + Drop> Doors for SocketDoors<H> {
@@ -72,6 +82,8 @@ impl<H: Net + Clock + Copy + Drop> Doors for SocketDoors<H> {
 
     ghost returned = { λ d. d.wires };
 
+    ghost returned_doors = { λ d. d.doors };
+
     // Only the location of a socket has a door.
     fn open(&mut self, location: &str) -> Result<SocketDoor<H>, Failed>
         ensures form { IfOk result (λ _. IsTrue (is_of_socket location.now)) }
@@ -84,6 +96,7 @@ impl<H: Net + Clock + Copy + Drop> Doors for SocketDoors<H> {
         ensures listed { IfOk result (λ _. Lists self.old.locations self.new.locations (location.now ∷ [])) }
         ensures unlisted { OnErr result (self.new.locations ≡ self.old.locations) }
         ensures returned { self.new.wires ≡ self.old.wires }
+        ensures returned_doors { self.new.doors ≡ self.old.doors }
         ensures cause { HasCause self.old.faults self.new.faults result }
     {
         match listener_at(&self.host, location) {
@@ -105,6 +118,7 @@ impl<H: Net + Clock + Copy + Drop> Doors for SocketDoors<H> {
 
     fn door_back(&mut self, door: SocketDoor<H>) {
         self.counts.add_door(door.counts());
+        self.returned_doors.keep(door.counts());
         if door.counts().faults() != 0 {
             self.faults = self.faults.saturating_add(1);
         }

@@ -1,6 +1,6 @@
 //! The doors of a row.
 
-use crate::doors::told::{tell_calm, tell_counts, tell_locations, tell_scripted};
+use crate::doors::told::{tell_calm, tell_counts, tell_doors, tell_locations, tell_scripted};
 use crate::doors::visits::visit_all;
 use doors_in_memory::{CalmDoor, CalmDoors, ScriptedDoor, ScriptedDoors};
 use outside_doors::Doors;
@@ -50,6 +50,7 @@ fn visit_row<D: Doors>(
 fn told_calm(alloc: Global, doors: &CalmDoors, said: &mut String) -> Result<(), AllocError> {
     tell_counts(alloc, doors.counts(), doors.faults(), said)?;
     tell_locations(doors.locations(), said)?;
+    tell_doors(alloc, doors.returned_doors(), said)?;
     tell_calm(alloc, doors.returned(), said)
 }
 
@@ -60,6 +61,7 @@ fn told_scripted(
 ) -> Result<(), AllocError> {
     tell_counts(alloc, doors.counts(), doors.faults(), said)?;
     tell_locations(doors.locations(), said)?;
+    tell_doors(alloc, doors.returned_doors(), said)?;
     tell_scripted(alloc, doors.returned(), said)
 }
 

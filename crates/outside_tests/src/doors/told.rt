@@ -1,7 +1,7 @@
 //! What doors tell behind all.
 
 use crate::doors::visits::add_bytes;
-use outside_doors::{Counts, Location, Return};
+use outside_doors::{Counts, DoorCounts, Location, Return};
 use outside_traits::{CalmWire, ScriptedWire};
 use std::alloc::{AllocError, Global};
 
@@ -37,6 +37,30 @@ pub fn tell_locations(locations: &[Location], said: &mut String) -> Result<(), A
     for location in locations {
         said.push_str(location.as_str())?;
         said.push(' ')?;
+    }
+    Ok(())
+}
+
+/// What each door counted that came back, a line each.
+pub fn tell_doors(
+    alloc: Global,
+    doors: &[DoorCounts],
+    said: &mut String,
+) -> Result<(), AllocError> {
+    for door in doors {
+        said.push_str("\ndoor ")?;
+        add_count(alloc, "given", door.wires(), said)?;
+        add_count(alloc, "waits", door.waits(), said)?;
+        add_count(alloc, "faults", door.faults(), said)?;
+        tell_close(door.is_closed(), said)?;
+    }
+    Ok(())
+}
+
+/// Whether a door has answered that nobody comes any more.
+fn tell_close(is_closed: bool, said: &mut String) -> Result<(), AllocError> {
+    if is_closed {
+        said.push_str("closed")?;
     }
     Ok(())
 }
