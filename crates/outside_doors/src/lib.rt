@@ -12,5 +12,5 @@ mod traits;
 pub use book::Book;
 pub use counted_wire::CountedWire;
 pub use counts::{Counts, DoorCounts};
-pub use returns::{Location, Return, ReturnedDoors};
+pub use returns::{Location, Locations, Return, ReturnedDoors};
 pub use traits::{Door, Doors, Knock};

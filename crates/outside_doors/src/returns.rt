@@ -40,7 +40,7 @@ impl Location {
 
 /// The locations that were opened in order, which are kept for as long as there is memory for it.
 #[derive(Drop)]
-pub(crate) struct Locations {
+pub struct Locations {
     alloc: Global,
     kept: Vec<Location>,
     is_whole: bool,
@@ -55,7 +55,8 @@ impl Model for Locations {
 }
 
 impl Locations {
-    pub(crate) fn new(alloc: Global) -> Locations
+    /// Those before one was opened.
+    pub fn new(alloc: Global) -> Locations
         ensures { result ≡ Some [] }
     {
         Locations {
@@ -66,7 +67,7 @@ impl Locations {
     }
 
     /// Keeps one more location.
-    pub(crate) fn keep(&mut self, text: &str)
+    pub fn keep(&mut self, text: &str)
         ensures { Lists self.old self.new (text.now ∷ []) }
     {
         match Location::new(self.alloc, text) {
@@ -84,7 +85,7 @@ impl Locations {
     }
 
     /// The locations that were kept: all, where they are told.
-    pub(crate) fn kept(&self) -> &[Location]
+    pub fn kept(&self) -> &[Location]
         ensures { IfSome self.now (λ locations. result.now ≡ locations) }
     {
         self.kept.as_slice()

@@ -8,7 +8,7 @@ ghost use Rattle.socket_doors.specs.Told.{untold_book};
 use crate::patience::Patience;
 use crate::patient_stream::PatientStream;
 use crate::socket_door::SocketDoor;
-use outside_doors::{Counts, DoorCounts, Doors, ReturnedDoors};
+use outside_doors::{Counts, DoorCounts, Doors, Location, Locations, ReturnedDoors};
 use outside_sockets::{SocketWire, address_of};
 use outside_traits::{Failed, Wire};
 use std::alloc::Global;
@@ -16,13 +16,14 @@ use std::marker::Model;
 use std::net::{Net, OpenListener, TcpListener};
 use std::rt::Clock;
 
-/// Doors over the TCP sockets of the system. They tell what they count, and what each door counted that came back, for as long as there is memory to keep it. They tell neither locations nor wires: to tell these they would have to keep them, and the wires have no end.
+/// Doors over the TCP sockets of the system. They tell what they count, and for as long as there is memory to keep it the locations that were opened and what each door counted that came back. They do not tell the wires: to tell these they would have to keep them, and they have no end.
 #[derive(Drop)]
 pub struct SocketDoors<H: Net + Clock + Copy + Drop> {
     host: H,
     patience: Patience,
     counts: Counts,
     faults: u64,
+    locations: Locations,
     returned_doors: ReturnedDoors,
 }
 
@@ -32,7 +33,7 @@ impl<H: Net + Clock + Copy + Drop> Model for SocketDoors<H> {
 
     ghost Value = { BookTold };
 
-    ghost view = { λ d. record { tally = d.counts; faults = d.faults; locations = None; wires = None; doors = d.returned_doors } };
+    ghost view = { λ d. record { tally = d.counts; faults = d.faults; locations = d.locations; wires = None; doors = d.returned_doors } };
 }
 
 impl<H: Net + Clock + Copy + Drop> SocketDoors<H> {
@@ -45,6 +46,7 @@ impl<H: Net + Clock + Copy + Drop> SocketDoors<H> {
             patience,
             counts: Counts::new(),
             faults: 0,
+            locations: Locations::new(alloc),
             returned_doors: ReturnedDoors::new(alloc),
         }
     }
@@ -61,6 +63,13 @@ impl<H: Net + Clock + Copy + Drop> SocketDoors<H> {
         ensures { result ≡ self.now.faults }
     {
         self.faults
+    }
+
+    /// The locations that were opened in order: all, where they are told.
+    pub fn locations(&self) -> &[Location]
+        ensures { IfSome self.now.locations (λ locations. result.now ≡ locations) }
+    {
+        self.locations.kept()
     }
 
     /// What each door counted that came back, in order: all, where they are told.
@@ -102,6 +111,7 @@ impl<H: Net + Clock + Copy + Drop> Doors for SocketDoors<H> {
         match listener_at(&self.host, location) {
             Some(listener) => {
                 self.counts.add_opened();
+                self.locations.keep(location);
                 Ok(SocketDoor::new(self.host, listener, self.patience))
             }
             None => {
