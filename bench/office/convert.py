@@ -426,7 +426,8 @@ def says(name, what, value):
 
 
 def spoilt_sessions(run):
-    """Records that are spoilt: events that are cut or exchanged, a run that stops in the middle, a posting that comes too soon."""
+    """Records that are spoilt: events that are cut or exchanged, a run that stops in the middle, a posting that comes too
+    soon, and the first one behind the start of a single service."""
     if run.sessions is None:
         return ''
     out = []
@@ -456,6 +457,10 @@ def spoilt_sessions(run):
             out.append(says('spoilt_posted_too_soon',
                             f'is_still setting {run.budget} (with_at {i} ({entry(h[j])} ∷ {entry(h[i])} ∷ []) (with_at {j} [] history)) sessions',
                             'false'))
+    if run.workers is None and h[0][1][:2] == ('post', 0) and run.sessions and run.parsed.services[run.service_of(0)]['single']:
+        k = next(k for k, (s, a) in enumerate(h) if s == 0 and a[0] == 'adopt')
+        out.append(says('spoilt_posted_behind_the_start',
+                        f'is_still setting {run.budget} ({entry(h[k])} ∷ with_at {k} [] history) sessions', 'false'))
     j = next((j for j in range(len(h) - 1) if h[j][1][0] == h[j + 1][1][0] == 'post' and h[j][1][1] == h[j + 1][1][1]), None)
     if j is not None:
         out.append(says('spoilt_post_apart', f'stand_together (with_at {j} ({entry(h[j])} ∷ record {{ actor = 0; act = act.End }} ∷ []) history)', 'false'))

@@ -233,6 +233,10 @@ pub spoilt_call_left_out : agrees setting (with_at 5 [] history) 0 events_0 ≡ 
 unfolding digits
 spoilt_call_left_out = refl
 
+pub spoilt_posted_behind_the_start : is_still setting 10000 (record { actor = 0; act = act.Adopt 0 } ∷ with_at 1 [] history) sessions ≡ false
+unfolding digits
+spoilt_posted_behind_the_start = refl
+
 -- what came in
 abbrev postings : List Posting
 postings = (

@@ -1,20 +1,22 @@
 -- That the Booleans which are computed say when nothing is left to do: at an end, and before each posting.
 use Rattle.std.proofs.Common.{◌≡◌, ℕ, zero, suc, ◌+◌, Bool, true, false, not, ◌&&◌, List, [], ◌∷◌, ◌++◌, length, refl, sym, ap, subst, ◌∙◌, Option, None, Some, is_some, true≢false, append_assoc, arith}
 use Rattle.std.specs.Prelude.{nat_eq, nat_lt, slice_get, if◌then◌else◌}
-use Rattle.std.specs.List.{list_all}
-use Rattle.std.proofs.lemmas.Bool.{false≢true}
+use Rattle.std.specs.List.{list_all, list_any}
+use Rattle.std.proofs.lemmas.Bool.{eqb-true, false≢true, not-true}
 use Rattle.std.proofs.lemmas.Bool.Decides.{nat_tests}
 use Rattle.std.proofs.lemmas.List.{append-nil}
 use Rattle.std.specs.Cmp.{unsigned_Decides}
 use Rattle.behaviour_tree.specs.declared.words.Event.{Event}
+use Rattle.office_core.specs.declared.history.Act.{Act}
+use Rattle.office_core.specs.declared.history.Act.TheVariants as act
 use Rattle.office_core.specs.declared.history.Entry.{Entry}
 use Rattle.office_core.specs.Limits.{Setting}
 use Rattle.office_core.specs.Past.{Past}
 use Rattle.office_core.specs.Sessions.{births, service_of, was_adopted}
 use Rattle.office_core.specs.Accepted.{past_of}
 use Rattle.run_record.specs.Agrees.{IsSession}
-use Rattle.run_record.specs.Quiet.{CanAct, unbrought, IsQuiet, begins_posting, sessions_at, IsStill}
-use Rattle.office_trials.specs.Quiet.{below, can_act, are_idle, is_empty, is_quiet, is_still_after, is_still}
+use Rattle.run_record.specs.Quiet.{CanAct, unbrought, IsQuiet, posts_for, begins_posting, sessions_at, MayBegin, IsStill}
+use Rattle.office_trials.specs.Quiet.{below, can_act, are_idle, is_empty, is_quiet, may_begin, begins_well, is_still_after, is_still}
 use Rattle.office_trials.proofs.Standing.{both_left, both_right}
 use Rattle.office_trials.proofs.Acting.{same_of, none_not_some, finds_acting, acting_is_found}
 
@@ -207,36 +209,64 @@ not_quiet w budget h sessions a e q = true≢false (sym (quiet_so w budget h ses
 
 -- ---- still
 
-still_after_is : (w : Setting) (budget : ℕ) (sessions : List (List Event)) (seen before later : List Entry) (e : Entry)
-    → is_still_after w budget sessions seen (before ++ e ∷ later) ≡ true → begins_posting (seen ++ before) e ≡ true
-    → IsQuiet w budget (seen ++ before) (sessions_at w (seen ++ before) 0 sessions)
-still_after_is w budget sessions seen [] later e h b =
-    subst (λ l. IsQuiet w budget l (sessions_at w l 0 sessions)) (sym (append-nil seen))
-    (quiet_is w budget seen (sessions_at w seen 0 sessions)
-    (sym (ap (λ (c : Bool). elim c [ true ↦ is_quiet w budget seen (sessions_at w seen 0 sessions) | false ↦ true ])
-    (sym (ap (λ l. begins_posting l e) (append-nil seen)) ∙ b))
-    ∙ both_left
-    (elim (begins_posting seen e) [ true ↦ is_quiet w budget seen (sessions_at w seen 0 sessions) | false ↦ true ])
-    (is_still_after w budget sessions (seen ++ e ∷ []) later) h))
-still_after_is w budget sessions seen (x ∷ before) later e h b =
-    subst (λ l. IsQuiet w budget l (sessions_at w l 0 sessions)) (append_assoc seen (x ∷ []) before)
-    (still_after_is w budget sessions (seen ++ x ∷ []) before later e
-    (both_right
-    (elim (begins_posting seen x) [ true ↦ is_quiet w budget seen (sessions_at w seen 0 sessions) | false ↦ true ])
+may_begin_is : (w : Setting) (budget j : ℕ) (h : List Entry) (sessions : List (List Event))
+    → may_begin w budget j h sessions ≡ true → MayBegin w budget j h sessions
+may_begin_is w budget zero h sessions e = empty_is h e
+may_begin_is w budget (suc j) h sessions e = quiet_is w budget h sessions e
+
+not_begun : (w : Setting) (budget j : ℕ) (h : List Entry) (sessions : List (List Event)) → AreSessions w h 0 sessions
+    → may_begin w budget j h sessions ≡ false → MayBegin w budget j h sessions → ⊥
+not_begun w budget zero h sessions a e empty = true≢false (sym (ap is_empty empty) ∙ e)
+not_begun w budget (suc j) h sessions a e quiet = not_quiet w budget h sessions a e quiet
+
+-- a posting that an entry begins well began where it may
+begun_is : (w : Setting) (budget : ℕ) (sessions : List (List Event)) (before : List Entry) (j : ℕ) (e : Entry)
+    → begins_well w budget sessions before e ≡ true → begins_posting j before e ≡ true
+    → MayBegin w budget j before (sessions_at w before 0 sessions)
+begun_is w budget sessions before j e well begins = go e.actor e.act well begins
+  where
+    go : (n : ℕ) (a : Act) → begins_well w budget sessions before (record { actor = n; act = a }) ≡ true
+        → begins_posting j before (record { actor = n; act = a }) ≡ true
+        → MayBegin w budget j before (sessions_at w before 0 sessions)
+    go n (act.Post k i q r) well begins =
+        let posted = nat_eq n n && nat_eq j k in
+        let none = not (list_any (posts_for n j) before) in
+        let same : j ≡ k = eqb-true j k (both_right (nat_eq n n) (nat_eq j k) (both_left posted none begins)) in
+        subst (λ m. MayBegin w budget m before (sessions_at w before 0 sessions)) (sym same)
+        (may_begin_is w budget k before (sessions_at w before 0 sessions)
+        (sym (ap
+        (λ (b : Bool). elim b [ true ↦ true | false ↦ may_begin w budget k before (sessions_at w before 0 sessions) ])
+        (subst (λ m. list_any (posts_for n m) before ≡ false) same
+        (not-true (list_any (posts_for n j) before) (both_right posted none begins))))
+        ∙ well))
+    go n a well begins = absurd (false≢true begins)
+
+still_after_is : (w : Setting) (budget : ℕ) (sessions : List (List Event)) (seen before later : List Entry) (j : ℕ)
+    (e : Entry) → is_still_after w budget sessions seen (before ++ e ∷ later) ≡ true
+    → begins_posting j (seen ++ before) e ≡ true
+    → MayBegin w budget j (seen ++ before) (sessions_at w (seen ++ before) 0 sessions)
+still_after_is w budget sessions seen [] later j e h b =
+    subst (λ l. MayBegin w budget j l (sessions_at w l 0 sessions)) (sym (append-nil seen))
+    (begun_is w budget sessions seen j e
+    (both_left (begins_well w budget sessions seen e) (is_still_after w budget sessions (seen ++ e ∷ []) later) h)
+    (sym (ap (λ l. begins_posting j l e) (append-nil seen)) ∙ b))
+still_after_is w budget sessions seen (x ∷ before) later j e h b =
+    subst (λ l. MayBegin w budget j l (sessions_at w l 0 sessions)) (append_assoc seen (x ∷ []) before)
+    (still_after_is w budget sessions (seen ++ x ∷ []) before later j e
+    (both_right (begins_well w budget sessions seen x)
     (is_still_after w budget sessions (seen ++ x ∷ []) (before ++ e ∷ later)) h)
-    (ap (λ l. begins_posting l e) (append_assoc seen (x ∷ []) before) ∙ b))
+    (ap (λ l. begins_posting j l e) (append_assoc seen (x ∷ []) before) ∙ b))
 
 -- a record that is computed to be still is still
 pub still_is : (w : Setting) (budget : ℕ) (h : List Entry) (sessions : List (List Event))
     → is_still w budget h sessions ≡ true → IsStill w budget h sessions
-still_is w budget h sessions q before later e is begins =
-    still_after_is w budget sessions [] before later e (sym (ap (is_still_after w budget sessions []) is) ∙ q) begins
+still_is w budget h sessions q j before later e is begins =
+    still_after_is w budget sessions [] before later j e (sym (ap (is_still_after w budget sessions []) is) ∙ q) begins
 
--- one that is computed not to be quiet before one of its postings is not still
-pub not_still : (w : Setting) (budget : ℕ) (before later : List Entry) (e : Entry) (sessions : List (List Event))
-    → begins_posting before e ≡ true
-    → AreSessions w before 0 (sessions_at w before 0 sessions)
-    → is_quiet w budget before (sessions_at w before 0 sessions) ≡ false
+-- one of which a posting is computed not to have begun where it may is not still
+pub not_still : (w : Setting) (budget j : ℕ) (before later : List Entry) (e : Entry) (sessions : List (List Event))
+    → begins_posting j before e ≡ true → AreSessions w before 0 (sessions_at w before 0 sessions)
+    → may_begin w budget j before (sessions_at w before 0 sessions) ≡ false
     → IsStill w budget (before ++ e ∷ later) sessions → ⊥
-not_still w budget before later e sessions begins a q still =
-    not_quiet w budget before (sessions_at w before 0 sessions) a q (still before later e refl begins)
+not_still w budget j before later e sessions begins a h still =
+    not_begun w budget j before (sessions_at w before 0 sessions) a h (still j before later e refl begins)

@@ -434,6 +434,10 @@ pub spoilt_posted_too_soon : is_still setting 10000 (with_at 14 (record { actor 
 unfolding digits
 spoilt_posted_too_soon = refl
 
+pub spoilt_posted_behind_the_start : is_still setting 10000 (record { actor = 0; act = act.Adopt 1 } ∷ with_at 3 [] history) sessions ≡ false
+unfolding digits
+spoilt_posted_behind_the_start = refl
+
 pub spoilt_post_apart : stand_together (with_at 0 (record { actor = 4096; act = act.Post 0 0 (record { service = 0; op = (111 ∷ 112 ∷ 48 ∷ 48 ∷ []); value = (node root.Void (field (115 ∷ 105 ∷ 100 ∷ []) (tree (node (root.Text (107 ∷ [])) no_fields) no_trees) no_fields)) }) (answer.Accepted 0) } ∷ record { actor = 0; act = act.End } ∷ []) history) ≡ false
 unfolding digits
 spoilt_post_apart = refl

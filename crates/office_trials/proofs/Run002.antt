@@ -465,6 +465,10 @@ pub spoilt_posted_too_soon : is_still setting 10000 (with_at 23 (record { actor 
 unfolding digits
 spoilt_posted_too_soon = refl
 
+pub spoilt_posted_behind_the_start : is_still setting 10000 (record { actor = 0; act = act.Adopt 0 } ∷ with_at 1 [] history) sessions ≡ false
+unfolding digits
+spoilt_posted_behind_the_start = refl
+
 -- what came in
 abbrev postings : List Posting
 postings = (

@@ -241,6 +241,10 @@ pub spoilt_posted_too_soon : is_still setting 10000 (with_at 3 (record { actor =
 unfolding digits
 spoilt_posted_too_soon = refl
 
+pub spoilt_posted_behind_the_start : is_still setting 10000 (record { actor = 0; act = act.Adopt 0 } ∷ with_at 1 [] history) sessions ≡ false
+unfolding digits
+spoilt_posted_behind_the_start = refl
+
 pub spoilt_post_apart : stand_together (with_at 6 (record { actor = 4096; act = act.Post 1 0 (record { service = 0; op = (111 ∷ 112 ∷ 48 ∷ 48 ∷ []); value = (node root.Void no_fields) }) (answer.Accepted 1) } ∷ record { actor = 0; act = act.End } ∷ []) history) ≡ false
 unfolding digits
 spoilt_post_apart = refl

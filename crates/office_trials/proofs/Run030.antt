@@ -431,6 +431,10 @@ pub spoilt_posted_too_soon : is_still setting 1000 (with_at 29 (record { actor =
 unfolding digits
 spoilt_posted_too_soon = refl
 
+pub spoilt_posted_behind_the_start : is_still setting 1000 (record { actor = 0; act = act.Adopt 0 } ∷ with_at 1 [] history) sessions ≡ false
+unfolding digits
+spoilt_posted_behind_the_start = refl
+
 -- what came in
 abbrev postings : List Posting
 postings = (

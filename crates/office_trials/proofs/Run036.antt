@@ -246,6 +246,10 @@ pub spoilt_posted_too_soon : is_still setting 20 (with_at 5 (record { actor = 40
 unfolding digits
 spoilt_posted_too_soon = refl
 
+pub spoilt_posted_behind_the_start : is_still setting 20 (record { actor = 0; act = act.Adopt 0 } ∷ with_at 1 [] history) sessions ≡ false
+unfolding digits
+spoilt_posted_behind_the_start = refl
+
 pub spoilt_budget_left : is_quiet setting 21 (before_stop history) sessions ≡ false
 unfolding digits
 spoilt_budget_left = refl

@@ -411,6 +411,10 @@ pub spoilt_posted_too_soon : is_still setting 10000 (with_at 8 (record { actor =
 unfolding digits
 spoilt_posted_too_soon = refl
 
+pub spoilt_posted_behind_the_start : is_still setting 10000 (record { actor = 0; act = act.Adopt 1 } ∷ with_at 1 [] history) sessions ≡ false
+unfolding digits
+spoilt_posted_behind_the_start = refl
+
 pub spoilt_post_apart : stand_together (with_at 23 (record { actor = 4096; act = act.Post 7 0 (record { service = 0; op = (109 ∷ 111 ∷ 114 ∷ 101 ∷ 48 ∷ []); value = (node root.Void (field (115 ∷ 105 ∷ 100 ∷ []) (tree (node (root.Int (pos 0)) no_fields) no_trees) no_fields)) }) (answer.Refused reason.Correlation) } ∷ record { actor = 0; act = act.End } ∷ []) history) ≡ false
 unfolding digits
 spoilt_post_apart = refl

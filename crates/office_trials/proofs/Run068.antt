@@ -219,6 +219,10 @@ pub spoilt_events_exchanged : agrees setting history 0 (
 unfolding digits
 spoilt_events_exchanged = refl
 
+pub spoilt_posted_behind_the_start : is_still setting 20 (record { actor = 0; act = act.Adopt 0 } ∷ with_at 1 [] history) sessions ≡ false
+unfolding digits
+spoilt_posted_behind_the_start = refl
+
 pub spoilt_post_apart : stand_together (with_at 16 (record { actor = 4096; act = act.Post 2 0 (record { service = 0; op = (111 ∷ 112 ∷ 48 ∷ 48 ∷ []); value = (node root.Void no_fields) }) (answer.Accepted 2) } ∷ record { actor = 0; act = act.End } ∷ []) history) ≡ false
 unfolding digits
 spoilt_post_apart = refl

@@ -184,6 +184,10 @@ pub spoilt_events_exchanged : agrees setting history 0 (
 unfolding digits
 spoilt_events_exchanged = refl
 
+pub spoilt_posted_behind_the_start : is_still setting 10 (record { actor = 0; act = act.Adopt 0 } ∷ with_at 1 [] history) sessions ≡ false
+unfolding digits
+spoilt_posted_behind_the_start = refl
+
 pub spoilt_budget_left : is_quiet setting 11 (before_stop history) sessions ≡ false
 unfolding digits
 spoilt_budget_left = refl

@@ -165,6 +165,10 @@ pub spoilt_event_cut_at_the_end : agrees setting history 0 [] ≡ false
 unfolding digits
 spoilt_event_cut_at_the_end = refl
 
+pub spoilt_posted_behind_the_start : is_still setting 10000 (record { actor = 0; act = act.Adopt 0 } ∷ with_at 1 [] history) sessions ≡ false
+unfolding digits
+spoilt_posted_behind_the_start = refl
+
 -- what came in
 abbrev postings : List Posting
 postings = (

@@ -10,6 +10,7 @@ use Rattle.behaviour_tree.specs.declared.words.Outcome.TheVariants as outcome
 use Rattle.behaviour_tree.specs.Data.{ProgramParts}
 use Rattle.calculus.specs.After.{Config, after}
 use Rattle.calculus.specs.Runs.{TakenStep, start_of}
+use Rattle.office_core.specs.declared.history.Act.TheVariants as act
 use Rattle.office_core.specs.declared.history.Entry.{Entry}
 use Rattle.office_core.specs.Limits.{Setting}
 use Rattle.office_core.specs.Past.{Past}
@@ -17,7 +18,7 @@ use Rattle.office_core.specs.Sessions.{births, service_of, has_ended, was_adopte
 use Rattle.office_core.specs.Boxes.{box}
 use Rattle.office_core.specs.Accepted.{past_of}
 use Rattle.run_record.specs.Steps.{calls_of, steps_of, mail}
-use Rattle.run_record.specs.Quiet.{is_given, unbrought, begins_posting, sessions_at}
+use Rattle.run_record.specs.Quiet.{is_given, unbrought, posts_for, sessions_at}
 use Rattle.std.specs.Prelude.{slice_get, option_and_then}
 
 -- the numbers below a number
@@ -86,16 +87,28 @@ is_quiet w budget h sessions =
     list_all (was_adopted (past_of w h)) (below (length (births w (past_of w h))))
     && is_empty (unbrought (past_of w h)) && are_idle w budget h 0 sessions
 
--- before each posting but the first, from some entries on, nothing was left to do
+-- posting j may begin
+abbrev pub may_begin : Setting → ℕ → ℕ → List Entry → List (List Event) → Bool
+may_begin w budget zero h sessions = is_empty h
+may_begin w budget (suc j) h sessions = is_quiet w budget h sessions
+
+-- an entry behind others begins no posting, or one that may begin
+abbrev pub begins_well : Setting → ℕ → List (List Event) → List Entry → Entry → Bool
+begins_well w budget sessions before e =
+    elim e.act [
+      | act.Post j i q r ↦ elim (list_any (posts_for e.actor j) before) [
+        | true ↦ true
+        | false ↦ may_begin w budget j before (sessions_at w before 0 sessions)
+      ]
+      | _ ↦ true
+    ]
+
+-- each posting, from some entries on, began where it may
 abbrev pub is_still_after : Setting → ℕ → List (List Event) → List Entry → List Entry → Bool
 is_still_after w budget sessions before [] = true
 is_still_after w budget sessions before (e ∷ es) =
-    (elim (begins_posting before e) [
-      | true ↦ is_quiet w budget before (sessions_at w before 0 sessions)
-      | false ↦ true
-    ])
-    && is_still_after w budget sessions (before ++ e ∷ []) es
+    begins_well w budget sessions before e && is_still_after w budget sessions (before ++ e ∷ []) es
 
--- before each posting but the first nothing was left to do
+-- each posting began where it may
 abbrev pub is_still : Setting → ℕ → List Entry → List (List Event) → Bool
 is_still w budget h sessions = is_still_after w budget sessions [] h

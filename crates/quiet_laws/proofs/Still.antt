@@ -1,8 +1,8 @@
--- Before each posting nothing was left to do: how that is kept, entry by entry and event by event.
-use Rattle.std.proofs.Common.{◌≡◌, ◌≢◌, ◌≤◌, ◌<◌, ℕ, zero, suc, Bool, true, false, ◌||◌, List, [], ◌∷◌, ◌++◌, length, None, Some, option_map, ⊎_elim, refl, sym, ap, subst, ◌∙◌, arith}
+-- Each posting began where it may: how that is kept, entry by entry and event by event.
+use Rattle.std.proofs.Common.{◌≡◌, ◌≢◌, ◌≤◌, ◌<◌, ℕ, zero, suc, Bool, true, false, not, ◌||◌, List, [], ◌∷◌, ◌++◌, length, None, Some, option_map, ⊎_elim, nat_eq, refl, sym, ap, subst, ◌∙◌, arith}
 use Rattle.std.specs.Prelude.{slice_get}
 use Rattle.std.specs.List.{list_any}
-use Rattle.std.proofs.lemmas.Bool.{cases_eq, false≢true, or_left, or_right}
+use Rattle.std.proofs.lemmas.Bool.{and_parts, cases_eq, eqb-true, false≢true, or_left, or_right}
 use Rattle.std.proofs.lemmas.List.Folds.{list_any-append}
 use Rattle.behaviour_tree.specs.declared.words.Event.{Event}
 use Rattle.behaviour_tree.specs.declared.words.Need.{Need}
@@ -17,7 +17,8 @@ use Rattle.office_core.specs.Sessions.{adopts, was_adopted}
 use Rattle.office_core.specs.Accepted.{past_of}
 use Rattle.run_record.specs.Steps.{calls_of}
 use Rattle.run_record.specs.Agrees.{IsCall}
-use Rattle.run_record.specs.Quiet.{CanAct, IsQuiet, IsStill, begins_posting, events_for, posts, sessions_at}
+use Rattle.run_record.specs.Quiet.{CanAct, IsQuiet, IsStill, MayBegin, begins_posting, events_for, posts, posts_for}
+use Rattle.run_record.specs.Quiet.{sessions_at}
 use Rattle.session_turn.specs.Seen.{Seat, past_at}
 use Rattle.session_turn.specs.Lives.{Gives, Kept, Moment, by_call, nothing}
 use Rattle.session_turn.specs.Turns.{Happened}
@@ -74,29 +75,55 @@ stood_before f (y ∷ h) own [] later e p other is = (h, cons_same (head_of p) r
 stood_before f (y ∷ h) own (z ∷ before) later e p other is =
     let r = stood_before f h own before later e (tail_of p) other is in (r.0, cons_same (head_of p) r.1)
 
--- a posting begins with a post
-pub begun_posts : (before : List Entry) (e : Entry) → begins_posting before e ≡ true → posts e ≡ true
-begun_posts before e h = go e.actor e.act h
+-- a posting begins with a post of it
+begun_by : (j : ℕ) (before : List Entry) (e : Entry) → begins_posting j before e ≡ true
+    → posts_for e.actor j e ≡ true
+begun_by j before e h = (and_parts (posts_for e.actor j e) (not (list_any (posts_for e.actor j) before)) h).0
+
+-- a post of a posting is a post
+a_post : (actor j : ℕ) (e : Entry) → posts_for actor j e ≡ true → posts e ≡ true
+a_post actor j e h = go e.actor e.act h
   where
-    go : (n : ℕ) (a : Act) → begins_posting before (record { actor = n; act = a }) ≡ true
+    go : (n : ℕ) (a : Act) → posts_for actor j (record { actor = n; act = a }) ≡ true
         → posts (record { actor = n; act = a }) ≡ true
-    go n (act.Post j i q r) h = refl
+    go n (act.Post k i q r) h = refl
     go n a h = absurd (false≢true h)
+
+pub begun_posts : (j : ℕ) (before : List Entry) (e : Entry) → begins_posting j before e ≡ true → posts e ≡ true
+begun_posts j before e h = a_post e.actor j e (begun_by j before e h)
+
+-- by one actor and of one posting
+pub one_posting : (m n j k : ℕ) (e : Entry) → posts_for m j e ≡ true → posts_for n k e ≡ true → (m ≡ n) × (j ≡ k)
+one_posting m n j k e g h = go e.actor e.act g h
+  where
+    go : (actor : ℕ) (a : Act) → posts_for m j (record { actor = actor; act = a }) ≡ true
+        → posts_for n k (record { actor = actor; act = a }) ≡ true → (m ≡ n) × (j ≡ k)
+    go actor (act.Post l i q r) g h =
+        let x = and_parts (nat_eq m actor) (nat_eq j l) g in
+        let y = and_parts (nat_eq n actor) (nat_eq k l) h in
+        (eqb-true m actor x.0 ∙ sym (eqb-true n actor y.0), eqb-true j l x.1 ∙ sym (eqb-true k l y.1))
+    go actor a g h = absurd (false≢true g)
+
+-- what is kept where nothing was left to do is kept where a posting may begin
+may_begin_too : (w : Setting) (budget j : ℕ) (h : List Entry) (old new : List (List Event))
+    → (IsQuiet w budget h old → IsQuiet w budget h new) → MayBegin w budget j h old → MayBegin w budget j h new
+may_begin_too w budget zero h old new f empty = empty
+may_begin_too w budget (suc j) h old new f quiet = f quiet
 
 -- ---- entries
 
 -- before any entry there was no posting
 pub still_first : (w : Setting) (budget : ℕ) (ss : List (List Event)) → IsStill w budget [] ss
-still_first w budget ss before later e p begins = absurd (not_nil before later e p)
+still_first w budget ss j before later e p begins = absurd (not_nil before later e p)
 
 -- an entry that begins no posting
 pub still_by_other : (w : Setting) (budget : ℕ) (h : List Entry) (e : Entry) (ss : List (List Event))
-    → begins_posting h e ≡ false → IsStill w budget h ss → IsStill w budget (h ++ e ∷ []) ss
-still_by_other w budget h e ss other still before later x p begins = go (stands_at h before later e x p)
+    → ((j : ℕ) → begins_posting j h e ≡ false) → IsStill w budget h ss → IsStill w budget (h ++ e ∷ []) ss
+still_by_other w budget h e ss other still j before later x p begins = go (stands_at h before later e x p)
   where
-    go : Stands h before e x → IsQuiet w budget before (sessions_at w before 0 ss)
-    go (at_end q r) = absurd (false≢true (sym other ∙ (λ i. begins_posting (q i) (r i)) ∙ begins))
-    go (within rest q) = still before rest x q begins
+    go : Stands h before e x → MayBegin w budget j before (sessions_at w before 0 ss)
+    go (at_end q r) = absurd (false≢true (sym (other j) ∙ (λ i. begins_posting j (q i) (r i)) ∙ begins))
+    go (within rest q) = still j before rest x q begins
 
 -- The sessions made all calls that the history has of them.
 abbrev pub HaveMadeAll : Setting → List Entry → List (List Event) → Type 0
@@ -114,15 +141,21 @@ quiet_at w budget h ss made q = record {
       q.idle s events (x.there ∙ ap (λ (es : List Event). Some es) same) can;
 }
 
--- where nothing is left to do, any entry may follow
-pub still_by_posting : (w : Setting) (budget : ℕ) (h : List Entry) (e : Entry) (ss : List (List Event))
-    → IsQuiet w budget h ss → HaveMadeAll w h ss → IsStill w budget h ss → IsStill w budget (h ++ e ∷ []) ss
-still_by_posting w budget h e ss quiet made still before later x p begins = go (stands_at h before later e x p)
+-- a post of a posting that may begin
+pub still_by_posting : (w : Setting) (budget actor j : ℕ) (h : List Entry) (e : Entry) (ss : List (List Event))
+    → posts_for actor j e ≡ true → MayBegin w budget j h ss → HaveMadeAll w h ss → IsStill w budget h ss
+    → IsStill w budget (h ++ e ∷ []) ss
+still_by_posting w budget actor j h e ss is may made still k before later x p begins =
+    go (stands_at h before later e x p)
   where
-    go : Stands h before e x → IsQuiet w budget before (sessions_at w before 0 ss)
+    go : Stands h before e x → MayBegin w budget k before (sessions_at w before 0 ss)
     go (at_end q r) =
-        subst (λ (b : List Entry). IsQuiet w budget b (sessions_at w b 0 ss)) q (quiet_at w budget h ss made quiet)
-    go (within rest q) = still before rest x q begins
+        let same : j ≡ k
+        = (one_posting actor x.actor j k x (subst (λ (y : Entry). posts_for actor j y ≡ true) r is)
+        (begun_by k before x begins)).1 in
+        coe 0 1 (i. MayBegin w budget (same i) (q i) (sessions_at w (q i) 0 ss))
+        (may_begin_too w budget j h _ _ (quiet_at w budget h ss made) may)
+    go (within rest q) = still k before rest x q begins
 
 -- ---- an event
 
@@ -204,9 +237,9 @@ pub still_by_event : {w : Setting} {budget : ℕ} {h : List Entry} (own : List E
     {old new : List (List Event)}
     → GoesOn w budget h s es x old new → list_any posts own ≡ false → IsStill w budget h old
     → IsStill w budget (h ++ own) new
-still_by_event {w} {budget} {h} own goes other still before later e p begins =
-    let r = stood_before posts h own before later e p other (begun_posts before e begins) in
-    quiet_then goes before r.0 e r.1 (still before r.0 e r.1 begins)
+still_by_event {w} {budget} {h} own goes other still j before later e p begins =
+    let r = stood_before posts h own before later e p other (begun_posts j before e begins) in
+    may_begin_too w budget j before _ _ (quiet_then goes before r.0 e r.1) (still j before r.0 e r.1 begins)
 
 call_no_post : (s : ℕ) (past : Past) (n : Need) (call : Act) → IsCall s n past call
     → posts (record { actor = s; act = call }) ≡ false
@@ -269,19 +302,12 @@ adopted_later w before later s h =
 
 -- a session is adopted that was not before, and has no event yet
 pub still_by_adoption : (w : Setting) (budget : ℕ) (h : List Entry) (e : Entry) (ss : List (List Event))
-    → begins_posting h e ≡ false → was_adopted (past_of w h) (length ss) ≡ false → IsStill w budget h ss
-    → IsStill w budget (h ++ e ∷ []) (ss ++ [] ∷ [])
+    → ((j : ℕ) → begins_posting j h e ≡ false) → was_adopted (past_of w h) (length ss) ≡ false
+    → IsStill w budget h ss → IsStill w budget (h ++ e ∷ []) (ss ++ [] ∷ [])
 still_by_adoption w budget h e ss other fresh still =
     still_by_other w budget h e (ss ++ [] ∷ []) other
-    (λ before later x p begins.
-    let q = still before later x p begins in
-    record {
-      adopted = q.adopted;
-      brought = q.brought;
-      idle = λ t events there can.
-          let y = was_at w before (ss ++ [] ∷ []) t events there in
-          idle_then before later x p q t events y can (pushed_at ss [] t y.now y.there);
-    })
+    (λ j before later x p begins.
+    may_begin_too w budget j before _ _ (quiet_adopted before later x p) (still j before later x p begins))
   where
     idle_then : (before later : List Entry) (x : Entry) → h ≡ before ++ x ∷ later
         → IsQuiet w budget before (sessions_at w before 0 ss)
@@ -296,3 +322,14 @@ still_by_adoption w budget h e ss other fresh still =
         absurd (false≢true (sym fresh ∙ ap (was_adopted (past_of w h)) (sym is)
         ∙ ap (λ (all : List Entry). was_adopted (past_of w all) t) p
         ∙ adopted_later w before (x ∷ later) t (q.adopted t can.agrees.service can.agrees.born)))
+
+    quiet_adopted : (before later : List Entry) (x : Entry) → h ≡ before ++ x ∷ later
+        → IsQuiet w budget before (sessions_at w before 0 ss)
+        → IsQuiet w budget before (sessions_at w before 0 (ss ++ [] ∷ []))
+    quiet_adopted before later x p q = record {
+      adopted = q.adopted;
+      brought = q.brought;
+      idle = λ t events there can.
+          let y = was_at w before (ss ++ [] ∷ []) t events there in
+          idle_then before later x p q t events y can (pushed_at ss [] t y.now y.there);
+    }

@@ -1,7 +1,7 @@
 -- Entries of workers, one after the other: what they leave of quiet, of stillness and of what sessions agree with.
-use Rattle.std.proofs.Common.{◌≡◌, ◌⊎◌, ◌≤◌, ℕ, Bool, true, false, not, List, [], ◌∷◌, ◌++◌, length, Option, None, nat_eq, inl, inr, refl, sym, ap, subst, ◌∙◌, append_assoc}
+use Rattle.std.proofs.Common.{◌≡◌, ◌≤◌, ℕ, Bool, true, false, not, List, [], ◌∷◌, ◌++◌, length, Option, None, refl, sym, ap, subst, ◌∙◌, append_assoc}
 use Rattle.std.specs.List.{list_all, list_any}
-use Rattle.std.proofs.lemmas.Bool.{and_left, and_parts, and_right, eqb-true, false≢true, or_left, or_right}
+use Rattle.std.proofs.lemmas.Bool.{and_left, and_parts, and_right, false≢true, or_left, or_right}
 use Rattle.std.proofs.lemmas.List.{append-nil}
 use Rattle.std.proofs.lemmas.List.Folds.{list_any-append}
 use Rattle.behaviour_tree.specs.declared.words.Event.{Event}
@@ -13,12 +13,12 @@ use Rattle.office_core.specs.Limits.{Setting, first_worker}
 use Rattle.office_core.specs.Past.{Past}
 use Rattle.office_core.specs.Accepted.{accepted_in, past_of}
 use Rattle.run_record.specs.Agrees.{HasSessions}
-use Rattle.run_record.specs.Quiet.{IsQuiet, IsStill, begins_posting, posts, posts_for}
+use Rattle.run_record.specs.Quiet.{IsQuiet, IsStill, MayBegin, begins_posting, posts, posts_for}
 pub use Rattle.quiet_laws.specs.Ends.{is_by_worker}
 use Rattle.quiet_laws.proofs.Aside.{is_aside, leaves}
 use Rattle.quiet_laws.proofs.Quiet.{quiet_by_answer}
 use Rattle.quiet_laws.proofs.Sessions.{beside_worker, has_sessions_on}
-use Rattle.quiet_laws.proofs.Still.{HaveMadeAll, begun_posts, still_by_other, still_by_posting, stood_before}
+use Rattle.quiet_laws.proofs.Still.{HaveMadeAll, begun_posts, one_posting, still_by_other, still_by_posting, stood_before}
 
 -- ---- quiet
 
@@ -70,23 +70,21 @@ has_sessions_after w h (e ∷ more) ss few unsent workers has =
 pub still_by_others : (w : Setting) (budget : ℕ) (h more : List Entry) (ss : List (List Event))
     → list_any posts more ≡ false
     → IsStill w budget h ss → IsStill w budget (h ++ more) ss
-still_by_others w budget h more ss other still before later e p begins =
-    let r = stood_before posts h more before later e p other (begun_posts before e begins) in
-    still before r.0 e r.1 begins
+still_by_others w budget h more ss other still j before later e p begins =
+    let r = stood_before posts h more before later e p other (begun_posts j before e begins) in
+    still j before r.0 e r.1 begins
 
 -- a post of a posting of which there is one begins none
-same_posting : (actor j : ℕ) (before : List Entry) (e : Entry) → list_any (posts_for actor j) before ≡ true
-    → posts_for actor j e ≡ true → begins_posting before e ≡ false
-same_posting actor j before e there is = go e.actor e.act is
+same_posting : (actor j k : ℕ) (before : List Entry) (e : Entry) → list_any (posts_for actor j) before ≡ true
+    → posts_for actor j e ≡ true → begins_posting k before e ≡ false
+same_posting actor j k before e there is = go (posts_for e.actor k e) refl
   where
-    go : (n : ℕ) (a : Act) → posts_for actor j (record { actor = n; act = a }) ≡ true
-        → begins_posting before (record { actor = n; act = a }) ≡ false
-    go n (act.Post k i q r) is =
-        let both = and_parts (nat_eq actor n) (nat_eq j k) is in
-        and_right (list_any posts before) (not (list_any (posts_for n k) before))
-        (ap not
-        ((λ i. list_any (posts_for (sym (eqb-true actor n both.0) i) (sym (eqb-true j k both.1) i)) before) ∙ there))
-    go n a is = absurd (false≢true is)
+    go : (b : Bool) → posts_for e.actor k e ≡ b → begins_posting k before e ≡ false
+    go false other = and_left (posts_for e.actor k e) (not (list_any (posts_for e.actor k) before)) other
+    go true this =
+        let same = one_posting actor e.actor j k e is this in
+        and_right (posts_for e.actor k e) (not (list_any (posts_for e.actor k) before))
+        (ap not ((λ i. list_any (posts_for (sym same.0 i) (sym same.1 i)) before) ∙ there))
 
 -- the posts behind the first of their posting
 still_by_same : (w : Setting) (budget actor j : ℕ) (h more : List Entry) (ss : List (List Event))
@@ -101,23 +99,15 @@ still_by_same w budget actor j h (e ∷ more) ss there all still =
     (list_any-append (posts_for actor j) h (e ∷ [])
     ∙ or_left (list_any (posts_for actor j) h) (list_any (posts_for actor j) (e ∷ [])) there)
     a.1
-    (still_by_other w budget h e ss (same_posting actor j h e there a.0) still))
+    (still_by_other w budget h e ss (λ k. same_posting actor j k h e there a.0) still))
 
--- the first post of a run begins none that is asked for
-first_posting : (before : List Entry) (e : Entry) → list_any posts before ≡ false → begins_posting before e ≡ false
-first_posting before e none = go e.actor e.act
-  where
-    go : (n : ℕ) (a : Act) → begins_posting before (record { actor = n; act = a }) ≡ false
-    go n (act.Post k i q r) = and_left (list_any posts before) (not (list_any (posts_for n k) before)) none
-    go n a = refl
-
--- the posts of a posting, where nothing was left to do before them or there was no post
+-- the posts of a posting that may begin
 pub still_by_posts : (w : Setting) (budget actor j : ℕ) (h more : List Entry) (ss : List (List Event))
-    → list_all (posts_for actor j) more ≡ true → (list_any posts h ≡ false) ⊎ IsQuiet w budget h ss
-    → HaveMadeAll w h ss → IsStill w budget h ss → IsStill w budget (h ++ more) ss
-still_by_posts w budget actor j h [] ss all calm made still =
+    → list_all (posts_for actor j) more ≡ true → MayBegin w budget j h ss → HaveMadeAll w h ss → IsStill w budget h ss
+    → IsStill w budget (h ++ more) ss
+still_by_posts w budget actor j h [] ss all may made still =
     subst (λ (x : List Entry). IsStill w budget x ss) (sym (append-nil h)) still
-still_by_posts w budget actor j h (e ∷ more) ss all calm made still =
+still_by_posts w budget actor j h (e ∷ more) ss all may made still =
     let a = and_parts (posts_for actor j e) (list_all (posts_for actor j) more) all in
     subst (λ (x : List Entry). IsStill w budget x ss) (append_assoc h (e ∷ []) more)
     (still_by_same w budget actor j (h ++ e ∷ []) more ss
@@ -125,8 +115,4 @@ still_by_posts w budget actor j h (e ∷ more) ss all calm made still =
     ∙ or_right (list_any (posts_for actor j) h) (list_any (posts_for actor j) (e ∷ []))
     (or_left (posts_for actor j e) false a.0))
     a.1
-    (begun calm))
-  where
-    begun : (list_any posts h ≡ false) ⊎ IsQuiet w budget h ss → IsStill w budget (h ++ e ∷ []) ss
-    begun (inl none) = still_by_other w budget h e ss (first_posting h e none) still
-    begun (inr quiet) = still_by_posting w budget h e ss quiet made still
+    (still_by_posting w budget actor j h e ss a.0 may made still))

@@ -41,7 +41,7 @@ pub record Ended (h now : List Entry) : Type 0 where
   pub collects_are : list_all is_collect collects ≡ true
 
 -- What one worker has before it ends its run: the sessions' events agree with the history and keep to the budget;
--- unless a front halted nothing is left to do, and before each posting nothing was.
+-- unless a front halted nothing is left to do; and each posting began where it may.
 pub record CameThrough (w : Setting) (budget : ℕ) (halted : Bool) (h : List Entry)
     (ss : List (List Event)) : Type 0 where
   pub few : length ss ≤ first_worker

@@ -37,7 +37,7 @@ NothingHappens =
     → a.alone ≡ true → IsQuiet a.setting budget old.seen ss → slice_get ss a.session ≡ Some es → length es < budget
     → Kept a es old → Happened a n old new event → ⊥
 
--- An event of a session that has budget left keeps that before each posting nothing was left to do.
+-- An event of a session that has budget left keeps that each posting began where it may.
 abbrev pub StaysStill : Type 0
 StaysStill =
     (a : Seat) (budget n : ℕ) (es : List Event) (old new : Moment) (event : Event) (ss ss' : List (List Event))

@@ -11,6 +11,7 @@ use Rattle.office_core.specs.declared.history.Act.TheVariants as act
 use Rattle.office_core.specs.declared.history.Entry.{Entry}
 use Rattle.office_core.specs.Sessions.{service_of}
 use Rattle.office_core.specs.Accepted.{past_of}
+use Rattle.run_record.specs.Quiet.{unbrought}
 use Rattle.run_record.specs.Steps.{is_call_of}
 use Rattle.session_turn.specs.declared.turn.Turn.{Turn}
 use Rattle.run_cells.specs.Crews.{Stand, State, Stays, Team, events_of}
@@ -254,7 +255,7 @@ comes_on {r} {n = n} {old = old} {new = new} u (comes_now l a t) =
     let x : WentOn old new (adoption (length old.stands) a.service ∷ []) = by_adoption a in
     up_to_later (MayCome r.setting new.history n) u x
     (coe 1 0 (i. MayCome r.setting (x.history i) n u.turns)
-    (may_come_later u.taken (adoption (length old.stands) a.service) (sym l) u.stands))
+    (may_come_later u.taken (adoption (length old.stands) a.service) (sym l) refl u.stands))
 
 -- where session n was not born the round is over
 round_ends : {r : Rules} {picks : List ℕ} {n : ℕ} {old : State} → Before r picks n old → n ≡ length old.stands
@@ -279,9 +280,11 @@ round_on {r} team u (next_session n old here mid new a b c turns rest) =
 pub course_on : {r : Rules} {picks : List ℕ} {old new : State} → BehindRound r picks old → Goes old new
     → BehindRound r picks new
 course_on u stays = u
-course_on {r} {picks} u (round mid new moved goes team turns) =
+course_on {r} {picks} u (round mid new moved goes team brought turns) =
     let v : BehindRound r picks mid = course_on u goes in
-    round_on team (stands_so (IsBefore r.setting mid.history 0) v (before_round v.stands)) turns
+    round_on team
+    (stands_so (IsBefore r.setting mid.history 0) v
+    (before_round v.stands (coe 0 1 (i. unbrought (past_of (v.rules i).setting mid.history) ≡ []) brought))) turns
 course_on u (adopts mid new goes a) = behind_later (course_on u goes) (by_adoption a)
 course_on u (works mid new more goes x each) = behind_later (course_on u goes) (by_stays x)
 

@@ -28,7 +28,7 @@ use Rattle.run_alone.proofs.Taking.{collected_all, runs}
 -- one course behind another
 pub goes_both : {a b c : State} → Goes a b → Goes b c → Goes a c
 goes_both x stays = x
-goes_both x (round mid new moved y t r) = round mid new moved (goes_both x y) t r
+goes_both x (round mid new moved y t b r) = round mid new moved (goes_both x y) t b r
 goes_both x (adopts mid new y r) = adopts mid new (goes_both x y) r
 goes_both x (works mid new more y r w) = works mid new more (goes_both x y) r w
 

@@ -1,5 +1,5 @@
 -- The end of a run, put together for one call.
-use Rattle.std.proofs.Common.{◌≡◌, ◌<◌, ◌≤◌, ℕ, Bool, true, false, List, [], ◌∷◌, ◌++◌, map, length, refl, sym, ap, subst, ◌∙◌, ⊎_elim, append-nil, arith, le_refl}
+use Rattle.std.proofs.Common.{◌≡◌, ◌<◌, ◌≤◌, ℕ, Bool, true, false, List, [], ◌∷◌, ◌++◌, map, length, refl, sym, ap, subst, ◌∙◌, append-nil, le_refl}
 use Rattle.std.specs.List.{filter, list_all}
 use Rattle.office_core.specs.declared.front.Posting.{Posting}
 use Rattle.office_core.specs.declared.history.Entry.{Entry}
@@ -11,7 +11,7 @@ use Rattle.office_front.specs.Dealings.{Brought, Dealings, Told}
 use Rattle.order_laws.proofs.Growing.{legal_rest}
 use Rattle.quiet_laws.specs.Ends.{stop_entry}
 use Rattle.run_cells.specs.Crews.{State, Stays, Team, closing, past_in}
-use Rattle.run_cells.specs.Rounds.{Adopted, IsQuietAt}
+use Rattle.run_cells.specs.Rounds.{Adopted}
 use Rattle.run_posts.specs.declared.pending.Pendings.{Pendings}
 use Rattle.run_posts.specs.Fates.{Wait, all_collected, is_finished, is_open, settled_in, told_of, waits}
 use Rattle.run_posts.specs.Open.{IsOpen, StandsInOrder}
@@ -26,7 +26,7 @@ use Rattle.run_alone.proofs.Ended.{Finishes, Leaves, expected_end, has_ended}
 use Rattle.run_alone.proofs.Finishing.{adoptions_between, closing_between}
 use Rattle.run_alone.proofs.Rests.{quiet_adopted}
 use Rattle.run_alone.proofs.Stepping.{all_append}
-use Rattle.run_alone.proofs.Taking.{nothing_more}
+use Rattle.run_alone.proofs.Taking.{calm_quiet, nothing_more}
 
 -- where no entry came, a state is the same
 pub stays_none : (old new : State) → Stays old new [] → new ≡ old
@@ -58,18 +58,11 @@ module _ {calm : Bool} {s0 s1 s2 s3 s4 : State} {xs0 xs1 : List Wait} {n : ℕ} 
   idle_rest : 0 < n → q.rest.more ≡ []
   idle_rest some = by calm refl
     where
-      positive : (m : ℕ) → 0 < m → m ≡ 0 → ⊥
-      positive m a e = omega (arith, a, e)
-
       none_of : s1.history ≡ s0.history → q.rest.more ≡ []
       none_of same = nothing_more s0.history q.rest.more (sym q.rest.history ∙ same)
 
       by : (c : Bool) → calm ≡ c → q.rest.more ≡ []
-      by true e =
-          ⊎_elim
-          (λ (x : (n ≡ 0) × (s0.history ≡ [])). absurd (positive n some x.0))
-          (λ (quiet : IsQuietAt s0). none_of (q.rest.quiet quiet).0)
-          (b.quiet e)
+      by true e = none_of (q.rest.quiet (calm_quiet s0 n some (b.quiet e))).0
       by false e = none_of (q.rest.stopped e)
 
   abbrev finishes : Finishes s0 s1 s2 s3 s4 xs0 xs1

@@ -1,5 +1,5 @@
 -- Before the first posting.
-use Rattle.std.proofs.Common.{◌≡◌, ℕ, true, List, [], length, map, Option, inl, refl, sym, ap, subst}
+use Rattle.std.proofs.Common.{◌≡◌, ℕ, true, List, [], length, map, Option, refl, sym, ap, subst}
 use Rattle.behaviour_tree.specs.Data.{ProgramParts}
 use Rattle.office_core.specs.declared.front.Posting.{Posting}
 use Rattle.office_core.specs.declared.history.Entry.{Entry}
@@ -35,7 +35,7 @@ module _ (s : State) (xs : List Wait) (empty : s.history ≡ []) (none : xs ≡ 
     opens = coe 1 0 (i. IsOpen s.setting (empty i) [] [] (none i)) (nothing_open s.setting);
     order = coe 1 0 (i. StandsInOrder s.setting (empty i) 0 [] (none i)) (none_told s.setting []);
     count = refl;
-    quiet = λ e. inl (refl, empty);
+    quiet = λ e. empty;
   }
 
   -- with a new front

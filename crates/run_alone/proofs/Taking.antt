@@ -1,5 +1,5 @@
 -- A posting is taken in: where the run stands then.
-use Rattle.std.proofs.Common.{◌≡◌, ◌<◌, ◌≤◌, ℕ, suc, Bool, true, false, not, List, [], ◌∷◌, ◌++◌, map, length, take, Option, None, Some, nat_eq, inl, inr, ⊎_elim, refl, sym, ap, subst, ◌∙◌, append-nil, arith, le_refl}
+use Rattle.std.proofs.Common.{◌≡◌, ◌<◌, ◌≤◌, ℕ, zero, suc, Bool, true, false, not, List, [], ◌∷◌, ◌++◌, map, length, take, Option, None, Some, nat_eq, refl, sym, ap, subst, ◌∙◌, append-nil, arith, le_refl}
 use Rattle.std.specs.Prelude.{slice_get}
 use Rattle.std.specs.List.{filter, list_all, list_any}
 use Rattle.std.proofs.lemmas.Bool.{and_from, and_parts, eq-eqb, false≢true, not-true, or_from}
@@ -57,6 +57,14 @@ nothing_more (x ∷ xs) ys e = nothing_more xs ys (tail e)
     tail : ◌≡◌ {A = List Entry} (x ∷ (xs ++ ys)) (x ∷ xs) → xs ++ ys ≡ xs
     tail e = cc
 
+-- where there was a posting before, a run that is calm has nothing left to do
+pub calm_quiet : (s : State) (n : ℕ) → 0 < n → IsCalm n s → IsQuietAt s
+calm_quiet s zero some empty = absurd (none_some some)
+  where
+    none_some : 0 < 0 → ⊥
+    none_some less = omega (arith, less)
+calm_quiet s (suc n) some quiet = quiet
+
 pub runs : (w : Setting) (h : List Entry) → is_running (past_of w h) ≡ true → some_entry (past_of w h) stops ≡ false
 runs w h e = not-true (some_entry (past_of w h) stops) e
 
@@ -108,18 +116,12 @@ module _ {s0 s1 s2 s3 : State} {xs0 xs1 xs2 xs3 : List Wait} {n : ℕ} {p : Post
     -- where nothing was posted and there was a posting before, the sweep did nothing
     idle : 0 < length all → posted w s0.history all xs0 p swept ≡ [] → swept ≡ []
     idle some none =
-        ⊎_elim
-        (λ (x : (n ≡ 0) × (s0.history ≡ [])). absurd (positive (length all) n some count x.0))
-        (λ (q : IsQuietAt s0).
         let same : s1.history ≡ s0.history
         = history_1 ∙ ap (λ (l : List Entry). s0.history ++ l) none ∙ append-nil s0.history in
         let quiet_1 : IsQuietAt s1
-        = coe 1 0 (i. IsQuiet (took.post.setting i) (took.post.budget i) (same i) (events_of (took.post.stands i))) q in
-        nothing_more s1.history swept (sym took.sweep.history ∙ (took.quiet quiet_1).0))
-        calm
-      where
-        positive : (k m : ℕ) → 0 < k → k ≡ m → m ≡ 0 → ⊥
-        positive k m a b c = omega (arith, a, b, c)
+        = coe 1 0 (i. IsQuiet (took.post.setting i) (took.post.budget i) (same i) (events_of (took.post.stands i)))
+        (calm_quiet s0 n (subst (λ (m : ℕ). 0 < m) count some) calm) in
+        nothing_more s1.history swept (sym took.sweep.history ∙ (took.quiet quiet_1).0)
 
     can : CanStep w s0.history all xs0 p swept ts
     can = record {
@@ -232,7 +234,7 @@ still_collected old new xs stays still =
     (collected_all (λ e. not (posts e)) (λ m o. refl) old.setting (past_in old) xs))
     still)
 
--- a posting was posted where nothing was left to do
+-- a posting was posted where it may begin
 pub still_posted : (old new : State) (n : ℕ) (cs : List CallIn) → Team old
     → Stays old new (posted_entries old.setting (past_in old) (n, 0) cs) → IsCalm n old → IsStillAt old → IsStillAt new
 still_posted old new n cs team stays calm still =
@@ -241,10 +243,7 @@ still_posted old new n cs team stays calm still =
     (events_of old.stands)
     (all_posts_of old.setting (past_in old) (n, 0) cs (posts_for first_worker n)
     (λ i q r. and_from (nat_eq first_worker first_worker) (nat_eq n n) (itself first_worker) (itself n)))
-    (⊎_elim
-    (λ (x : (n ≡ 0) × (old.history ≡ [])). inl (ap (list_any posts) x.1))
-    (λ (q : IsQuietAt old). inr q) calm)
-    (made_calls old team) still)
+    calm (made_calls old team) still)
 
 -- ---- the run then
 
@@ -274,7 +273,7 @@ module _ {s0 s1 s2 s3 : State} {xs0 xs1 xs2 xs3 : List Wait} {n : ℕ} {p : Post
     opens = opens_then took b.all b.count team0 team3 (b.quiet refl) b.said b.opens b.order;
     order = order_then took b.all b.count team0 team3 (b.quiet refl) b.said b.opens b.order;
     count = longer b.all p ∙ ap suc b.count;
-    quiet = λ e. inr (quiet_collected s2 s3 xs1 team3 took.collect (quiet e));
+    quiet = λ e. quiet_collected s2 s3 xs1 team3 took.collect (quiet e);
   }
 
   noted_posted : (noted : List ℕ) → NotedSoFar s0.setting s0.history noted → IsLegal s1.setting s1.history
@@ -364,13 +363,10 @@ settled_posted s0 s1 n cs stays legal settled =
     (all_posts_of s0.setting (past_in s0) (n, 0) cs is_inward (λ i q r. refl))
     (coe 0 1 (i. IsLegal (stays.setting i) (stays.history i)) legal) settled)
 
--- each call that went out has its outcome where nothing is left to do
+-- each call that went out has its outcome where a posting may begin
 pub calm_brought : (s : State) (n : ℕ) → IsCalm n s → unbrought (past_in s) ≡ []
-calm_brought s n calm =
-    ⊎_elim
-    (λ (x : (n ≡ 0) × (s.history ≡ [])). ap (λ (h : List Entry). unbrought (past_of s.setting h)) x.1)
-    (λ (q : IsQuietAt s). q.brought)
-    calm
+calm_brought s zero empty = ap (λ (h : List Entry). unbrought (past_of s.setting h)) empty
+calm_brought s (suc n) quiet = quiet.brought
 
 pub between_brought : {s : State} {xs : List Wait} {n : ℕ} {calm : Bool} → calm ≡ true → Between s xs n calm
     → unbrought (past_in s) ≡ []

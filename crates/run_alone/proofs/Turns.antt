@@ -14,7 +14,8 @@ use Rattle.office_core.specs.Limits.{Setting}
 use Rattle.office_core.specs.Sessions.{service_of, was_adopted}
 use Rattle.office_core.specs.Accepted.{past_of}
 use Rattle.run_record.specs.Agrees.{IsSession}
-use Rattle.run_record.specs.Quiet.{CanAct}
+use Rattle.run_record.specs.Quiet.{CanAct, unbrought}
+use Rattle.quiet_laws.proofs.Aside.{is_aside, leaves, unbrought_aside}
 use Rattle.session_turn.proofs.Histories.{stays_there}
 use Rattle.run_cells.proofs.Teams.{one_more}
 use Rattle.run_alone.specs.Picks.{AreTheirs, Chose, EndsRound, Follows, TakenTurn, WasHad, again, anew, events_by, next}
@@ -122,11 +123,18 @@ theirs_later h a b more l theirs =
     (take-append-le b.entries h more l)
     ∙ theirs
 
+-- what was not brought after all entries of a history
+unbrought_whole : (w : Setting) (h : List Entry) → unbrought (past_of w (take (length h) h)) ≡ unbrought (past_of w h)
+unbrought_whole w h =
+    ap (λ (es : List Entry). unbrought (past_of w es)) (take_all (length h) h (le_refl (length h)))
+
 pub follows_later : {w : Setting} {h : List Entry} {a b : TakenTurn} (more : List Entry) → a.entries ≤ length h
     → b.entries ≤ length h → Follows w h a b → Follows w (h ++ more) a b
 follows_later {w} {h} {a} {b} more l m (again e is theirs) = again e is (theirs_later h a b more m theirs)
 follows_later {w} {h} {a} {b} more l m (next e is theirs) = next e is (theirs_later h a b more m theirs)
-follows_later {w} {h} {a} {b} more l m (anew ends is) = anew (ends_later h more l ends) is
+follows_later {w} {h} {a} {b} more l m (anew ends is brought) =
+    anew (ends_later h more l ends) is
+    (ap (λ (es : List Entry). unbrought (past_of w es)) (take-append-le b.entries h more m) ∙ brought)
 
 -- the turn that session n would take behind one more entry of its own
 theirs_more : (h : List Entry) (a : TakenTurn) (n : ℕ) (e : Entry) → e.actor ≡ n → a.entries ≤ length h
@@ -152,11 +160,14 @@ theirs_more h a n e actor l theirs =
         refl
 
 follows_more : {w : Setting} {h : List Entry} {a : TakenTurn} (n pick : ℕ) (did : Bool) (e : Entry) → e.actor ≡ n
-    → a.entries ≤ length h → Follows w h a (turn_at h n pick did)
+    → is_aside e ≡ true → a.entries ≤ length h → Follows w h a (turn_at h n pick did)
     → Follows w (h ++ e ∷ []) a (turn_at (h ++ e ∷ []) n pick did)
-follows_more {w} {h} {a} n pick did e actor l (again d is theirs) = again d is (theirs_more h a n e actor l theirs)
-follows_more {w} {h} {a} n pick did e actor l (next d is theirs) = next d is (theirs_more h a n e actor l theirs)
-follows_more {w} {h} {a} n pick did e actor l (anew ends is) = anew (ends_later h (e ∷ []) l ends) is
+follows_more {w} {h} {a} n pick did e actor aside l (again d is theirs) =
+    again d is (theirs_more h a n e actor l theirs)
+follows_more {w} {h} {a} n pick did e actor aside l (next d is theirs) = next d is (theirs_more h a n e actor l theirs)
+follows_more {w} {h} {a} n pick did e actor aside l (anew ends is brought) =
+    anew (ends_later h (e ∷ []) l ends) is
+    (unbrought_whole w (h ++ e ∷ []) ∙ unbrought_aside w h (leaves e aside) ∙ sym (unbrought_whole w h) ∙ brought)
 
 -- between a turn and the end of the history stand such entries
 pub theirs_since : (is_it : Entry → Bool) (old own new : List Entry) → new ≡ old ++ own → list_all is_it own ≡ true
@@ -187,9 +198,13 @@ pub record IsBefore (w : Setting) (h : List Entry) (n : ℕ) (turns : List Taken
   pub may : MayCome w h n turns
   pub ends : service_of w (past_of w h) n ≡ None → AtEnd w h turns
 
-pub before_round : {w : Setting} {h : List Entry} {turns : List TakenTurn} → AtEnd w h turns → IsBefore w h 0 turns
-before_round ends = record {
-  may = record { first = λ e. refl; follows = λ a pick did at. anew (ends a at) refl };
+pub before_round : {w : Setting} {h : List Entry} {turns : List TakenTurn} → AtEnd w h turns
+    → unbrought (past_of w h) ≡ [] → IsBefore w h 0 turns
+before_round {w} {h} ends brought = record {
+  may = record {
+    first = λ e. refl;
+    follows = λ a pick did at. anew (ends a at) refl (unbrought_whole w h ∙ brought);
+  };
   ends = λ unborn. ends;
 }
 
@@ -244,11 +259,11 @@ module _ {r : Rules} {picks : List ℕ} {h : List Entry} {ss : List (List Event)
   at_end_later more ends = λ a at. ends_later h more (last_within a at) (ends a at)
 
   -- where session n is adopted
-  pub may_come_later : {n : ℕ} (e : Entry) → e.actor ≡ n → MayCome r.setting h n turns
+  pub may_come_later : {n : ℕ} (e : Entry) → e.actor ≡ n → is_aside e ≡ true → MayCome r.setting h n turns
       → MayCome r.setting (h ++ e ∷ []) n turns
-  may_come_later {n} e actor may = record {
+  may_come_later {n} e actor aside may = record {
     first = may.first;
-    follows = λ a pick did at. follows_more n pick did e actor (last_within a at) (may.follows a pick did at);
+    follows = λ a pick did at. follows_more n pick did e actor aside (last_within a at) (may.follows a pick did at);
   }
 
   -- with a turn more

@@ -1,13 +1,13 @@
 -- These definitions serve the proofs alone: no promise speaks of them.
 -- Where a run stands between two postings.
-use Rattle.std.specs.Prelude.{◌≡◌, ◌⊎◌, ◌≤◌, ℕ, suc, Bool, true, false, List, []}
+use Rattle.std.specs.Prelude.{◌≡◌, ◌≤◌, ℕ, suc, Bool, true, false, List, []}
 use Rattle.std.specs.Prelude.{◌∷◌, ◌++◌, length, take, Some, slice_get}
 use Rattle.std.specs.List.{list_all}
 use Rattle.office_core.specs.declared.front.Posting.{Posting}
 use Rattle.office_core.specs.declared.history.Entry.{Entry}
 use Rattle.office_front.specs.Dealings.{Dealings, Told}
 use Rattle.run_record.specs.declared.record.Record.{Record}
-use Rattle.run_record.specs.Quiet.{before_stop}
+use Rattle.run_record.specs.Quiet.{MayBegin, before_stop}
 use Rattle.run_sweep.specs.Courses.{Goes}
 use Rattle.run_cells.specs.Crews.{State, events_of}
 use Rattle.run_cells.specs.Rounds.{IsQuietAt, IsStillAt}
@@ -18,12 +18,12 @@ use Rattle.trip_laws.specs.Going.{AreSettled, NotedSoFar}
 use Rattle.run_alone.specs.Overs.{IsOver, GaveNone}
 use Rattle.run_alone.specs.Ran.{finished_before}
 
--- nothing is left to do; before the first posting nothing happened
+-- posting n may begin
 abbrev pub IsCalm : ℕ → State → Type 0
-IsCalm n s = ((n ≡ 0) × (s.history ≡ [])) ⊎ IsQuietAt s
+IsCalm n s = MayBegin s.setting s.budget n s.history (events_of s.stands)
 
 -- Between two postings, so many of which were taken in: how it stands with the calls that went out, and with postings
--- that wait and that were told; that before each posting nothing was left to do; and if it is calm, that nothing is.
+-- that wait and that were told; that each posting began where it may; and if it is calm, that the next one may begin.
 pub record Between (s : State) (xs : List Wait) (n : ℕ) (calm : Bool) : Type 0 where
   pub settled : AreSettled s.setting s.history
   pub still : IsStillAt s

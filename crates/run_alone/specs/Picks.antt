@@ -1,6 +1,6 @@
 -- Which picks a run took: each turn of a session the next.
 use Rattle.std.specs.Prelude.{◌≡◌, ◌⊎◌, ◌↔◌, ℕ, suc, ◌+◌, ◌-◌, ◌%◌, ◌≤◌, ◌<◌, Bool, true, false, ◌&&◌, ◌||◌, List}
-use Rattle.std.specs.Prelude.{length, take, drop, nat_eq, None, Some, Contains, slice_get, slice_index, unwrap_or}
+use Rattle.std.specs.Prelude.{[], length, take, drop, nat_eq, None, Some, Contains, slice_get, slice_index, unwrap_or}
 use Rattle.std.specs.Prelude.{count_by}
 use Rattle.std.specs.List.{list_all}
 use Rattle.std.specs.List.Sorted.{IsStrictlyIncreasing}
@@ -12,7 +12,7 @@ use Rattle.office_core.specs.Sessions.{service_of, was_adopted}
 use Rattle.office_core.specs.Accepted.{past_of}
 use Rattle.run_record.specs.declared.record.Record.{Record}
 use Rattle.run_record.specs.Agrees.{Agrees, IsSession}
-use Rattle.run_record.specs.Quiet.{CanAct, before_stop}
+use Rattle.run_record.specs.Quiet.{CanAct, before_stop, unbrought}
 use Rattle.run_alone.specs.Ran.{Rules}
 
 -- ---- a turn
@@ -80,11 +80,12 @@ pub record EndsRound (w : Setting) (before : List Entry) (t : TakenTurn) : Type 
   pub last : service_of w (past_of w before) (suc t.session) ≡ None
 
 -- How turn b comes behind turn a: it is of the same session, where an event came of a; else of the next one, in the
--- same round; or where a ends its round a new one begins, with session 0.
+-- same round; or where a ends its round a new one begins, with session 0, once each call that went out has its outcome.
 pub data Follows (w : Setting) (h : List Entry) (a b : TakenTurn) : Type 0 where
   again : a.did ≡ true → b.session ≡ a.session → AreTheirs h a b → Follows w h a b
   next : a.did ≡ false → b.session ≡ suc a.session → AreTheirs h a b → Follows w h a b
-  anew : EndsRound w (take a.entries h) a → b.session ≡ 0 → Follows w h a b
+  anew : EndsRound w (take a.entries h) a → b.session ≡ 0 → unbrought (past_of w (take b.entries h)) ≡ []
+      → Follows w h a b
 
 -- ---- a run
 

@@ -82,7 +82,7 @@ adoption_still {old} {new} team a still =
     (events_of old.stands ++ [] ∷ []) (events_of new.stands) a.setting a.budget a.history
     (ap events_of a.stands ∙ more_events old.stands _)
     (still_by_adoption old.setting old.budget old.history (adoption (length old.stands) a.service)
-    (events_of old.stands) refl
+    (events_of old.stands) (λ j. refl)
     (ap (was_adopted (past_in old)) (length-map old.stands (λ (st : Stand). st.events)) ∙ next_unadopted old team)
     still)
 

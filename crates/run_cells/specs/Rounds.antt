@@ -58,7 +58,7 @@ pub record IsAtRest (s : State) : Type 0 where
 abbrev pub IsQuietAt : State → Type 0
 IsQuietAt s = IsQuiet s.setting s.budget s.history (events_of s.stands)
 
--- before each posting but the first nothing was left to do
+-- each posting began where nothing was left to do, the first where nothing had happened
 abbrev pub IsStillAt : State → Type 0
 IsStillAt s = IsStill s.setting s.budget s.history (events_of s.stands)
 

@@ -84,15 +84,17 @@ posts_for actor j e = elim e.act [ act.Post posting i q r ↦ nat_eq actor e.act
 abbrev pub posts : Entry → Bool
 posts e = elim e.act [ act.Post posting i q r ↦ true | _ ↦ false ]
 
--- an entry behind others begins a posting, and not the first of the run
-abbrev pub begins_posting : List Entry → Entry → Bool
-begins_posting before e = elim e.act [
-  | act.Post j i q r ↦ list_any posts before && not (list_any (posts_for e.actor j) before)
-  | _ ↦ false
-]
+-- an entry behind others begins posting j
+abbrev pub begins_posting : ℕ → List Entry → Entry → Bool
+begins_posting j before e = posts_for e.actor j e && not (list_any (posts_for e.actor j) before)
 
--- Before each posting but the first of the run nothing was left to do.
+-- Posting j may begin: the first where nothing happened yet, each later one where nothing is left to do.
+abbrev pub MayBegin : Setting → ℕ → ℕ → List Entry → List (List Event) → Type 0
+MayBegin w budget zero h sessions = h ≡ []
+MayBegin w budget (suc j) h sessions = IsQuiet w budget h sessions
+
+-- Each posting began where it may.
 abbrev pub IsStill : Setting → ℕ → List Entry → List (List Event) → Type 0
 IsStill w budget h sessions =
-    (before later : List Entry) (e : Entry) → h ≡ before ++ e ∷ later → begins_posting before e ≡ true
-    → IsQuiet w budget before (sessions_at w before 0 sessions)
+    (j : ℕ) (before later : List Entry) (e : Entry) → h ≡ before ++ e ∷ later → begins_posting j before e ≡ true
+    → MayBegin w budget j before (sessions_at w before 0 sessions)

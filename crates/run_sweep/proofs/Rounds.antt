@@ -89,7 +89,7 @@ still_errands b c more s each z =
 -- first so, and then so
 pub goes_on : {a b c : State} → Goes a b → Goes b c → Goes a c
 goes_on x stays = x
-goes_on x (round mid new moved y t r) = round mid new moved (goes_on x y) t r
+goes_on x (round mid new moved y t b r) = round mid new moved (goes_on x y) t b r
 goes_on x (adopts mid new y r) = adopts mid new (goes_on x y) r
 goes_on x (works mid new more y s e) = works mid new more (goes_on x y) s e
 
@@ -185,7 +185,7 @@ swept_then {old} {one} {turned} team x =
       each = weaker is_by_session is_swept x.went.more (λ e. or_left (is_by_session e) (is_errand e)) x.went.sessions;
       settled = settled_then x;
       still = x.went.still;
-      goes = round old one turned stays team x.went.round;
+      goes = round old one turned stays team x.start x.went.round;
     }
 
 -- where no session did something, no call waits
