@@ -1,9 +1,11 @@
 -- Bytes to which pieces were added.
-use Rattle.std.proofs.Common.{◌≡◌, ◌<◌, ℕ, List, [], ◌∷◌, ◌++◌, length, arith, refl, ap, ◌∙◌}
+use Rattle.std.proofs.Common.{◌≡◌, ◌<◌, ℕ, List, [], ◌∷◌, ◌++◌, length, Option, arith, refl, ap, ◌∙◌}
 use Rattle.std.specs.Prelude.{codes}
 use Rattle.std.proofs.lemmas.List.{append_assoc}
 use Rattle.parse_hints.specs.declared.hint.Hint.{Hint}
 use Rattle.file_verdicts.specs.declared.refusal.Refusal.{Refusal}
+use Rattle.explain_text.specs.declared.advice.Advice.{Advice}
+use Rattle.explain_text.specs.Advised.{IsAdvised}
 use Rattle.explain_text.specs.Explained.{explanation, line_if_any, AreHintsOf, IsExplained}
 
 -- two pieces, one after the other
@@ -20,9 +22,11 @@ five_more old a b c d e =
     ap (λ xs. xs ++ c ++ d ++ e) (append_assoc old a b) ∙ ap (λ xs. xs ++ d ++ e) (append_assoc old (a ++ b) c)
     ∙ ap (λ xs. xs ++ e) (append_assoc old (a ++ b ++ c) d) ∙ append_assoc old (a ++ b ++ c ++ d) e
 
--- bytes with these hints
-pub is_explained : (file text : List ℕ) (r : Refusal) (bytes : List ℕ) (hints : List Hint) → AreHintsOf text r.cause r.at hints → bytes ≡ explanation file text r hints → IsExplained file text r bytes
-is_explained file text r bytes hints told lines = record { hints = hints; told = told; lines = lines }
+-- bytes with these hints and this advice
+pub is_explained : (file text : List ℕ) (r : Refusal) (bytes : List ℕ) (hints : List Hint) (advice : Option Advice) → AreHintsOf text r.cause r.at hints → IsAdvised text r.cause r.at advice
+    → bytes ≡ explanation file text r hints advice → IsExplained file text r bytes
+is_explained file text r bytes hints advice told advised lines =
+    record { hints = hints; told = told; advice = advice; advised = advised; lines = lines }
 
 -- there is nothing to say
 pub no_line : (kind said : List ℕ) → length said ≡ 0 → line_if_any kind said ≡ []

@@ -1,5 +1,5 @@
 -- The lines that explain a refusal, and the one of a file that can't be read.
-use Rattle.std.specs.Prelude.{◌≡◌, ℕ, List, [], ◌∷◌, ◌++◌, codes, option_map, unwrap_or}
+use Rattle.std.specs.Prelude.{◌≡◌, ℕ, List, [], ◌∷◌, ◌++◌, codes, Option, option_map, unwrap_or}
 use Rattle.std.specs.Fmt.{decimal}
 use Rattle.text_places.specs.Places.{line_at, column_at, line_of, mark_of}
 use Rattle.parse_hints.specs.declared.hint.Hint.{Hint}
@@ -10,7 +10,8 @@ use Rattle.file_verdicts.specs.declared.refusal.Cause.TheVariants as cause
 use Rattle.file_verdicts.specs.declared.refusal.Refusal.{Refusal}
 use Rattle.file_verdicts.specs.RefusalLines.{stage_word, cause_word}
 use Rattle.explain_text.specs.Words.{words_of, rule_of, advice_words}
-use Rattle.explain_text.specs.Advised.{advice_for}
+use Rattle.explain_text.specs.Advised.{IsAdvised}
+use Rattle.explain_text.specs.declared.advice.Advice.{Advice}
 
 -- ---- where, and what is said
 
@@ -48,9 +49,9 @@ abbrev pub AreHintsOf : List ℕ → Cause → ℕ → List Hint → Type 0
 AreHintsOf text cause.Syntax at hints = AreToldAt text at hints
 AreHintsOf text _ at hints = hints ≡ []
 
--- what is advised of a refusal, in words
-abbrev pub advised_words : List ℕ → Refusal → List ℕ
-advised_words text r = unwrap_or (option_map advice_words (advice_for r.cause text r.at)) []
+-- advice in words, and nothing where there is none
+abbrev pub advised_words : Option Advice → List ℕ
+advised_words advice = unwrap_or (option_map advice_words advice) []
 
 -- a line of a kind, or none where there is nothing to say
 abbrev pub line_if_any : List ℕ → List ℕ → List ℕ
@@ -60,17 +61,19 @@ line_if_any kind (b ∷ bs) = kind ++ (b ∷ bs) ++ codes "\n"
 -- ---- the whole
 
 -- the refusal of a file's text, explained: where and what, what may stand there, the rule that is broken, and advice
-abbrev pub explanation : List ℕ → List ℕ → Refusal → List Hint → List ℕ
-explanation file text r hints =
+abbrev pub explanation : List ℕ → List ℕ → Refusal → List Hint → Option Advice → List ℕ
+explanation file text r hints advice =
     pointed file text r.at (tagged_words r)
     ++ line_if_any (codes "expected: ") (listed hints) ++ line_if_any (codes "rule: ") (rule_of r.cause text r.at)
-    ++ line_if_any (codes "advice: ") (advised_words text r)
+    ++ line_if_any (codes "advice: ") (advised_words advice)
 
--- the bytes explain the refusal of a file's text, with what may stand there
+-- the bytes explain the refusal of a file's text, with what may stand there and what is advised
 pub record IsExplained (file text : List ℕ) (r : Refusal) (bytes : List ℕ) : Type 0 where
   pub hints : List Hint
   pub told : AreHintsOf text r.cause r.at hints
-  pub lines : bytes ≡ explanation file text r hints
+  pub advice : Option Advice
+  pub advised : IsAdvised text r.cause r.at advice
+  pub lines : bytes ≡ explanation file text r hints advice
 
 -- ---- another line
 

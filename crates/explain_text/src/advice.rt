@@ -1,12 +1,14 @@
 //! What is advised where the place alone does not help.
 
-ghost use Rattle.std.specs.Prelude.{◌≡◌, false};
-ghost use Rattle.jolie_tokens.specs.Bytes as bytes;
-ghost use Rattle.file_verdicts.specs.declared.refusal.Cause.TheVariants as causes;
+ghost use Rattle.std.specs.Prelude.{◌≡◌, IfOk, MatchBool};
+ghost use Rattle.jolie_tokens.specs.declared.sign.Sign.TheVariants as signs;
+ghost use Rattle.jolie_tokens.specs.declared.token.TokenKind.TheVariants as kinds;
 ghost use Rattle.explain_text.specs.Advised as spec;
 ghost use Rattle.explain_text.specs.Words.{advice_words};
 
 use file_verdicts::Cause;
+use jolie_tokens::{LexError, Sign, Token, TokenKind, lex};
+use std::alloc::{AllocError, Global};
 use text_places::{before, behind};
 
 /// What a person may have meant.
@@ -34,54 +36,81 @@ impl Advice {
 }
 
 /// What is advised of a refusal at a place.
-pub fn advice_for(cause: Cause, text: &[u8], at: usize) -> Option<Advice>
-    ensures { result ≡ spec.advice_for cause text.now at }
+pub fn advice_for(
+    alloc: Global,
+    text: &[u8],
+    cause: Cause,
+    at: usize,
+) -> Result<Option<Advice>, AllocError>
+    ensures { IfOk result (λ advised. spec.IsAdvised text.now cause at advised) }
 {
     match cause {
-        Cause::Syntax => advice_at(text, at),
-        Cause::TooLong => None,
-        Cause::BadByte => None,
-        Cause::OpenString => None,
-        Cause::OpenComment => None,
-        Cause::BadNumber => None,
-        Cause::TooDeep => None,
-        Cause::Check(_) => None,
+        Cause::Syntax => advice_at(alloc, text, at),
+        Cause::TooLong => Ok(None),
+        Cause::BadByte => Ok(None),
+        Cause::OpenString => Ok(None),
+        Cause::OpenComment => Ok(None),
+        Cause::BadNumber => Ok(None),
+        Cause::TooDeep => Ok(None),
+        Cause::Check(_) => Ok(None),
     }
 }
 
 /// What is advised of a token that may not stand at a place.
-fn advice_at(text: &[u8], at: usize) -> Option<Advice>
-    ensures { result ≡ spec.advice_for causes.Syntax text.now at }
+#[tactic(auto, using(crate::proofs::Ends::none_suits))]
+fn advice_at(alloc: Global, text: &[u8], at: usize) -> Result<Option<Advice>, AllocError>
+    ensures { IfOk result (λ advised. spec.IsAdvisedAt text.now at advised) }
 {
     let rest = behind(text, at);
     if rest.starts_with("=>".as_bytes()) {
-        return Some(Advice::Handlers);
+        return Ok(Some(Advice::Handlers));
     }
     if rest.starts_with("+=".as_bytes()) || rest.starts_with("-=".as_bytes()) {
-        return Some(Advice::Compound);
+        return Ok(Some(Advice::Compound));
     }
-    if rest.starts_with("}".as_bytes()) && ends_in_semicolon(before(text, at)) {
-        return Some(Advice::Separator);
+    if !rest.starts_with("}".as_bytes()) {
+        return Ok(None);
     }
-    None
+    if !ends_in_semicolon(alloc, before(text, at))? {
+        return Ok(None);
+    }
+    Ok(Some(Advice::Separator))
 }
 
-/// Whether `;` is the last byte that is no blank.
-fn ends_in_semicolon(text: &[u8]) -> bool
-    ensures { result ≡ spec.ends_in_semicolon false text.now }
+/// Whether bytes have tokens, of which the last is `;`.
+fn ends_in_semicolon(alloc: Global, bytes: &[u8]) -> Result<bool, AllocError>
+    ensures { IfOk result (λ ends. MatchBool ends (spec.EndsInSemicolon bytes.now) (spec.EndsInSemicolon bytes.now → ⊥)) }
 {
-    let mut ends = false;
-    for byte in text {
-        if !is_blank(*byte) {
-            ends = *byte == b';';
-        }
+    match lex(alloc, bytes) {
+        Ok(tokens) => Ok(end_in_semicolon(tokens.as_slice())),
+        Err(LexError::TooLong) => Ok(false),
+        Err(LexError::BadByte(_)) => Ok(false),
+        Err(LexError::OpenString(_)) => Ok(false),
+        Err(LexError::OpenComment(_)) => Ok(false),
+        Err(LexError::BadNumber(_)) => Ok(false),
+        Err(LexError::Memory(cause)) => Err(cause),
     }
-    ends
 }
 
-/// Whether a byte is a space, a tab, a carriage return or a line feed.
-fn is_blank(byte: u8) -> bool
-    ensures { result ≡ bytes.is_blank byte }
+/// Whether the last of tokens is `;`.
+fn end_in_semicolon(tokens: &[Token]) -> bool
+    ensures { MatchBool result (spec.EndInSemicolon tokens.now) (spec.EndInSemicolon tokens.now → ⊥) }
 {
-    byte == b' ' || byte == b'\t' || byte == b'\r' || byte == b'\n'
+    match tokens.last() {
+        Some(last) => is_semicolon(&last.kind),
+        None => false,
+    }
+}
+
+/// Whether a token of a kind is `;`.
+fn is_semicolon(kind: &TokenKind) -> bool
+    ensures { MatchBool result (kind.now ≡ kinds.Sign signs.Semicolon) (kind.now ≡ kinds.Sign signs.Semicolon → ⊥) }
+{
+    match kind {
+        TokenKind::Sign(sign) => *sign == Sign::Semicolon,
+        TokenKind::Word => false,
+        TokenKind::Int(_) => false,
+        TokenKind::Long(_) => false,
+        TokenKind::Str(_) => false,
+    }
 }

@@ -3,7 +3,7 @@
 ghost use Rattle.std.specs.Prelude.{◌≡◌, IfOk, string_bytes};
 ghost use Rattle.explain_text.specs.Explained as spec;
 
-use crate::advice::advice_for;
+use crate::advice::{Advice, advice_for};
 use crate::lines::{add_line, add_pointed};
 use crate::listed::listed;
 use crate::words::{rule, words};
@@ -22,6 +22,7 @@ pub fn explained(
     ensures { IfOk result (λ bytes. spec.IsExplained file.now text.now refusal.now bytes.items) }
 {
     let at = refusal.at as usize;
+    let advice = advice_for(alloc, text, refusal.cause, at)?;
     let hints = hints_of(alloc, text, refusal.cause, at)?;
     let listed = listed(alloc, hints.as_slice())?;
     let words = tagged_words(alloc, refusal)?;
@@ -33,11 +34,7 @@ pub fn explained(
         "rule: ",
         rule(refusal.cause, text, at).as_bytes(),
     )?;
-    add_line(
-        &mut bytes,
-        "advice: ",
-        advised_words(text, refusal).as_bytes(),
-    )?;
+    add_line(&mut bytes, "advice: ", advised_words(advice).as_bytes())?;
     Ok(bytes)
 }
 
@@ -51,11 +48,11 @@ fn tagged_words(alloc: Global, refusal: &Refusal) -> Result<String, AllocError>
     format!(in alloc; "{words} [{stage} {name}]")
 }
 
-/// What is advised of a refusal, in words, and nothing where there is no advice.
-fn advised_words(text: &[u8], refusal: &Refusal) -> &'static str
-    ensures { result.now ≡ spec.advised_words text.now refusal.now }
+/// Advice in words, and nothing where there is none.
+fn advised_words(advice: Option<Advice>) -> &'static str
+    ensures { result.now ≡ spec.advised_words advice }
 {
-    match advice_for(refusal.cause, text, refusal.at as usize) {
+    match advice {
         Some(advice) => advice.words(),
         None => "",
     }

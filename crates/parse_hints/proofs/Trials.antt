@@ -29,7 +29,7 @@ pub fits : (r : Result (List Token) LexError) (tokens : List Token) (n : ℕ) �
 fits r tokens n is exact = let never : longest < n → ⊥ = λ h. let e : r ≡ Err lex.TooLong = exact.1 h in cc in omega arith
 
 -- an error that is no want of memory leaves no tokens
-none_read : (e : LexError) → IsNoMemory e → (tokens : List Token) → lexed.UnlessMemory (Err e) (Ok tokens) → ⊥
+pub none_read : (e : LexError) → IsNoMemory e → (tokens : List Token) → lexed.UnlessMemory (Err e) (Ok tokens) → ⊥
 none_read lex.TooLong told tokens given = cc
 none_read (lex.BadByte at) told tokens given = cc
 none_read (lex.OpenString at) told tokens given = cc
@@ -44,7 +44,7 @@ no_tokens bytes r e is told exact may =
     none_read e told may.tokens (subst (λ x. lexed.UnlessMemory x (Ok may.tokens)) is (exact may.tokens may.fits may.read))
 
 -- the tokens that lex gives are the only ones
-same_tokens : (bytes : List ℕ) (r : Result (List Token) LexError) (tokens others : List Token) → r ≡ Ok tokens
+pub same_tokens : (bytes : List ℕ) (r : Result (List Token) LexError) (tokens others : List Token) → r ≡ Ok tokens
     → ((ts : List Token) → length bytes ≤ longest → IsRead bytes ts → lexed.UnlessMemory r (Ok ts)) → length bytes ≤ longest → IsRead bytes others → tokens ≡ others
 same_tokens bytes r tokens others is exact fit read =
     let given : lexed.UnlessMemory (Ok tokens) (Ok others) = subst (λ x. lexed.UnlessMemory x (Ok others)) is (exact others fit read) in

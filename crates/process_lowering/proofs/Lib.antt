@@ -1,4 +1,4 @@
-pub mod KeptPorts
+pub mod NumberedPorts
 pub mod LoweredExpressions
 pub mod LoweredProcesses
 pub mod SeenBehaviours

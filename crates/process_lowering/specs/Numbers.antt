@@ -1,30 +1,22 @@
 -- These definitions serve the proofs alone: `check` does not speak of them, the clauses of calls of this crate do.
 -- What the processes of a service name by numbers, as the checker keeps it.
-use Rattle.std.specs.Prelude.{◌≡◌, ℕ, List, [], ◌∷◌, Option, option_and_then}
-use Rattle.std.specs.List.{slice_get}
-use Rattle.process_lowering.specs.declared.numbers.NumberedPort as kept
+use Rattle.std.specs.Prelude.{◌≡◌, ℕ, List, map, Option, option_and_then, slice_get}
 use Rattle.process_lowering.specs.declared.numbers.Numbers.{Numbers}
 use Rattle.process_lowering.specs.declared.numbers.NumberedOperation.{NumberedOperation}
-use Rattle.process_lowering.specs.declared.numbers.Ports.{Ports}
 use Rattle.process_lowering.specs.Behaviours.{NumberedPort, Numbering}
 use Rattle.check_base.specs.Files.{place_in}
 use Rattle.check_base.specs.Repeated.{place_of}
 
--- output ports with their names, as far as both lists go
-abbrev pub named_ports : List (List ℕ) → List kept.NumberedPort → List NumberedPort
-named_ports [] ports = []
-named_ports (n ∷ ns) [] = []
-named_ports (n ∷ ns) (p ∷ ps) = record { name = n; number = p.number; operations = p.operations } ∷ named_ports ns ps
-
--- the port that is kept at the place of a name
-abbrev pub port_kept : Ports → List ℕ → Option kept.NumberedPort
-port_kept ports name = option_and_then (λ place. slice_get ports.numbered.items place) (place_of ports.names name)
+-- the first port of a name, by the place of the name
+abbrev pub port_named : List NumberedPort → List ℕ → Option NumberedPort
+port_named ports name =
+    option_and_then (λ place. slice_get ports place) (place_of (map (λ (p : NumberedPort). p.name) ports) name)
 
 -- the numbers of a service, with the names of the file
 abbrev pub numbering_of : Numbers → List (List ℕ) → Numbering
 numbering_of n names = record {
   inputs = n.inputs;
-  ports = named_ports n.ports.names n.ports.numbered.items;
+  ports = n.ports;
   console = n.console;
   variables = n.variables;
   names = names;

@@ -7,4 +7,4 @@ mod expressions;
 mod numbers;
 
 pub use behaviours::lowered_if_there;
-pub use numbers::{NumberedPort, Numbers, Ports};
+pub use numbers::{Numbers, Ports};

@@ -264,9 +264,9 @@ stood_turns {n} (last old new t d x) e =
     go : {t : Turn} → Turned (play old n) (spot x.was old.history) (spot x.now new.history) t → is_did t ≡ false
         → Rests old n x.was old.history
     go (did event strands enabled first events within) e = absurd (false≢true (sym e))
-    go (was_idle yet fewer strands enabled stood is) e = idle strands _ enabled stood
-    go (has_ended c at fin is) e = ended c at fin
-    go (has_spent yet all is) e = spent all
+    go (was_idle yet fewer strands enabled stood is) e = idle yet fewer strands _ enabled stood
+    go (has_ended c at fin is) e = ended (record { config = c; at = at; ended = fin })
+    go (has_spent yet all is) e = spent yet all
 stood_turns (more old mid new t b d x tm rest) e = absurd (true≢false e)
 
 quiet-same : (old new : State) → new.setting ≡ old.setting → new.budget ≡ old.budget → new.history ≡ old.history
@@ -388,10 +388,11 @@ pub record Rested (n : ℕ) (old new : State) : Type 0 where
 
 rests-at : {s s' : State} {n : ℕ} {st : Stand} {seen : List Entry} → s'.setting ≡ s.setting → s'.budget ≡ s.budget
     → Rests s n st seen → Rests s' n st seen
-rests-at p q (ended c at fin) = ended c at fin
-rests-at {st = st} p q (spent all) = spent (subst (λ b. b ≤ length st.events) (sym q) all)
-rests-at {n = n} {st = st} {seen = seen} p q (idle strands pick enabled none) =
-    idle strands pick (subst (λ (w : Setting). AreEnabled (seat_at w n) (moment_at st seen) strands) (sym p) enabled)
+rests-at p q (ended fin) = ended fin
+rests-at {st = st} p q (spent yet all) = spent yet (subst (λ b. b ≤ length st.events) (sym q) all)
+rests-at {n = n} {st = st} {seen = seen} p q (idle yet fewer strands pick enabled none) =
+    idle yet (subst (λ b. length st.events < b) (sym q) fewer) strands pick
+    (subst (λ (w : Setting). AreEnabled (seat_at w n) (moment_at st seen) strands) (sym p) enabled)
     (subst (λ (w : Setting). NoneAllowed (seat_at w n) (from_pick strands pick) (moment_at st seen) (moment_at st seen)) (sym p) none)
 
 pub none_short : {A : Type 0} (xs : List A) (n : ℕ) → slice_get xs n ≡ None → length xs ≤ n

@@ -53,9 +53,9 @@ module _ (s : State) (team : Team s) where
           ∙ given_before s.setting r.seen n need r.since.adoptions r.since.only
 
       go : Rests s n st r.seen → IsIdle s.setting s.budget s.history n st.events
-      go (ended c at over) = inl (ended_cannot_act (team.each n st there) at over)
-      go (spent all) = inr (le_antisymm (team.within n st there) all)
-      go (idle strands pick enabled none) =
+      go (ended over) = inl (ended_cannot_act (team.each n st there) over.at over.ended)
+      go (spent yet all) = inr (le_antisymm (team.within n st there) all)
+      go (idle yet fewer strands pick enabled none) =
           inl
           (idle_since {old = moment_at st r.seen} {new = moment_at st r.seen} refl (team.each n st there) refl refl
           enabled none same)

@@ -2,15 +2,14 @@
 use Rattle.std.specs.Prelude.{◌≡◌, ℕ, ◌+◌, ◌-◌, ◌*◌, ◌≤◌, ◌<◌, Bool, true, false, List, [], ◌∷◌, ◌++◌, length}
 use Rattle.std.specs.Prelude.{nat_lt, Some, slice_get}
 use Rattle.std.specs.List.{list_all}
-use Rattle.calculus.specs.After.{Config}
 use Rattle.office_core.specs.declared.history.Act.TheVariants as act
 use Rattle.office_core.specs.declared.history.Entry.{Entry}
 use Rattle.office_core.specs.Limits.{first_worker}
 use Rattle.office_core.specs.Sessions.{births}
 use Rattle.run_record.specs.Quiet.{CanAct, IsQuiet, IsStill}
 use Rattle.session_turn.specs.Turns.{AreEnabled, NoneAllowed, from_pick}
-use Rattle.run_cells.specs.Crews.{Stand, State, events_of, moment_at, past_in, seat_at}
-use Rattle.run_cells.specs.Turns.{Adoptions, RoundFrom}
+use Rattle.run_cells.specs.Crews.{HasEnded, Stand, State, events_of, moment_at, past_in, seat_at}
+use Rattle.run_cells.specs.Turns.{Adoptions, HasNotEnded, RoundFrom}
 
 -- an entry of a session
 abbrev pub is_by_session : Entry → Bool
@@ -35,11 +34,13 @@ pub record OnlyAdoptions (old new : List Entry) : Type 0 where
   pub is : new ≡ old ++ adoptions
   pub only : list_all is_adoption adoptions ≡ true
 
--- why a session does nothing: it has ended, it used its whole budget, or none of its events is allowed
+-- why a session does nothing: it has ended; or it has not, and used its whole budget; or it has not ended and not used
+-- its budget, and none of its events is allowed
 pub data Rests (s : State) (n : ℕ) (st : Stand) (seen : List Entry) : Type 0 where
-  ended : (c : Config) → st.config ≡ Some c → c.ended ≡ true → Rests s n st seen
-  spent : s.budget ≤ length st.events → Rests s n st seen
-  idle : (strands : List ℕ) (pick : ℕ) → AreEnabled (seat_at s.setting n) (moment_at st seen) strands
+  ended : HasEnded st → Rests s n st seen
+  spent : HasNotEnded st → s.budget ≤ length st.events → Rests s n st seen
+  idle : HasNotEnded st → length st.events < s.budget
+      → (strands : List ℕ) (pick : ℕ) → AreEnabled (seat_at s.setting n) (moment_at st seen) strands
       → NoneAllowed (seat_at s.setting n) (from_pick strands pick) (moment_at st seen) (moment_at st seen)
       → Rests s n st seen
 

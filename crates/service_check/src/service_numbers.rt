@@ -3,15 +3,15 @@ ghost use Rattle.std.specs.List.{filter_map};
 ghost use Rattle.std.specs.Option.{option_to_list};
 ghost use Rattle.check_base.specs.Files.{answering, each_once, group_operations, input_port_in, operations_among, operations_in, operations_named, port_in, silent, texts_of};
 ghost use Rattle.check_base.specs.Repeated.{with_texts};
-ghost use Rattle.process_lowering.specs.Numbers.{named_ports, numbering_of};
-ghost use Rattle.service_check.specs.KeptPorts.{input_operations_among, kept_names, kept_ports, port_texts, sided};
-ghost use Rattle.service_check.specs.Programs.{numbered_from, numbering};
+ghost use Rattle.process_lowering.specs.Numbers.{numbering_of};
+ghost use Rattle.service_check.specs.KeptPorts.{input_operations_among, port_texts, sided};
+ghost use Rattle.service_check.specs.Programs.{numbered, numbered_from, numbering};
 
 use crate::mentioned::include;
 use crate::sides::SidedPort;
 use check_base::{Interfaces, Names, fitting, input_port_in, variables_of};
 use jolie_ast::{Clause, Interface, Name, OneWay, OperationGroup, RequestResponse, Service};
-use process_lowering::{NumberedPort, Numbers, Ports};
+use process_lowering::{Numbers, Ports};
 use std::alloc::{AllocError, Global};
 
 /// What the processes of a service name by numbers.
@@ -44,12 +44,9 @@ fn numbered_ports<'a>(
     sides: &[SidedPort<'a>],
     interfaces: &Interfaces<'a>,
 ) -> Result<Ports<'a>, AllocError>
-    ensures { IfOk result (λ p. named_ports p.names p.numbered.items ≡ numbered_from interfaces.now 0 (map sided sides.now)) }
+    ensures { IfOk result (λ ports. ports ≡ numbered_from interfaces.now 0 (map sided sides.now)) }
 {
-    let mut ports = Ports {
-        names: Names::new(alloc),
-        numbered: Vec::new(alloc),
-    };
+    let mut ports = Ports::new(alloc);
     for (place, side) in sides.iter().enumerate() {
         add_port(alloc, side, place, interfaces, &mut ports)?;
     }
@@ -64,17 +61,14 @@ fn add_port<'a>(
     interfaces: &Interfaces<'a>,
     ports: &mut Ports<'a>,
 ) -> Result<(), AllocError>
-    ensures names { OnOk result (ports.new.names ≡ ports.old.names ++ kept_names (sided side.now)) }
-    ensures numbered { OnOk result (ports.new.numbered.items ≡ ports.old.numbered.items ++ kept_ports interfaces.now place (sided side.now)) }
+    ensures { OnOk result (ports.new ≡ ports.old ++ numbered interfaces.now place (sided side.now)) }
 {
     match side.input {
         true => Ok(()),
         false => {
             let operations = operation_texts(alloc, side.port.interfaces.as_slice(), interfaces)?;
             let number = fitting(place)?;
-            ports.names.add(side.port.name.text.as_str())?;
-            ports.numbered.push(NumberedPort { number, operations })?;
-            Ok(())
+            ports.add(side.port.name.text.as_str(), number, operations)
         }
     }
 }

@@ -10,6 +10,6 @@ pub returns : goal.returns
 returns c =
     numbering_made _ _ _ _ c.args.interfaces.now c.args.service.now
     (c.inputs.view_is ∙ c.in_ok-inputs.ensures ∙ ap (λ clauses. texts_of (each_once (input_operations_among c.args.interfaces.now clauses))) c.as_slice-clauses.ensures)
-    (c.in_ok-ports.ensures ∙ ap (numbered_from c.args.interfaces.now 0) c.requires)
+    (c.ports.view_is ∙ c.in_ok-ports.ensures ∙ ap (numbered_from c.args.interfaces.now 0) c.requires)
     (c.in_ok-console.ensures.value ∙ sym (length-map c.args.sides.now sided) ∙ ap length c.requires)
     c.in_ok-variables_of.ensures
