@@ -1,4 +1,4 @@
--- Two calls that were sent at once over one connection, which has failed: in a write, or in a read behind them.
+-- Two calls that were sent at once over one connection, of which a write failed, or a read behind them.
 use Rattle.std.specs.Prelude.{◌≡◌, ◌≢◌, ◌<◌, ℕ, false, List, [], ◌∷◌, ◌++◌, take, drop, length, map}
 use Rattle.std.specs.Prelude.{Option, Some, slice_get}
 use Rattle.std.specs.Io.{StartsWith}
@@ -25,13 +25,13 @@ use Rattle.http_port.specs.declared.head_reader.Fed.TheVariants.{Request}
 use Rattle.http_port.specs.Talk.{answer as answer_bytes}
 use Rattle.http_port.proofs.TalkLemmas.{spoken}
 use Rattle.http_port.proofs.TurnLemmas.{starts_with}
-use Rattle.http_connection.specs.declared.stage.Stage.TheVariants as Stages
+use Rattle.http_connection.specs.Stages.{IsFailed}
 use Rattle.http_connection.proofs.Words.{same_early, shorter_behind}
 use Rattle.connection_runs.specs.Visits.{Visit, HasPassed}
 use Rattle.connection_runs.specs.Served.{IsServed}
 use Rattle.connection_trials.proofs.Requests.{cons_nil}
 use Rattle.connection_trials.proofs.Sent.{go, more}
-use Rattle.connection_trials.proofs.Parts.{failed_on, IsCut, passed_to_the_end, passed_in_part}
+use Rattle.connection_trials.proofs.Parts.{read_failed, write_failed, IsCut, passed_to_the_end, passed_in_part}
 use Rattle.connection_trials.proofs.First.{differ, behind_first, first_op, refused_behind, refused_untaken}
 use Rattle.connection_trials.proofs.TwoCalls.{setting, history, go_alone, call_more, text_go, text_more, written_go, written_more, came_go, came_more, response_go, is_posted_alone, response_go_alone}
 use Rattle.connection_trials.proofs.Pipelined.{gives, gives_read, reading, wrote, written, texts, one_door}
@@ -39,7 +39,7 @@ use Rattle.connection_trials.proofs.Pipelined.{gives, gives_read, reading, wrote
 -- ---- what passed
 
 -- Both were answered, and a read behind them failed.
-pub passed_behind_both : HasPassed (failed_on (go ∷ more ∷ []) texts) (wrote written)
+pub passed_behind_both : HasPassed (read_failed (go ∷ more ∷ []) texts) (wrote written)
 unfolding digits
 passed_behind_both = passed_to_the_end (wrote written) gives texts gives_read refl refl refl
 
@@ -60,7 +60,7 @@ second_cut n short = record {
 }
 
 pub passed_where_it_was_cut : (n : ℕ) → n < length written_more
-    → HasPassed (failed_on (go ∷ more ∷ []) texts) (wrote (written_go ++ take n written_more))
+    → HasPassed (write_failed (go ∷ more ∷ []) texts) (wrote (written_go ++ take n written_more))
 passed_where_it_was_cut n short =
     passed_in_part (wrote (written_go ++ take n written_more)) gives (go ∷ more ∷ []) texts gives_read refl refl (second_cut n short)
 
@@ -94,7 +94,7 @@ unfolding digits escape_byte is_utf8 chars encode scan_numeral value punctuate l
 not_both others e = differ [] call_more.op refl refl (ap (λ (ps : List Post). first_op (behind_first ps)) e)
 
 pub spoilt_second_not_posted : (s : IsServed setting go_alone false (wrote written_go ∷ []))
-    → ((v : Visit) → slice_get s.visits 0 ≡ Some v → v.stage ≡ Stages.Faulted) → ⊥
+    → ((v : Visit) → slice_get s.visits 0 ≡ Some v → IsFailed v.stage) → ⊥
 unfolding digits
 spoilt_second_not_posted =
     refused_untaken setting go_alone false (wrote written_go) reading go (Request more false ∷ []) (gives_read reading) refl one_posted one_door

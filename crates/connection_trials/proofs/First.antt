@@ -26,8 +26,9 @@ use Rattle.http_port.specs.Talk.{answer}
 use Rattle.http_port.proofs.TalkLemmas.{spoken}
 use Rattle.http_connection.specs.declared.stage.Stage.{Stage}
 use Rattle.http_connection.specs.declared.stage.Stage.TheVariants as Stages
+use Rattle.http_connection.specs.Stages.{IsFailed}
 use Rattle.http_connection.specs.Talking.{log}
-use Rattle.http_connection.specs.Law.{holding, bodies_of, talk_of, HasEnded, IsCutOff, Keeps}
+use Rattle.http_connection.specs.Law.{holding, bodies_of, talk_of, IsCutOff, Keeps}
 use Rattle.http_connection.proofs.Words.{begins_from}
 use Rattle.connection_runs.specs.Ports.{has_door}
 use Rattle.connection_runs.specs.Visits.{Visit, came_with, came_of, came_at, AreTaken, HasPassed}
@@ -181,14 +182,14 @@ is_first w h halted traffic s some =
 -- ---- how a connection stands
 
 -- The reader of a connection gives this of its bytes: the bodies that were taken are the first of it, and what was
--- written is a front of what is to be written. It is all of that, or it was cut; and all where the connection has not
--- failed. From one that has failed all was taken, or it was cut.
+-- written is a front of what is to be written. It is all of that, or it was cut; and all where no write failed. From a
+-- connection that has failed all was taken, or it was cut.
 pub record Stands (fs : List Fed) (v : Visit) (written : List ℕ) : Type 0 where
   pub bodies : v.bodies ≡ take (length v.bodies) (bodies_in fs)
   pub front : StartsWith (spoken fs v.texts) written
   pub wrote : (written ≡ spoken fs v.texts) ⊎ IsCut fs v.texts written
-  pub whole : v.stage ≢ Stages.Faulted → written ≡ spoken fs v.texts
-  pub failed : v.stage ≡ Stages.Faulted → (v.bodies ≡ bodies_in fs) ⊎ IsCut fs v.texts written
+  pub whole : v.stage ≢ Stages.WriteFailed → written ≡ spoken fs v.texts
+  pub failed : IsFailed v.stage → (v.bodies ≡ bodies_in fs) ⊎ IsCut fs v.texts written
 
 module _ (t : Traffic) (r : Reading t.read) (fs : List Fed) (gives : given t.read r ≡ fs) where
   first_bodies : (bodies : List (List ℕ)) → bodies ≡ take (length bodies) (bodies_of (holding t.read r).queue)
@@ -200,7 +201,7 @@ module _ (t : Traffic) (r : Reading t.read) (fs : List Fed) (gives : given t.rea
   all_bodies bodies e = sym (take-length bodies) ∙ ap (take (length bodies)) (e ∙ bodies_by t.read r fs gives)
 
   well : (v : Visit) → v.bodies ≡ take (length v.bodies) (bodies_in fs) → t.written ≡ talk_of (holding t.read r) v.texts
-      → (v.stage ≡ Stages.Faulted → v.bodies ≡ bodies_in fs) → Stands fs v t.written
+      → (IsFailed v.stage → v.bodies ≡ bodies_in fs) → Stands fs v t.written
   well v bodies e all =
       let whole : t.written ≡ spoken fs v.texts = e ∙ talk_by t.read r fs v.texts gives in
       record {
@@ -208,7 +209,7 @@ module _ (t : Traffic) (r : Reading t.read) (fs : List Fed) (gives : given t.rea
         front = subst (λ (l : List ℕ). StartsWith l t.written) whole (take-length t.written);
         wrote = inl whole;
         whole = λ _. whole;
-        failed = λ faulted. inl (all faulted);
+        failed = λ failed. inl (all failed);
       }
 
   cut_at : (v : Visit) → IsCutOff (holding t.read r) (log t.read t.written v.bodies v.texts) → IsCut fs v.texts t.written
@@ -218,37 +219,46 @@ module _ (t : Traffic) (r : Reading t.read) (fs : List Fed) (gives : given t.rea
     before = λ early last e. subst (StartsWith t.written) (talk_by t.read r fs early gives) (k.before early last e);
   }
 
-  failed_at : (v : Visit) → v.stage ≡ Stages.Faulted
-      → HasEnded (holding t.read r) (log t.read t.written v.bodies v.texts) ⊎ IsCutOff (holding t.read r) (log t.read t.written v.bodies v.texts)
-      → Stands fs v t.written
-  failed_at v faulted (inl k) = well v (all_bodies v.bodies k.0.bodies) k.1 (λ _. k.0.bodies ∙ bodies_by t.read r fs gives)
-  failed_at v faulted (inr k) =
+  write_failed_at : (v : Visit) → v.stage ≡ Stages.WriteFailed
+      → IsCutOff (holding t.read r) (log t.read t.written v.bodies v.texts) → Stands fs v t.written
+  write_failed_at v failed k =
       let cut = cut_at v k in
       record {
         bodies = first_bodies v.bodies k.in_order.bodies;
         front = cut.front;
         wrote = inr cut;
-        whole = λ other. absurd (other faulted);
+        whole = λ other. absurd (other failed);
         failed = λ _. inr cut;
       }
+
+  reads_not_failed : IsFailed Stages.Reads → ⊥
+  reads_not_failed (inl e) = let clash : Stages.Reads ≡ Stages.ReadFailed = e in cc
+  reads_not_failed (inr e) = let clash : Stages.Reads ≡ Stages.WriteFailed = e in cc
+
+  owes_not_failed : IsFailed Stages.Owes → ⊥
+  owes_not_failed (inl e) = let clash : Stages.Owes ≡ Stages.ReadFailed = e in cc
+  owes_not_failed (inr e) = let clash : Stages.Owes ≡ Stages.WriteFailed = e in cc
 
   stands_at : (service : ℕ) (stage : Stage) (bodies : List (List ℕ)) (texts : List (Option (List ℕ))) → stage ≢ Stages.Spent
       → Keeps stage (holding t.read r) (log t.read t.written bodies texts)
       → Stands fs (record { service = service; stage = stage; bodies = bodies; texts = texts }) t.written
   stands_at service Stages.Reads bodies texts memory k =
       well (record { service = service; stage = Stages.Reads; bodies = bodies; texts = texts }) (first_bodies bodies k.0.bodies) k.1
-      (λ e. absurd (let clash : Stages.Reads ≡ Stages.Faulted = e in cc))
+      (λ failed. absurd (reads_not_failed failed))
   stands_at service Stages.Owes bodies texts memory k =
       well (record { service = service; stage = Stages.Owes; bodies = bodies; texts = texts }) (first_bodies bodies k.0.bodies) k.1
-      (λ e. absurd (let clash : Stages.Owes ≡ Stages.Faulted = e in cc))
+      (λ failed. absurd (owes_not_failed failed))
   stands_at service Stages.Ended bodies texts memory k =
       well (record { service = service; stage = Stages.Ended; bodies = bodies; texts = texts }) (all_bodies bodies k.0.bodies) k.1
       (λ _. k.0.bodies ∙ bodies_by t.read r fs gives)
   stands_at service Stages.Closed bodies texts memory k =
       well (record { service = service; stage = Stages.Closed; bodies = bodies; texts = texts }) (all_bodies bodies k.0.bodies) k.1
       (λ _. k.0.bodies ∙ bodies_by t.read r fs gives)
-  stands_at service Stages.Faulted bodies texts memory k =
-      failed_at (record { service = service; stage = Stages.Faulted; bodies = bodies; texts = texts }) refl k
+  stands_at service Stages.ReadFailed bodies texts memory k =
+      well (record { service = service; stage = Stages.ReadFailed; bodies = bodies; texts = texts }) (all_bodies bodies k.0.bodies) k.1
+      (λ _. k.0.bodies ∙ bodies_by t.read r fs gives)
+  stands_at service Stages.WriteFailed bodies texts memory k =
+      write_failed_at (record { service = service; stage = Stages.WriteFailed; bodies = bodies; texts = texts }) refl k
   stands_at service Stages.Spent bodies texts memory k = absurd (memory refl)
 
   -- what is false of a connection however it stands
@@ -519,11 +529,11 @@ module _ (w : Setting) (h : List Entry) (halted : Bool) (t : Traffic) (reading :
   answer_first bodies (x ∷ texts) text told some answered e =
       (texts, e ∙ ap (λ (y : Option (List ℕ)). answer y false ++ spoken later texts) (answered x refl))
 
-  -- It is refused where this is not what was written first, unless it halted or the connection has failed.
+  -- It is refused where this is not what was written first, unless it halted or a write failed.
   pub refused_cut : halted ≡ false → posts_by first_worker h ≢ [] → LeadToOne w → (text : Option (List ℕ))
       → response w (past_of w h) first_worker 0 (came_with 0 body) ≡ text
       → ((texts : List (Option (List ℕ))) → t.written ≡ answer text false ++ spoken later texts → ⊥)
-      → (s : IsServed w h halted (t ∷ [])) → ((v : Visit) → slice_get s.visits 0 ≡ Some v → v.stage ≢ Stages.Faulted) → ⊥
+      → (s : IsServed w h halted (t ∷ [])) → ((v : Visit) → slice_get s.visits 0 ≡ Some v → v.stage ≢ Stages.WriteFailed) → ⊥
   refused_cut goes some one text is_text apart s calm =
       with_first s some
       (λ f number k.
@@ -591,9 +601,9 @@ module _ (w : Setting) (h : List Entry) (halted : Bool) (t : Traffic) (reading :
       → later ≡ Request other false ∷ rest
       → ((others : List Came) → posts_by first_worker h ≡ posts_of 0 (map posting_of (came_with 0 body ∷ came_with 0 other ∷ others)) → ⊥)
       → t.written ≡ answer text false → (s : IsServed w h halted (t ∷ []))
-      → ((v : Visit) → slice_get s.visits 0 ≡ Some v → v.stage ≡ Stages.Faulted) → ⊥
-  refused_untaken goes some one text is_text other rest is apart wrote s faulted =
-      with_first s some (λ f number k. wrong f k (k.failed (faulted f.visit (subst (λ (n : ℕ). slice_get s.visits n ≡ Some f.visit) number f.there))))
+      → ((v : Visit) → slice_get s.visits 0 ≡ Some v → IsFailed v.stage) → ⊥
+  refused_untaken goes some one text is_text other rest is apart wrote s failed =
+      with_first s some (λ f number k. wrong f k (k.failed (failed f.visit (subst (λ (n : ℕ). slice_get s.visits n ≡ Some f.visit) number f.there))))
     where
       not_two : (f : IsFirst w h s.visits s.all.came) → Stands (Request body false ∷ later) f.visit t.written
           → 1 < length f.visit.bodies → ⊥

@@ -1,5 +1,5 @@
 -- What makes a run served, by lists that are written out.
-use Rattle.std.proofs.Common.{◌≡◌, ◌<◌, ℕ, zero, suc, ◌+◌, List, [], ◌∷◌, length, take, Option, Some, sym, refl, ap, ◌∙◌, subst, arith, inl, inr, false, ◌++◌}
+use Rattle.std.proofs.Common.{◌≡◌, ◌<◌, ℕ, zero, suc, ◌+◌, List, [], ◌∷◌, length, take, Option, Some, sym, refl, ap, ◌∙◌, subst, arith, false, ◌++◌}
 use Rattle.std.specs.Prelude.{slice_get}
 use Rattle.std.specs.Io.{StartsWith}
 use Rattle.std.proofs.Math.Seq.{take-length}
@@ -39,21 +39,25 @@ passed_on t fs texts gives even written = record {
   ) ∣₁;
 }
 
--- a connection that has failed, from which these were taken and which was told these texts
-abbrev pub failed_on : List (List ℕ) → List (Option (List ℕ)) → Visit
-failed_on bodies texts = record { service = 0; stage = Stages.Faulted; bodies = bodies; texts = texts }
+-- a connection of which a read failed, from which these were taken and which was told these texts
+abbrev pub read_failed : List (List ℕ) → List (Option (List ℕ)) → Visit
+read_failed bodies texts = record { service = 0; stage = Stages.ReadFailed; bodies = bodies; texts = texts }
 
--- it has passed, where all was taken and written, and nothing closes it
+-- the same of one of which a write failed
+abbrev pub write_failed : List (List ℕ) → List (Option (List ℕ)) → Visit
+write_failed bodies texts = record { service = 0; stage = Stages.WriteFailed; bodies = bodies; texts = texts }
+
+-- one of which a read failed has passed, where all was taken and written, and nothing closes it
 pub passed_to_the_end : (t : Traffic) (fs : List Fed) (texts : List (Option (List ℕ))) → ((r : Reading t.read) → given t.read r ≡ fs)
     → length texts ≡ length (bodies_in fs) → closes_in fs ≡ false → t.written ≡ spoken fs texts
-    → HasPassed (failed_on (bodies_in fs) texts) t
+    → HasPassed (read_failed (bodies_in fs) texts) t
 passed_to_the_end t fs texts gives even stays written = record {
-  stage = λ e. let clash : Stages.Faulted ≡ Stages.Spent = e in cc;
-  keeps = λ r. ∣ (inl (
+  stage = λ e. let clash : Stages.ReadFailed ≡ Stages.Spent = e in cc;
+  keeps = λ r. ∣ (
     record { bodies = sym (bodies_by t.read r fs (gives r)); texts = even },
     written ∙ sym (talk_by t.read r fs texts (gives r)),
     unclosed (end_of t.read r) (closing_given t.read r ∙ ap closes_in (gives r) ∙ stays),
-  )) ∣₁;
+  ) ∣₁;
 }
 
 -- What is due last was cut: a front of what is to be written was written, and not all of it; and all that stands before
@@ -64,13 +68,13 @@ pub record IsCut (fs : List Fed) (texts : List (Option (List ℕ))) (written : L
   pub before : (early : List (Option (List ℕ))) (last : Option (List ℕ)) → texts ≡ early ++ last ∷ []
       → StartsWith written (spoken fs early)
 
--- it has passed, where it was cut
+-- one of which a write failed has passed, where it was cut
 pub passed_in_part : (t : Traffic) (fs : List Fed) (bodies : List (List ℕ)) (texts : List (Option (List ℕ)))
     → ((r : Reading t.read) → given t.read r ≡ fs) → bodies ≡ take (length bodies) (bodies_in fs)
-    → length bodies ≡ length texts + 0 → IsCut fs texts t.written → HasPassed (failed_on bodies texts) t
+    → length bodies ≡ length texts + 0 → IsCut fs texts t.written → HasPassed (write_failed bodies texts) t
 passed_in_part t fs bodies texts gives first even p = record {
-  stage = λ e. let clash : Stages.Faulted ≡ Stages.Spent = e in cc;
-  keeps = λ r. ∣ (inr (record {
+  stage = λ e. let clash : Stages.WriteFailed ≡ Stages.Spent = e in cc;
+  keeps = λ r. ∣ record {
     in_order = record {
       bodies = first ∙ ap (take (length bodies)) (sym (bodies_by t.read r fs (gives r)));
       texts = even;
@@ -78,7 +82,7 @@ passed_in_part t fs bodies texts gives first even p = record {
     front = subst (λ (l : List ℕ). StartsWith l t.written) (sym (talk_by t.read r fs texts (gives r))) p.front;
     part = subst (λ (l : List ℕ). length t.written < length l) (sym (talk_by t.read r fs texts (gives r))) p.part;
     before = λ early last e. subst (StartsWith t.written) (sym (talk_by t.read r fs early (gives r))) (p.before early last e);
-  })) ∣₁;
+  } ∣₁;
 }
 
 -- a text that is told to a request is this

@@ -1,9 +1,9 @@
 -- Copies of the run Stopped that are refused; and what becomes of it where its wire failed, or its front halted.
-use Rattle.std.specs.Prelude.{◌≡◌, ◌≢◌, ◌<◌, ◌≤◌, ℕ, zero, suc, true, false, List, [], ◌∷◌, ◌++◌, take, length, count_by, codes}
+use Rattle.std.specs.Prelude.{◌≡◌, ◌≢◌, ◌<◌, ℕ, zero, suc, true, false, List, [], ◌∷◌, ◌++◌, take, length, count_by, codes}
 use Rattle.std.specs.Prelude.{Option, None, Some, slice_get}
 use Rattle.std.specs.Io.{StartsWith}
-use Rattle.std.proofs.Common.{refl, sym, ap, subst, ◌∙◌, inl, inr, arith, length-take-le, take_all, true≢false}
-use Rattle.std.proofs.lemmas.Bool.{cases_lt, eqb-true}
+use Rattle.std.proofs.Common.{refl, sym, ap, subst, ◌∙◌, arith, length-take-le, true≢false}
+use Rattle.std.proofs.lemmas.Bool.{eqb-true}
 use Rattle.std.proofs.lemmas.Option.{none-some, same_Some}
 use lib.Utf8.{encode}
 use Rattle.std.specs.Fmt.{digits}
@@ -22,6 +22,7 @@ use Rattle.run_record.specs.Postings.{posts_by}
 use Rattle.branch_workers.specs.Texts.{response}
 use Rattle.http_port.specs.Talk.{answer as answer_bytes}
 use Rattle.http_port.proofs.TalkLemmas.{spoken}
+use Rattle.http_connection.specs.declared.stage.Stage.{Stage}
 use Rattle.http_connection.specs.declared.stage.Stage.TheVariants as Stages
 use Rattle.http_connection.proofs.Words.{same_early}
 use Rattle.connection_runs.specs.Visits.{Visit, HasPassed}
@@ -29,7 +30,7 @@ use Rattle.connection_runs.specs.Served.{IsServed}
 use Rattle.connection_trials.proofs.Requests.{bodies_by, talk_by, cons_nil}
 use Rattle.connection_trials.proofs.Sent.{go, read_go, reading_go, gives_go}
 use Rattle.connection_trials.proofs.First.{differ, behind_first, first_op, holds_alone, IsOther, LeadToOne, refused, refused_once, refused_cut}
-use Rattle.connection_trials.proofs.Parts.{IsTextAt, told_responses, one_alone, failed_on, IsCut, passed_to_the_end, passed_in_part}
+use Rattle.connection_trials.proofs.Parts.{IsTextAt, told_responses, one_alone, IsCut, passed_to_the_end, passed_in_part}
 use Rattle.connection_trials.proofs.Stopped.{setting, history, text, written, gives, asked, came, one_taken, is_response, responses, is_posted}
 
 one_door : LeadToOne setting
@@ -133,28 +134,43 @@ abbrev cut : List ℕ
 cut = take 100 written
 
 not_whole : (bytes : List ℕ) → (answer_bytes (Some text) false ≡ bytes → ⊥) → (s : IsServed setting history false (wrote bytes ∷ []))
-    → ((v : Visit) → slice_get s.visits 0 ≡ Some v → v.stage ≢ Stages.Faulted) → ⊥
+    → ((v : Visit) → slice_get s.visits 0 ≡ Some v → v.stage ≢ Stages.WriteFailed) → ⊥
 unfolding digits
 not_whole bytes apart =
     refused_cut setting history false (wrote bytes) reading_go go [] (gives_go reading_go) refl some_posted one_door (Some text)
     (sym is_response) (λ texts e. apart (sym e))
 
--- It is refused where no connection has failed and nothing halted,
+-- It is refused where no write failed and nothing halted,
 pub spoilt_cut : (s : IsServed setting history false (wrote cut ∷ []))
-    → ((v : Visit) → slice_get s.visits 0 ≡ Some v → v.stage ≢ Stages.Faulted) → ⊥
+    → ((v : Visit) → slice_get s.visits 0 ≡ Some v → v.stage ≢ Stages.WriteFailed) → ⊥
 unfolding digits
 spoilt_cut = not_whole cut (differ (answer_bytes (Some text) false) cut refl refl)
 
 -- and so is none.
 pub spoilt_unwritten : (s : IsServed setting history false (wrote [] ∷ []))
-    → ((v : Visit) → slice_get s.visits 0 ≡ Some v → v.stage ≢ Stages.Faulted) → ⊥
+    → ((v : Visit) → slice_get s.visits 0 ≡ Some v → v.stage ≢ Stages.WriteFailed) → ⊥
 unfolding digits
 spoilt_unwritten = not_whole [] (differ (answer_bytes (Some text) false) [] refl refl)
 
--- Each front of it is served where the connection may have failed, in a write that cut it or behind it in a read; whether
--- its wire has failed is not said here.
-abbrev failed : Visit
-failed = failed_on (go ∷ []) (Some text ∷ [])
+-- Each front of it that is not all is served where a write may have failed, and all of it where a read behind it may;
+-- whether a call of its wire has failed is not said here.
+abbrev at_stage : Stage → Visit
+at_stage stage = record { service = 0; stage = stage; bodies = go ∷ []; texts = Some text ∷ [] }
+
+served_at : (stage : Stage) (bytes : List ℕ) → HasPassed (at_stage stage) (wrote bytes) → IsServed setting history false (wrote bytes ∷ [])
+unfolding encode
+served_at stage bytes passed = record {
+  visits = at_stage stage ∷ [];
+  all = record { asked = asked ∷ []; came = came ∷ [] };
+  doors = refl;
+  passed = (passed, tt);
+  taken = one_taken (at_stage stage) refl;
+  came = refl;
+  posted = is_posted;
+  one_by_one = one_alone setting history asked;
+  responses = responses (at_stage stage) refl;
+  told = λ _. refl;
+}
 
 front_of : (n : ℕ) (bytes : List ℕ) → StartsWith bytes (take n bytes)
 front_of zero bytes = refl
@@ -171,31 +187,19 @@ cut_at n short = record {
       subst (λ (l : List (Option (List ℕ))). StartsWith (take n written) (spoken gives l)) (same_early [] early (Some text) last e) refl;
 }
 
+pub served_where_a_write_failed : (n : ℕ) → n < length written → IsServed setting history false (wrote (take n written) ∷ [])
+served_where_a_write_failed n short =
+    served_at Stages.WriteFailed (take n written)
+    (passed_in_part (wrote (take n written)) gives (go ∷ []) (Some text ∷ []) gives_go refl refl (cut_at n short))
+
 -- all of it
-all_at_most : (n : ℕ) → length written ≤ n → take n written ≡ spoken gives (Some text ∷ [])
+all_written : written ≡ spoken gives (Some text ∷ [])
 unfolding digits
-all_at_most n full = take_all n written full
+all_written = refl
 
-failed_passed : (n : ℕ) → HasPassed failed (wrote (take n written))
-failed_passed n = elim (cases_lt n (length written)) [
-  | inl short ↦ passed_in_part (wrote (take n written)) gives (go ∷ []) (Some text ∷ []) gives_go refl refl (cut_at n short)
-  | inr full ↦ passed_to_the_end (wrote (take n written)) gives (Some text ∷ []) gives_go refl refl (all_at_most n full)
-]
-
-pub served_where_it_failed : (n : ℕ) → IsServed setting history false (wrote (take n written) ∷ [])
-unfolding encode
-served_where_it_failed n = record {
-  visits = failed ∷ [];
-  all = record { asked = asked ∷ []; came = came ∷ [] };
-  doors = refl;
-  passed = (failed_passed n, tt);
-  taken = one_taken failed refl;
-  came = refl;
-  posted = is_posted;
-  one_by_one = one_alone setting history asked;
-  responses = responses failed refl;
-  told = λ _. refl;
-}
+pub served_where_a_read_failed : IsServed setting history false (wrote written ∷ [])
+served_where_a_read_failed =
+    served_at Stages.ReadFailed written (passed_to_the_end (wrote written) gives (Some text ∷ []) gives_go refl refl all_written)
 
 -- Or the front halted, and nothing was told any more.
 abbrev owing : Visit

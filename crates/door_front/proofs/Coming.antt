@@ -1,5 +1,5 @@
 -- Doors and connections as they go on in one call.
-use Rattle.std.proofs.Common.{◌≡◌, refl, sym, ap, ◌∙◌, subst, arith, ℕ, ◌+◌, ◌-◌, ◌^◌, ◌<◌, ◌≤◌, Bool, true, false, ◌||◌, ◌⊎◌, inl, inr, List, [], ◌∷◌, ◌++◌, length, map, take, drop, set, get_or, Option, None, Some, nat_eq, nat_lt, nat_le, count_by, IfSome, append_assoc, append-nil, length-append}
+use Rattle.std.proofs.Common.{◌≡◌, refl, sym, ap, ap₂, ◌∙◌, subst, arith, ℕ, ◌+◌, ◌-◌, ◌^◌, ◌<◌, ◌≤◌, Bool, true, false, ◌||◌, ◌⊎◌, inl, inr, List, [], ◌∷◌, ◌++◌, length, map, take, drop, set, get_or, Option, None, Some, nat_eq, nat_lt, nat_le, count_by, IfSome, append_assoc, append-nil, length-append}
 use Rattle.std.proofs.lemmas.List.{map-append, length_push, length-drop, take_more, take_more_set, take_all, drop_more, drop_all, drop-drop, drop-set-lt}
 use Rattle.std.proofs.lemmas.List.Sums.{sum_by-append}
 use Rattle.std.proofs.lemmas.Bool.{and_parts, ltb-true, leb-true}
@@ -12,7 +12,7 @@ use Rattle.office_front.specs.declared.front.Next.{Next}
 use Rattle.office_front.specs.declared.front.Next.TheVariants as nexts
 use Rattle.office_front.specs.Calls.{most_postings}
 use Rattle.http_connection.specs.declared.stage.Stage.TheVariants as Stages
-use Rattle.http_connection.specs.Seen.{Line, line_of}
+use Rattle.http_connection.specs.Seen.{Line, failures_of, line_of}
 use Rattle.http_connection.specs.Talking.{IsTalking}
 use Rattle.door_front.specs.Keeping.{PortTold, LinkTold, Keeping, wires_to}
 use Rattle.door_front.specs.Dealt.{IsNewLine, most_open}
@@ -29,24 +29,24 @@ nothing_yet : (told : Option (List ℕ)) → IfSome told (λ bytes. bytes ≡ []
 nothing_yet None h = inl refl
 nothing_yet (Some bytes) h = inr (ap Some h)
 
-new_line : (given left taken : Option (List ℕ)) (calls : Option (List WireCall)) (faults : ℕ) (closed : Bool) → IsFresh given taken calls faults closed
-    → IsNewLine (line_of given left taken faults closed)
-new_line given left taken calls faults closed f = record {
+new_line : (given left taken : Option (List ℕ)) (calls : Option (List WireCall)) (faults : ℕ) (cut closed : Bool)
+    → IsFresh given taken calls faults closed → cut ≡ false → IsNewLine (line_of given left taken (failures_of faults cut) closed)
+new_line given left taken calls faults cut closed f whole = record {
   unread = nothing_yet given f.unread;
   unwritten = nothing_yet taken f.unwritten;
-  faultless = f.faultless;
+  faultless = ap₂ failures_of f.faultless whole;
   is_open = f.is_open;
 }
 
-pub new_link-at : (IsMade : Line → Type 0) (given left taken : Option (List ℕ)) (calls : Option (List WireCall)) (faults : ℕ) (closed : Bool) (link : LinkTold)
-    → IsMade (line_of given left taken faults closed) → IsFresh given taken calls faults closed → link.owed ≡ None → stage_at link ≡ Stages.Reads
-    → IsTalking (line_of given left taken faults closed) link.seen [] [] → IsNewLink IsMade link
-new_link-at IsMade given left taken calls faults closed link made f owed stage talks = record {
+pub new_link-at : (IsMade : Line → Type 0) (given left taken : Option (List ℕ)) (calls : Option (List WireCall)) (faults : ℕ) (cut closed : Bool) (link : LinkTold)
+    → IsMade (line_of given left taken (failures_of faults cut) closed) → IsFresh given taken calls faults closed → cut ≡ false → link.owed ≡ None
+    → stage_at link ≡ Stages.Reads → IsTalking (line_of given left taken (failures_of faults cut) closed) link.seen [] [] → IsNewLink IsMade link
+new_link-at IsMade given left taken calls faults cut closed link made f whole owed stage talks = record {
   owed = owed;
   stage = inl stage;
-  first = line_of given left taken faults closed;
+  first = line_of given left taken (failures_of faults cut) closed;
   made = made;
-  fresh = new_line given left taken calls faults closed f;
+  fresh = new_line given left taken calls faults cut closed f whole;
   talks = talks;
   ended = λ e. absurd (reads_not_ended (stage_at link) stage e);
 }

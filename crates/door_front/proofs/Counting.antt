@@ -37,8 +37,8 @@ reads_count (Stands.Holds body close) place l e p = given_count (Request body cl
 reads_count (Stands.Owes close) place l e p = absurd (let clash : Stages.Owes ≡ Stages.Reads = e in cc)
 reads_count (Stands.Over Ends.Ended) place l e p = absurd (let clash : Stages.Ended ≡ Stages.Reads = e in cc)
 reads_count (Stands.Over Ends.Closed) place l e p = absurd (let clash : Stages.Closed ≡ Stages.Reads = e in cc)
-reads_count (Stands.Over Ends.ReadFailed) place l e p = absurd (let clash : Stages.Faulted ≡ Stages.Reads = e in cc)
-reads_count (Stands.Over Ends.WriteFailed) place l e p = absurd (let clash : Stages.Faulted ≡ Stages.Reads = e in cc)
+reads_count (Stands.Over Ends.ReadFailed) place l e p = absurd (let clash : Stages.ReadFailed ≡ Stages.Reads = e in cc)
+reads_count (Stands.Over Ends.WriteFailed) place l e p = absurd (let clash : Stages.WriteFailed ≡ Stages.Reads = e in cc)
 reads_count Stands.Spent place l e p = absurd (let clash : Stages.Spent ≡ Stages.Reads = e in cc)
 
 owes_count : (next : Standing) (place : Place) (l : Log) → stage_of next ≡ Stages.Owes → Passed next place l → length l.bodies ≡ suc (length l.texts)
@@ -47,8 +47,8 @@ owes_count (Stands.Holds body close) place l e p = absurd (let clash : Stages.Re
 owes_count (Stands.Owes close) place l e p = asked_count close place l p
 owes_count (Stands.Over Ends.Ended) place l e p = absurd (let clash : Stages.Ended ≡ Stages.Owes = e in cc)
 owes_count (Stands.Over Ends.Closed) place l e p = absurd (let clash : Stages.Closed ≡ Stages.Owes = e in cc)
-owes_count (Stands.Over Ends.ReadFailed) place l e p = absurd (let clash : Stages.Faulted ≡ Stages.Owes = e in cc)
-owes_count (Stands.Over Ends.WriteFailed) place l e p = absurd (let clash : Stages.Faulted ≡ Stages.Owes = e in cc)
+owes_count (Stands.Over Ends.ReadFailed) place l e p = absurd (let clash : Stages.ReadFailed ≡ Stages.Owes = e in cc)
+owes_count (Stands.Over Ends.WriteFailed) place l e p = absurd (let clash : Stages.WriteFailed ≡ Stages.Owes = e in cc)
 owes_count Stands.Spent place l e p = absurd (let clash : Stages.Spent ≡ Stages.Owes = e in cc)
 
 -- a connection that reads was told a text to each request

@@ -24,7 +24,8 @@ reads_is Stages.Reads e = refl
 reads_is Stages.Owes e = absurd (true≢false (sym e))
 reads_is Stages.Ended e = absurd (true≢false (sym e))
 reads_is Stages.Closed e = absurd (true≢false (sym e))
-reads_is Stages.Faulted e = absurd (true≢false (sym e))
+reads_is Stages.ReadFailed e = absurd (true≢false (sym e))
+reads_is Stages.WriteFailed e = absurd (true≢false (sym e))
 reads_is Stages.Spent e = absurd (true≢false (sym e))
 
 module _ {A : Type 0} (p : A → Bool) where

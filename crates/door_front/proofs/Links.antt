@@ -22,7 +22,10 @@ reads_not_over s e o = elim o [
   | inl a ↦ (let clash : Stages.Reads ≡ Stages.Ended = sym e ∙ a in cc)
   | inr b ↦ elim b [
     | inl a ↦ (let clash : Stages.Reads ≡ Stages.Closed = sym e ∙ a in cc)
-    | inr a ↦ (let clash : Stages.Reads ≡ Stages.Faulted = sym e ∙ a in cc)
+    | inr failed ↦ elim failed [
+      | inl a ↦ (let clash : Stages.Reads ≡ Stages.ReadFailed = sym e ∙ a in cc)
+      | inr a ↦ (let clash : Stages.Reads ≡ Stages.WriteFailed = sym e ∙ a in cc)
+    ]
   ]
 ]
 
@@ -37,7 +40,10 @@ over_not_owes s o e = elim o [
   | inl a ↦ (let clash : Stages.Owes ≡ Stages.Ended = sym e ∙ a in cc)
   | inr b ↦ elim b [
     | inl a ↦ (let clash : Stages.Owes ≡ Stages.Closed = sym e ∙ a in cc)
-    | inr a ↦ (let clash : Stages.Owes ≡ Stages.Faulted = sym e ∙ a in cc)
+    | inr failed ↦ elim failed [
+      | inl a ↦ (let clash : Stages.Owes ≡ Stages.ReadFailed = sym e ∙ a in cc)
+      | inr a ↦ (let clash : Stages.Owes ≡ Stages.WriteFailed = sym e ∙ a in cc)
+    ]
   ]
 ]
 
@@ -46,7 +52,10 @@ over_not_spent s o e = elim o [
   | inl a ↦ (let clash : Stages.Spent ≡ Stages.Ended = sym e ∙ a in cc)
   | inr b ↦ elim b [
     | inl a ↦ (let clash : Stages.Spent ≡ Stages.Closed = sym e ∙ a in cc)
-    | inr a ↦ (let clash : Stages.Spent ≡ Stages.Faulted = sym e ∙ a in cc)
+    | inr failed ↦ elim failed [
+      | inl a ↦ (let clash : Stages.Spent ≡ Stages.ReadFailed = sym e ∙ a in cc)
+      | inr a ↦ (let clash : Stages.Spent ≡ Stages.WriteFailed = sym e ∙ a in cc)
+    ]
   ]
 ]
 

@@ -40,25 +40,26 @@ use Rattle.door_front.proofs.Notes.{halts_still, halts_unknown, NotesSo, said_to
 not_spent : (stage : Stage) → IsBehindTelling stage → stage ≢ Stages.Spent
 not_spent stage (inl reads) is = let clash : Stages.Reads ≡ Stages.Spent = sym reads ∙ is in cc
 not_spent stage (inr (inl closed)) is = let clash : Stages.Closed ≡ Stages.Spent = sym closed ∙ is in cc
-not_spent stage (inr (inr faulted)) is = let clash : Stages.Faulted ≡ Stages.Spent = sym faulted ∙ is in cc
+not_spent stage (inr (inr cut)) is = let clash : Stages.WriteFailed ≡ Stages.Spent = sym cut ∙ is in cc
 
 -- nor is an answer owed
 not_owing : (stage : Stage) → IsBehindTelling stage → stage ≢ Stages.Owes
 not_owing stage (inl reads) is = let clash : Stages.Reads ≡ Stages.Owes = sym reads ∙ is in cc
 not_owing stage (inr (inl closed)) is = let clash : Stages.Closed ≡ Stages.Owes = sym closed ∙ is in cc
-not_owing stage (inr (inr faulted)) is = let clash : Stages.Faulted ≡ Stages.Owes = sym faulted ∙ is in cc
+not_owing stage (inr (inr cut)) is = let clash : Stages.WriteFailed ≡ Stages.Owes = sym cut ∙ is in cc
 
 -- nor does the connection stand as ended
 not_ended : (stage : Stage) → IsBehindTelling stage → stage ≢ Stages.Ended
 not_ended stage (inl reads) is = let clash : Stages.Reads ≡ Stages.Ended = sym reads ∙ is in cc
 not_ended stage (inr (inl closed)) is = let clash : Stages.Closed ≡ Stages.Ended = sym closed ∙ is in cc
-not_ended stage (inr (inr faulted)) is = let clash : Stages.Faulted ≡ Stages.Ended = sym faulted ∙ is in cc
+not_ended stage (inr (inr cut)) is = let clash : Stages.WriteFailed ≡ Stages.Ended = sym cut ∙ is in cc
 
 -- a connection that owes an answer is not over
 not_over : (stage : Stage) → stage ≡ Stages.Owes → IsOver stage → ⊥
 not_over stage owes (inl ended) = let clash : Stages.Owes ≡ Stages.Ended = sym owes ∙ ended in cc
 not_over stage owes (inr (inl closed)) = let clash : Stages.Owes ≡ Stages.Closed = sym owes ∙ closed in cc
-not_over stage owes (inr (inr faulted)) = let clash : Stages.Owes ≡ Stages.Faulted = sym owes ∙ faulted in cc
+not_over stage owes (inr (inr (inl failed))) = let clash : Stages.Owes ≡ Stages.ReadFailed = sym owes ∙ failed in cc
+not_over stage owes (inr (inr (inr cut))) = let clash : Stages.Owes ≡ Stages.WriteFailed = sym owes ∙ cut in cc
 
 -- ---- connections
 

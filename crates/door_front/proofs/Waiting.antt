@@ -58,7 +58,8 @@ owes_at Stages.Reads = false
 owes_at Stages.Owes = true
 owes_at Stages.Ended = false
 owes_at Stages.Closed = false
-owes_at Stages.Faulted = false
+owes_at Stages.ReadFailed = false
+owes_at Stages.WriteFailed = false
 owes_at Stages.Spent = false
 
 -- a request of the connection has no answer yet
@@ -70,7 +71,8 @@ owes_is Stages.Reads e = absurd (true≢false (sym e))
 owes_is Stages.Owes e = refl
 owes_is Stages.Ended e = absurd (true≢false (sym e))
 owes_is Stages.Closed e = absurd (true≢false (sym e))
-owes_is Stages.Faulted e = absurd (true≢false (sym e))
+owes_is Stages.ReadFailed e = absurd (true≢false (sym e))
+owes_is Stages.WriteFailed e = absurd (true≢false (sym e))
 owes_is Stages.Spent e = absurd (true≢false (sym e))
 
 -- one that neither reads nor owes is over
@@ -79,7 +81,8 @@ idle_over Stages.Reads m r o = absurd (true≢false r)
 idle_over Stages.Owes m r o = absurd (true≢false o)
 idle_over Stages.Ended m r o = inl refl
 idle_over Stages.Closed m r o = inr (inl refl)
-idle_over Stages.Faulted m r o = inr (inr refl)
+idle_over Stages.ReadFailed m r o = inr (inr (inl refl))
+idle_over Stages.WriteFailed m r o = inr (inr (inr refl))
 idle_over Stages.Spent m r o = absurd (m refl)
 
 -- one that does not read is open where it owes
@@ -88,7 +91,8 @@ open_owes Stages.Reads m r = absurd (true≢false r)
 open_owes Stages.Owes m r = refl
 open_owes Stages.Ended m r = refl
 open_owes Stages.Closed m r = refl
-open_owes Stages.Faulted m r = refl
+open_owes Stages.ReadFailed m r = refl
+open_owes Stages.WriteFailed m r = refl
 open_owes Stages.Spent m r = absurd (m refl)
 
 or_parts : (a b : Bool) → a || b ≡ false → (a ≡ false) × (b ≡ false)

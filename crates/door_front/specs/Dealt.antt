@@ -17,7 +17,7 @@ use Rattle.connection_runs.specs.Served.{Requests}
 use Rattle.http_connection.specs.declared.stage.Stage.{Stage}
 use Rattle.http_connection.specs.declared.stage.Stage.TheVariants as Stages
 use Rattle.http_connection.specs.Stages.{stage_of, IsOver}
-use Rattle.http_connection.specs.Seen.{Line}
+use Rattle.http_connection.specs.Seen.{Line, no_failures}
 use Rattle.http_connection.specs.Talking.{IsTalking}
 use Rattle.door_front.specs.declared.link.Owed.{Owed}
 use Rattle.door_front.specs.Keeping.{PortTold, LinkTold, Keeping, services_of, no_more, AreLed}
@@ -41,7 +41,7 @@ sides_of kept notes = record { kept = kept; notes = notes }
 pub record IsNewLine (line : Line) : Type 0 where
   pub unread : line.given ≡ None ⊎ line.given ≡ Some []
   pub unwritten : line.taken ≡ None ⊎ line.taken ≡ Some []
-  pub faultless : line.faults ≡ 0
+  pub faultless : line.faults ≡ no_failures
   pub is_open : line.closed ≡ false
 
 -- a connection owes an answer at this stage exactly where a request of it has none yet

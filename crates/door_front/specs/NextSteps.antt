@@ -73,7 +73,8 @@ is_open_at Stages.Reads = true
 is_open_at Stages.Owes = true
 is_open_at Stages.Ended = false
 is_open_at Stages.Closed = false
-is_open_at Stages.Faulted = false
+is_open_at Stages.ReadFailed = false
+is_open_at Stages.WriteFailed = false
 is_open_at Stages.Spent = true
 
 -- a connection is not over
@@ -86,7 +87,8 @@ reads_at Stages.Reads = true
 reads_at Stages.Owes = false
 reads_at Stages.Ended = false
 reads_at Stages.Closed = false
-reads_at Stages.Faulted = false
+reads_at Stages.ReadFailed = false
+reads_at Stages.WriteFailed = false
 reads_at Stages.Spent = false
 
 -- the next request of a connection may be asked for

@@ -1,9 +1,9 @@
 //! Connections come in at doors.
-ghost use Rattle.std.specs.Prelude.{◌≡◌, ◌∷◌, [], count_by, IfNone, IfSome, IfOk, MatchOption, None};
+ghost use Rattle.std.specs.Prelude.{◌≡◌, ◌∷◌, [], false, count_by, IfNone, IfSome, IfOk, MatchOption, None};
 ghost use Rattle.outside_doors.specs.Counts.{added, has_ended};
 ghost use Rattle.outside_doors.specs.Knocks.{IsFresh};
 ghost use Rattle.http_connection.specs.declared.stage.Stage.TheVariants as Stages;
-ghost use Rattle.http_connection.specs.Seen.{line_of};
+ghost use Rattle.http_connection.specs.Seen.{failures_of, line_of};
 ghost use Rattle.http_connection.specs.Stages.{stage_of};
 ghost use Rattle.http_connection.specs.Talking.{IsTalking};
 ghost use Rattle.door_front.specs.NextSteps.{Accepts, GoesOn, IsTried, doorway, has_room as room, is_open as opened};
@@ -25,7 +25,7 @@ pub(crate) fn accept_all<D: Door + Drop>(
     links: &mut Vec<Link<D::W>>,
     most: u32,
 ) -> Result<(), AllocError>
-    ensures { IfOk result (λ _. Accepts (λ line. (wire : D.W) × (line ≡ line_of (D.W.given wire) (D.W.left wire) (D.W.taken wire) (D.W.faults wire) (D.W.closed wire))) most (doorway ports.old links.old.items) (doorway ports.new links.new.items)) }
+    ensures { IfOk result (λ _. Accepts (λ line. (wire : D.W) × (line ≡ line_of (D.W.given wire) (D.W.left wire) (D.W.taken wire) (failures_of (D.W.faults wire) (D.W.cut wire)) (D.W.closed wire))) most (doorway ports.old links.old.items) (doorway ports.new links.new.items)) }
 {
     for port in ports.iter_mut() {
         accept_at(alloc, port, links, most)?;
@@ -40,7 +40,7 @@ fn accept_at<D: Door + Drop>(
     links: &mut Vec<Link<D::W>>,
     most: u32,
 ) -> Result<(), AllocError>
-    ensures { IfOk result (λ _. Accepts (λ line. (wire : D.W) × (line ≡ line_of (D.W.given wire) (D.W.left wire) (D.W.taken wire) (D.W.faults wire) (D.W.closed wire))) most (doorway (port.old ∷ []) links.old.items) (doorway (port.new ∷ []) links.new.items)) }
+    ensures { IfOk result (λ _. Accepts (λ line. (wire : D.W) × (line ≡ line_of (D.W.given wire) (D.W.left wire) (D.W.taken wire) (failures_of (D.W.faults wire) (D.W.cut wire)) (D.W.closed wire))) most (doorway (port.old ∷ []) links.old.items) (doorway (port.new ∷ []) links.new.items)) }
 {
     while has_room(links, most) {
         match port.knock() {
@@ -86,6 +86,7 @@ impl<D: Door + Drop> Port<D> {
         ensures nobody { IfNone result (IsTried self.old self.new) }
         ensures wires { MatchOption result (self.new.door.wires ≡ self.old.door.wires) (λ _. self.new.door.wires ≡ added self.old.door.wires 1) }
         ensures fresh { IfSome result (λ wire. IsFresh (D.W.given wire) (D.W.taken wire) (D.W.calls wire) (D.W.faults wire) (D.W.closed wire)) }
+        ensures uncut { IfSome result (λ wire. D.W.cut wire ≡ false) }
     {
         if self.ended {
             return None;
@@ -119,7 +120,7 @@ impl<W: Wire + Drop> Link<W> {
         ensures service { result.service ≡ service }
         ensures owed { result.owed ≡ None }
         ensures stage { stage_of result.seen.kept.next ≡ Stages.Reads }
-        ensures talks { IsTalking (line_of (W.given wire) (W.left wire) (W.taken wire) (W.faults wire) (W.closed wire)) result.seen [] [] }
+        ensures talks { IsTalking (line_of (W.given wire) (W.left wire) (W.taken wire) (failures_of (W.faults wire) (W.cut wire)) (W.closed wire)) result.seen [] [] }
     {
         Link {
             service,
@@ -134,7 +135,7 @@ impl<W: Wire + Drop> Link<W> {
     {
         match self.connection.stage() {
             Stage::Reads | Stage::Owes | Stage::Spent => true,
-            Stage::Ended | Stage::Closed | Stage::Faulted => false,
+            Stage::Ended | Stage::Closed | Stage::ReadFailed | Stage::WriteFailed => false,
         }
     }
 }

@@ -1,6 +1,6 @@
 //! The connections of a run.
 ghost use Rattle.std.specs.Prelude.{◌≡◌, None};
-ghost use Rattle.http_connection.specs.Seen.{line_of};
+ghost use Rattle.http_connection.specs.Seen.{failures_of, line_of};
 
 use http_connection::Connection;
 use jsonrpc_text::Read;
@@ -23,7 +23,7 @@ pub struct Link<W: Wire + Drop> {
 }
 
 impl<W: Wire + Drop> Model for Link<W> {
-    ghost use Rattle.http_connection.specs.Seen.{seen, line_of};
+    ghost use Rattle.http_connection.specs.Seen.{failures_of, line_of, seen};
     ghost use Rattle.std.specs.Coded.{codes};
     ghost use Rattle.jolie_trees.specs.contracts.tree.Tree as tree;
     ghost use Rattle.door_front.specs.Keeping.{LinkTold};
@@ -34,7 +34,7 @@ impl<W: Wire + Drop> Model for Link<W> {
 
     ghost view = { λ l. record {
       service = l.service;
-      seen = seen l.connection.kept (line_of (W.given l.connection.wire) (W.left l.connection.wire) (W.taken l.connection.wire) (W.faults l.connection.wire) (W.closed l.connection.wire));
+      seen = seen l.connection.kept (line_of (W.given l.connection.wire) (W.left l.connection.wire) (W.taken l.connection.wire) (failures_of (W.faults l.connection.wire) (W.cut l.connection.wire)) (W.closed l.connection.wire));
       owed = l.owed;
       ended = W.ended l.connection.wire;
     } };
@@ -43,7 +43,7 @@ impl<W: Wire + Drop> Model for Link<W> {
 impl<W: Wire + Drop> Link<W> {
     /// The wire, the bytes that were read and the bytes that were written.
     pub fn into_parts(self) -> (W, Vec<u8>, Vec<u8>)
-        ensures wire { line_of (W.given result.0) (W.left result.0) (W.taken result.0) (W.faults result.0) (W.closed result.0) ≡ self.seen.line }
+        ensures wire { line_of (W.given result.0) (W.left result.0) (W.taken result.0) (failures_of (W.faults result.0) (W.cut result.0)) (W.closed result.0) ≡ self.seen.line }
         ensures ended { W.ended result.0 ≡ self.ended }
         ensures read { result.1 ≡ self.seen.kept.read }
         ensures written { result.2 ≡ self.seen.kept.written }

@@ -11,6 +11,7 @@ use Rattle.run_record.specs.declared.record.Traffic.{Traffic}
 use Rattle.connection_runs.specs.Ports.{DoorAt}
 use Rattle.connection_runs.specs.Visits.{Visit}
 use Rattle.http_connection.specs.declared.stage.Stage.TheVariants as Stages
+use Rattle.http_connection.specs.Stages.{IsFailed}
 use Rattle.http_connection.specs.Seen.{Line}
 use Rattle.door_front.specs.Dealt.{IsNewLine}
 
@@ -69,7 +70,7 @@ with_openings places tally = fold (λ counts place. with_opened counts) tally pl
 
 -- these wires came back
 abbrev pub with_wires : List WireTold → Tally → Tally
-with_wires wires tally = fold (λ counts (wire : WireTold). with_wire wire.faults wire.ended counts) tally wires
+with_wires wires tally = fold (λ counts (wire : WireTold). with_wire wire.faults wire.cut wire.ended counts) tally wires
 
 -- these doors came back
 abbrev pub with_doors : List DoorTold → Tally → Tally
@@ -100,15 +101,16 @@ pub record IsUsed (places : List DoorAt) (before now : DoorsTold) (used : Used) 
 -- ---- wires
 
 -- A wire that came back from a connection which has these bytes: it was made so, and nothing was read or written on it
--- then; what it told since is these bytes; it has failed exactly where its connection ended with a failure; and its
--- connection stands as ended only where a read told the end of what comes in.
+-- then; what it told since is these bytes; it has failed exactly where its connection ended with a failure, and in a write
+-- exactly where that was a write's; and its connection stands as ended only where a read told the end of what comes in.
 pub record IsWireOf (IsMade : Line → Type 0) (visit : Visit) (traffic : Traffic) (wire : WireTold) : Type 0 where
   pub first : Line
   pub came : IsMade first
   pub fresh : IsNewLine first
   pub read : Appends first.given wire.read traffic.read
   pub written : Appends first.taken wire.written traffic.written
-  pub failed : (visit.stage ≡ Stages.Faulted) ↔ (0 < wire.faults)
+  pub failed : IsFailed visit.stage ↔ (0 < wire.faults)
+  pub cut : (visit.stage ≡ Stages.WriteFailed) ↔ (wire.cut ≡ true)
   pub ended : (visit.stage ≡ Stages.Ended) → (wire.ended ≡ true)
 
 -- the wires are those of the connections, in order

@@ -38,6 +38,7 @@ calm_line bytes room = record {
   shelf = record { taken = []; room = room };
   calls = Some [];
   faults = 0;
+  cut = false;
   closed = false;
   ended = false;
 }
@@ -50,6 +51,7 @@ scripted_line failing piece bytes room = record {
   shelf = record { taken = []; room = room };
   calls = Some [];
   piece = piece;
+  cut = false;
   closed = false;
   ended = false;
 }

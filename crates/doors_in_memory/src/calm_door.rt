@@ -92,6 +92,7 @@ impl Door for CalmDoor {
         ensures coming { self.old.told.closed ≡ false → self.new.coming ≡ drop 1 self.old.coming }
         ensures quiet { self.old.told.closed ≡ false → self.new.quiet ≡ quiet_after self.old.coming self.old.quiet }
         ensures fresh { IfCame result (λ wire. IsFresh (Some wire.wire.tape.given) (Some wire.wire.shelf.taken) wire.wire.calls wire.faults wire.wire.closed) }
+        ensures uncut { IfCame result (λ wire. wire.cut ≡ false) }
         ensures unended { IfCame result (λ wire. wire.ended ≡ false) }
         ensures wires { self.new.told.wires ≡ wires_after result self.old.told.wires }
         ensures waits { self.new.told.waits ≡ waits_after result self.old.told.waits }

@@ -116,6 +116,7 @@ impl Door for ScriptedDoor {
         ensures scripted { self.old.told.closed ≡ false → Answers self.old.visits result }
         ensures visits { self.old.told.closed ≡ false → self.new.visits ≡ drop 1 self.old.visits }
         ensures fresh { IfCame result (λ wire. IsFresh (Some wire.wire.tape.given) (Some wire.wire.shelf.taken) wire.wire.calls wire.faults wire.wire.closed) }
+        ensures uncut { IfCame result (λ wire. wire.cut ≡ false) }
         ensures unended { IfCame result (λ wire. wire.ended ≡ false) }
         ensures wires { self.new.told.wires ≡ wires_after result self.old.told.wires }
         ensures waits { self.new.told.waits ≡ waits_after result self.old.told.waits }

@@ -17,7 +17,7 @@ pub spent_unended : (next : Standing) → next ≡ Stands.Spent → stage_of nex
 spent_unended next e ended = let clash : Stages.Spent ≡ Stages.Ended = sym (ap stage_of e) ∙ ended in cc
 
 pub failed_unended : (next : Standing) → next ≡ Stands.Over Ends.ReadFailed → stage_of next ≡ Stages.Ended → ⊥
-failed_unended next e ended = let clash : Stages.Faulted ≡ Stages.Ended = sym (ap stage_of e) ∙ ended in cc
+failed_unended next e ended = let clash : Stages.ReadFailed ≡ Stages.Ended = sym (ap stage_of e) ∙ ended in cc
 
 pub asked_unended : (stage : Stage) → MayBeAsked stage → stage ≡ Stages.Ended → ⊥
 asked_unended stage may ended = elim may [
@@ -30,7 +30,7 @@ behind_unended stage behind ended = elim behind [
   | inl reads ↦ (let clash : Stages.Reads ≡ Stages.Ended = sym reads ∙ ended in cc)
   | inr over ↦ elim over [
     | inl closed ↦ (let clash : Stages.Closed ≡ Stages.Ended = sym closed ∙ ended in cc)
-    | inr faulted ↦ (let clash : Stages.Faulted ≡ Stages.Ended = sym faulted ∙ ended in cc)
+    | inr cut ↦ (let clash : Stages.WriteFailed ≡ Stages.Ended = sym cut ∙ ended in cc)
   ]
 ]
 

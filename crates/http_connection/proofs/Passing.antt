@@ -1,5 +1,5 @@
 -- What each step of a connection passes on.
-use Rattle.std.proofs.Common.{◌≡◌, ◌≤◌, inl, inr, ℕ, Bool, true, false, ltb, List, [], ◌∷◌, ◌++◌, length, take, Some, None, Result, Ok, Err, IsErr, OnErr, MatchResult, sym, refl, ap, ◌∙◌, subst, arith, append-nil}
+use Rattle.std.proofs.Common.{◌≡◌, ◌||◌, inl, inr, ℕ, Bool, true, false, not, ltb, List, [], ◌∷◌, ◌++◌, length, take, Some, None, Result, Ok, Err, IsErr, OnErr, MatchResult, sym, refl, ap, ap₂, ◌∙◌, subst, arith, append-nil}
 use Rattle.std.specs.Prelude.{Option, IfSome}
 use Rattle.std.proofs.lemmas.Bool.{lt-ltb, le-ltb, cases_lt}
 use Rattle.std.proofs.lemmas.List.{take_all}
@@ -7,7 +7,6 @@ use Rattle.std.specs.Io.{StartsWith}
 use Rattle.std.specs.Io.KnownBytes.{Appends, Consumes, Keeps, IsAtEnd}
 use Rattle.std.proofs.KnownBytes.{Appends-nil, Appends-trans, Appends-kept, Consumes-nil, Consumes-trans, Consumes-kept}
 use Rattle.std.proofs.Math.Seq.{take-append_seam}
-use Rattle.outside_traits.specs.Causes.{Rose}
 use Rattle.http_port.specs.Feeding.{Open, Feeds}
 use Rattle.http_port.specs.Serving.{bodies_in}
 use Rattle.http_port.specs.Talk.{answer}
@@ -19,8 +18,8 @@ use Rattle.http_connection.specs.declared.stage.Ending.TheVariants as Ends
 use Rattle.http_connection.specs.declared.stage.Standing.{Standing}
 use Rattle.http_connection.specs.declared.stage.Standing.TheVariants as Stands
 use Rattle.http_connection.specs.Stages.{stage_behind, stage_of, is_waiting, MayBeTold, IsOver, IsBehindAsking}
-use Rattle.http_connection.specs.Seen.{Line, Seen}
-use Rattle.http_connection.specs.Talking.{log, log_of, IsAnswered, HasGiven, due, told_to, Closes, HasWritten, HasAsked, Passed, IsOpen, IsShut, WireTells, IsTalking, handed}
+use Rattle.http_connection.specs.Seen.{Failures, Line, Seen}
+use Rattle.http_connection.specs.Talking.{log, log_of, IsAnswered, HasGiven, due, told_to, Closes, HasWritten, HasAsked, Passed, IsOpen, IsShut, HasFailed, cut_by_one_more, WireTells, IsTalking, handed}
 use Rattle.http_connection.specs.Steps.{HandsOut, owed_in, is_interim, Takes, Sends, Finishes, IsCarried, IsGoing, IsFed}
 use Rattle.http_connection.proofs.Histories.{LetsGo, answered_all}
 
@@ -253,7 +252,11 @@ sent_closing first was mid now last text bodies texts g c s f =
       );
     }
 
--- the wire failed
+-- what a write that fails tells is the same of a wire as of one before it that was as open and had failed as much
+same_cut : (before now : Line) → now.faults ≡ before.faults → now.closed ≡ before.closed → cut_by_one_more now ≡ cut_by_one_more before
+same_cut before now faults closed = ap₂ (λ (f : Failures) c. f.cut || not c) faults closed
+
+-- a write failed
 pub sent_failing : (first : Line) (was mid now : Seen) (last : Fed) (text : Option (List ℕ)) (bodies : List (List ℕ)) (texts : List (Option (List ℕ)))
     → IsFed first was last bodies texts → Sends (due last text) true was mid → Finishes Ends.WriteFailed mid now
     → IsTalking first now (bodies ++ bodies_in (last ∷ [])) (texts ++ told_to last text)
@@ -265,8 +268,8 @@ sent_failing first was mid now last text bodies texts g s f =
       taken = finished_taken first was mid now (due last text) true Ends.WriteFailed g.carried s f;
       wire = subst (λ n. WireTells (stage_of n) first now.kept.read.items now.line) (sym f.next) (
         finished_shut first was mid now (due last text) true Ends.WriteFailed g.carried s f,
-        subst (λ n. first.faults ≤ n) (sym f.faults) (subst (λ n. n ≤ mid.line.faults) g.carried.wire.faults s.counts.0),
-        subst (Rose first.faults) (sym f.faults) (subst (λ n. Rose n mid.line.faults) g.carried.wire.faults s.counts.1),
+        subst (HasFailed first.faults) (sym f.faults) (subst (λ n. HasFailed n mid.line.faults) g.carried.wire.faults s.counts.0),
+        ap (λ (n : Failures). n.cut) f.faults ∙ s.counts.1 ∙ same_cut first was.line g.carried.wire.faults g.carried.wire.closed,
       );
       passed = subst (λ n. Passed n now.kept.reader (log_of now bodies_now texts_now)) (sym f.next) (
         last,
@@ -387,8 +390,8 @@ pub record FailsRead (was now : Seen) : Type 0 where
   pub given : Keeps was.line.given now.line.given
   pub left : Keeps was.line.left now.line.left
   pub taken : now.line.taken ≡ was.line.taken
-  pub later : was.line.faults ≤ now.line.faults
-  pub rose : Rose was.line.faults now.line.faults
+  pub failed : HasFailed was.line.faults now.line.faults
+  pub uncut : now.line.faults.cut ≡ was.line.faults.cut
   pub read : now.kept.read.items ≡ was.kept.read.items
   pub written : now.kept.written.items ≡ was.kept.written.items
   pub reader : now.kept.reader ≡ was.kept.reader
@@ -415,8 +418,8 @@ read_failed first was mid now bodies texts f r fin =
           front = subst (λ v. IfSome first.left (λ all. StartsWith all v)) (sym fin.read) (starts_so first.left mid.line.left mid.kept.read.items left);
           closed = fin.closed;
         },
-        subst (λ n. first.faults ≤ n) (sym fin.faults) (subst (λ n. n ≤ mid.line.faults) c.wire.faults r.later),
-        subst (Rose first.faults) (sym fin.faults) (subst (λ n. Rose n mid.line.faults) c.wire.faults r.rose),
+        subst (HasFailed first.faults) (sym fin.faults) (subst (λ n. HasFailed n mid.line.faults) c.wire.faults r.failed),
+        ap (λ (n : Failures). n.cut) fin.faults ∙ r.uncut ∙ ap (λ (n : Failures). n.cut) c.wire.faults,
       );
       passed = subst (λ n. Passed n now.kept.reader (log_of now bodies texts)) (sym fin.next) (ended_passed mid now Ends.ReadFailed bodies texts passed fin);
     }
@@ -457,7 +460,7 @@ sends text count was now t written read reader next = elim (cases_lt count (leng
     front = (count, short, refl);
     written = written;
     taken = t.taken;
-    counts = (t.later, t.cause short);
+    counts = t.cause short;
     given = t.given;
     left = t.left;
     closed = t.closed;
@@ -551,8 +554,8 @@ StandsThen result next = MatchResult result (λ came. IsBehindAsking came (stage
 over_stage : (ending : Ending) → IsOver (stage_behind ending)
 over_stage Ends.Ended = inl refl
 over_stage Ends.Closed = inr (inl refl)
-over_stage Ends.ReadFailed = inr (inr refl)
-over_stage Ends.WriteFailed = inr (inr refl)
+over_stage Ends.ReadFailed = inr (inr (inl refl))
+over_stage Ends.WriteFailed = inr (inr (inr refl))
 
 pub stands_then : {E : Type 0} (was now : Standing) (result : Result (Option (List ℕ)) E) → HandsOut was result now → StandsThen result now
 stands_then Stands.Waits now result x = if_error result (λ came. IsBehindAsking came (stage_of now)) (stage_of now ≡ Stages.Spent) x.0 (ap stage_of x.1)

@@ -1,5 +1,5 @@
 -- What holds of all that passes on a connection.
-use Rattle.std.proofs.Common.{◌≡◌, ◌<◌, ◌⊎◌, ℕ, ◌+◌, inl, inr, Bool, true, false, cond, List, [], ◌∷◌, ◌++◌, length, take, drop, sym, refl, ap, ◌∙◌, subst, arith, append_assoc, append-nil, length-append, length-take-le, take-append-drop}
+use Rattle.std.proofs.Common.{◌≡◌, ◌<◌, ℕ, ◌+◌, Bool, true, false, cond, List, [], ◌∷◌, ◌++◌, length, take, drop, sym, refl, ap, ◌∙◌, subst, arith, append_assoc, append-nil, length-append, length-take-le, take-append-drop}
 use Rattle.std.specs.Prelude.{Option}
 use Rattle.std.specs.Io.{StartsWith}
 use Rattle.std.proofs.Math.Logic.{∥∥₁_map, ∥∥₁_elim, ∥∥₁_prop}
@@ -232,11 +232,11 @@ keeps_so (Stands.Over Ends.Closed) place l p r =
     ∥∥₁_map (known p.0 place w.early w.given l.read (sym w.read) r)
     (λ x. closed_so h l p.0 p.1 place p.2 w (subst (λ gs. Knows h w.early (shown p.0 ++ gs)) (nothing_behind p.0 x.0 p.2 x.2.over) x.2))
 keeps_so (Stands.Over Ends.ReadFailed) place l g r =
-    ∥∥₁_map (waits_so place l g l.read refl r) (λ k. inl (ended_so (holding l.read r) l k))
+    ∥∥₁_map (waits_so place l g l.read refl r) (λ k. ended_so (holding l.read r) l k)
 keeps_so (Stands.Over Ends.WriteFailed) place l p r =
     let w = p.4 in
     ∥∥₁_map (known p.0 place w.early w.given l.read (sym w.read) r)
-    (λ x. inr (cut_so (holding l.read r) l p.0 p.1 p.2 place p.3 w x.0 x.2))
+    (λ x. cut_so (holding l.read r) l p.0 p.1 p.2 place p.3 w x.0 x.2)
 keeps_so Stands.Spent place l p r = ∣ tt ∣₁
 
 -- ---- whatever is told later
@@ -255,16 +255,13 @@ stays_so h l s more =
     starts_with (talk_of h (l.texts ++ more)) l.written
     (begins_trans (talk_of h (l.texts ++ more)) (talk_of h l.texts) l.written (talk_grows h.queue h.end l.texts more) (begins_from (talk_of h l.texts) l.written s))
 
-failed_front : (h : Holding) (l : Log) → HasEnded h l ⊎ IsCutOff h l → StartsWith (talk_of h l.texts) l.written
-failed_front h l (inl ended) = whole_front h l ended.1
-failed_front h l (inr cut) = cut.front
-
 stays : (stage : Stage) (h : Holding) (l : Log) → Keeps stage h l → StaysFront stage h l
 stays Stages.Reads h l k = stays_so h l (whole_front h l k.1)
 stays Stages.Owes h l k = stays_so h l (whole_front h l k.1)
 stays Stages.Ended h l k = stays_so h l (whole_front h l k.1)
 stays Stages.Closed h l k = stays_so h l (whole_front h l k.1)
-stays Stages.Faulted h l k = stays_so h l (failed_front h l k)
+stays Stages.ReadFailed h l k = stays_so h l (whole_front h l k.1)
+stays Stages.WriteFailed h l k = stays_so h l k.front
 stays Stages.Spent h l k = tt
 
 pub keeps_word : (first : Line) (now : Seen) (bodies : List (List ℕ)) (texts : List (Option (List ℕ))) → IsTalking first now bodies texts → KeepsWord first now bodies texts

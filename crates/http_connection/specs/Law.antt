@@ -55,7 +55,7 @@ IsClosing end = (end ≡ Closed) ⊎ ((status : ℕ) × (end ≡ RefusedBy statu
 abbrev pub HasEnded : Holding → Log → Type 0
 HasEnded h l = IsComplete h l × IsAllWritten h l × IsUnclosed h.end
 
--- The wire failed in a write, which cut what was due last. The bodies are those of the first requests, and a text was
+-- A write failed, which cut what was due last. The bodies are those of the first requests, and a text was
 -- told to each; what was written is a front of what is to be written, and not all of it; and all of it was written that
 -- stands before the answer of the last request to which a text was told.
 pub record IsCutOff (h : Holding) (l : Log) : Type 0 where
@@ -65,14 +65,15 @@ pub record IsCutOff (h : Holding) (l : Log) : Type 0 where
   pub before : (early : List (Option (List ℕ))) (last : Option (List ℕ)) → l.texts ≡ early ++ last ∷ []
       → StartsWith l.written (talk_of h early)
 
--- What passed on a connection whose bytes hold this, by its stage. One that has failed did so in a read, behind which
--- all is done as on one that ended, or in a write. Where memory ran out nothing is said.
+-- What passed on a connection whose bytes hold this, by its stage. Behind a read that failed all is done as on one that
+-- ended. Where memory ran out nothing is said.
 abbrev pub Keeps : Stage → Holding → Log → Type 0
 Keeps Stages.Reads h l = IsInOrder h l 0 × IsAllWritten h l
 Keeps Stages.Owes h l = IsInOrder h l 1 × IsAllWritten h l
 Keeps Stages.Ended h l = HasEnded h l
 Keeps Stages.Closed h l = IsComplete h l × IsAllWritten h l × IsClosing h.end
-Keeps Stages.Faulted h l = HasEnded h l ⊎ IsCutOff h l
+Keeps Stages.ReadFailed h l = HasEnded h l
+Keeps Stages.WriteFailed h l = IsCutOff h l
 Keeps Stages.Spent h l = Unit {0}
 
 -- what was written stays a front of what is to be written, whatever is told later
@@ -81,7 +82,8 @@ StaysFront Stages.Reads h l = (more : List (Option (List ℕ))) → StartsWith (
 StaysFront Stages.Owes h l = (more : List (Option (List ℕ))) → StartsWith (talk_of h (l.texts ++ more)) l.written
 StaysFront Stages.Ended h l = (more : List (Option (List ℕ))) → StartsWith (talk_of h (l.texts ++ more)) l.written
 StaysFront Stages.Closed h l = (more : List (Option (List ℕ))) → StartsWith (talk_of h (l.texts ++ more)) l.written
-StaysFront Stages.Faulted h l = (more : List (Option (List ℕ))) → StartsWith (talk_of h (l.texts ++ more)) l.written
+StaysFront Stages.ReadFailed h l = (more : List (Option (List ℕ))) → StartsWith (talk_of h (l.texts ++ more)) l.written
+StaysFront Stages.WriteFailed h l = (more : List (Option (List ℕ))) → StartsWith (talk_of h (l.texts ++ more)) l.written
 StaysFront Stages.Spent h l = Unit {0}
 
 -- What holds of a connection that was made with a wire as first, handed out these bodies and was told these texts: what

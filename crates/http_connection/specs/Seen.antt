@@ -1,18 +1,31 @@
 -- What contracts see of a connection.
-use Rattle.std.specs.Prelude.{ℕ, Bool, List, Option}
+use Rattle.std.specs.Prelude.{ℕ, Bool, false, List, Option}
 use Rattle.http_connection.specs.declared.kept.Kept.{Kept}
 
--- The state of a wire: the bytes that were read of it, that are left and that were written, where these are told; how
--- often it failed, and whether it is closed.
+-- how often a wire failed, and whether a write of it did before it was closed
+pub record Failures : Type 0 where
+  pub count : ℕ
+  pub cut : Bool
+
+-- the same by its parts
+abbrev pub failures_of : ℕ → Bool → Failures
+failures_of count cut = record { count = count; cut = cut }
+
+-- of a wire that has not failed
+abbrev pub no_failures : Failures
+no_failures = failures_of 0 false
+
+-- The state of a wire: the bytes that were read of it, that are left and that were written, where these are told; its
+-- failures, and whether it is closed.
 pub record Line : Type 0 where
   pub given : Option (List ℕ)
   pub left : Option (List ℕ)
   pub taken : Option (List ℕ)
-  pub faults : ℕ
+  pub faults : Failures
   pub closed : Bool
 
 -- the same by its parts
-abbrev pub line_of : Option (List ℕ) → Option (List ℕ) → Option (List ℕ) → ℕ → Bool → Line
+abbrev pub line_of : Option (List ℕ) → Option (List ℕ) → Option (List ℕ) → Failures → Bool → Line
 line_of given left taken faults closed =
     record { given = given; left = left; taken = taken; faults = faults; closed = closed }
 

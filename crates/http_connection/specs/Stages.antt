@@ -1,7 +1,7 @@
 -- How a connection stands, and what may be asked of it then.
 use Rattle.std.specs.Prelude.{◌≡◌, ◌⊎◌, Bool, true, false, Option, None, Some, List, ℕ}
 use Rattle.http_connection.specs.declared.stage.Stage.{Stage}
-use Rattle.http_connection.specs.declared.stage.Stage.TheVariants.{Reads, Owes, Ended, Closed, Faulted, Spent}
+use Rattle.http_connection.specs.declared.stage.Stage.TheVariants.{Reads, Owes, Ended, Closed, ReadFailed, WriteFailed, Spent}
 use Rattle.http_connection.specs.declared.stage.Ending.{Ending}
 use Rattle.http_connection.specs.declared.stage.Ending.TheVariants as Ends
 use Rattle.http_connection.specs.declared.stage.Standing.{Standing}
@@ -11,8 +11,8 @@ use Rattle.http_connection.specs.declared.stage.Standing.TheVariants as Stands
 abbrev pub stage_behind : Ending → Stage
 stage_behind Ends.Ended = Ended
 stage_behind Ends.Closed = Closed
-stage_behind Ends.ReadFailed = Faulted
-stage_behind Ends.WriteFailed = Faulted
+stage_behind Ends.ReadFailed = ReadFailed
+stage_behind Ends.WriteFailed = WriteFailed
 
 -- how a connection shows to its user
 abbrev pub stage_of : Standing → Stage
@@ -38,15 +38,19 @@ MayBeAsked stage = (stage ≡ Reads) ⊎ (stage ≡ Spent)
 abbrev pub MayBeTold : Stage → Type 0
 MayBeTold stage = (stage ≡ Owes) ⊎ (stage ≡ Spent)
 
+-- a call of the wire failed
+abbrev pub IsFailed : Stage → Type 0
+IsFailed stage = (stage ≡ ReadFailed) ⊎ (stage ≡ WriteFailed)
+
 -- nothing more passes on the connection
 abbrev pub IsOver : Stage → Type 0
-IsOver stage = (stage ≡ Ended) ⊎ ((stage ≡ Closed) ⊎ (stage ≡ Faulted))
+IsOver stage = (stage ≡ Ended) ⊎ ((stage ≡ Closed) ⊎ IsFailed stage)
 
 -- a request was handed out, which is owed an answer then; or none comes any more
 abbrev pub IsBehindAsking : Option (List ℕ) → Stage → Type 0
 IsBehindAsking (Some body) stage = stage ≡ Owes
 IsBehindAsking None stage = IsOver stage
 
--- the connection goes on behind an answer, or that closed it, or the wire failed
+-- the connection goes on behind an answer, or that closed it, or a write failed
 abbrev pub IsBehindTelling : Stage → Type 0
-IsBehindTelling stage = (stage ≡ Reads) ⊎ ((stage ≡ Closed) ⊎ (stage ≡ Faulted))
+IsBehindTelling stage = (stage ≡ Reads) ⊎ ((stage ≡ Closed) ⊎ (stage ≡ WriteFailed))

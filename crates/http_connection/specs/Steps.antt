@@ -4,7 +4,6 @@ use Rattle.std.specs.Prelude.{◌≡◌, ◌<◌, ◌≤◌, ◌+◌, ℕ, Bool,
 use Rattle.std.specs.Prelude.{Option, None, Some, Result, Ok, IsErr}
 use Rattle.std.specs.Io.KnownBytes.{Appends}
 use Rattle.outside_traits.specs.Told.{Lists}
-use Rattle.outside_traits.specs.Causes.{Rose}
 use Rattle.outside_traits.specs.declared.calls.WireCall.{WireCall}
 use Rattle.outside_traits.specs.declared.calls.WireCall.TheVariants.{Read}
 use Rattle.http_port.specs.Prompt.{read_in, written_in}
@@ -15,7 +14,7 @@ use Rattle.http_connection.specs.declared.stage.Ending.{Ending}
 use Rattle.http_connection.specs.declared.stage.Standing.{Standing}
 use Rattle.http_connection.specs.declared.stage.Standing.TheVariants as Stands
 use Rattle.http_connection.specs.Seen.{Line, Seen}
-use Rattle.http_connection.specs.Talking.{Log, log, log_of, IsAnswered, HasGiven, IsOpen}
+use Rattle.http_connection.specs.Talking.{Log, log, log_of, IsAnswered, HasGiven, IsOpen, HasFailed, cut_by_one_more}
 use Rattle.http_connection.specs.Prompt.{IsDone}
 
 -- What is handed out by how the connection stands, and how it stands then: a request that is held; none of a connection
@@ -47,18 +46,17 @@ abbrev pub IsFrontOf : Bool → List ℕ → List ℕ → Type 0
 IsFrontOf false text went = went ≡ text
 IsFrontOf true text went = (count : ℕ) × (count < length text) × (went ≡ take count text)
 
--- a wire that had failed so often before failed since then where what went out was cut
-abbrev pub Counts : Bool → ℕ → ℕ → Type 0
-Counts false before now = now ≡ before
-Counts true before now = (before ≤ now) × Rose before now
+-- a wire that was so before failed in a write since then where what went out was cut
+abbrev pub Counts : Bool → Line → Line → Type 0
+Counts false before now = now.faults ≡ before.faults
+Counts true before now = HasFailed before.faults now.faults × (now.faults.cut ≡ cut_by_one_more before)
 
--- A wire took so many bytes of the text: all, unless it failed.
+-- A wire took so many bytes of the text: all, unless a write failed.
 pub record Takes (text : List ℕ) (count : ℕ) (before now : Line) : Type 0 where
   pub within : count ≤ length text
   pub taken : Appends before.taken now.taken (take count text)
-  pub calm : count ≡ length text → now.faults ≡ before.faults
-  pub cause : count < length text → Rose before.faults now.faults
-  pub later : before.faults ≤ now.faults
+  pub calm : count ≡ length text → Counts false before now
+  pub cause : count < length text → Counts true before now
   pub given : now.given ≡ before.given
   pub left : now.left ≡ before.left
   pub closed : now.closed ≡ before.closed
@@ -69,7 +67,7 @@ pub record Sends (text : List ℕ) (cut : Bool) (was now : Seen) : Type 0 where
   pub front : IsFrontOf cut text went
   pub written : now.kept.written.items ≡ was.kept.written.items ++ went
   pub taken : Appends was.line.taken now.line.taken went
-  pub counts : Counts cut was.line.faults now.line.faults
+  pub counts : Counts cut was.line now.line
   pub given : now.line.given ≡ was.line.given
   pub left : now.line.left ≡ was.line.left
   pub closed : now.line.closed ≡ was.line.closed

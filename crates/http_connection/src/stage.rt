@@ -15,8 +15,10 @@ pub enum Stage {
     Ended,
     /// What was written last closes the connection, and the wire is closed.
     Closed,
-    /// The wire failed, and is closed.
-    Faulted,
+    /// A read failed, and the wire is closed.
+    ReadFailed,
+    /// A write failed, and the wire is closed.
+    WriteFailed,
     /// Memory ran out.
     Spent,
 }
@@ -28,9 +30,9 @@ pub(crate) enum Ending {
     Ended,
     /// What was written last closes the connection.
     Closed,
-    /// The wire failed in a read.
+    /// A read failed.
     ReadFailed,
-    /// The wire failed in a write.
+    /// A write failed.
     WriteFailed,
 }
 
@@ -70,8 +72,8 @@ impl Ending {
         match self {
             Ending::Ended => Stage::Ended,
             Ending::Closed => Stage::Closed,
-            Ending::ReadFailed => Stage::Faulted,
-            Ending::WriteFailed => Stage::Faulted,
+            Ending::ReadFailed => Stage::ReadFailed,
+            Ending::WriteFailed => Stage::WriteFailed,
         }
     }
 }

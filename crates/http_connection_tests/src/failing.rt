@@ -4,7 +4,7 @@ use crate::talk::{Ended, finished};
 use std::alloc::{AllocError, Global};
 use test_rows::{Row, TableError};
 
-/// How many calls the wire has without a failure, and whether the connection is faulted with a front of what is asked and written where any one of them fails.
+/// How many calls the wire has without a failure, and whether the connection ends so, with a front of what is asked and written, where any one of them fails.
 pub(crate) fn given(alloc: Global, row: &Row<'_>) -> Result<String, TableError> {
     let stream = row.bytes(alloc, "bytes")?;
     let says = row.text(alloc, "says")?;
@@ -28,9 +28,9 @@ fn count_wrong(
     whole: &Ended,
 ) -> Result<u64, AllocError> {
     let mut wrong = 0_u64;
-    for call in 0..whole.call_count() as u64 {
-        let cut = finished(alloc, stream, says, piece, &[call])?;
-        if cut.end() != "faulted" || !cut.begins_as(whole) {
+    for call in 0..whole.call_count() {
+        let cut = finished(alloc, stream, says, piece, &[call as u64])?;
+        if cut.end() != whole.end_at(call) || !cut.begins_as(whole) {
             wrong = wrong.saturating_add(1);
         }
     }

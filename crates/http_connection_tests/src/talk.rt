@@ -197,6 +197,14 @@ impl Ended {
         self.wire.calls().len()
     }
 
+    /// How the connection ends where the call of a number fails.
+    pub(crate) fn end_at(&self, call: usize) -> &'static str {
+        match self.wire.calls().get(call) {
+            Some(WireCall::Wrote(_)) => "write failed",
+            _ => "read failed",
+        }
+    }
+
     /// The calls of the wire, in order.
     pub(crate) fn calls(&self, alloc: Global) -> Result<String, AllocError> {
         listed(alloc, self.wire.calls())
@@ -252,7 +260,8 @@ fn name_of(stage: Stage) -> &'static str {
         Stage::Owes => "owes",
         Stage::Ended => "ended",
         Stage::Closed => "closed",
-        Stage::Faulted => "faulted",
+        Stage::ReadFailed => "read failed",
+        Stage::WriteFailed => "write failed",
         Stage::Spent => "spent",
     }
 }

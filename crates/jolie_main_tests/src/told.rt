@@ -16,9 +16,10 @@ pub fn told(alloc: Global, status: u8, world: &Meeting) -> Result<String, AllocE
     let back = counts.doors_back();
     let wires = counts.wires_back();
     let failed = counts.wires_failed();
+    let cut = counts.wires_cut();
     let ended = counts.wires_ended();
     let counted = format!(in alloc;
-        "doors {opened} back {back}, wires {wires} failed {failed} ended {ended}"
+        "doors {opened} back {back}, wires {wires} failed {failed} cut {cut} ended {ended}"
     )?;
     said.push_str(counted.as_str())?;
     for wire in world.doors.returned() {

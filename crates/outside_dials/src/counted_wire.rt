@@ -51,6 +51,8 @@ impl<W: Wire> Wire for CountedWire<W> {
 
     ghost faults = { λ w. w.faults };
 
+    ghost cut = { λ w. W.cut w.wire };
+
     ghost closed = { λ w. W.closed w.wire };
 
     ghost ended = { λ w. W.ended w.wire };

@@ -4,11 +4,12 @@ ghost use Rattle.outside_doors.specs.Returns.{counted};
 use outside_traits::{Failed, Wire};
 use std::marker::Model;
 
-/// A wire that keeps what whoever takes it back wants to know: how often it failed, and whether it ended.
+/// A wire that keeps what whoever takes it back wants to know: how often it failed, whether a write did, and whether it ended.
 #[derive(Drop)]
 pub struct CountedWire<W: Wire> {
     wire: W,
     faults: u64,
+    cut: bool,
     ended: bool,
     closed: bool,
 }
@@ -19,7 +20,7 @@ impl<W: Wire> Model for CountedWire<W> {
 
     ghost Value = { Counted W };
 
-    ghost view = { λ w. record { wire = w.wire; faults = w.faults; ended = w.ended } };
+    ghost view = { λ w. record { wire = w.wire; faults = w.faults; cut = w.cut; ended = w.ended } };
 
     ghost invariant = { λ w. W.closed w.wire ≡ w.closed };
 }
@@ -33,6 +34,7 @@ impl<W: Wire> CountedWire<W> {
         CountedWire {
             wire,
             faults: 0,
+            cut: false,
             ended: false,
             closed: false,
         }
@@ -50,6 +52,13 @@ impl<W: Wire> CountedWire<W> {
         ensures { result ≡ self.now.faults }
     {
         self.faults
+    }
+
+    /// Whether a write has failed before the wire was closed.
+    pub fn is_cut(&self) -> bool
+        ensures { result ≡ self.now.cut }
+    {
+        self.cut
     }
 
     /// Whether a read has told the end of what comes in.
@@ -71,6 +80,8 @@ impl<W: Wire> Wire for CountedWire<W> {
 
     ghost faults = { λ w. w.faults };
 
+    ghost cut = { λ w. w.cut };
+
     ghost closed = { λ w. W.closed w.wire };
 
     ghost ended = { λ w. w.ended };
@@ -89,6 +100,7 @@ impl<W: Wire> Wire for CountedWire<W> {
         let answer = self.wire.write(from);
         if answer.is_err() {
             self.faults = self.faults.saturating_add(1);
+            self.cut |= !self.closed;
         }
         answer
     }

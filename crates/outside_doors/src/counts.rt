@@ -115,6 +115,7 @@ pub struct Counts {
     wires_given: u64,
     wires_back: u64,
     wires_failed: u64,
+    wires_cut: u64,
     wires_ended: u64,
     waits: u64,
 }
@@ -124,7 +125,7 @@ impl Model for Counts {
 
     ghost Value = { Tally };
 
-    ghost view = { λ c. record { opened = c.opened; doors_back = c.doors_back; doors_ended = c.doors_ended; wires_given = c.wires_given; wires_back = c.wires_back; wires_failed = c.wires_failed; wires_ended = c.wires_ended; waits = c.waits } };
+    ghost view = { λ c. record { opened = c.opened; doors_back = c.doors_back; doors_ended = c.doors_ended; wires_given = c.wires_given; wires_back = c.wires_back; wires_failed = c.wires_failed; wires_cut = c.wires_cut; wires_ended = c.wires_ended; waits = c.waits } };
 }
 
 impl Counts {
@@ -139,6 +140,7 @@ impl Counts {
             wires_given: 0,
             wires_back: 0,
             wires_failed: 0,
+            wires_cut: 0,
             wires_ended: 0,
             waits: 0,
         }
@@ -186,6 +188,13 @@ impl Counts {
         self.wires_failed
     }
 
+    /// Those of the wires that came back of which a write had failed.
+    pub fn wires_cut(&self) -> u64
+        ensures { result ≡ self.now.wires_cut }
+    {
+        self.wires_cut
+    }
+
     /// Those of the wires that came back of which a read had told the end of what comes in.
     pub fn wires_ended(&self) -> u64
         ensures { result ≡ self.now.wires_ended }
@@ -219,13 +228,17 @@ impl Counts {
         self.waits = self.waits.saturating_add(door.waits);
     }
 
-    /// Counts a wire that came back with this count of faults, and whether it had ended.
-    pub fn add_wire(&mut self, faults: u64, has_ended: bool)
-        ensures { self.new ≡ with_wire faults has_ended self.old }
+    /// Counts a wire that came back with this count of faults, whether a write of it had failed, and whether it had
+    /// ended.
+    pub fn add_wire(&mut self, faults: u64, is_cut: bool, has_ended: bool)
+        ensures { self.new ≡ with_wire faults is_cut has_ended self.old }
     {
         self.wires_back = self.wires_back.saturating_add(1);
         if faults != 0 {
             self.wires_failed = self.wires_failed.saturating_add(1);
+        }
+        if is_cut {
+            self.wires_cut = self.wires_cut.saturating_add(1);
         }
         if has_ended {
             self.wires_ended = self.wires_ended.saturating_add(1);

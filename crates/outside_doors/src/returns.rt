@@ -104,7 +104,7 @@ impl<W: Wire + Drop> Model for Return<W> {
 
     ghost Value = { WireTold };
 
-    ghost view = { λ r. record { read = W.given r.wire.wire; written = W.taken r.wire.wire; faults = r.wire.faults; ended = r.wire.ended } };
+    ghost view = { λ r. record { read = W.given r.wire.wire; written = W.taken r.wire.wire; faults = r.wire.faults; cut = r.wire.cut; ended = r.wire.ended } };
 
     ghost invariant = { λ r. W.closed r.wire.wire ≡ true };
 }
@@ -112,7 +112,7 @@ impl<W: Wire + Drop> Model for Return<W> {
 impl<W: Wire + Drop> Return<W> {
     /// Closes a wire that comes back.
     fn new(wire: CountedWire<W>) -> Return<W>
-        ensures { result ≡ wire_told (W.given wire.wire) (W.taken wire.wire) wire.faults wire.ended }
+        ensures { result ≡ wire_told (W.given wire.wire) (W.taken wire.wire) wire.faults wire.cut wire.ended }
     {
         let mut wire = wire;
         wire.close();
@@ -133,6 +133,13 @@ impl<W: Wire + Drop> Return<W> {
         ensures { result ≡ self.now.faults }
     {
         self.wire.faults()
+    }
+
+    /// Whether a write had failed before the wire was closed.
+    pub fn is_cut(&self) -> bool
+        ensures { result ≡ self.now.cut }
+    {
+        self.wire.is_cut()
     }
 
     /// Whether a read had told the end of what comes in.
@@ -178,7 +185,7 @@ impl<W: Wire + Drop> Returns<W> {
 
     /// Keeps one more wire.
     pub(crate) fn keep(&mut self, wire: CountedWire<W>)
-        ensures { Lists self.old self.new (wire_told (W.given wire.wire) (W.taken wire.wire) wire.faults wire.ended ∷ []) }
+        ensures { Lists self.old self.new (wire_told (W.given wire.wire) (W.taken wire.wire) wire.faults wire.cut wire.ended ∷ []) }
     {
         if self.kept.push(Return::new(wire)).is_err() {
             self.is_whole = false;

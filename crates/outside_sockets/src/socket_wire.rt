@@ -12,6 +12,7 @@ use std::net::{OpenStream, Shutdown};
 pub struct SocketWire<S: Read + Write + OpenStream + Drop> {
     stream: Option<S>,
     faults: u64,
+    cut: bool,
     ended: bool,
 }
 
@@ -21,19 +22,21 @@ impl<S: Read + Write + OpenStream + Drop> Model for SocketWire<S> {
 
     ghost Value = { SocketTold };
 
-    ghost view = { λ w. record { faults = w.faults; closed = is_none w.stream; ended = w.ended } };
+    ghost view = { λ w. record { faults = w.faults; cut = w.cut; closed = is_none w.stream; ended = w.ended } };
 }
 
 impl<S: Read + Write + OpenStream + Drop> SocketWire<S> {
     /// A connection over a stream, of which no call has failed.
     pub fn new(stream: S) -> SocketWire<S>
         ensures faults { result.faults ≡ 0 }
+        ensures cut { result.cut ≡ false }
         ensures closed { result.closed ≡ false }
         ensures ended { result.ended ≡ false }
     {
         SocketWire {
             stream: Some(stream),
             faults: 0,
+            cut: false,
             ended: false,
         }
     }
@@ -43,6 +46,13 @@ impl<S: Read + Write + OpenStream + Drop> SocketWire<S> {
         ensures { result ≡ self.now.faults }
     {
         self.faults
+    }
+
+    /// Whether a write has failed before the wire was closed.
+    pub fn is_cut(&self) -> bool
+        ensures { result ≡ self.now.cut }
+    {
+        self.cut
     }
 
     /// Whether a read has told the end of what comes in.
@@ -64,6 +74,8 @@ impl<S: Read + Write + OpenStream + Drop> Wire for SocketWire<S> {
 
     ghost faults = { λ w. w.faults };
 
+    ghost cut = { λ w. w.cut };
+
     ghost closed = { λ w. w.closed };
 
     ghost ended = { λ w. w.ended };
@@ -82,12 +94,14 @@ impl<S: Read + Write + OpenStream + Drop> Wire for SocketWire<S> {
     }
 
     fn write(&mut self, from: &[u8]) -> Result<usize, Failed> {
+        let is_closed = self.stream.is_none();
         let answer = match &mut self.stream {
             Some(stream) => write_uninterrupted(stream, from),
             None => Err(Failed),
         };
         if answer.is_err() {
             self.faults = self.faults.saturating_add(1);
+            self.cut |= !is_closed;
         }
         answer
     }

@@ -9,12 +9,13 @@ pub record Taped : Type 0 where
   pub left : List ℕ
 
 -- a wire that fails only for want of room, or because it is closed; its calls are told while there is memory for them;
--- and whether a read told the end of what comes in
+-- whether a write failed before it was closed; and whether a read told the end of what comes in
 pub record CalmLine : Type 0 where
   pub tape : Taped
   pub shelf : Shelved
   pub calls : Option (List WireCall)
   pub faults : ℕ
+  pub cut : Bool
   pub closed : Bool
   pub ended : Bool
 
@@ -25,6 +26,7 @@ pub record ScriptedLine : Type 0 where
   pub shelf : Shelved
   pub calls : Option (List WireCall)
   pub piece : ℕ
+  pub cut : Bool
   pub closed : Bool
   pub ended : Bool
 

@@ -1,4 +1,4 @@
-ghost use Rattle.std.specs.Prelude.{◌≡◌, ◌<◌, ◌≤◌, ◌||◌, ◌↔◌, ◌⊎◌, [], ◌∷◌, true, false, Ok, Some, IsTrue, IsErr, IfOk, IfSome, length, min};
+ghost use Rattle.std.specs.Prelude.{◌≡◌, ◌<◌, ◌≤◌, ◌||◌, ◌↔◌, ◌⊎◌, [], ◌∷◌, true, false, not, Ok, Some, IsTrue, IsErr, IfOk, IfSome, MatchResult, length, min};
 ghost use Rattle.std.specs.Io.{ReadsAtMost, WritesAtMost};
 ghost use Rattle.std.specs.Io.KnownBytes.{ReadConsumes, WriteAppends};
 ghost use Rattle.outside_traits.specs.Calls.{moved, tells_end};
@@ -23,6 +23,7 @@ pub struct CalmWire {
     shelf: Shelf,
     calls: Calls,
     faults: u64,
+    cut: bool,
     closed: bool,
     ended: bool,
 }
@@ -32,7 +33,7 @@ impl Model for CalmWire {
 
     ghost Value = { CalmLine };
 
-    ghost view = { λ w. record { tape = w.tape; shelf = w.shelf; calls = w.calls; faults = w.faults; closed = w.closed; ended = w.ended } };
+    ghost view = { λ w. record { tape = w.tape; shelf = w.shelf; calls = w.calls; faults = w.faults; cut = w.cut; closed = w.closed; ended = w.ended } };
 }
 
 impl CalmWire {
@@ -44,6 +45,7 @@ impl CalmWire {
         ensures room { IfOk result (λ wire. wire.shelf.room ≡ room) }
         ensures calls { IfOk result (λ wire. wire.calls ≡ Some []) }
         ensures faults { IfOk result (λ wire. wire.faults ≡ 0) }
+        ensures cut { IfOk result (λ wire. wire.cut ≡ false) }
         ensures closed { IfOk result (λ wire. wire.closed ≡ false) }
         ensures ended { IfOk result (λ wire. wire.ended ≡ false) }
     {
@@ -54,6 +56,7 @@ impl CalmWire {
             shelf,
             calls: Calls::new(alloc),
             faults: 0,
+            cut: false,
             closed: false,
             ended: false,
         })
@@ -85,6 +88,7 @@ impl CalmWire {
         ensures failed { IsErr result }
         ensures rose { Rose self.old.faults self.new.faults }
         ensures later { self.old.faults ≤ self.new.faults }
+        ensures cut { self.new.cut ≡ (self.old.cut || not self.old.closed) }
         ensures tape { self.new.tape ≡ self.old.tape }
         ensures shelf { self.new.shelf ≡ self.old.shelf }
         ensures calls { Lists self.old.calls self.new.calls (Wrote 0 ∷ []) }
@@ -93,6 +97,7 @@ impl CalmWire {
     {
         self.calls.note(WireCall::Wrote(0));
         self.faults = self.faults.saturating_add(1);
+        self.cut |= !self.closed;
         Err(Failed)
     }
 }
@@ -107,6 +112,8 @@ impl Wire for CalmWire {
     ghost calls = { λ w. w.calls };
 
     ghost faults = { λ w. w.faults };
+
+    ghost cut = { λ w. w.cut };
 
     ghost closed = { λ w. w.closed };
 
@@ -123,6 +130,7 @@ impl Wire for CalmWire {
         ensures closed { self.new.closed ≡ self.old.closed }
         ensures ended { self.new.ended ≡ (self.old.ended || tells_end self.old.closed (length into.old) result) }
         ensures shut { IsTrue self.old.closed → result ≡ Ok 0 }
+        ensures cut { self.new.cut ≡ self.old.cut }
         ensures cause { HasCause self.old.faults self.new.faults result }
     {
         if self.closed {
@@ -148,6 +156,7 @@ impl Wire for CalmWire {
         ensures closed { self.new.closed ≡ self.old.closed }
         ensures ended { self.new.ended ≡ self.old.ended }
         ensures shut { IsTrue self.old.closed → IsErr result }
+        ensures cut { MatchResult result (λ _. self.new.cut ≡ self.old.cut) (λ _. self.new.cut ≡ (self.old.cut || not self.old.closed)) }
         ensures cause { HasCause self.old.faults self.new.faults result }
     {
         if self.closed {

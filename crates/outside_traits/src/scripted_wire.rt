@@ -1,4 +1,4 @@
-ghost use Rattle.std.specs.Prelude.{◌≡◌, ◌<◌, ◌||◌, ◌↔◌, ◌⊎◌, [], ◌∷◌, true, false, Ok, Some, IsTrue, IsErr, IfOk, IfSome, Contains, length, min};
+ghost use Rattle.std.specs.Prelude.{◌≡◌, ◌<◌, ◌||◌, ◌↔◌, ◌⊎◌, [], ◌∷◌, true, false, not, Ok, Some, IsTrue, IsErr, IfOk, IfSome, Contains, MatchResult, length, min};
 ghost use Rattle.std.specs.Io.{ReadsAtMost, WritesAtMost};
 ghost use Rattle.std.specs.Io.KnownBytes.{ReadConsumes, WriteAppends};
 ghost use Rattle.outside_traits.specs.Calls.{moved, tells_end};
@@ -25,6 +25,7 @@ pub struct ScriptedWire {
     shelf: Shelf,
     calls: Calls,
     piece: usize,
+    cut: bool,
     closed: bool,
     ended: bool,
 }
@@ -35,7 +36,7 @@ impl Model for ScriptedWire {
 
     ghost Value = { ScriptedLine };
 
-    ghost view = { λ w. record { script = w.script; tape = w.tape; shelf = w.shelf; calls = w.calls; piece = w.piece; closed = w.closed; ended = w.ended } };
+    ghost view = { λ w. record { script = w.script; tape = w.tape; shelf = w.shelf; calls = w.calls; piece = w.piece; cut = w.cut; closed = w.closed; ended = w.ended } };
 
     ghost invariant = { λ w. 0 < w.piece };
 }
@@ -57,6 +58,7 @@ impl ScriptedWire {
         ensures room { IfOk result (λ wire. wire.shelf.room ≡ room) }
         ensures calls { IfOk result (λ wire. wire.calls ≡ Some []) }
         ensures piece { IfOk result (λ wire. wire.piece ≡ piece) }
+        ensures cut { IfOk result (λ wire. wire.cut ≡ false) }
         ensures closed { IfOk result (λ wire. wire.closed ≡ false) }
         ensures ended { IfOk result (λ wire. wire.ended ≡ false) }
     {
@@ -68,6 +70,7 @@ impl ScriptedWire {
             shelf,
             calls: Calls::new(alloc),
             piece,
+            cut: false,
             closed: false,
             ended: false,
         })
@@ -93,6 +96,23 @@ impl ScriptedWire {
     {
         self.calls.noted()
     }
+
+    /// Notes a write that failed, which was counted.
+    fn fail(&mut self) -> Result<usize, Failed>
+        ensures failed { IsErr result }
+        ensures script { self.new.script ≡ self.old.script }
+        ensures tape { self.new.tape ≡ self.old.tape }
+        ensures shelf { self.new.shelf ≡ self.old.shelf }
+        ensures calls { Lists self.old.calls self.new.calls (Wrote 0 ∷ []) }
+        ensures piece { self.new.piece ≡ self.old.piece }
+        ensures cut { self.new.cut ≡ (self.old.cut || not self.old.closed) }
+        ensures closed { self.new.closed ≡ self.old.closed }
+        ensures ended { self.new.ended ≡ self.old.ended }
+    {
+        self.calls.note(WireCall::Wrote(0));
+        self.cut |= !self.closed;
+        Err(Failed)
+    }
 }
 
 impl Wire for ScriptedWire {
@@ -105,6 +125,8 @@ impl Wire for ScriptedWire {
     ghost calls = { λ w. w.calls };
 
     ghost faults = { λ w. w.script.faults };
+
+    ghost cut = { λ w. w.cut };
 
     ghost closed = { λ w. w.closed };
 
@@ -126,6 +148,7 @@ impl Wire for ScriptedWire {
         ensures closed { self.new.closed ≡ self.old.closed }
         ensures ended { self.new.ended ≡ (self.old.ended || tells_end self.old.closed (length into.old) result) }
         ensures shut { IsTrue self.old.closed → result ≡ Ok 0 }
+        ensures cut { self.new.cut ≡ self.old.cut }
         ensures cause { HasCause self.old.script.faults self.new.script.faults result }
     {
         if self.closed {
@@ -158,23 +181,22 @@ impl Wire for ScriptedWire {
         ensures closed { self.new.closed ≡ self.old.closed }
         ensures ended { self.new.ended ≡ self.old.ended }
         ensures shut { IsTrue self.old.closed → IsErr result }
+        ensures cut { MatchResult result (λ _. self.new.cut ≡ self.old.cut) (λ _. self.new.cut ≡ (self.old.cut || not self.old.closed)) }
         ensures cause { HasCause self.old.script.faults self.new.script.faults result }
     {
         if self.closed {
-            self.calls.note(WireCall::Wrote(0));
             self.script.count_fault();
-            return Err(Failed);
+            return self.fail();
         }
         if self.script.fails() {
-            self.calls.note(WireCall::Wrote(0));
-            return Err(Failed);
+            return self.fail();
         }
         let count = self.shelf.keep(self.piece, from);
-        self.calls.note(WireCall::Wrote(count));
         if count == 0 && !from.is_empty() {
             self.script.count_fault();
-            return Err(Failed);
+            return self.fail();
         }
+        self.calls.note(WireCall::Wrote(count));
         Ok(count)
     }
 

@@ -1,4 +1,4 @@
-ghost use Rattle.std.specs.Prelude.{◌≡◌, ◌<◌, ◌≤◌, ◌||◌, List, [], ◌∷◌, ℕ, Bool, true, length, take, Ok, IsTrue, IsErr, IfOk, IfSome};
+ghost use Rattle.std.specs.Prelude.{◌≡◌, ◌<◌, ◌≤◌, ◌||◌, not, List, [], ◌∷◌, ℕ, Bool, true, length, take, Ok, IsTrue, IsErr, IfOk, IfSome, MatchResult};
 ghost use Rattle.std.specs.declared.option.Option.{Option};
 ghost use Rattle.std.specs.Io.{ReadsAtMost, WritesAtMost};
 ghost use Rattle.std.specs.Io.KnownBytes.{ReadConsumes, WriteAppends, IsAtEnd};
@@ -74,6 +74,9 @@ pub trait Wire {
     /// A number that rises with each call that fails, and stands else.
     ghost faults: { Self → ℕ };
 
+    /// Whether a write has failed before the wire was closed.
+    ghost cut: { Self → Bool };
+
     /// Whether the wire is closed.
     ghost closed: { Self → Bool };
 
@@ -91,6 +94,7 @@ pub trait Wire {
         ensures closed { closed self.new ≡ closed self.old }
         ensures ended { ended self.new ≡ (ended self.old || tells_end (closed self.old) (length into.old) result) }
         ensures shut { IsTrue (closed self.old) → result ≡ Ok 0 }
+        ensures cut { cut self.new ≡ cut self.old }
         ensures cause { HasCause (faults self.old) (faults self.new) result };
 
     /// Takes a front of the bytes.
@@ -104,6 +108,7 @@ pub trait Wire {
         ensures closed { closed self.new ≡ closed self.old }
         ensures ended { ended self.new ≡ ended self.old }
         ensures shut { IsTrue (closed self.old) → IsErr result }
+        ensures cut { MatchResult result (λ _. cut self.new ≡ cut self.old) (λ _. cut self.new ≡ (cut self.old || not (closed self.old))) }
         ensures cause { HasCause (faults self.old) (faults self.new) result };
 
     /// Closes the wire, which drops what is left to read.
@@ -114,5 +119,6 @@ pub trait Wire {
         ensures taken { taken self.new ≡ taken self.old }
         ensures calls { calls self.new ≡ calls self.old }
         ensures ended { ended self.new ≡ ended self.old }
+        ensures cut { cut self.new ≡ cut self.old }
         ensures faults { faults self.new ≡ faults self.old };
 }

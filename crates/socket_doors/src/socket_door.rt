@@ -80,6 +80,7 @@ impl<H: Net + Clock + Copy + Drop> SocketDoor<H> {
         ensures failed { IfErr accepted (λ error. obstacle_of error ≡ Obstacles.Fault → IsErr result × (self.new.empty ≡ false)) }
         ensures occupied { IsOk accepted → self.new.empty ≡ false }
         ensures fresh { IfCame result (λ wire. IsFresh None None None wire.faults wire.closed) }
+        ensures uncut { IfCame result (λ wire. wire.cut ≡ false) }
         ensures unended { IfCame result (λ wire. wire.ended ≡ false) }
         ensures wires { self.new.counts.wires ≡ wires_after result self.old.counts.wires }
         ensures waits { self.new.counts.waits ≡ waits_after result self.old.counts.waits }
@@ -104,6 +105,7 @@ impl<H: Net + Clock + Copy + Drop> SocketDoor<H> {
         ensures want { obstacle ≡ Obstacles.Want → (result ≡ Ok Knock.NotYet) × (self.new.empty ≡ self.old.empty) }
         ensures failed { obstacle ≡ Obstacles.Fault → IsErr result × (self.new.empty ≡ self.old.empty) }
         ensures fresh { IfCame result (λ wire. IsFresh None None None wire.faults wire.closed) }
+        ensures uncut { IfCame result (λ wire. wire.cut ≡ false) }
         ensures unended { IfCame result (λ wire. wire.ended ≡ false) }
         ensures wires { self.new.counts.wires ≡ wires_after result self.old.counts.wires }
         ensures waits { self.new.counts.waits ≡ waits_after result self.old.counts.waits }
@@ -142,6 +144,7 @@ impl<H: Net + Clock + Copy + Drop> SocketDoor<H> {
     /// A connection that has come.
     fn wire(&self, stream: H::Stream) -> SocketWire<PatientStream<H::Stream, H>>
         ensures faults { result.faults ≡ 0 }
+        ensures cut { result.cut ≡ false }
         ensures closed { result.closed ≡ false }
         ensures ended { result.ended ≡ false }
     {

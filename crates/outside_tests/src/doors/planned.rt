@@ -112,14 +112,21 @@ fn scripted_door(alloc: Global, line: &str) -> Result<ScriptedDoor, AllocError> 
     Ok(door)
 }
 
-/// `.` is nobody, `!` a failure, and each other word a connection with these bytes, of which the second call fails where a `!` stands at its end.
+/// `.` is nobody, `!` a failure, and each other word a connection with these bytes, of which the second call fails where a `!` stands at its end, and each write where a `|` does.
 fn expect_visit(door: &mut ScriptedDoor, word: &str) -> Result<(), AllocError> {
     match word {
         "." => door.expect_nobody(),
         "!" => door.expect_failure(),
-        _ => match word.strip_suffix("!") {
-            Some(bytes) => door.expect(bytes.as_bytes(), ROOM, 2, &[1]),
-            None => door.expect(word.as_bytes(), ROOM, 2, &[]),
-        },
+        _ => expect_connection(door, word),
     }
+}
+
+fn expect_connection(door: &mut ScriptedDoor, word: &str) -> Result<(), AllocError> {
+    if let Some(bytes) = word.strip_suffix("!") {
+        return door.expect(bytes.as_bytes(), ROOM, 2, &[1]);
+    }
+    if let Some(bytes) = word.strip_suffix("|") {
+        return door.expect(bytes.as_bytes(), 0, 2, &[]);
+    }
+    door.expect(word.as_bytes(), ROOM, 2, &[])
 }

@@ -18,6 +18,7 @@ pub fn tell_counts(
     add_count(alloc, "given", counts.wires_given(), said)?;
     add_count(alloc, "wires back", counts.wires_back(), said)?;
     add_count(alloc, "failed", counts.wires_failed(), said)?;
+    add_count(alloc, "cut", counts.wires_cut(), said)?;
     add_count(alloc, "wires ended", counts.wires_ended(), said)?;
     add_count(alloc, "waits", counts.waits(), said)?;
     add_count(alloc, "faults", faults, said)
@@ -74,6 +75,7 @@ pub fn tell_calm(
     for back in returned {
         let wire = back.wire();
         tell_wire(alloc, wire.given(), wire.taken(), back.faults(), said)?;
+        tell_cut(back.is_cut(), said)?;
         tell_end(back.has_ended(), said)?;
     }
     Ok(())
@@ -88,6 +90,7 @@ pub fn tell_scripted(
     for back in returned {
         let wire = back.wire();
         tell_wire(alloc, wire.given(), wire.taken(), back.faults(), said)?;
+        tell_cut(back.is_cut(), said)?;
         tell_end(back.has_ended(), said)?;
     }
     Ok(())
@@ -108,6 +111,14 @@ fn tell_wire(
     add_bytes(said, written)?;
     said.push(' ')?;
     said.push_str(digits.as_str())
+}
+
+/// Whether a write failed.
+fn tell_cut(is_cut: bool, said: &mut String) -> Result<(), AllocError> {
+    if is_cut {
+        said.push_str(" cut")?;
+    }
+    Ok(())
 }
 
 /// Whether a read told the end of what comes in.

@@ -1,7 +1,7 @@
 -- What a run over doors leaves, by its front and by what that kept.
 use Rattle.std.proofs.Common.{◌≡◌, refl, sym, ap, subst, ◌∙◌}
 use Rattle.behaviour_tree.specs.PartsView.{parts_of}
-use Rattle.http_connection.specs.Seen.{line_of}
+use Rattle.http_connection.specs.Seen.{failures_of, line_of}
 use Rattle.connection_runs.specs.Ports.{doors_of}
 use Rattle.sink_writing.specs.Sinks.{taking}
 use Rattle.door_front.specs.Dealt.{sides_of}
@@ -34,7 +34,7 @@ returns-clause-doored g c =
     let after = c.in_ok-finished.ensures.ran c.new-front.result begun.0 (refl, refl, begun.2) begun.1 in
     let kept = c.kept-2-1.given.1 (sym (after.1.0 ∙ c.new-front.ensures.same_kept)) in
     doored_by
-    (λ line. (wire : _) × (line ≡ line_of (g.D.D.W.Wire.given wire) (g.D.D.W.Wire.left wire) (g.D.D.W.Wire.taken wire) (g.D.D.W.Wire.faults wire) (g.D.D.W.Wire.closed wire)))
+    (λ line. (wire : _) × (line ≡ line_of (g.D.D.W.Wire.given wire) (g.D.D.W.Wire.left wire) (g.D.D.W.Wire.taken wire) (failures_of (g.D.D.W.Wire.faults wire) (g.D.D.W.Wire.cut wire)) (g.D.D.W.Wire.closed wire)))
     t
     (doors_told (g.D.Doors.faults c.args.doors.now) (g.D.Doors.tally c.args.doors.now) (g.D.Doors.locations c.args.doors.now) (g.D.Doors.returned c.args.doors.now) (g.D.Doors.returned_doors c.args.doors.now))
     (doors_told (g.D.Doors.faults c.open_doors.new.doors) (g.D.Doors.tally c.open_doors.new.doors) (g.D.Doors.locations c.open_doors.new.doors) (g.D.Doors.returned c.open_doors.new.doors) (g.D.Doors.returned_doors c.open_doors.new.doors))

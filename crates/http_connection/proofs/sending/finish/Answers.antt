@@ -1,3 +1,5 @@
+use Rattle.std.proofs.Common.{ap₂}
+use Rattle.http_connection.specs.Seen.{failures_of}
 use Rattle.http_connection.proofs.Calls.{writes_nothing}
 use Rattle.http_connection.proofs.sending.finish.Goals as goal
 
@@ -7,7 +9,7 @@ returns-clause-finishes g c = record {
   closed = c.close.ensures.closed;
   given = c.close.ensures.given;
   taken = c.close.ensures.taken;
-  faults = c.close.ensures.faults;
+  faults = ap₂ failures_of c.close.ensures.faults c.close.ensures.cut;
   read = c.stand.ensures.read;
   written = c.stand.ensures.written;
   reader = c.stand.ensures.reader;

@@ -1,5 +1,5 @@
 -- Piece by piece, until all was taken or the wire failed.
-use Rattle.std.proofs.Common.{◌≡◌, ◌-◌, ◌<◌, ◌≤◌, ℕ, true, false, arith, refl, sym, ap, subst, ◌∙◌, length, take, drop}
+use Rattle.std.proofs.Common.{◌≡◌, ◌-◌, ◌<◌, ◌≤◌, ◌||◌, ℕ, Bool, true, false, not, arith, refl, sym, ap, ap₂, subst, ◌∙◌, length, take, drop}
 use Rattle.std.proofs.lemmas.List.{length-drop, length-take-le, take_rest}
 use Rattle.std.proofs.Math.Seq.{take-add}
 use Rattle.std.specs.Io.KnownBytes.{Appends}
@@ -7,6 +7,7 @@ use Rattle.std.proofs.KnownBytes.{Appends-nil, Appends-trans, Appends-kept}
 use Rattle.outside_traits.specs.Causes.{Rose}
 use Rattle.http_port.specs.Writing.{IsWritten}
 use Rattle.http_port.proofs.CallLemmas.{nothing_written, written_more, written_so, written_still}
+use Rattle.http_connection.specs.Seen.{failures_of}
 use Rattle.http_connection.proofs.sending.write_all.Goals as goal
 
 pub loop-done-init : goal.loop-done-init
@@ -15,6 +16,7 @@ loop-done-init g c = record {
   written = Appends-nil (g.W.Wire.taken c.args.wire.now);
   called = nothing_written (g.W.Wire.calls c.args.wire.now) true;
   faults = refl;
+  cut = refl;
   given = refl;
   left = refl;
   closed = refl;
@@ -37,6 +39,7 @@ loop-done-preserved g c =
       called = subst (λ l. IsWritten (g.W.Wire.calls c.args.wire.now) (g.W.Wire.calls c.write.new.self) l true) (sym (take-add done count bytes))
           (written_more (g.W.Wire.calls c.args.wire.now) (g.W.Wire.calls c.loop-done.wire) (g.W.Wire.calls c.write.new.self) (take done bytes) (take count (drop done bytes)) count c.loop-done.invariant.called c.in-Ok.ensures.calls taken some);
       faults = c.in-Ok.ensures.cause.calm ∙ c.loop-done.invariant.faults;
+      cut = c.in-Ok.ensures.cut ∙ c.loop-done.invariant.cut;
       given = c.in-Ok.ensures.given ∙ c.loop-done.invariant.given;
       left = c.in-Ok.ensures.left ∙ c.loop-done.invariant.left;
       closed = c.in-Ok.ensures.closed ∙ c.loop-done.invariant.closed;
@@ -54,8 +57,13 @@ returns-in-Err-clause-takes g c =
       within = omega arith;
       taken = Appends-kept (g.W.Wire.taken c.args.wire.now) (g.W.Wire.taken c.loop-done.wire) (g.W.Wire.taken c.write.new.self) (take done bytes) c.loop-done.invariant.written c.in-Err.ensures.bytes;
       calm = λ e. absurd (omega arith);
-      cause = λ _. subst (λ n. Rose n (g.W.Wire.faults c.write.new.self)) calm rose;
-      later = subst (λ n. n ≤ g.W.Wire.faults c.write.new.self) calm later;
+      cause = λ _. (
+        (
+          subst (λ n. n ≤ g.W.Wire.faults c.write.new.self) calm later,
+          subst (λ n. Rose n (g.W.Wire.faults c.write.new.self)) calm rose,
+        ),
+        c.in-Err.ensures.cut ∙ ap₂ (λ (cut closed : Bool). cut || not closed) c.loop-done.invariant.cut c.loop-done.invariant.closed,
+      );
       given = c.in-Err.ensures.given ∙ c.loop-done.invariant.given;
       left = c.in-Err.ensures.left ∙ c.loop-done.invariant.left;
       closed = c.in-Err.ensures.closed ∙ c.loop-done.invariant.closed;
@@ -72,13 +80,11 @@ returns-clause-calls g c =
 pub returns-clause-takes : goal.returns-clause-takes
 returns-clause-takes g c =
     let within = c.loop-done.invariant.within in
-    let calm = c.loop-done.invariant.faults in
     record {
       within = within;
       taken = c.loop-done.invariant.written;
-      calm = λ _. calm;
+      calm = λ _. ap₂ failures_of c.loop-done.invariant.faults c.loop-done.invariant.cut;
       cause = λ lt. absurd (omega arith);
-      later = omega (arith, calm);
       given = c.loop-done.invariant.given;
       left = c.loop-done.invariant.left;
       closed = c.loop-done.invariant.closed;
