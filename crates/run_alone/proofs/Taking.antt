@@ -57,12 +57,12 @@ nothing_more (x ∷ xs) ys e = nothing_more xs ys (tail e)
     tail : ◌≡◌ {A = List Entry} (x ∷ (xs ++ ys)) (x ∷ xs) → xs ++ ys ≡ xs
     tail e = cc
 
+not_below : 0 < 0 → ⊥
+not_below less = omega (arith, less)
+
 -- where there was a posting before, a run that is calm has nothing left to do
 pub calm_quiet : (s : State) (n : ℕ) → 0 < n → IsCalm n s → IsQuietAt s
-calm_quiet s zero some empty = absurd (none_some some)
-  where
-    none_some : 0 < 0 → ⊥
-    none_some less = omega (arith, less)
+calm_quiet s zero some empty = absurd (not_below some)
 calm_quiet s (suc n) some quiet = quiet
 
 pub runs : (w : Setting) (h : List Entry) → is_running (past_of w h) ≡ true → some_entry (past_of w h) stops ≡ false
