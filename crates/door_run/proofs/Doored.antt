@@ -3,7 +3,6 @@ use Rattle.std.proofs.Common.{◌≡◌, ◌≤◌, ◌+◌, refl, sym, ap, subs
 use Rattle.std.proofs.Common.{inl, inr, nat_eq, nat_lt, sum_by, count_by, true≢false}
 use Rattle.std.specs.List.{list_all, list_any, items_where_true}
 use Rattle.std.proofs.lemmas.List.Sums.{sum_by-cons}
-use Rattle.outside_traits.specs.Causes.{Rose}
 use Rattle.outside_doors.specs.Counts.{DoorTold}
 use Rattle.outside_traits.specs.Told.{Lists}
 use Rattle.office_core.specs.Limits.{Setting, run_of}
@@ -22,7 +21,7 @@ use Rattle.http_connection.specs.Seen.{Line}
 use Rattle.door_front.specs.Keeping.{PortTold, Keeping, AreNew, IsEmpty, services_of}
 use Rattle.door_front.specs.Dealt.{Sides, HasDealt, MayHaveDealt}
 use Rattle.line_run.specs.declared.run.Ended.{Ended}
-use Rattle.door_run.specs.Used.{DoorsTold, Used, IsUsed, RoseWhere, came_at_door, leads_to, wires_to, has_failed, with_wires, with_doors, location_of}
+use Rattle.door_run.specs.Used.{DoorsTold, Used, IsUsed, RoseBy, came_at_door, leads_to, wires_to, has_failed, with_wires, with_doors, location_of}
 use Rattle.door_run.specs.Doored.{Task, Outside, outside, faults_of, rules_of, AreNoted, IsDoored}
 use Rattle.door_run.specs.Steps.{Opens, opened_by, port_at, GivesBack, traffic_of, wire_of, door_of, some_failed, with_traffic, status_of}
 use Rattle.door_run.proofs.Lists.{length_map, any_map, all_map}
@@ -31,7 +30,7 @@ use Rattle.door_run.proofs.Serving.{served_so, as_many}
 use Rattle.door_run.proofs.Wires.{wires_are}
 use Rattle.door_run.proofs.Ending.{noted_so, through_so}
 use Rattle.door_run.proofs.Statuses.{status_so}
-use Rattle.door_run.proofs.Telling.{rose_then}
+use Rattle.door_run.proofs.Telling.{rose_then, rose_some, stood_calm}
 use Rattle.door_run.proofs.Openings.{all_marked, any_marked, all_from}
 use Rattle.order_laws.proofs.Lists.{all_weaker}
 
@@ -140,8 +139,8 @@ module _ (IsMade : Line → Type 0) (t : Task) (before mid after : DoorsTold) (p
         (subst (λ x. Lists mid.returned x used.wires) (sym back.doors_then.returned) back.wires_first.returned);
     came_back = subst (λ x. Lists x after.returned_doors used.doors) (back.wires_first.came_back ∙ o.came_back)
         back.doors_then.came_back;
-    faults = rose_then (list_any not o.opened) (list_any has_failed used.doors) before.faults mid.faults after.faults o.faults
-        (subst (λ n. RoseWhere (list_any has_failed used.doors) n after.faults) back.wires_first.faults back.doors_then.faults);
+    faults = rose_then (count_by not o.opened) (count_by has_failed used.doors) before.faults mid.faults after.faults o.faults
+        (subst (λ n. RoseBy (count_by has_failed used.doors) n after.faults) back.wires_first.faults back.doors_then.faults);
   }
 
   -- each connection came at a door that was opened
@@ -178,21 +177,13 @@ module _ (IsMade : Line → Type 0) (t : Task) (before mid after : DoorsTold) (p
     report = with_traffic finished.report (map traffic_of now.kept.links);
   }
 
-  rose_of : (x : Bool) (a b : ℕ) → RoseWhere x a b → x ≡ true → Rose a b
-  rose_of true a b k e = k
-  rose_of false a b k e = absurd (true≢false (sym e))
-
-  same_of : (x : Bool) (a b : ℕ) → RoseWhere x a b → x ≡ false → b ≡ a
-  same_of true a b k e = absurd (true≢false e)
-  same_of false a b k e = k
-
   status : HasStatus ended.status (faults_of was) (faults_of is) (IsSpent (run_of t.parts) t.budget ended.report)
   status =
       status_so d.said.halted (some_failed used) finished.spent (faults_of was) (faults_of is)
       (IsSpent (run_of t.parts) t.budget ended.report)
       (λ e. inr (noted.in_part e).1) (λ e. (refl, (noted.entire e).1))
-      (rose_of (some_failed used) before.faults after.faults uses_so.faults)
-      (same_of (some_failed used) before.faults after.faults uses_so.faults) refl
+      (rose_some not has_failed o.opened used.doors before.faults after.faults uses_so.faults)
+      (stood_calm not has_failed o.opened used.doors before.faults after.faults uses_so.faults) refl
       (λ e. spent_with (run_of t.parts) t.budget finished.report (map traffic_of now.kept.links) (ran.spent.0 e))
       (λ more. ran.spent.1 (spent_without (run_of t.parts) t.budget finished.report (map traffic_of now.kept.links) more))
 

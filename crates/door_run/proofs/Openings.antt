@@ -1,6 +1,6 @@
 -- Doors are opened, one after another.
 use Rattle.std.proofs.Common.{◌≡◌, ◌<◌, ◌+◌, min, ℕ, zero, suc, take, get_or, Bool, true, false, not, ◌||◌, List, [], ◌∷◌, ◌++◌, length, map, cond}
-use Rattle.std.proofs.Common.{refl, sym, ap, subst, ◌∙◌, arith, append_assoc, append-nil, length-append, nat_lt}
+use Rattle.std.proofs.Common.{refl, sym, ap, subst, ◌∙◌, arith, append_assoc, append-nil, length-append, nat_lt, count_by}
 use Rattle.std.specs.List.{list_all, list_any, filter, items_where_true}
 use Rattle.std.proofs.lemmas.List.{map-append, length-take}
 use Rattle.outside_traits.specs.Causes.{Rose}
@@ -13,10 +13,11 @@ use Rattle.behaviour_tree.specs.Data.{PortPart, ServicePart}
 use Rattle.outside_traits.specs.Told.{Lists}
 use Rattle.connection_runs.specs.Ports.{DoorAt, is_door, locations_of, doors_from}
 use Rattle.door_front.specs.Keeping.{PortTold}
-use Rattle.door_run.specs.Used.{DoorsTold, RoseWhere, location_of, with_openings}
+use Rattle.door_front.proofs.Entries.{count_append}
+use Rattle.door_run.specs.Used.{DoorsTold, RoseBy, location_of, with_openings}
 use Rattle.door_run.specs.Steps.{door_to, location_in, doors_at, port_at, Opened, opened_by, Opens}
 use Rattle.door_run.proofs.Lists.{length_map}
-use Rattle.door_run.proofs.Telling.{Lists-nil, Lists-then, rose_then, with_openings-append}
+use Rattle.door_run.proofs.Telling.{Lists-nil, Lists-then, rose_none, rose_one, rose_then, with_openings-append}
 use Rattle.order_laws.proofs.Least.{filter_append}
 use Rattle.order_laws.proofs.Lists.{any_append, all_append, both_true, left_true, right_true, true_right}
 
@@ -84,7 +85,7 @@ opens_none a = record {
   locations = Lists-nil a.doors.locations;
   returned = refl;
   came_back = refl;
-  faults = refl;
+  faults = rose_none a.doors.faults a.doors.faults refl;
   failed = or_false a.failed;
 }
 
@@ -112,8 +113,8 @@ opens_more xs ys a b c k l =
           (Lists-then a.doors.locations b.doors.locations c.doors.locations _ _ k.locations l.locations);
       returned = l.returned ∙ k.returned;
       came_back = l.came_back ∙ k.came_back;
-      faults = subst (λ x. RoseWhere x a.doors.faults c.doors.faults) (sym (any_append not k.opened l.opened))
-          (rose_then (list_any not k.opened) (list_any not l.opened) a.doors.faults b.doors.faults c.doors.faults k.faults l.faults);
+      faults = subst (λ n. RoseBy n a.doors.faults c.doors.faults) (sym (count_append not k.opened l.opened))
+          (rose_then (count_by not k.opened) (count_by not l.opened) a.doors.faults b.doors.faults c.doors.faults k.faults l.faults);
       failed =
           l.failed ∙ ap (λ x. x || list_any not l.opened) k.failed
           ∙ or_assoc a.failed (list_any not k.opened) (list_any not l.opened)
@@ -219,7 +220,7 @@ module _ (place : DoorAt) (a b : DoorsTold) (ports : List PortTold) (failed : Bo
     locations = locations;
     returned = returned;
     came_back = came_back;
-    faults = faults;
+    faults = rose_none a.faults b.faults faults;
     failed = or_false failed;
   }
 
@@ -235,7 +236,7 @@ module _ (place : DoorAt) (a b : DoorsTold) (ports : List PortTold) (failed : Bo
     locations = subst (λ l. Lists a.locations l []) (sym locations) (Lists-nil a.locations);
     returned = returned;
     came_back = came_back;
-    faults = rose;
+    faults = rose_one a.faults b.faults rose;
     failed = or_true failed;
   }
 

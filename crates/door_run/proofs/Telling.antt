@@ -1,28 +1,73 @@
 -- What doors tell, over several of their calls.
-use Rattle.std.proofs.Common.{◌≡◌, ◌≤◌, ◌+◌, ◌-◌, ◌^◌, min, ℕ, suc, length, Bool, true, false, ◌||◌, List, [], ◌∷◌, ◌++◌}
-use Rattle.std.proofs.Common.{refl, sym, ap, subst, ◌∙◌, arith, append_assoc, append-nil, Option, None, Some, map}
+use Rattle.std.proofs.Common.{◌≡◌, ◌≤◌, ◌<◌, ◌+◌, ◌-◌, ◌^◌, min, ℕ, zero, suc, length, Bool, true, false, ◌||◌, List, [], ◌∷◌, ◌++◌}
+use Rattle.std.proofs.Common.{refl, sym, ap, subst, ◌∙◌, arith, append_assoc, append-nil, Option, None, Some, map, count_by}
+use Rattle.std.specs.Prelude.{◌==◌}
 use Rattle.std.specs.List.{list_any}
+use Rattle.std.proofs.lemmas.Bool.{eqb-true, eqb-false, not-true, not-false, or_parts}
 use Rattle.outside_traits.specs.Causes.{Rose}
-use Rattle.outside_doors.specs.Counts.{DoorTold, Tally}
+use Rattle.outside_doors.specs.Counts.{DoorTold, Tally, door_told, with_door}
 use Rattle.outside_traits.specs.Told.{Lists}
 use Rattle.outside_doors.specs.Returns.{WireTold}
 use Rattle.connection_runs.specs.Ports.{DoorAt}
-use Rattle.door_run.specs.Used.{DoorsTold, RoseWhere, with_openings, with_wires, with_doors, has_failed}
+use Rattle.door_run.specs.Used.{DoorsTold, RoseBy, with_openings, with_wires, with_doors, has_failed}
 use Rattle.door_run.specs.Steps.{GivesWires, GivesDoors, wire_of, door_of, traffic_of}
 use Rattle.run_record.specs.declared.record.Traffic.{Traffic}
 use Rattle.door_front.specs.Keeping.{LinkTold, PortTold}
-use Rattle.order_laws.proofs.Lists.{any_append}
+use Rattle.door_front.proofs.Entries.{one_if, count_cons, count_append}
+use Rattle.session_turn.proofs.Walking.{none-counts, some-counts}
 
 -- ---- counts
 
-rose_rose : (a b c : ℕ) → min (a + 1) (2 ^ 64 - 1) ≤ b → min (b + 1) (2 ^ 64 - 1) ≤ c → min (a + 1) (2 ^ 64 - 1) ≤ c
-rose_rose a b c h g = omega (arith, h, g)
+stands : (a b : ℕ) → b ≡ a → min (a + 0) (2 ^ 64 - 1) ≤ b
+stands a b e = omega (arith, e)
 
--- one call after another
-pub rose_then : (x y : Bool) (a b c : ℕ) → RoseWhere x a b → RoseWhere y b c → RoseWhere (x || y) a c
-rose_then true true a b c h g = rose_rose a b c h g
-rose_then true false a b c h g = subst (Rose a) (sym g) h
-rose_then false y a b c h g = subst (λ n. RoseWhere y n c) h g
+-- no failure
+pub rose_none : (a b : ℕ) → b ≡ a → RoseBy 0 a b
+rose_none a b e = record { counted = stands a b e; calm = λ _. e }
+
+-- one failure
+pub rose_one : (a b : ℕ) → Rose a b → RoseBy 1 a b
+rose_one a b rose = record { counted = rose; calm = λ (none : 1 ≡ 0). absurd (omega arith) }
+
+rises : (m n a b c : ℕ) → min (a + m) (2 ^ 64 - 1) ≤ b → min (b + n) (2 ^ 64 - 1) ≤ c → min (a + (m + n)) (2 ^ 64 - 1) ≤ c
+rises m n a b c h g = omega (arith, h, g)
+
+no_first : (m n : ℕ) → m + n ≡ 0 → m ≡ 0
+no_first m n e = omega (arith, e)
+
+no_second : (m n : ℕ) → m + n ≡ 0 → n ≡ 0
+no_second m n e = omega (arith, e)
+
+-- some failures and then others
+pub rose_then : (m n a b c : ℕ) → RoseBy m a b → RoseBy n b c → RoseBy (m + n) a c
+rose_then m n a b c h g = record {
+  counted = rises m n a b c h.counted g.counted;
+  calm = λ none. g.calm (no_second m n none) ∙ h.calm (no_first m n none);
+}
+
+at_least_one : (n a b : ℕ) → 1 ≤ n → min (a + n) (2 ^ 64 - 1) ≤ b → min (a + 1) (2 ^ 64 - 1) ≤ b
+at_least_one n a b some h = omega (arith, some, h)
+
+one_of : (x y : Bool) (m n : ℕ) → (x ≡ true → 1 ≤ m) → (y ≡ true → 1 ≤ n) → (x || y) ≡ true → 1 ≤ m + n
+one_of true y m n f g e = let one = f refl in omega (arith, one)
+one_of false y m n f g e = let one = g e in omega (arith, one)
+
+none_of : (m n : ℕ) → m ≡ 0 → n ≡ 0 → m + n ≡ 0
+none_of m n e f = omega (arith, e, f)
+
+-- of failures of two kinds, by whether there is one
+module _ {A B : Type 0} (p : A → Bool) (q : B → Bool) (xs : List A) (ys : List B) (a b : ℕ)
+    (k : RoseBy (count_by p xs + count_by q ys) a b) where
+  pub rose_some : (list_any p xs || list_any q ys) ≡ true → Rose a b
+  rose_some e =
+      at_least_one (count_by p xs + count_by q ys) a b
+      (one_of (list_any p xs) (list_any q ys) (count_by p xs) (count_by q ys) (some-counts p xs) (some-counts q ys) e)
+      k.counted
+
+  pub stood_calm : (list_any p xs || list_any q ys) ≡ false → b ≡ a
+  stood_calm e =
+      let parts = or_parts (list_any p xs) (list_any q ys) e in
+      k.calm (none_of (count_by p xs) (count_by q ys) (none-counts p xs parts.0) (none-counts q ys parts.1))
 
 pub with_openings-append : (xs ys : List DoorAt) (t : Tally) → with_openings (xs ++ ys) t ≡ with_openings ys (with_openings xs t)
 with_openings-append [] ys t = refl
@@ -69,7 +114,7 @@ no_doors a = record {
   returned = refl;
   came_back = Lists-nil a.returned_doors;
   locations = refl;
-  faults = refl;
+  faults = rose_none a.faults a.faults refl;
 }
 
 -- some and then others
@@ -88,14 +133,44 @@ more_doors xs ys a b c k l = record {
   returned = l.returned ∙ k.returned;
   came_back = Lists-then a.returned_doors b.returned_doors c.returned_doors xs ys k.came_back l.came_back;
   locations = l.locations ∙ k.locations;
-  faults = subst (λ x. RoseWhere x a.faults c.faults) (sym (any_append has_failed xs ys))
-      (rose_then (list_any has_failed xs) (list_any has_failed ys) a.faults b.faults c.faults k.faults l.faults);
+  faults = subst (λ n. RoseBy n a.faults c.faults) (sym (count_append has_failed xs ys))
+      (rose_then (count_by has_failed xs) (count_by has_failed ys) a.faults b.faults c.faults k.faults l.faults);
 }
 
--- one door that came back, by whether it had failed
-pub rose_if : (failed : Bool) (before now : ℕ) → (failed ≡ true → Rose before now) → (failed ≡ false → now ≡ before) → RoseWhere failed before now
-rose_if true before now raised calm = raised refl
-rose_if false before now raised calm = calm refl
+-- what a door tells, by its parts
+pub door_as : (door : DoorTold) (faults wires waits : ℕ) (closed : Bool) → faults ≡ door.faults → wires ≡ door.wires
+    → waits ≡ door.waits → closed ≡ door.closed → door_told faults wires waits closed ≡ door
+door_as door faults wires waits closed f w n c =
+    ap (λ x. door_told x wires waits closed) f
+    ∙ ap (λ x. door_told door.faults x waits closed) w
+    ∙ ap (λ x. door_told door.faults door.wires x closed) n
+    ∙ ap (λ x. door_told door.faults door.wires door.waits x) c
+
+above : (n : ℕ) → (n == 0) ≡ false → 0 < n
+above zero e = absurd (eqb-false 0 0 e refl)
+above (suc n) e = omega arith
+
+-- a count by whether one failed
+rose_if : (failed : Bool) (before now : ℕ) → (failed ≡ true → Rose before now) → (failed ≡ false → now ≡ before)
+    → RoseBy (one_if failed + 0) before now
+rose_if true before now raised calm = rose_one before now (raised refl)
+rose_if false before now raised calm = rose_none before now (calm refl)
+
+-- one door that came back
+pub one_door : (told door : DoorTold) (a b : DoorsTold) → told ≡ door → b.tally ≡ with_door told a.tally
+    → b.returned ≡ a.returned → Lists a.returned_doors b.returned_doors (told ∷ []) → b.locations ≡ a.locations
+    → (0 < told.faults → Rose a.faults b.faults) → (told.faults ≡ 0 → b.faults ≡ a.faults) → GivesDoors (door ∷ []) a b
+one_door told door a b is tally returned came_back locations raised calm =
+    subst (λ (d : DoorTold). GivesDoors (d ∷ []) a b) is (record {
+      tally = tally;
+      returned = returned;
+      came_back = came_back;
+      locations = locations;
+      faults = subst (λ n. RoseBy n a.faults b.faults) (sym (count_cons has_failed told []))
+          (rose_if (has_failed told) a.faults b.faults
+          (λ e. raised (above told.faults (not-true (told.faults == 0) e)))
+          (λ e. calm (eqb-true told.faults 0 (not-false (told.faults == 0) e))));
+    })
 
 -- ---- one after another
 

@@ -1,6 +1,6 @@
 -- These definitions serve the proofs alone: no promise speaks of them.
 -- How the doors of a run are opened and come back, and how its record and its status are made.
-use Rattle.std.specs.Prelude.{◌≡◌, ℕ, Bool, not, ◌||◌, if◌then◌else◌, List, ◌++◌, length, map}
+use Rattle.std.specs.Prelude.{◌≡◌, ℕ, Bool, not, ◌||◌, if◌then◌else◌, List, ◌++◌, length, map, count_by}
 use Rattle.std.specs.List.{list_any, filter, items_where_true}
 use Rattle.outside_doors.specs.Counts.{DoorTold, untried}
 use Rattle.outside_traits.specs.Told.{Lists}
@@ -10,7 +10,7 @@ use Rattle.run_record.specs.declared.record.Record.{Record}
 use Rattle.run_record.specs.declared.record.Traffic.{Traffic}
 use Rattle.connection_runs.specs.Ports.{DoorAt, is_door}
 use Rattle.door_front.specs.Keeping.{PortTold, LinkTold}
-use Rattle.door_run.specs.Used.{DoorsTold, Used, RoseWhere, location_of, has_failed}
+use Rattle.door_run.specs.Used.{DoorsTold, Used, RoseBy, location_of, has_failed}
 use Rattle.door_run.specs.Used.{with_openings, with_wires, with_doors}
 
 -- ---- doors are opened
@@ -50,7 +50,7 @@ pub record Opens (places : List DoorAt) (before now : Opened) : Type 0 where
   pub locations : Lists before.doors.locations now.doors.locations (map location_of (items_where_true opened places))
   pub returned : now.doors.returned ≡ before.doors.returned
   pub came_back : now.doors.returned_doors ≡ before.doors.returned_doors
-  pub faults : RoseWhere (list_any not opened) before.doors.faults now.doors.faults
+  pub faults : RoseBy (count_by not opened) before.doors.faults now.doors.faults
   pub failed : now.failed ≡ (before.failed || list_any not opened)
 
 -- ---- doors and wires come back
@@ -69,7 +69,7 @@ pub record GivesDoors (doors : List DoorTold) (before now : DoorsTold) : Type 0 
   pub returned : now.returned ≡ before.returned
   pub came_back : Lists before.returned_doors now.returned_doors doors
   pub locations : now.locations ≡ before.locations
-  pub faults : RoseWhere (list_any has_failed doors) before.faults now.faults
+  pub faults : RoseBy (count_by has_failed doors) before.faults now.faults
 
 -- First these wires came back, and then these doors.
 pub record GivesBack (wires : List WireTold) (doors : List DoorTold) (before now : DoorsTold) : Type 0 where

@@ -1,10 +1,9 @@
 -- What a run did with doors: where it opened them, and what came back to them.
-use Rattle.std.specs.Prelude.{◌≡◌, ◌↔◌, ℕ, ◌+◌, ◌<◌, ◌==◌, Bool, true, not, ◌||◌, MatchBool, if◌then◌else◌}
-use Rattle.std.specs.Prelude.{List, [], ◌∷◌, length, map, fold, sum_by, Option, nat_eq}
+use Rattle.std.specs.Prelude.{◌≡◌, ◌↔◌, ℕ, ◌+◌, ◌<◌, ◌≤◌, ◌==◌, Bool, true, not, if◌then◌else◌}
+use Rattle.std.specs.Prelude.{List, [], ◌∷◌, length, map, fold, sum_by, count_by, Option, nat_eq}
 use Rattle.std.specs.List.{list_any, items_where_true}
 use Rattle.std.specs.Io.KnownBytes.{Appends}
-use Rattle.outside_traits.specs.Causes.{Rose}
-use Rattle.outside_doors.specs.Counts.{DoorTold, Tally, with_opened, with_door, with_wire}
+use Rattle.outside_doors.specs.Counts.{DoorTold, Tally, added, with_opened, with_door, with_wire}
 use Rattle.outside_traits.specs.Told.{Lists}
 use Rattle.outside_doors.specs.Returns.{WireTold}
 use Rattle.run_record.specs.declared.record.Traffic.{Traffic}
@@ -76,17 +75,23 @@ with_wires wires tally = fold (λ counts (wire : WireTold). with_wire wire.fault
 abbrev pub with_doors : List DoorTold → Tally → Tally
 with_doors doors tally = fold (λ counts door. with_door door counts) tally doors
 
--- a count of faults rose where the test is true; else it is as it was
-abbrev pub RoseWhere : Bool → ℕ → ℕ → Type 0
-RoseWhere test before now = MatchBool test (Rose before now) (now ≡ before)
-
 -- a door has failed
 abbrev pub has_failed : DoorTold → Bool
 has_failed door = not (door.faults == 0)
 
+-- how many doors could not be opened, or came back and had failed
+abbrev pub failures_in : Used → ℕ
+failures_in used = count_by not used.opened + count_by has_failed used.doors
+
+-- A count of faults rose by one at least for each of so many failures, up to the last value of its type; without one it
+-- is as it was.
+pub record RoseBy (failures before now : ℕ) : Type 0 where
+  pub counted : added before failures ≤ now
+  pub calm : failures ≡ 0 → now ≡ before
+
 -- Doors were opened at these locations, in order; where one could not be opened it was left out. All of them came back
--- in this order, and as many wires as they gave; and the doors count and tell just this, with a fault where a door was
--- not opened or came back and had failed.
+-- in this order, and as many wires as they gave; and the doors count and tell just this, with a fault for each door that
+-- was not opened or came back and had failed.
 pub record IsUsed (places : List DoorAt) (before now : DoorsTold) (used : Used) : Type 0 where
   pub tried : length used.opened ≡ length places
   pub back : length used.doors ≡ length (items_where_true used.opened places)
@@ -96,7 +101,7 @@ pub record IsUsed (places : List DoorAt) (before now : DoorsTold) (used : Used) 
   pub locations : Lists before.locations now.locations (map location_of (items_where_true used.opened places))
   pub returned : Lists before.returned now.returned used.wires
   pub came_back : Lists before.returned_doors now.returned_doors used.doors
-  pub faults : RoseWhere (list_any not used.opened || list_any has_failed used.doors) before.faults now.faults
+  pub faults : RoseBy (failures_in used) before.faults now.faults
 
 -- ---- wires
 

@@ -89,10 +89,10 @@ heard_end first before now was came next [] count h open_ did e long none bounde
 heard_end first before now was came next (b ∷ piece) count h open_ did e long none bounded = absurd (omega arith)
 
 -- one more, which failed
-pub heard_cut : (first before now : WireTraffic) (was came next : List ℕ) → Heard first before was came false → next ≡ came
+pub heard_cut : (first before now : WireTraffic) (was came next : List ℕ) → Heard first before was came false → IsUnfinished came → next ≡ came
     → Appends before.given now.given [] → now.taken ≡ before.taken → Lists before.calls now.calls (Read 0 ∷ [])
     → before.faults ≤ now.faults → Rose before.faults now.faults → HeardInPart first now was next
-heard_cut first before now was came next h e given taken noted later rose = record {
+heard_cut first before now was came next h open_ e given taken noted later rose = record {
   piece = h.piece;
   grown = e ∙ h.grown;
   given = subst (Appends first.given now.given) (append-nil h.piece) (Appends-trans first.given before.given now.given h.piece [] h.given given);
@@ -100,6 +100,7 @@ heard_cut first before now was came next h e given taken noted later rose = reco
   calls = h.calls;
   noted = Notes-trans first.calls before.calls now.calls h.calls (Read 0 ∷ []) h.noted noted;
   reads = subst (λ l. Reads was h.calls l false) (sym e) h.reads;
+  unfinished = subst IsUnfinished (sym e) open_;
   bounded = subst (λ l. length l ≤ most_read) (sym e) h.bounded;
   later = subst (λ n. n ≤ now.faults) h.faults later;
   rose = subst (λ n. Rose n now.faults) h.faults rose;
@@ -131,6 +132,7 @@ heard_on_cut first mid now was came next h k = record {
   noted = subst (Lists first.calls now.calls) (sym (append_assoc h.calls k.calls (Read 0 ∷ [])))
       (Notes-trans first.calls mid.calls now.calls h.calls (k.calls ++ Read 0 ∷ []) h.noted k.noted);
   reads = reads_on was came next h.calls k.calls false h.reads k.reads;
+  unfinished = k.unfinished;
   bounded = k.bounded;
   later = subst (λ n. n ≤ now.faults) h.faults k.later;
   rose = subst (λ n. Rose n now.faults) h.faults k.rose;

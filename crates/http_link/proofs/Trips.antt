@@ -1,5 +1,5 @@
 -- What passed on the wire of a trip, and what the dialler tells of it.
-use Rattle.std.proofs.Common.{◌≡◌, ℕ, min, Bool, true, false, List, [], ◌∷◌, ◌++◌, length, take, Some, None, Ok, Err, sym, refl, ap, ◌∙◌, subst, arith}
+use Rattle.std.proofs.Common.{◌≡◌, ◌<◌, ℕ, min, Bool, true, false, List, [], ◌∷◌, ◌++◌, length, take, Some, None, Ok, Err, sym, refl, ap, ◌∙◌, subst, arith}
 use Rattle.std.specs.Prelude.{Option, Result, MatchResult}
 use Rattle.httparse.specs.declared.spans.Span.{Span}
 use Rattle.std.specs.Io.{StartsWith}
@@ -51,15 +51,15 @@ cut_in_reading before mid now sent came taken w given faults h =
     (subst (λ g. Appends g now.given came) given (subst (Appends mid.given now.given) (sym h.grown) h.given))
     (Notes-trans before.calls mid.calls now.calls w.calls (h.calls ++ Read 0 ∷ []) w.noted h.noted)
     (own_writes before.calls mid.calls sent true w)
-    h.reads h.bounded
+    h.reads h.unfinished h.bounded
     (subst (λ n. Rose n now.faults) faults h.rose)
 
 -- a write that failed
-pub cut_in_writing : (before now : WireTraffic) (sent : List ℕ) (count : ℕ) → Appends before.taken now.taken (take count sent)
-    → IsWritten before.calls now.calls (take count sent) false → now.given ≡ before.given → Rose before.faults now.faults
+pub cut_in_writing : (before now : WireTraffic) (sent : List ℕ) (count : ℕ) → count < length sent
+    → Appends before.taken now.taken (take count sent) → IsWritten before.calls now.calls (take count sent) false → now.given ≡ before.given → Rose before.faults now.faults
     → CutOff before now sent
-cut_in_writing before now sent count taken w given rose =
-    in_writing count w.calls taken (subst (λ g. Appends before.given g []) (sym given) (Appends-nil before.given)) w.noted
+cut_in_writing before now sent count short taken w given rose =
+    in_writing count w.calls short taken (subst (λ g. Appends before.given g []) (sym given) (Appends-nil before.given)) w.noted
     (own_writes before.calls now.calls (take count sent) false w) rose
 
 -- ---- by the dialler
@@ -90,13 +90,17 @@ starts_with count sent =
     let long : length (take count sent) ≡ min (length sent) count = omega (arith, length-take count sent) in
     ap (λ k. take k sent) long ∙ take_min count sent
 
+shorter : (count : ℕ) (sent : List ℕ) → count < length sent → length (take count sent) < length sent
+shorter count sent short = omega (arith, short, length-take count sent)
+
 -- a wire that failed and came back
 pub failing_told : (blank t : WireTraffic) (before : Telling) (dialled : Option (List (List ℕ))) (last : Option WireTraffic) (faults : ℕ)
     (sent : List ℕ) → Tells last t → CutOff blank t sent → Rose before.faults faults → Failing sent before (telling blank dialled last faults)
-failing_told blank t before dialled last faults sent e (in_writing count writes taken given noted written rose) risen =
-    unsent (take count sent) writes (shows blank last t (take count sent) [] writes e taken given noted) (starts_with count sent) written risen
-failing_told blank t before dialled last faults sent e (in_reading came writes reads taken given noted written read bounded rose) risen =
-    unheard came writes reads (shows blank last t sent came (writes ++ (reads ++ Read 0 ∷ [])) e taken given noted) written read bounded risen
+failing_told blank t before dialled last faults sent e (in_writing count writes short taken given noted written rose) risen =
+    unsent (take count sent) writes (shows blank last t (take count sent) [] writes e taken given noted) (starts_with count sent)
+    (shorter count sent short) written risen
+failing_told blank t before dialled last faults sent e (in_reading came writes reads taken given noted written read open_ bounded rose) risen =
+    unheard came writes reads (shows blank last t sent came (writes ++ (reads ++ Read 0 ∷ [])) e taken given noted) written read open_ bounded risen
 
 -- a dialler's count stands where the wire's stood
 pub count_stands : (blank t : WireTraffic) (sent came : List ℕ) (ended : Bool) (before now : ℕ) → IsNew blank → Exchanged blank t sent came ended
@@ -106,9 +110,9 @@ count_stands blank t sent came ended before now new x counts = counts.calm (x.fa
 -- and rises where it rose
 pub count_rises : (blank t : WireTraffic) (sent : List ℕ) (before now : ℕ) → IsNew blank → CutOff blank t sent → CountsWire t.faults before now
     → Rose before now
-count_rises blank t sent before now new (in_writing count writes taken given noted written rose) counts =
+count_rises blank t sent before now new (in_writing count writes short taken given noted written rose) counts =
     let none = new.faults in counts.failed (omega arith)
-count_rises blank t sent before now new (in_reading came writes reads taken given noted written read bounded rose) counts =
+count_rises blank t sent before now new (in_reading came writes reads taken given noted written read open_ bounded rose) counts =
     let none = new.faults in counts.failed (omega arith)
 
 -- ---- by what a call answers

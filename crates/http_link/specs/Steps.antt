@@ -1,6 +1,6 @@
 -- These definitions serve the proofs alone: no promise of a public call speaks of them.
 -- What is known while a response is read.
-use Rattle.std.specs.Prelude.{◌≡◌, ◌≤◌, ℕ, ◌⊎◌, Bool, true, false, List, ◌∷◌, [], ◌++◌, length, take, Option, None}
+use Rattle.std.specs.Prelude.{◌≡◌, ◌<◌, ◌≤◌, ℕ, ◌⊎◌, Bool, true, false, List, ◌∷◌, [], ◌++◌, length, take, Option, None}
 use Rattle.std.specs.Prelude.{Some}
 use Rattle.std.specs.Io.KnownBytes.{Appends}
 use Rattle.httparse.specs.Grammar.{ResponseHead, print_response}
@@ -12,7 +12,7 @@ use Rattle.outside_traits.specs.declared.calls.WireCall.{WireCall}
 use Rattle.outside_traits.specs.declared.calls.WireCall.TheVariants.{Read}
 use Rattle.outside_dials.specs.Dials.{WireTraffic}
 use Rattle.http_port.specs.HeadPart.{head_part, longest_head}
-use Rattle.http_link.specs.Responses.{BeginsWith, extent_of, IsResponse, IsNoResponse}
+use Rattle.http_link.specs.Responses.{BeginsWith, extent_of, IsResponse, IsNoResponse, IsUnfinished}
 use Rattle.http_port.specs.Writing.{IsWritten}
 use Rattle.http_link.specs.Trips.{Reads, most_read}
 use Rattle.http_link.specs.declared.announced.Announced.{Announced}
@@ -72,6 +72,7 @@ pub record HeardInPart (before now : WireTraffic) (was came : List ℕ) : Type 0
   pub calls : List WireCall
   pub noted : Lists before.calls now.calls (calls ++ Read 0 ∷ [])
   pub reads : Reads was calls came false
+  pub unfinished : IsUnfinished came
   pub bounded : length came ≤ most_read
   pub later : before.faults ≤ now.faults
   pub rose : Rose before.faults now.faults
@@ -90,13 +91,13 @@ pub record Exchanged (before now : WireTraffic) (sent came : List ℕ) (ended : 
   pub bounded : length came ≤ most_read
   pub faults : now.faults ≡ before.faults
 
--- the wire failed, behind a front of the request or behind all of it
+-- the wire failed, behind a front of the request that is not all of it, or in a read behind all of it
 pub data CutOff (before now : WireTraffic) (sent : List ℕ) : Type 0 where
-  in_writing : (count : ℕ) (writes : List WireCall) → Appends before.taken now.taken (take count sent)
-      → Appends before.given now.given [] → Lists before.calls now.calls writes
-      → IsWritten (Some []) (Some writes) (take count sent) false → Rose before.faults now.faults
-      → CutOff before now sent
+  in_writing : (count : ℕ) (writes : List WireCall) → count < length sent
+      → Appends before.taken now.taken (take count sent) → Appends before.given now.given []
+      → Lists before.calls now.calls writes → IsWritten (Some []) (Some writes) (take count sent) false
+      → Rose before.faults now.faults → CutOff before now sent
   in_reading : (came : List ℕ) (writes reads : List WireCall) → Appends before.taken now.taken sent
       → Appends before.given now.given came → Lists before.calls now.calls (writes ++ (reads ++ Read 0 ∷ []))
-      → IsWritten (Some []) (Some writes) sent true → Reads [] reads came false → length came ≤ most_read
-      → Rose before.faults now.faults → CutOff before now sent
+      → IsWritten (Some []) (Some writes) sent true → Reads [] reads came false → IsUnfinished came
+      → length came ≤ most_read → Rose before.faults now.faults → CutOff before now sent

@@ -75,14 +75,15 @@ pub record Answered (location text : List ℕ) (before now : Telling) (body : Li
 pub data Failing (sent : List ℕ) (before now : Telling) : Type 0 where
   -- the dialler failed
   unreached : now.last ≡ before.last → Rose before.faults now.faults → Failing sent before now
-  -- the wire failed behind a front of the request, and came back
+  -- the wire failed behind a front of the request that is not all of it, and came back
   unsent : (went : List ℕ) (writes : List WireCall) → Shows now.blank now.last went [] writes → StartsWith sent went
-      → IsWritten (Some []) (Some writes) went false → Rose before.faults now.faults → Failing sent before now
-  -- the wire failed behind the request, in a read, and came back
+      → length went < length sent → IsWritten (Some []) (Some writes) went false → Rose before.faults now.faults
+      → Failing sent before now
+  -- the wire failed behind the request, in a read, while what had come was no whole response yet, and came back
   unheard : (came : List ℕ) (writes reads : List WireCall)
       → Shows now.blank now.last sent came (writes ++ (reads ++ Read 0 ∷ []))
-      → IsWritten (Some []) (Some writes) sent true → Reads [] reads came false → length came ≤ most_read
-      → Rose before.faults now.faults → Failing sent before now
+      → IsWritten (Some []) (Some writes) sent true → Reads [] reads came false → IsUnfinished came
+      → length came ≤ most_read → Rose before.faults now.faults → Failing sent before now
   -- what was read is no response, and the dialler's count stands
   unanswered : (came : List ℕ) (ended : Bool) → Exchange now sent came ended → IsNoResponse came ended
       → now.faults ≡ before.faults → Failing sent before now

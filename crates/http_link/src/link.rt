@@ -1,5 +1,5 @@
 ghost use Rattle.std.specs.Prelude.{◌≡◌, None, MatchResult};
-ghost use Rattle.outside_traits.specs.Causes.{HasCallCause};
+ghost use Rattle.outside_links.specs.Trips.{faults_after};
 ghost use Rattle.http_link.specs.Trips.{Answered, BringsNothing, telling};
 
 use crate::exchange::visit;
@@ -58,7 +58,7 @@ impl<D: Dial> Link for HttpLink<D> {
         ensures trip { MatchResult result
             (λ body. Answered location.now text.now (telling D.blank (D.dialled self.old.dial) (D.last self.old.dial) (D.faults self.old.dial)) (telling D.blank (D.dialled self.new.dial) (D.last self.new.dial) (D.faults self.new.dial)) body.items)
             (λ error. BringsNothing location.now text.now (telling D.blank (D.dialled self.old.dial) (D.last self.old.dial) (D.faults self.old.dial)) (telling D.blank (D.dialled self.new.dial) (D.last self.new.dial) (D.faults self.new.dial)) error) }
-        ensures cause { HasCallCause self.old.faults self.new.faults result }
+        ensures faults { self.new.faults ≡ faults_after result self.old.faults }
     {
         let request = request_bytes(self.alloc, location, text)?;
         let mut inbox = Inbox::new(self.alloc)?;

@@ -20,7 +20,7 @@ use Rattle.http_port.specs.Asking.{Grows}
 use Rattle.http_port.specs.Feeding.{Place, Open, Over, Spent, Feeds}
 use Rattle.http_port.specs.Walks.{Asks, AsksWhereGiven}
 use Rattle.http_port.specs.Connections.{Reading, RequestRead, given, Run, without_waits}
-use Rattle.http_port.specs.Serving.{Service, Demand, texts, to_write, AllAtOnce, HandsOn, IsServed, IsCutOff, EndsSo, demand_of, Serves, bodies_in, IsLastGiven, IsFed}
+use Rattle.http_port.specs.Serving.{Service, Demand, texts, to_write, HandsOn, IsServed, IsCutOff, EndsSo, demand_of, Serves, bodies_in, IsLastGiven, IsFed}
 use Rattle.http_port.specs.Prompt.{IsPrompt, StopsAtNothing}
 use Rattle.http_port.specs.Turns.{Reacts}
 use Rattle.http_port.specs.Writing.{AllMove, IsWritten, Moves}
@@ -87,6 +87,11 @@ same_early (z ∷ xs) (u ∷ ys) x y e =
 begins_more : (w v front : List ℕ) → Begins w front → Begins (w ++ v) front
 begins_more w v front b = (b.0 ++ v, ap (λ l. l ++ v) b.1 ∙ append_assoc front b.0 v)
 
+shorter_on : (w went rest all : List ℕ) → all ≡ w ++ rest → length went < length rest → length (w ++ went) < length all
+shorter_on w went rest all e short =
+    let long = ap length e in
+    omega (arith, short, length-append w went, length-append w rest)
+
 cut : (d : Demand) (fs : List Fed) → CallsFor d fs → (feds : List Fed) (s : List Said) (w : List ℕ) → Spoke feds s w
     → (fed : Fed) (said : List Said) (went : List ℕ) (gs : List Fed) → fs ≡ all_fed feds fed gs → EndsCut fed said went gs
     → (came : List ℕ) → IsCutOff d (service came (feds ++ fed ∷ []) (s ++ said) (w ++ went))
@@ -95,6 +100,7 @@ cut d fs c feds s w p fed said went gs e h came = record {
   at_once = said_at_once feds s w p said h.at_once;
   front = starts_with (to_write d (s ++ said)) (w ++ went)
       (begins_behind w (spoken (shown fed ++ gs) (texts said)) went (to_write d (s ++ said)) (written_on d fs c feds s w p fed said gs e) h.begins);
+  part = shorter_on w went (spoken (shown fed ++ gs) (texts said)) (to_write d (s ++ said)) (written_on d fs c feds s w p fed said gs e) h.part;
   before = λ early last is. starts_with (w ++ went) (to_write d early) (by_first early last is h.first);
 }
   where
@@ -119,7 +125,7 @@ ends_so : (d : Demand) (fs : List Fed) → CallsFor d fs → (feds : List Fed) (
     → (came : List ℕ) → EndsSo d (service came (feds ++ fed ∷ []) (s ++ said) (w ++ went)) end
 ends_so d fs c feds s w p fed said went Ends.Ended h gs e came = absurd h
 ends_so d fs c feds s w p fed said went Ends.Closed h gs e came = served d fs c feds s w p fed said went Ends.Closed gs e (h gs) came
-ends_so d fs c feds s w p fed said went Ends.Faulted h gs e came = cut d fs c feds s w p fed said went gs e (h gs) came
+ends_so d fs c feds s w p fed said went Ends.Faulted h gs e came = inr (cut d fs c feds s w p fed said went gs e (h gs) came)
 ends_so d fs c feds s w p fed said went (Ends.Later close) h gs e came = served d fs c feds s w p fed said went (Ends.Later close) gs e (h gs) came
 
 -- what a last piece leaves to come, from an open place
@@ -174,22 +180,25 @@ serves_turn Over mid now pieces feds s w piece fed said went end asks run p feed
     absurd (not_yet_waits said went end (subst (λ f. Reacts f said went (Turns.Ends end)) none.0 reacts))
 serves_turn Spent mid now pieces feds s w piece fed said went end asks run p feeds reacts = no_spent_run pieces feds mid now piece fed run feeds
 
--- at the end of input and at a fault of reading all is said
+-- at the end of input and at a fault of reading all is said and written
 abbrev pub IsRead : WireEnd → Type 0
 IsRead Ends.Ended = Unit {0}
 IsRead Ends.Closed = ⊥
 IsRead Ends.Faulted = Unit {0}
 IsRead (Ends.Later close) = ⊥
 
+all_read : (d : Demand) (fs : List Fed) → CallsFor d fs → (feds : List Fed) (s : List Said) (w : List ℕ) → Spoke feds s w
+    → (said : List Said) (went : List ℕ) → said ≡ [] → went ≡ [] → fs ≡ all_fed feds NotYet []
+    → (came : List ℕ) → IsServed d (service came (feds ++ NotYet ∷ []) (s ++ said) (w ++ went)) Ends.Ended
+all_read d fs c feds s w p said went e f all came =
+    served d fs c feds s w p NotYet said went Ends.Ended [] all (record { written = sym f; ended = ap (ended []) e; count = ap length e }) came
+
 read_so : (d : Demand) (fs : List Fed) → CallsFor d fs → (feds : List Fed) (s : List Said) (w : List ℕ) → Spoke feds s w
     → (said : List Said) (went : List ℕ) → said ≡ [] → went ≡ [] → (end : WireEnd) → IsRead end → fs ≡ all_fed feds NotYet []
     → (came : List ℕ) → EndsSo d (service came (feds ++ NotYet ∷ []) (s ++ said) (w ++ went)) end
-read_so d fs c feds s w p said went e f Ends.Ended at all came =
-    served d fs c feds s w p NotYet said went Ends.Ended [] all (record { written = sym f; ended = ap (ended []) e; count = ap length e }) came
+read_so d fs c feds s w p said went e f Ends.Ended at all came = all_read d fs c feds s w p said went e f all came
 read_so d fs c feds s w p said went e f Ends.Closed at all came = absurd at
-read_so d fs c feds s w p said went e f Ends.Faulted at all came =
-    cut d fs c feds s w p NotYet said went [] all
-    (record { begins = ([], sym (ap (λ l. l ++ []) f)); at_once = subst AllAtOnce (sym e) tt; count = ap length e; first = inl e }) came
+read_so d fs c feds s w p said went e f Ends.Faulted at all came = inl (all_read d fs c feds s w p said went e f all came)
 read_so d fs c feds s w p said went e f (Ends.Later close) at all came = absurd at
 
 over_ends : (end : WireEnd) → IsRead end → (end ≡ Ends.Ended) ⊎ (end ≡ Ends.Faulted)

@@ -1,8 +1,9 @@
 -- Turns of serving in a row.
-use Rattle.std.proofs.Common.{◌≡◌, ℕ, ◌⊎◌, inl, inr, Bool, true, false, cond, List, [], ◌∷◌, ◌++◌, length, take, drop, Some, None, sym, refl, ap, ◌∙◌, subst, append_assoc, append-nil, take-append-drop, suc}
+use Rattle.std.proofs.Common.{◌≡◌, ◌<◌, ℕ, ◌⊎◌, inl, inr, Bool, true, false, cond, List, [], ◌∷◌, ◌++◌, length, take, drop, Some, None, sym, refl, ap, ◌∙◌, subst, append_assoc, append-nil, length-append, take-append-drop, suc, arith}
 use Rattle.std.specs.Prelude.{Option}
 use Rattle.std.specs.Io.{StartsWith}
 use Rattle.std.proofs.Math.Seq.{take-append_seam}
+use Rattle.std.proofs.lemmas.List.{length-take}
 use Rattle.http_port.specs.declared.head_reader.Fed.{Fed}
 use Rattle.http_port.specs.declared.head_reader.Fed.TheVariants.{NotYet, Interim, Request, Refused}
 use Rattle.http_port.specs.declared.serve.Said.{Said}
@@ -66,14 +67,14 @@ pub spoke_turn : (fed : Fed) (said : List Said) (went : List ℕ) → Reacts fed
 spoke_turn NotYet said went r = (r.0, r.1)
 spoke_turn Interim said went r = elim r.1 [
   | inl x ↦ ([], x.0 ∙ sym (append-nil interim), (r.0, refl))
-  | inr y ↦ let e = y.2 in absurd (cc)
+  | inr y ↦ let e = y.3 in absurd (cc)
 ]
 spoke_turn (Request body close) said went r = by_said r.0 r.1 r.2
   where
     by_writes : (text : Option (List ℕ)) (first : Said) → IsAtOnce first text → said ≡ first ∷ []
         → Writes (answer text close) (turn_behind close) went Turns.GoesOn → Spoke (Request body close ∷ []) said went
     by_writes text first at e (inl x) = (text, first, [], [], at, stays_open close x.1, e, x.0 ∙ sym (append-nil (answer text close)), (refl, refl))
-    by_writes text first at e (inr y) = let f = y.2 in absurd (cc)
+    by_writes text first at e (inr y) = let f = y.3 in absurd (cc)
 
     by_said : (first : Said) → said ≡ first ∷ [] → Answers first close went Turns.GoesOn → Spoke (Request body close ∷ []) said went
     by_said (Says.Text bytes) e x = by_writes (Some bytes) (Says.Text bytes) refl e x
@@ -81,7 +82,7 @@ spoke_turn (Request body close) said went r = by_said r.0 r.1 r.2
     by_said Says.Later e x = let f = x.1 in absurd (cc)
 spoke_turn (Refused status) said went r = elim r.1 [
   | inl x ↦ let e = x.1 in absurd (cc)
-  | inr y ↦ let e = y.2 in absurd (cc)
+  | inr y ↦ let e = y.3 in absurd (cc)
 ]
 
 -- only where a reader gives nothing yet a turn waits
@@ -89,13 +90,13 @@ pub waiting_turn : (fed : Fed) (said : List Said) (went : List ℕ) → Reacts f
 waiting_turn NotYet said went r = (refl, r.0, r.1)
 waiting_turn Interim said went r = elim r.1 [
   | inl x ↦ let e = x.1 in absurd (cc)
-  | inr y ↦ let e = y.2 in absurd (cc)
+  | inr y ↦ let e = y.3 in absurd (cc)
 ]
 waiting_turn (Request body close) said went r = absurd (by_said r.0 r.2)
   where
     by_writes : (text : List ℕ) → Writes text (turn_behind close) went Turns.Waits → ⊥
     by_writes text (inl x) = never_waits close x.1
-    by_writes text (inr y) = let f = y.2 in cc
+    by_writes text (inr y) = let f = y.3 in cc
 
     by_said : (first : Said) → Answers first close went Turns.Waits → ⊥
     by_said (Says.Text bytes) x = by_writes (answer (Some bytes) close) x
@@ -103,7 +104,7 @@ waiting_turn (Request body close) said went r = absurd (by_said r.0 r.2)
     by_said Says.Later x = let f = x.1 in cc
 waiting_turn (Refused status) said went r = elim r.1 [
   | inl x ↦ let e = x.1 in absurd (cc)
-  | inr y ↦ let e = y.2 in absurd (cc)
+  | inr y ↦ let e = y.3 in absurd (cc)
 ]
 
 -- a turn that waits is one that goes on, too
@@ -225,6 +226,7 @@ pub record EndsWhole (fed : Fed) (said : List Said) (went : List ℕ) (end : Wir
 -- the wire failed in the last turn
 pub record EndsCut (fed : Fed) (said : List Said) (went : List ℕ) (gs : List Fed) : Type 0 where
   pub begins : Begins (spoken (shown fed ++ gs) (texts said)) went
+  pub part : length went < length (spoken (shown fed ++ gs) (texts said))
   pub at_once : AllAtOnce said
   pub count : length said ≡ length (bodies_in (fed ∷ []))
   -- nothing was said, or to the request that comes first
@@ -240,6 +242,13 @@ LastTurn fed said went (Ends.Later close) = (gs : List Fed) → EndsWhole fed sa
 front_of : (text : List ℕ) (count : ℕ) (went rest : List ℕ) → went ≡ take count text → Begins (text ++ rest) went
 front_of text count went rest e =
     (drop count text ++ rest, ap (λ l. l ++ rest) (sym (take-append-drop count text)) ∙ append_assoc (take count text) (drop count text) rest ∙ ap (λ l. l ++ (drop count text ++ rest)) (sym e))
+
+-- which is shorter than the whole
+shorter : (text : List ℕ) (count : ℕ) (went rest : List ℕ) → count < length text → went ≡ take count text
+    → length went < length (text ++ rest)
+shorter text count went rest short e =
+    let long : length went ≡ length (take count text) = ap length e in
+    omega (arith, short, long, length-take count text, length-append text rest)
 
 same_end : (a b : WireEnd) → Turns.Ends a ≡ Turns.Ends b → a ≡ b
 same_end a b e = cc
@@ -261,23 +270,26 @@ answered body true said went end text first at e (inl x) =
     closes Says.Later at gs = absurd at
 answered body false said went end text first at e (inl x) = let f = x.1 in absurd (cc)
 answered body close said went end text first at e (inr y) =
-    subst (LastTurn (Request body close) said went) (sym (same_end end Ends.Faulted y.2))
+    subst (LastTurn (Request body close) said went) (sym (same_end end Ends.Faulted y.3))
     (λ gs. record {
-      begins = subst (λ l. Begins l went)
-          (sym (ap (λ l. spoken (Request body close ∷ gs) (texts l)) e ∙ ap (spoken (Request body close ∷ gs)) (texts_at_once first text at [])))
-          (front_of (answer text close) y.0 went (cond close [] (spoken gs [])) y.1);
+      begins = subst (λ l. Begins l went) (sym (is gs)) (front_of (answer text close) y.0 went (cond close [] (spoken gs [])) y.2);
+      part = subst (λ l. length went < length l) (sym (is gs)) (shorter (answer text close) y.0 went (cond close [] (spoken gs [])) y.1 y.2);
       at_once = subst AllAtOnce (sym e) (all_at_once first text at [] tt);
       count = ap length e;
       first = inr (first, e, refl);
     })
+  where
+    is : (gs : List Fed) → spoken (Request body close ∷ gs) (texts said) ≡ answer text close ++ cond close [] (spoken gs [])
+    is gs = ap (λ l. spoken (Request body close ∷ gs) (texts l)) e ∙ ap (spoken (Request body close ∷ gs)) (texts_at_once first text at [])
 
 pub last_turn : (fed : Fed) (said : List Said) (went : List ℕ) (end : WireEnd) → Reacts fed said went (Turns.Ends end) → LastTurn fed said went end
 last_turn NotYet said went end r = let e = r.2 in absurd (cc)
 last_turn Interim said went end r = elim r.1 [
   | inl x ↦ let e = x.1 in absurd (cc)
-  | inr y ↦ subst (LastTurn Interim said went) (sym (same_end end Ends.Faulted y.2))
+  | inr y ↦ subst (LastTurn Interim said went) (sym (same_end end Ends.Faulted y.3))
       (λ gs. record {
-        begins = front_of interim y.0 went (spoken gs (texts said)) y.1;
+        begins = front_of interim y.0 went (spoken gs (texts said)) y.2;
+        part = shorter interim y.0 went (spoken gs (texts said)) y.1 y.2;
         at_once = subst AllAtOnce (sym r.0) tt;
         count = ap length r.0;
         first = inl r.0;
@@ -302,9 +314,10 @@ last_turn (Refused status) said went end r = elim r.1 [
         ended = ap closed_by r.0;
         count = ap length r.0;
       })
-  | inr y ↦ subst (LastTurn (Refused status) said went) (sym (same_end end Ends.Faulted y.2))
+  | inr y ↦ subst (LastTurn (Refused status) said went) (sym (same_end end Ends.Faulted y.3))
       (λ gs. record {
-        begins = subst (λ l. Begins l went) (append-nil (response status [] true)) (front_of (response status [] true) y.0 went [] y.1);
+        begins = subst (λ l. Begins l went) (append-nil (response status [] true)) (front_of (response status [] true) y.0 went [] y.2);
+        part = subst (λ l. length went < length l) (append-nil (response status [] true)) (shorter (response status [] true) y.0 went [] y.1 y.2);
         at_once = subst AllAtOnce (sym r.0) tt;
         count = ap length r.0;
         first = inl r.0;
@@ -316,14 +329,14 @@ pub last_given : (fed : Fed) (said : List Said) (went : List ℕ) (end : WireEnd
 last_given NotYet said went end r = let e = r.2 in absurd (cc)
 last_given Interim said went end r = elim r.1 [
   | inl x ↦ let e = x.1 in absurd (cc)
-  | inr y ↦ subst (λ e. IsLastGiven e Interim) (sym (same_end end Ends.Faulted y.2)) tt
+  | inr y ↦ subst (λ e. IsLastGiven e Interim) (sym (same_end end Ends.Faulted y.3)) tt
 ]
 last_given (Request body close) said went end r = by_said r.0 r.2
   where
     by_writes : (c : Bool) (text : List ℕ) → Writes text (turn_behind c) went (Turns.Ends end) → IsLastGiven end (Request body c)
     by_writes true text (inl x) = subst (λ e. IsLastGiven e (Request body true)) (sym (same_end end Ends.Closed x.1)) (inl (body, refl))
     by_writes false text (inl x) = let e = x.1 in absurd (cc)
-    by_writes c text (inr y) = subst (λ e. IsLastGiven e (Request body c)) (sym (same_end end Ends.Faulted y.2)) tt
+    by_writes c text (inr y) = subst (λ e. IsLastGiven e (Request body c)) (sym (same_end end Ends.Faulted y.3)) tt
 
     by_said : (first : Said) → Answers first close went (Turns.Ends end) → IsLastGiven end (Request body close)
     by_said (Says.Text bytes) x = by_writes close (answer (Some bytes) close) x
@@ -331,5 +344,5 @@ last_given (Request body close) said went end r = by_said r.0 r.2
     by_said Says.Later x = subst (λ e. IsLastGiven e (Request body close)) (sym (same_end end (Ends.Later close) x.1)) (body, refl)
 last_given (Refused status) said went end r = elim r.1 [
   | inl x ↦ subst (λ e. IsLastGiven e (Refused status)) (sym (same_end end Ends.Closed x.1)) (inr (status, refl))
-  | inr y ↦ subst (λ e. IsLastGiven e (Refused status)) (sym (same_end end Ends.Faulted y.2)) tt
+  | inr y ↦ subst (λ e. IsLastGiven e (Refused status)) (sym (same_end end Ends.Faulted y.3)) tt
 ]

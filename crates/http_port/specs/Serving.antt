@@ -1,5 +1,5 @@
 -- What comes of serving a connection: what is asked, what is written and how it ends, by what the bytes hold.
-use Rattle.std.specs.Prelude.{◌≡◌, ℕ, ◌≤◌, ◌⊎◌, Bool, true, if◌then◌else◌, Option, None, Some}
+use Rattle.std.specs.Prelude.{◌≡◌, ℕ, ◌<◌, ◌≤◌, ◌⊎◌, Bool, true, if◌then◌else◌, Option, None, Some}
 use Rattle.std.specs.Prelude.{List, [], ◌∷◌, ◌++◌, length, map, take, drop}
 use Rattle.std.specs.List.{concat}
 use Rattle.std.specs.Io.{StartsWith}
@@ -82,20 +82,21 @@ AllAtOnce (Says.Text bytes ∷ more) = AllAtOnce more
 AllAtOnce (Says.Nothing ∷ more) = AllAtOnce more
 AllAtOnce (Says.Later ∷ more) = ⊥
 
--- The serving was cut off: a front of what is to be written was written, and all of it that stands before the answer of
--- the last request that was handed on. No answer comes later.
+-- The serving was cut off in a write: a front of what is to be written was written, and not all of it; and all of it that
+-- stands before the answer of the last request that was handed on. No answer comes later.
 pub record IsCutOff (demand : Demand) (did : Service) : Type 0 where
   pub hands_on : HandsOn demand did
   pub at_once : AllAtOnce did.said
   pub front : StartsWith (to_write demand did.said) did.went
+  pub part : length did.went < length (to_write demand did.said)
   pub before : (early : List Said) (last : Said) → did.said ≡ early ++ last ∷ []
       → StartsWith did.went (to_write demand early)
 
--- the serving is cut off by a fault of the wire alone
+-- Where the wire failed it did so in a read, behind which all is done as at the end of what comes, or in a write.
 abbrev pub EndsSo : Demand → Service → WireEnd → Type 0
 EndsSo demand did Ends.Ended = IsServed demand did Ends.Ended
 EndsSo demand did Ends.Closed = IsServed demand did Ends.Closed
-EndsSo demand did Ends.Faulted = IsCutOff demand did
+EndsSo demand did Ends.Faulted = IsServed demand did Ends.Ended ⊎ IsCutOff demand did
 EndsSo demand did (Ends.Later close) = IsServed demand did (Ends.Later close)
 
 -- what the bytes at hand call for, in a reading of them

@@ -1,6 +1,6 @@
 -- These definitions serve the proofs alone: no promise of a public call speaks of them.
 -- What serving does turn by turn.
-use Rattle.std.specs.Prelude.{◌≡◌, ℕ, ◌⊎◌, Bool, true, false, if◌then◌else◌, None, Some, List, [], ◌∷◌, take}
+use Rattle.std.specs.Prelude.{◌≡◌, ℕ, ◌<◌, ◌⊎◌, Bool, true, false, if◌then◌else◌, None, Some, List, [], ◌∷◌, length, take}
 use Rattle.http_port.specs.Responses.{interim, response}
 use Rattle.http_port.specs.Talk.{answer}
 use Rattle.http_port.specs.Serving.{CountsFault}
@@ -16,10 +16,11 @@ use Rattle.http_port.specs.declared.turn.Turn.TheVariants as Turns
 abbrev pub turn_behind : Bool → Turn
 turn_behind close = if close then Turns.Ends Ends.Closed else Turns.GoesOn
 
--- the text was written, and the turn is this; or the wire failed behind a front of it
+-- the text was written, and the turn is this; or the wire failed behind a front of it that is not all of it
 abbrev pub Writes : List ℕ → Turn → List ℕ → Turn → Type 0
 Writes text next went turn =
-    ((went ≡ text) × (turn ≡ next)) ⊎ ((count : ℕ) × (went ≡ take count text) × (turn ≡ Turns.Ends Ends.Faulted))
+    ((went ≡ text) × (turn ≡ next))
+    ⊎ ((count : ℕ) × (count < length text) × (went ≡ take count text) × (turn ≡ Turns.Ends Ends.Faulted))
 
 -- what comes of what was said to a request
 abbrev pub Answers : Said → Bool → List ℕ → Turn → Type 0

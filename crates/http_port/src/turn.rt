@@ -1,5 +1,5 @@
 //! One turn of serving a connection.
-ghost use Rattle.std.specs.Prelude.{◌≡◌, ℕ, List, [], ◌∷◌, true, false, take, IfOk, MatchResult};
+ghost use Rattle.std.specs.Prelude.{◌≡◌, ◌<◌, ℕ, List, [], ◌∷◌, true, false, length, take, IfOk, MatchResult};
 ghost use Rattle.std.specs.Io.KnownBytes.{Appends};
 ghost use Rattle.outside_traits.specs.Causes.{HasCause};
 ghost use Rattle.http_port.specs.Asking.{Grows};
@@ -159,7 +159,7 @@ fn write<W: Wire>(wire: &mut W, text: &[u8], next: Turn) -> Turn
 pub fn write_all<W: Wire>(wire: &mut W, bytes: &[u8]) -> Result<(), Failed>
     ensures writes { MatchResult result
         (λ _. Appends (W.taken wire.old) (W.taken wire.new) bytes.now × IsWritten (W.calls wire.old) (W.calls wire.new) bytes.now true)
-        (λ _. (count : ℕ) × Appends (W.taken wire.old) (W.taken wire.new) (take count bytes.now) × IsWritten (W.calls wire.old) (W.calls wire.new) (take count bytes.now) false) }
+        (λ _. (count : ℕ) × (count < length bytes.now) × Appends (W.taken wire.old) (W.taken wire.new) (take count bytes.now) × IsWritten (W.calls wire.old) (W.calls wire.new) (take count bytes.now) false) }
     ensures cause { HasCause (W.faults wire.old) (W.faults wire.new) result }
     ensures given { W.given wire.new ≡ W.given wire.old }
     ensures left { W.left wire.new ≡ W.left wire.old }

@@ -1,5 +1,7 @@
--- What is told of the trips of a link: those that it made, and what the next ones bring.
-use Rattle.std.specs.Prelude.{◌≡◌, ℕ, List, [], ◌∷◌, Option, None, Some}
+-- What is told of the trips of a link: those that it made, what the next ones bring, and how often one has failed.
+use Rattle.std.specs.Prelude.{◌≡◌, ℕ, ◌+◌, ◌-◌, ◌^◌, min, List, [], ◌∷◌, Option, None, Some, Result, Ok, Err}
+use Rattle.outside_traits.specs.declared.errors.CallError.{CallError}
+use Rattle.outside_traits.specs.declared.errors.CallError.TheVariants.{Failed, Memory}
 
 -- a trip: where to, with which text, and the bytes that came back, none where it failed
 pub record Made : Type 0 where
@@ -26,3 +28,13 @@ Brings (Some (first ∷ rest)) now came = (came ≡ first) × (now ≡ Some rest
 abbrev pub StaysTold : Option (List (Option (List ℕ))) → Option (List (Option (List ℕ))) → Type 0
 StaysTold before None = Unit {0}
 StaysTold before (Some now) = before ≡ Some now
+
+-- a count of failures with one more; it stops at the last value of its type
+abbrev pub one_more : ℕ → ℕ
+one_more faults = min (faults + 1) (2 ^ 64 - 1)
+
+-- how often a trip has failed behind one more, where one had failed so often; want of memory is no failure
+abbrev pub faults_after : {T : Type 0} → Result T CallError → ℕ → ℕ
+faults_after (Ok came) before = before
+faults_after (Err Failed) before = one_more before
+faults_after (Err (Memory cause)) before = before

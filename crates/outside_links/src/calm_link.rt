@@ -1,7 +1,6 @@
 ghost use Rattle.std.specs.Prelude.{◌≡◌, [], ◌∷◌, None, Some, IfOk, IfSome, IsErrOf, IsOk, alloc_error, map};
-ghost use Rattle.outside_traits.specs.Causes.{HasCallCause};
 ghost use Rattle.outside_traits.specs.Told.{Lists};
-ghost use Rattle.outside_links.specs.Trips.{Brings, StaysTold, there_alone, there_and_back};
+ghost use Rattle.outside_links.specs.Trips.{Brings, StaysTold, faults_after, there_alone, there_and_back};
 
 use crate::coming::Coming;
 use crate::link::Link;
@@ -64,7 +63,7 @@ impl Link for CalmLink {
         ensures brought { IfOk result (λ bytes. Brings (Some self.old.coming) (Some self.new.coming) (Some bytes.items)) }
         ensures failed { IsErrOf result CallError.Failed → Brings (Some self.old.coming) (Some self.new.coming) None }
         ensures wanted { IsErrOf result (CallError.Memory alloc_error) → StaysTold (Some self.old.coming) (Some self.new.coming) }
-        ensures cause { HasCallCause self.old.faults self.new.faults result }
+        ensures faults { self.new.faults ≡ faults_after result self.old.faults }
     {
         let bytes = next_bytes(self.alloc, &mut self.coming);
         self.trips.note_back(location, text, &bytes);

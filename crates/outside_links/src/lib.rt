@@ -1,5 +1,5 @@
 //! The way to services elsewhere, as a trait with a written meaning: a trip takes a text to a location and brings bytes back.
-//! A link has a count of faults, which rises where a trip fails and stands still else, and may tell the trips that it made and what the next ones bring.
+//! A link counts the trips that failed, one for each, and may tell the trips that it made and what the next ones bring.
 //! Beside the trait stand links in memory for tests, scripted to fail or calm, and one that reaches nobody.
 #![tactic(auto)]
 

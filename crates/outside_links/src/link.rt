@@ -1,8 +1,7 @@
-ghost use Rattle.std.specs.Prelude.{ℕ, List, [], ◌∷◌, IsErrOf, IfOk, alloc_error};
+ghost use Rattle.std.specs.Prelude.{◌≡◌, ℕ, List, [], ◌∷◌, IsErrOf, IfOk, alloc_error};
 ghost use Rattle.std.specs.declared.option.Option.{Option};
-ghost use Rattle.outside_traits.specs.Causes.{HasCallCause};
 ghost use Rattle.outside_traits.specs.Told.{Lists};
-ghost use Rattle.outside_links.specs.Trips.{Brings, Made, StaysTold, there_alone, there_and_back};
+ghost use Rattle.outside_links.specs.Trips.{Brings, Made, StaysTold, faults_after, there_alone, there_and_back};
 
 use outside_traits::CallError;
 
@@ -14,7 +13,7 @@ pub trait Link {
     /// What the next trips bring in order, where it is told: the bytes that come back, or none of one that fails.
     ghost coming: { Self → Option (List (Option (List ℕ))) };
 
-    /// A number that rises with each trip that fails, and stands else.
+    /// How often a trip has failed, as far as a number of 64 bits goes.
     ghost faults: { Self → ℕ };
 
     /// Takes a text to a location, once, and gives the bytes that came back.
@@ -26,5 +25,5 @@ pub trait Link {
         ensures brought { IfOk result (λ bytes. Brings (coming self.old) (coming self.new) (Some bytes.items)) }
         ensures failed { IsErrOf result CallError.Failed → Brings (coming self.old) (coming self.new) None }
         ensures wanted { IsErrOf result (CallError.Memory alloc_error) → StaysTold (coming self.old) (coming self.new) }
-        ensures cause { HasCallCause (faults self.old) (faults self.new) result };
+        ensures faults { faults self.new ≡ faults_after result (faults self.old) };
 }

@@ -1,5 +1,5 @@
 ghost use Rattle.std.specs.Prelude.{◌≡◌, None, IsErrOf};
-ghost use Rattle.outside_traits.specs.Causes.{HasCallCause};
+ghost use Rattle.outside_links.specs.Trips.{faults_after};
 
 use crate::link::Link;
 use outside_traits::CallError;
@@ -37,7 +37,7 @@ impl Link for NoLink {
 
     fn trip(&mut self, _location: &str, _text: &[u8]) -> Result<Vec<u8>, CallError>
         ensures always { IsErrOf result CallError.Failed }
-        ensures cause { HasCallCause self.old self.new result }
+        ensures faults { self.new ≡ faults_after result self.old }
     {
         self.faults = self.faults.saturating_add(1);
         Err(CallError::Failed)

@@ -1,25 +1,22 @@
 -- The trip of a call that goes out.
-use Rattle.std.proofs.Common.{◌≡◌, ℕ, List, [], ◌∷◌, Result, Ok, Err, IfOk, arith}
-use Rattle.outside_traits.specs.Causes.{Rose}
+use Rattle.std.proofs.Common.{◌≡◌, ◌∙◌, ap, ℕ, List, [], ◌∷◌, Result, Ok, Err, IfOk}
+use Rattle.std.specs.Prelude.{IsErrOf}
+use Rattle.outside_traits.specs.declared.errors.CallError.{CallError}
+use Rattle.outside_traits.specs.declared.errors.CallError.TheVariants.{Failed}
 use Rattle.behaviour_tree.specs.Data.{ProgramParts}
 use Rattle.behaviour_tree.specs.declared.words.Outcome.{Outcome}
 use Rattle.office_core.specs.declared.outgoing.Outgoing.{Outgoing}
 use Rattle.outside_traits.specs.Told.{Lists}
-use Rattle.outside_links.specs.Trips.{Made, there_alone, there_and_back}
+use Rattle.outside_links.specs.Trips.{Made, faults_after, there_alone}
 use Rattle.jsonrpc_calls.specs.CallTexts.{location_called, call as call_text}
 use Rattle.jsonrpc_calls.specs.Heard.{heard}
 use Rattle.trip_laws.specs.Going.{IsHeard}
 use Rattle.trip_laws.specs.Trips.{TripsTold, HasCounted}
 
--- a trip from which bytes came back leaves the count of failures as it was
-pub counted_back : (before now : ℕ) (location text bytes : List ℕ) → now ≡ before
-    → HasCounted before now (there_and_back location text bytes ∷ [])
-counted_back before now location text bytes same = record { counted = omega arith; calm = λ _. same }
-
--- a trip that failed makes it rise
-pub counted_alone : (before now : ℕ) (location text : List ℕ) → Rose before now
-    → HasCounted before now (there_alone location text ∷ [])
-counted_alone before now location text rose = record { counted = rose; calm = λ none. cc }
+-- a trip that failed is counted
+pub counted_alone : {T : Type 0} (r : Result T CallError) (before now : ℕ) (location text : List ℕ) → IsErrOf r Failed
+    → now ≡ faults_after r before → HasCounted before now (there_alone location text ∷ [])
+counted_alone r before now location text failed counted = counted ∙ ap (λ x. faults_after x before) failed
 
 -- what was heard of a trip that was made
 pub heard_of : {E : Type 0} (parts : ProgramParts) (out : Outgoing) (before now : TripsTold) (m : Made)

@@ -1,11 +1,11 @@
 -- The trips of the calls to services elsewhere, as a history grows.
 use Rattle.std.proofs.Common.{◌≡◌, ℕ, Bool, true, false, cond, ◌&&◌, ◌||◌, List, [], ◌∷◌, ◌++◌, refl}
-use Rattle.std.proofs.Common.{◌+◌, ◌-◌, ◌^◌, ◌≤◌, min, count_by, arith}
 use Rattle.std.proofs.Common.{sym, ap, subst, ◌∙◌, Option, None, Some, option_map, true≢false, slice_get, filter}
 use Rattle.std.proofs.Common.{filter_map, is_some, nat_eq, option_and_then, append_assoc, unwrap_or, if◌then◌else◌}
+use Rattle.std.specs.Prelude.{fold}
 use Rattle.std.specs.List.{list_any, list_all, cons_option, AllZip}
 use Rattle.std.proofs.lemmas.List.{append-nil}
-use Rattle.std.proofs.lemmas.List.Sums.{sum_by-cons}
+use Rattle.std.proofs.lemmas.List.Sums.{fold-append}
 use Rattle.std.proofs.lemmas.Option.{slice_get-get_or}
 use Rattle.std.proofs.lemmas.List.Elements.{filter-append, filter_map-append}
 use Rattle.jolie_trees.specs.Trees.{void_tree}
@@ -38,7 +38,7 @@ use Rattle.session_turn.proofs.Histories.{past_on, some_of, service_stays}
 use Rattle.run_record.specs.Outside.{Trip, trips, fetched_in, trip_of, console_calls}
 use Rattle.outside_traits.specs.Told.{Lists}
 use Rattle.outside_links.specs.Trips.{Made}
-use Rattle.trip_laws.specs.Trips.{TripsTold, has_failed, HasCounted, IsTrip, Travelled, AreVoid}
+use Rattle.trip_laws.specs.Trips.{TripsTold, faults_behind, HasCounted, IsTrip, Travelled, AreVoid}
 use Rattle.trip_laws.specs.Going.{is_inward, is_of_session, fetch_of, answer_of, went_out, goes_to, AreSettled}
 use Rattle.trip_laws.specs.Going.{IsTour, AreTours, Toured, IsHeard}
 use Rattle.trip_laws.proofs.Places.{filter_map_same, any_at, at_front}
@@ -213,36 +213,15 @@ nothing_made : (now : Option (List Made)) → Lists now now []
 nothing_made None = tt
 nothing_made (Some ms) = sym (append-nil ms)
 
--- no trip leaves the count of failures as it was
-counted_none : (now : ℕ) → HasCounted now now []
-counted_none now = record { counted = omega arith; calm = λ _. refl }
-
--- how many of trips and further ones failed
-failed_append : (some more : List Made)
-    → count_by has_failed (some ++ more) ≡ count_by has_failed some + count_by has_failed more
-failed_append [] more = let none : count_by has_failed [] ≡ 0 = refl in omega arith
-failed_append (m ∷ some) more =
-    let rest = failed_append some more in
-    let one = sum_by-cons (λ y. cond (has_failed y) 1 0) m (some ++ more) in
-    let two = sum_by-cons (λ y. cond (has_failed y) 1 0) m some in
-    omega arith
-
 -- trips and further ones are counted one after the other
 counted_on : (before now later : ℕ) (some more : List Made) → HasCounted before now some → HasCounted now later more
     → HasCounted before later (some ++ more)
 counted_on before now later some more a b =
-    let both : count_by has_failed (some ++ more) ≡ count_by has_failed some + count_by has_failed more =
-    failed_append some more in
-    let first = a.counted in
-    let second = b.counted in
-    record {
-      counted = omega arith;
-      calm = λ none. b.calm (omega arith) ∙ a.calm (omega arith);
-    }
+    b ∙ ap (λ n. fold faults_behind n more) a ∙ sym (fold-append faults_behind before some more)
 
 pub toured_first : (w : Setting) (now : TripsTold) → Toured w [] now now
 toured_first w now =
-    record { made = []; are = tt; told = nothing_made now.trips; counts = counted_none now.faults }
+    record { made = []; are = tt; told = nothing_made now.trips; counts = refl }
 
 -- ---- a call that goes out
 

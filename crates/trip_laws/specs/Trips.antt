@@ -1,5 +1,5 @@
 -- What calls that went out came to: the trips of a link, and the calls to the console.
-use Rattle.std.specs.Prelude.{◌≡◌, ℕ, ◌+◌, ◌-◌, ◌^◌, ◌≤◌, min, Bool, List, count_by, Option, Some, Contains}
+use Rattle.std.specs.Prelude.{◌≡◌, ℕ, Bool, if◌then◌else◌, List, fold, Option, Some, Contains}
 use Rattle.std.specs.List.{AllZip}
 use Rattle.std.specs.Option.{is_none}
 use Rattle.jolie_trees.specs.Trees.{void_tree}
@@ -15,7 +15,7 @@ use Rattle.office_core.specs.Sessions.{service_of}
 use Rattle.office_core.specs.Calls.{result}
 use Rattle.run_record.specs.Outside.{console_calls, Trip, trips}
 use Rattle.outside_traits.specs.Told.{Lists}
-use Rattle.outside_links.specs.Trips.{Made}
+use Rattle.outside_links.specs.Trips.{Made, one_more}
 use Rattle.jsonrpc_calls.specs.CallTexts.{call as call_text}
 use Rattle.jsonrpc_calls.specs.Heard.{heard}
 
@@ -34,11 +34,14 @@ trips_told trips faults = record { trips = trips; faults = faults }
 abbrev pub has_failed : Made → Bool
 has_failed m = is_none m.came
 
--- These trips were made between two counts of failures: it rose by one at least for each that failed, as far as numbers
--- of 64 bits go, and it stands where none did.
-pub record HasCounted (before now : ℕ) (made : List Made) : Type 0 where
-  pub counted : min (before + count_by has_failed made) (2 ^ 64 - 1) ≤ now
-  pub calm : count_by has_failed made ≡ 0 → now ≡ before
+-- how often a link has failed behind a trip, where it had failed so often: one more where the trip failed
+abbrev pub faults_behind : ℕ → Made → ℕ
+faults_behind before m = if has_failed m then one_more before else before
+
+-- These trips were made between two counts of failures: it rose by one for each that failed and for no other, up to the
+-- last value of its type.
+abbrev pub HasCounted : ℕ → ℕ → List Made → Type 0
+HasCounted before now made = now ≡ fold faults_behind before made
 
 -- ---- trips
 

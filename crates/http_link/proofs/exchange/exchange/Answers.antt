@@ -11,4 +11,4 @@ returns-in-Ok g c =
 pub returns-in-Err : goal.returns-in-Err
 returns-in-Err g c =
     let writes = c.in-Err.ensures.writes in
-    cut_in_writing (traffic (g.W.Wire.given c.args.wire.now) (g.W.Wire.taken c.args.wire.now) (g.W.Wire.calls c.args.wire.now) (g.W.Wire.faults c.args.wire.now)) (traffic (g.W.Wire.given c.write_all.new.wire) (g.W.Wire.taken c.write_all.new.wire) (g.W.Wire.calls c.write_all.new.wire) (g.W.Wire.faults c.write_all.new.wire)) c.args.request.now writes.0 writes.1 writes.2 c.in-Err.ensures.given c.in-Err.ensures.cause.failed
+    cut_in_writing (traffic (g.W.Wire.given c.args.wire.now) (g.W.Wire.taken c.args.wire.now) (g.W.Wire.calls c.args.wire.now) (g.W.Wire.faults c.args.wire.now)) (traffic (g.W.Wire.given c.write_all.new.wire) (g.W.Wire.taken c.write_all.new.wire) (g.W.Wire.calls c.write_all.new.wire) (g.W.Wire.faults c.write_all.new.wire)) c.args.request.now writes.0 writes.1 writes.2 writes.3 c.in-Err.ensures.given c.in-Err.ensures.cause.failed

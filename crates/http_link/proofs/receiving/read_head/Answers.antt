@@ -4,7 +4,7 @@ use Rattle.http_port.specs.HeadPart.{longest_head, HoldsScan}
 use Rattle.http_port.proofs.PartLemmas.{scan_start, scan_grows}
 use Rattle.http_link.specs.Trips.{most_read}
 use Rattle.http_link.proofs.Heads.{knows_front, knows_end, unfinished_front}
-use Rattle.http_link.proofs.Heard.{heard_nothing, heard_more, heard_end}
+use Rattle.http_link.proofs.Heard.{heard_nothing, heard_more, heard_end, heard_cut}
 use Rattle.http_link.proofs.receiving.read_head.Goals as goal
 
 pub loop-announced-init : goal.loop-announced-init
@@ -33,6 +33,15 @@ returns-in-Ok-eq0-clause-heard g c =
           (record { given = read.3; taken = c.in-Ok-eq0.ensures.taken; noted = read.4; faults = c.in-Ok-eq0.ensures.cause.calm })
           read.2 read.1 c.in-Ok-eq0.field-0-test c.in-Ok-eq0.ensures.bounded,
     )
+
+pub returns-in-Err-clause-heard : goal.returns-in-Err-clause-heard
+returns-in-Err-clause-heard g c =
+    let read = c.in-Err.ensures.read in
+    heard_cut (traffic (g.W.Wire.given c.args.wire.now) (g.W.Wire.taken c.args.wire.now) (g.W.Wire.calls c.args.wire.now) (g.W.Wire.faults c.args.wire.now)) (traffic (g.W.Wire.given c.loop-announced.wire) (g.W.Wire.taken c.loop-announced.wire) (g.W.Wire.calls c.loop-announced.wire) (g.W.Wire.faults c.loop-announced.wire)) (traffic (g.W.Wire.given c.fill.new.wire) (g.W.Wire.taken c.fill.new.wire) (g.W.Wire.calls c.fill.new.wire) (g.W.Wire.faults c.fill.new.wire))
+    c.args.inbox.now c.loop-announced.inbox c.fill.new.self
+    c.loop-announced.invariant.heard
+    (unfinished_front c.as_slice.result.now c.loop-announced.inbox c.as_slice.ensures c.in_default.ensures.none.0)
+    read.0 read.1 c.in-Err.ensures.taken read.2 c.in-Err.ensures.cause.later c.in-Err.ensures.cause.failed
 
 pub loop-announced-preserved : goal.loop-announced-preserved
 loop-announced-preserved g c =

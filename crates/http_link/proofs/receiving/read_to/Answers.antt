@@ -1,6 +1,6 @@
 use Rattle.std.proofs.Common.{arith}
 use Rattle.outside_dials.specs.Dials.{traffic}
-use Rattle.http_link.proofs.Heard.{heard_nothing, heard_more, heard_end, unfinished_on}
+use Rattle.http_link.proofs.Heard.{heard_nothing, heard_more, heard_end, heard_cut, unfinished_on}
 use Rattle.http_link.proofs.receiving.read_to.Goals as goal
 
 pub loop-inbox-init : goal.loop-inbox-init
@@ -29,3 +29,13 @@ loop-inbox-preserved g c =
           (record { given = read.3; taken = c.in-Ok.ensures.taken; noted = read.4; faults = c.in-Ok.ensures.cause.calm })
           read.2 read.1 (omega arith) c.in-Ok.ensures.bounded;
     }
+
+pub returns-in-Err-clause-heard : goal.returns-in-Err-clause-heard
+returns-in-Err-clause-heard g c =
+    let read = c.in-Err.ensures.read in
+    let h = c.loop-inbox.invariant.heard in
+    let long = c.len.ensures.len in
+    let open_ = unfinished_on c.args.inbox.now c.loop-inbox.inbox h.piece c.args.end c.requires.unfinished h.grown (omega arith) in
+    heard_cut (traffic (g.W.Wire.given c.args.wire.now) (g.W.Wire.taken c.args.wire.now) (g.W.Wire.calls c.args.wire.now) (g.W.Wire.faults c.args.wire.now)) (traffic (g.W.Wire.given c.loop-inbox.wire) (g.W.Wire.taken c.loop-inbox.wire) (g.W.Wire.calls c.loop-inbox.wire) (g.W.Wire.faults c.loop-inbox.wire)) (traffic (g.W.Wire.given c.fill.new.wire) (g.W.Wire.taken c.fill.new.wire) (g.W.Wire.calls c.fill.new.wire) (g.W.Wire.faults c.fill.new.wire))
+    c.args.inbox.now c.loop-inbox.inbox c.fill.new.self h open_
+    read.0 read.1 c.in-Err.ensures.taken read.2 c.in-Err.ensures.cause.later c.in-Err.ensures.cause.failed

@@ -3,7 +3,7 @@ use Rattle.std.proofs.Common.{◌≡◌, ◌∙◌, subst, IfOk, Some}
 use Rattle.behaviour_tree.specs.PartsView.{parts_of}
 use Rattle.outside_links.specs.Trips.{there_alone, there_and_back}
 use Rattle.jsonrpc_calls.specs.Heard.{heard}
-use Rattle.run_sweep.proofs.Heard.{counted_back, counted_alone, heard_of}
+use Rattle.run_sweep.proofs.Heard.{counted_alone, heard_of}
 use Rattle.run_sweep.proofs.elsewhere.trip.Goals as goal
 use Rattle.trip_laws.specs.Trips.{trips_told}
 
@@ -15,8 +15,7 @@ returns-in-Ok g c =
     c.outcome_heard.result c.location_called-location.ensures
     (c.as_bytes.ensures.value ∙ c.as_str.ensures ∙ c.in_ok-text.ensures)
     c.in-Ok.ensures.back
-    (counted_back (g.L.Link.faults c.args.link.now) (g.L.Link.faults c.trip.new.self)
-    c.location_called-location.result.now c.as_bytes.result.now c.in-Ok.bytes.items c.in-Ok.ensures.cause.calm)
+    c.in-Ok.ensures.faults
     (subst (λ b. IfOk c.outcome_heard.result (λ o. o ≡ heard c.args.out.now (Some b))) c.as_slice.ensures.value
     c.outcome_heard.ensures)
 
@@ -28,6 +27,6 @@ returns-in-Err-Failed g c =
     c.nothing_heard.result c.location_called-location.ensures
     (c.as_bytes.ensures.value ∙ c.as_str.ensures ∙ c.in_ok-text.ensures)
     (c.trip.ensures.alone (cc))
-    (counted_alone (g.L.Link.faults c.args.link.now) (g.L.Link.faults c.trip.new.self)
-    c.location_called-location.result.now c.as_bytes.result.now (c.trip.ensures.cause.failed (cc)))
+    (counted_alone c.trip.result (g.L.Link.faults c.args.link.now) (g.L.Link.faults c.trip.new.self)
+    c.location_called-location.result.now c.as_bytes.result.now (cc) c.trip.ensures.faults)
     c.nothing_heard.ensures
