@@ -4,7 +4,7 @@ use Rattle.std.specs.Prelude.{List, [], ◌∷◌, length, map, fold, sum_by, Op
 use Rattle.std.specs.List.{list_any, items_where_true}
 use Rattle.std.specs.Io.KnownBytes.{Appends}
 use Rattle.outside_traits.specs.Causes.{Rose}
-use Rattle.outside_doors.specs.Counts.{DoorTold, Tally, with_opened, with_door, with_wire}
+use Rattle.outside_doors.specs.Counts.{DoorTold, Tally, added, with_opened, with_door, with_wire}
 use Rattle.outside_traits.specs.Told.{Lists}
 use Rattle.outside_doors.specs.Returns.{WireTold}
 use Rattle.run_record.specs.declared.record.Traffic.{Traffic}
@@ -62,6 +62,11 @@ wires_to n [] ds = 0
 wires_to n (p ∷ ps) [] = 0
 wires_to n (p ∷ ps) (d ∷ ds) = (if nat_eq n p.service then d.wires else 0) + wires_to n ps ds
 
+-- these doors were opened one after another, before the first of which so many had been
+abbrev pub AreInOrder : ℕ → List DoorTold → Type 0
+AreInOrder n [] = Unit {0}
+AreInOrder n (d ∷ ds) = (d.place ≡ n) × AreInOrder (added n 1) ds
+
 -- ---- what doors count
 
 -- doors were opened there
@@ -85,11 +90,12 @@ abbrev pub has_failed : DoorTold → Bool
 has_failed door = not (door.faults == 0)
 
 -- Doors were opened at these locations, in order; where one could not be opened it was left out. All of them came back
--- in this order, and as many wires as they gave; and the doors count and tell just this, with a fault where a door was
--- not opened or came back and had failed.
+-- in the order in which they were opened, and as many wires as they gave; and the doors count and tell just this, with a
+-- fault where a door was not opened or came back and had failed.
 pub record IsUsed (places : List DoorAt) (before now : DoorsTold) (used : Used) : Type 0 where
   pub tried : length used.opened ≡ length places
   pub back : length used.doors ≡ length (items_where_true used.opened places)
+  pub in_order : AreInOrder before.tally.opened used.doors
   pub given : sum_by (λ (door : DoorTold). door.wires) used.doors ≡ length used.wires
   pub tally : now.tally
       ≡ with_doors used.doors (with_wires used.wires (with_openings (items_where_true used.opened places) before.tally))
