@@ -1,11 +1,12 @@
 -- What passed between a front over doors and its run, when it is asked for a posting.
-use Rattle.std.proofs.Common.{◌≡◌, refl, sym, ap, ap₂, ◌∙◌, subst, arith, ℕ, zero, suc, ◌<◌, ◌≤◌, Bool, true, false, ◌&&◌, ◌||◌, ◌⊎◌, inl, inr, List, [], ◌∷◌, ◌++◌, length, map, take, None, Some, count_by, slice_get, nat_eq, nat_lt, nat_le, Result, Ok, Err, MatchResult}
+use Rattle.std.proofs.Common.{◌≡◌, refl, sym, ap, ap₂, ◌∙◌, subst, arith, ℕ, zero, suc, ◌+◌, ◌-◌, ◌^◌, ◌<◌, ◌≤◌, min, Bool, true, false, ◌&&◌, ◌||◌, ◌⊎◌, inl, inr, List, [], ◌∷◌, ◌++◌, length, map, take, None, Some, count_by, slice_get, nat_eq, nat_lt, nat_le, Result, Ok, Err, MatchResult}
 use Rattle.std.specs.declared.alloc.AllocError.{AllocError}
 use Rattle.std.specs.List.{list_all, list_any, sum_by}
 use Rattle.std.proofs.lemmas.Bool.{and_parts, and_from, lt-ltb, ltb-true, ltb-false, leb-false, true≢false}
 use Rattle.std.proofs.lemmas.List.{length-map, map-append, take_all, length_push}
 use Rattle.jolie_trees.specs.Data.{Tree}
 use Rattle.behaviour_tree.specs.Data.{ProgramParts}
+use Rattle.outside_doors.specs.Counts.{added}
 use Rattle.jsonrpc_text.specs.declared.message.Id.{Id}
 use Rattle.jsonrpc_text.specs.declared.message.Early.{Early}
 use Rattle.jsonrpc_text.specs.declared.message.ReadCall.{ReadCall}
@@ -17,18 +18,18 @@ use Rattle.office_front.specs.Calls.{After, most_postings, names_service, is_of,
 use Rattle.branch_workers.specs.Texts.{Came as Incoming, call_in, posting_of}
 use Rattle.connection_runs.specs.Visits.{Visit, came_with}
 use Rattle.http_connection.specs.Seen.{Line}
-use Rattle.door_front.specs.Keeping.{PortTold, LinkTold, Keeping, services_of, no_more, AreLed}
+use Rattle.door_front.specs.Keeping.{PortTold, LinkTold, Keeping, services_of, rests_at, no_more, AreLed}
 use Rattle.sink_writing.specs.Sinks.{Taking}
 use Rattle.door_front.specs.Dealt.{most_open, Sides, sides_of, HadNone, GaveNone, HaveWaited, HasSaid, HasDealt, MayHaveDealt}
-use Rattle.door_front.specs.NextSteps.{service_of, wires_of, is_open, has_room, closed_off, AreTried, listing, Hands, going_of, Goes, Rests, Posts, Looks}
+use Rattle.door_front.specs.NextSteps.{service_of, place_of, wires_of, is_open, has_room, closed_off, AreTried, listing, Hands, going_of, Goes, Rests, Posts, Looks}
 use Rattle.door_front.proofs.Entries.{length_set, nat_eq_is}
-use Rattle.door_front.proofs.Doors.{services-same}
+use Rattle.door_front.proofs.Doors.{services-same, places-same}
 use Rattle.door_front.proofs.Leading.{led-asked}
 use Rattle.door_front.proofs.Coming.{goes-none}
 use Rattle.door_front.proofs.Requests.{Serves, serves-on, came_length}
 use Rattle.door_front.proofs.OneMore.{one_more, next_of, serves-more, service_there}
 use Rattle.door_front.proofs.OneByOne.{told_all, one_count_more, told_first-more, heard-where_reads}
-use Rattle.door_front.proofs.Waiting.{waited-none, waited-more, owes, opened_owe, owes-grow, busy-few, busy-all, busy-count}
+use Rattle.door_front.proofs.Waiting.{once_more, waited-none, waited-more, owes, opened_owe, owes-grow, busy-few, busy-all, busy-count}
 
 -- ---- calls
 
@@ -138,6 +139,7 @@ module _ (IsMade : Line → Type 0) (parts : ProgramParts) (first : Sides) (note
         → HasDealt IsMade parts first (sides_of now notes) (record { brought = without waits ended; said = d.said })
     none-so waits ended none = record {
       services = same_services ∙ h.services;
+      in_place = places-same before.ports now.ports g.ports ∙ h.in_place;
       most = most ∙ h.most;
       within = ap (list_all (λ n. nat_lt n (length parts.services))) same_services ∙ h.within;
       visits = still_serves.visits;
@@ -205,12 +207,14 @@ module _ (IsMade : Line → Type 0) (parts : ProgramParts) (first : Sides) (note
         over = λ e. over_same ∙ over;
         some = λ e. absurd (true≢false e);
         waited = λ e. absurd (true≢false e);
+        rested = λ e. absurd (true≢false e);
       })),
       record { came = ends; silent = refl; seen = refl },
     )
 
     -- more may come
-    module _ (yet : d.brought.ended ≡ false) (quiet : IsQuiet d) (some : closed_off before.most now.ports now.links ≡ false) where
+    module _ (yet : d.brought.ended ≡ false) (quiet : IsQuiet d) (some : closed_off before.most now.ports now.links ≡ false)
+        (more : added (rests_at before.ports) 1 ≤ rests_at now.ports) where
       -- as many owe an answer as may be open
       full : has_room before.most now.links ≡ false → most_open ≤ count_by owes now.links
       full none =
@@ -258,18 +262,44 @@ module _ (IsMade : Line → Type 0) (parts : ProgramParts) (first : Sides) (note
               positive : (n w : ℕ) → w ≡ suc n → 0 < w
               positive n w e = omega arith
 
+      -- as often was rested
+      rested-so : d.said.halted ≡ false
+          → (min (suc d.brought.waits) (2 ^ 64 - 1) ≤ rests_at now.ports) ⊎ (most_postings ≤ length d.brought.given)
+      rested-so calm = by_waits d.brought.waits refl
+        where
+          none : (w cap rests : ℕ) → w ≡ 0 → min w cap ≤ rests
+          none w cap rests e = omega arith
+
+          positive : (n w : ℕ) → w ≡ suc n → 0 < w
+          positive n w e = omega arith
+
+          once : min d.brought.waits (2 ^ 64 - 1) ≤ rests_at before.ports → min (suc d.brought.waits) (2 ^ 64 - 1) ≤ rests_at now.ports
+          once few = once_more d.brought.waits (rests_at before.ports) (2 ^ 64 - 1) (rests_at now.ports) few more
+
+          by_waits : (n : ℕ) → d.brought.waits ≡ n
+              → (min (suc d.brought.waits) (2 ^ 64 - 1) ≤ rests_at now.ports) ⊎ (most_postings ≤ length d.brought.given)
+          by_waits zero is = inl (once (none d.brought.waits (2 ^ 64 - 1) (rests_at before.ports) is))
+          by_waits (suc n) is = elim (h.none calm (inr (positive n d.brought.waits is))) [
+            | inl had ↦ inl (once (had.rested yet))
+            | inr many ↦ inr many
+          ]
+
       none_yet : d.said.halted ≡ false → HadNone now waits_now ⊎ (most_postings ≤ length d.brought.given)
       none_yet calm = elim (waited-so calm) [
-        | inl waited ↦ inl (record {
-          busy = map owes now.links;
-          each = busy-all IsMade parts (services_of before) now.links h.all h.heard waits_now at_rest h.asked (told_then (suc d.brought.waits) false calm) r.silent;
-          over = λ e. absurd (true≢false (sym e));
-          some = λ e. over_same ∙ some;
-          waited = λ e. elim waited [
-            | inl many ↦ inl (subst (λ n. most_open ≤ n) (sym (busy-count now.links)) many)
-            | inr all ↦ inr all
-          ];
-        })
+        | inl waited ↦ elim (rested-so calm) [
+          | inl rested ↦ inl (record {
+            busy = map owes now.links;
+            each = busy-all IsMade parts (services_of before) now.links h.all h.heard waits_now at_rest h.asked (told_then (suc d.brought.waits) false calm) r.silent;
+            over = λ e. absurd (true≢false (sym e));
+            some = λ e. over_same ∙ some;
+            waited = λ e. elim waited [
+              | inl many ↦ inl (subst (λ n. most_open ≤ n) (sym (busy-count now.links)) many)
+              | inr all ↦ inr all
+            ];
+            rested = λ e. rested;
+          })
+          | inr many ↦ inr many
+        ]
         | inr many ↦ inr many
       ]
 
@@ -349,6 +379,7 @@ module _ (IsMade : Line → Type 0) (parts : ProgramParts) (first : Sides) (note
     dealt_now : HasDealt IsMade parts first (sides_of now notes) (record { brought = brought_now; said = d.said })
     dealt_now = record {
       services = services_now ∙ h.services;
+      in_place = ap (map place_of) g.still ∙ places-same before.ports g.mid.ports g.goes.ports ∙ h.in_place;
       most = most ∙ h.most;
       within = ap (list_all (λ n. nat_lt n (length parts.services))) services_now ∙ h.within;
       visits = now_serves.visits;
@@ -413,7 +444,7 @@ module _ (IsMade : Line → Type 0) (parts : ProgramParts) (first : Sides) (note
   pub asked-so : (which : Next) → d.brought.ended ≡ false → IsQuiet d → Looks IsMade before.most which (going_of before) (going_of now)
       → After (HasDealt IsMade parts first (sides_of now notes)) (Asks parts which d)
   asked-so (nexts.Posting p) yet quiet l = post-so p l
-  asked-so nexts.NotYet yet quiet l = yet-so l.0 yet quiet l.1
+  asked-so nexts.NotYet yet quiet l = yet-so l.0 yet quiet l.1 l.2
   asked-so nexts.End yet quiet l = elim l [ inl many ↦ most-so many.1 many.0 | inr rest ↦ over-so rest.0 rest.1 ]
 
 -- ---- and where memory ran out

@@ -2,7 +2,7 @@
 use Rattle.std.proofs.Common.{◌≡◌, refl, sym, ap, ap₂, ◌∙◌, subst, arith, ℕ, ◌+◌, ◌-◌, ◌^◌, ◌<◌, ◌≤◌, Bool, true, false, ◌||◌, ◌⊎◌, inl, inr, List, [], ◌∷◌, ◌++◌, length, map, take, drop, set, get_or, Option, None, Some, nat_eq, nat_lt, nat_le, count_by, IfSome, append_assoc, append-nil, length-append}
 use Rattle.std.proofs.lemmas.List.{map-append, length_push, length-drop, take_more, take_more_set, take_all, drop_more, drop_all, drop-drop, drop-set-lt}
 use Rattle.std.proofs.lemmas.List.Sums.{sum_by-append}
-use Rattle.std.proofs.lemmas.Bool.{and_parts, ltb-true, leb-true}
+use Rattle.std.proofs.lemmas.Bool.{and_parts, ltb-true, leb-true, true≢false}
 use Rattle.std.specs.List.{list_all, sum_by}
 use Rattle.outside_traits.specs.declared.calls.WireCall.{WireCall}
 use Rattle.outside_doors.specs.Counts.{added, has_ended}
@@ -14,12 +14,13 @@ use Rattle.office_front.specs.Calls.{most_postings}
 use Rattle.http_connection.specs.declared.stage.Stage.TheVariants as Stages
 use Rattle.http_connection.specs.Seen.{Line, failures_of, line_of}
 use Rattle.http_connection.specs.Talking.{IsTalking}
-use Rattle.door_front.specs.Keeping.{PortTold, LinkTold, Keeping, wires_to}
+use Rattle.door_front.specs.Keeping.{PortTold, LinkTold, Keeping, rests_at, wires_to}
 use Rattle.door_front.specs.Dealt.{IsNewLine, most_open}
-use Rattle.door_front.specs.NextSteps.{GoesOn, IsTried, service_of, wires_of, stage_at, is_open, has_room, IsNewLink, AreNewLinks, LinksGoOn, doorway, TakesIn, Accepts, Listing, listing, Hands, EndsOne, IsSilent, Going, going, going_of, Goes, Rests, Idles, Looks, closed_off}
+use Rattle.door_front.specs.NextSteps.{GoesOn, IsTried, service_of, wires_of, stage_at, is_open, has_room, IsNewLink, AreNewLinks, LinksGoOn, doorway, TakesIn, Accepts, Listing, listing, Hands, EndsOne, IsSilent, Going, going, going_of, Goes, Rests, Idles, Looks, closed_off, after_rest, ports_after}
 use Rattle.door_front.proofs.Entries.{nat_eq_same, length_set}
 use Rattle.door_front.proofs.Leading.{sum_one, plus_none, led-still, led-push, led-both, led-more, led-asked}
-use Rattle.door_front.proofs.Doors.{goes-same, goes-further, all-same, all-further, all_tried-since, services-same, all-push, tried-push, tried-since}
+use Rattle.door_front.proofs.Doors.{goes-same, goes-further, all-same, all-further, all_tried-since, services-same, all-push, tried-push, tried-since, rests-on, one_more}
+use Rattle.door_front.proofs.Resting.{is_done, all-rested, tried-rested, sums-rested, done-rested, rests-rested}
 use Rattle.door_front.proofs.Links.{reads_not_ended, no_room-behind, new-append, new-among, any-left, any-right, links-same, links-more, links-ended}
 
 -- ---- a new connection
@@ -334,18 +335,52 @@ module _ (IsMade : Line → Type 0) (most : ℕ) where
     still = refl;
   }
 
+  -- one of the doors was rested at
+  rests_later : (x : Going) (ports : List PortTold) (links : List LinkTold) (traffics : List ℕ) → Rests IsMade most x (going ports links traffics)
+      → Rests IsMade most x (going (after_rest ports) links traffics)
+  rests_later x ports links traffics r = record {
+    goes = record {
+      ports = all-further x.ports ports (after_rest ports) r.goes.ports (all-rested ports);
+      links = r.goes.links;
+      traffics = r.goes.traffics;
+      within = r.goes.within;
+      wires = λ h. sums-rested wires_of (λ p. refl) ports ∙ r.goes.wires h;
+      led = λ h all n. sums-rested (wires_to n) (λ p. refl) ports ∙ r.goes.led h all n;
+    };
+    silent = r.silent;
+    tried = elim r.tried [
+      | inl none ↦ inl none
+      | inr all ↦ inr (tried-rested x.ports ports all)
+    ];
+  }
+
+  -- where a connection may come a door has not ended
+  not_done : (ports : List PortTold) (links : List LinkTold) → closed_off most ports links ≡ false → list_all is_done ports ≡ false
+  not_done ports links = later (nat_le most (length links))
+    where
+      later : (b : Bool) → b || list_all is_done ports ≡ false → list_all is_done ports ≡ false
+      later true e = absurd (true≢false e)
+      later false e = e
+
   -- no connection reads
-  looks_idle : (which : Next) (x y : Going) → Rests IsMade most x y → Idles which (closed_off most y.ports y.links) → Looks IsMade most which x y
-  looks_idle (nexts.Posting p) x y r h = absurd h
-  looks_idle nexts.NotYet x y r h = (r, h)
-  looks_idle nexts.End x y r h = inr (r, h)
+  looks_idle : (which : Next) (x : Going) (ports : List PortTold) (links : List LinkTold) (traffics : List ℕ)
+      → Rests IsMade most x (going ports links traffics) → Idles which (closed_off most ports links)
+      → Looks IsMade most which x (going (ports_after which ports) links traffics)
+  looks_idle (nexts.Posting p) x ports links traffics r h = absurd h
+  looks_idle nexts.NotYet x ports links traffics r h = (
+    rests_later x ports links traffics r,
+    ap (λ b. nat_le most (length links) || b) (done-rested ports) ∙ h,
+    one_more (rests_at x.ports) (rests_at ports) (rests_at (after_rest ports)) (2 ^ 64 - 1) (rests-on x.ports ports r.goes.ports)
+        (rests-rested ports (not_done ports links h)),
+  )
+  looks_idle nexts.End x ports links traffics r h = inr (r, h)
 
   pub looks-idle : (which : Next) (x y : Going) (ports later : List PortTold) (links : List LinkTold) (now : Listing) → Goes IsMade most x y
       → Accepts IsMade most (doorway y.ports y.links) (doorway ports links) → IsSilent (listing links y.traffics) now
-      → Idles which (closed_off most ports now.links) → later ≡ ports → Looks IsMade most which x (going later now.links now.traffics)
+      → Idles which (closed_off most ports now.links) → later ≡ ports_after which ports → Looks IsMade most which x (going later now.links now.traffics)
   looks-idle which x y ports later links now g a s h same =
       subst (λ ps. Looks IsMade most which x (going ps now.links now.traffics)) (sym same)
-      (looks_idle which x (going ports now.links now.traffics) (goes-rests x y ports links now g a s) h)
+      (looks_idle which x ports now.links now.traffics (goes-rests x y ports links now g a s) h)
 
 -- ---- what is lent and comes back
 

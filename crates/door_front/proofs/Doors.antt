@@ -1,9 +1,11 @@
 -- Doors as they go on.
 use Rattle.std.proofs.Common.{◌≡◌, refl, sym, ap₂, ◌∙◌, subst, arith, ℕ, ◌+◌, ◌-◌, ◌^◌, ◌≤◌, min, false, inl, inr, List, [], ◌∷◌, ◌++◌, map}
+use Rattle.std.specs.List.{sum_by}
 use Rattle.std.proofs.lemmas.Bool.{true≢false}
+use Rattle.std.proofs.lemmas.List.Sums.{sum_by-cons}
 use Rattle.outside_doors.specs.Counts.{added, has_ended}
-use Rattle.door_front.specs.Keeping.{PortTold}
-use Rattle.door_front.specs.NextSteps.{HasNotFallen, GoesOn, IsTried, AllGoOn, AreTried, service_of}
+use Rattle.door_front.specs.Keeping.{PortTold, rests_at}
+use Rattle.door_front.specs.NextSteps.{HasNotFallen, GoesOn, IsTried, AllGoOn, AreTried, service_of, place_of}
 
 -- ---- one door
 
@@ -14,7 +16,7 @@ not_fallen a cap = omega arith
 fallen_further : (a b c cap : ℕ) → min a cap ≤ b → min b cap ≤ c → min a cap ≤ c
 fallen_further a b c cap h k = omega arith
 
-one_more : (a b c cap : ℕ) → min a cap ≤ b → min (b + 1) cap ≤ c → min (a + 1) cap ≤ c
+pub one_more : (a b c cap : ℕ) → min a cap ≤ b → min (b + 1) cap ≤ c → min (a + 1) cap ≤ c
 one_more a b c cap h k = omega arith
 
 one_added : (a b cap : ℕ) → b ≡ min (a + 1) cap → min a cap ≤ b
@@ -27,20 +29,34 @@ pub not_fallen-added : (a b : ℕ) → b ≡ added a 1 → HasNotFallen a b
 not_fallen-added a b e = one_added a b (2 ^ 64 - 1) e
 
 pub goes-same : (p : PortTold) → GoesOn p p
-goes-same p = record { service = refl; ended = λ e. e; waits = not_fallen p.door.waits (2 ^ 64 - 1) }
+goes-same p = record {
+  service = refl;
+  place = refl;
+  ended = λ e. e;
+  waits = not_fallen p.door.waits (2 ^ 64 - 1);
+  rests = not_fallen p.door.rests (2 ^ 64 - 1);
+}
 
 pub goes-further : (p q r : PortTold) → GoesOn p q → GoesOn q r → GoesOn p r
 goes-further p q r g h = record {
   service = h.service ∙ g.service;
+  place = h.place ∙ g.place;
   ended = λ e. h.ended (g.ended e);
   waits = fallen_further p.door.waits q.door.waits r.door.waits (2 ^ 64 - 1) g.waits h.waits;
+  rests = fallen_further p.door.rests q.door.rests r.door.rests (2 ^ 64 - 1) g.rests h.rests;
 }
 
 -- a door that had not ended was tried
-pub goes-tried : (told p q : PortTold) → told ≡ p → q.service ≡ told.service → has_ended told.door ≡ false → HasNotFallen told.door.waits q.door.waits
-    → GoesOn p q
-goes-tried told p q same service running waits =
-    subst (λ x. GoesOn x q) same (record { service = service; ended = λ e. absurd (true≢false (sym e ∙ running)); waits = waits })
+pub goes-tried : (told p q : PortTold) → told ≡ p → q.service ≡ told.service → q.door.place ≡ told.door.place → has_ended told.door ≡ false
+    → HasNotFallen told.door.waits q.door.waits → HasNotFallen told.door.rests q.door.rests → GoesOn p q
+goes-tried told p q same service place running waits rests =
+    subst (λ x. GoesOn x q) same (record {
+      service = service;
+      place = place;
+      ended = λ e. absurd (true≢false (sym e ∙ running));
+      waits = waits;
+      rests = rests;
+    })
 
 -- a door that was tried behind another time is tried since then
 pub tried-since : (p q r : PortTold) → GoesOn p q → IsTried q r → IsTried p r
@@ -77,6 +93,26 @@ services-same [] [] g = refl
 services-same [] (q ∷ qs) g = absurd g
 services-same (p ∷ ps) [] g = absurd g
 services-same (p ∷ ps) (q ∷ qs) g = ap₂ (λ n ns. n ∷ ns) g.0.service (services-same ps qs g.1)
+
+-- so do their places
+pub places-same : (ps qs : List PortTold) → AllGoOn ps qs → map place_of qs ≡ map place_of ps
+places-same [] [] g = refl
+places-same [] (q ∷ qs) g = absurd g
+places-same (p ∷ ps) [] g = absurd g
+places-same (p ∷ ps) (q ∷ qs) g = ap₂ (λ n ns. n ∷ ns) g.0.place (places-same ps qs g.1)
+
+-- with any last value of their type
+sum_not_fallen : (p s q t m n cap : ℕ) → m ≡ p + s → n ≡ q + t → min p cap ≤ q → min s cap ≤ t → min m cap ≤ n
+sum_not_fallen p s q t m n cap a b h k = omega arith
+
+-- all of their rests do not fall
+pub rests-on : (ps qs : List PortTold) → AllGoOn ps qs → HasNotFallen (rests_at ps) (rests_at qs)
+rests-on [] [] g = not_fallen (rests_at []) (2 ^ 64 - 1)
+rests-on [] (q ∷ qs) g = absurd g
+rests-on (p ∷ ps) [] g = absurd g
+rests-on (p ∷ ps) (q ∷ qs) g =
+    sum_not_fallen p.door.rests (rests_at ps) q.door.rests (rests_at qs) (rests_at (p ∷ ps)) (rests_at (q ∷ qs)) (2 ^ 64 - 1)
+    (sum_by-cons (λ (p : PortTold). p.door.rests) p ps) (sum_by-cons (λ (p : PortTold). p.door.rests) q qs) g.0.rests (rests-on ps qs g.1)
 
 -- one door more
 pub all-push : (ps qs : List PortTold) (p q : PortTold) → AllGoOn ps qs → GoesOn p q → AllGoOn (ps ++ p ∷ []) (qs ++ q ∷ [])

@@ -5,6 +5,7 @@ pub mod Saying
 pub mod Entries
 pub mod Leading
 pub mod Doors
+pub mod Resting
 pub mod Links
 pub mod Coming
 pub mod Counting

@@ -1,5 +1,5 @@
 -- What passed between a front over doors and its run, as answers are told to it and texts are noted.
-use Rattle.std.proofs.Common.{◌≡◌, ◌≢◌, ◌⊎◌, inl, inr, refl, sym, ap, ap₂, subst, ◌∙◌, ℕ, zero, suc, ◌+◌, ◌<◌, ◌≤◌, nat_lt, Bool, true, false, ◌&&◌, ◌||◌, arith, List, [], ◌∷◌, ◌++◌, length, map, take, Option, None, Some, true≢false}
+use Rattle.std.proofs.Common.{◌≡◌, ◌≢◌, ◌⊎◌, inl, inr, refl, sym, ap, ap₂, subst, ◌∙◌, ℕ, zero, suc, ◌+◌, ◌-◌, ◌^◌, ◌<◌, ◌≤◌, min, nat_lt, Bool, true, false, ◌&&◌, ◌||◌, arith, List, [], ◌∷◌, ◌++◌, length, map, take, Option, None, Some, true≢false}
 use Rattle.std.proofs.Common.{length-append, append-nil, append_assoc, Result, Ok, Err, MatchResult, IfOk, OnErr}
 use Rattle.std.specs.Prelude.{nat_eq, nat_le, slice_get, slice_set, count_by, sum_by, option_map, option_and_then}
 use Rattle.std.specs.List.{list_all, list_any}
@@ -25,7 +25,7 @@ use Rattle.http_connection.specs.declared.stage.Stage.TheVariants as Stages
 use Rattle.http_connection.specs.Stages.{stage_of, IsBehindTelling, IsOver}
 use Rattle.http_connection.specs.Seen.{Line}
 use Rattle.door_front.specs.declared.link.Owed.{Owed}
-use Rattle.door_front.specs.Keeping.{PortTold, LinkTold, Keeping, AreNew, IsEmpty, services_of, no_more, leads_to, AreLed}
+use Rattle.door_front.specs.Keeping.{PortTold, LinkTold, Keeping, AreNew, IsEmpty, services_of, rests_at, no_more, leads_to, AreLed}
 use Rattle.sink_writing.specs.Sinks.{Taking, Takes}
 use Rattle.door_front.specs.Dealt.{Sides, sides_of, OwesAt, IsLink, AreLinks, IsHeard, IsOwed, AreHeard, HadNoAnswer, WasBusy, WereBusy, HaveWaited, HadNone, most_open, entire, HasDealt, HasRunOut, MayHaveDealt}
 use Rattle.door_front.specs.AnswerSteps.{told_of, HasTold, HasAnswered}
@@ -329,6 +329,7 @@ module _ (IsMade : Line → Type 0) (parts : ProgramParts) (first : Sides) (old 
         over = λ ended. same ∙ n.over ended;
         some = λ ended. same ∙ n.some ended;
         waited = λ ended. waited_by (n.waited ended);
+        rested = λ ended. subst (λ ps. min d.brought.waits (2 ^ 64 - 1) ≤ rests_at ps) (sym a.ports) (n.rested ended);
       }
     where
       waited_by : (most_open ≤ count_by (λ (b : Bool). b) n.busy) ⊎ HaveWaited d.brought.waits old.ports
@@ -351,6 +352,7 @@ module _ (IsMade : Line → Type 0) (parts : ProgramParts) (first : Sides) (old 
       let longer : length now_dealt.said.told ≡ length d.said.told + 1 = length-append d.said.told (told_of place outcomes ∷ []) in
       record {
         services = ap (map (λ (p : PortTold). p.service)) a.ports ∙ h.services;
+        in_place = ap (map (λ (p : PortTold). p.door.place)) a.ports ∙ h.in_place;
         most = a.most ∙ h.most;
         within = subst (λ ps. list_all (λ n. nat_lt n (length parts.services)) (map (λ (p : PortTold). p.service) ps) ≡ true) (sym a.ports) h.within;
         visits = now_all;
@@ -399,6 +401,7 @@ module _ (IsMade : Line → Type 0) (parts : ProgramParts) (first before : Sides
       let longer : length (d.said.told ++ t ∷ []) ≡ length d.said.told + 1 = length-append d.said.told (t ∷ []) in
       record {
         services = h.services;
+        in_place = h.in_place;
         most = h.most;
         within = h.within;
         visits = h.visits;
@@ -442,12 +445,14 @@ module _ (IsMade : Line → Type 0) (parts : ProgramParts) (first : Sides) (old 
     over = k.over;
     some = k.some;
     waited = k.waited;
+    rested = k.rested;
   })
   none_noted (inr full) = inr full
 
   dealt_noted : HasDealt IsMade parts first (sides_of (record old { halted = halted }) notes) noted_dealt
   dealt_noted = record {
     services = h.services;
+    in_place = h.in_place;
     most = h.most;
     within = h.within;
     visits = h.visits;
@@ -627,6 +632,7 @@ nothing_dealt IsMade parts kept notes empty within = (
   },
   inr (record {
     services = refl;
+    in_place = refl;
     most = refl;
     within = within;
     visits = [];

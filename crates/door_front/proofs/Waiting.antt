@@ -32,7 +32,7 @@ waited-none (p ∷ ps) = (inr (none_is (2 ^ 64 - 1) p.door.waits), waited-none p
     none_is : (cap w : ℕ) → min 0 cap ≤ w
     none_is cap w = omega arith
 
-once_more : (n w cap v : ℕ) → min n cap ≤ w → min (w + 1) cap ≤ v → min (suc n) cap ≤ v
+pub once_more : (n w cap v : ℕ) → min n cap ≤ w → min (w + 1) cap ≤ v → min (suc n) cap ≤ v
 once_more n w cap v h k = omega arith
 
 tried_waited : (n : ℕ) (p q : PortTold) → (has_ended p.door ≡ true → has_ended q.door ≡ true) → has_waited n p → IsTried p q → has_waited (suc n) q

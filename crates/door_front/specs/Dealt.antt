@@ -20,7 +20,7 @@ use Rattle.http_connection.specs.Stages.{stage_of, IsOver}
 use Rattle.http_connection.specs.Seen.{Line, no_failures}
 use Rattle.http_connection.specs.Talking.{IsTalking}
 use Rattle.door_front.specs.declared.link.Owed.{Owed}
-use Rattle.door_front.specs.Keeping.{PortTold, LinkTold, Keeping, services_of, no_more, AreLed}
+use Rattle.door_front.specs.Keeping.{PortTold, LinkTold, Keeping, services_of, places_of, rests_at, no_more, AreLed}
 
 -- the most connections that are open at once
 abbrev pub most_open : ℕ
@@ -149,7 +149,7 @@ HaveWaited n (p ∷ ps) = has_waited n p × HaveWaited n ps
 
 -- The front had no posting: each connection waited for an answer or was over. Where one may come some time, so many as
 -- may be open waited for an answer, or each door has ended, or answered at least as often, in all, that nobody has come
--- yet as there was none in a row. Else no connection can come any more.
+-- yet as there was none in a row; and at least as often was rested, at all doors. Else no connection can come any more.
 pub record HadNone (kept : Keeping) (d : Dealings) : Type 0 where
   pub busy : List Bool
   pub each : WereBusy d 0 busy kept.links
@@ -157,6 +157,7 @@ pub record HadNone (kept : Keeping) (d : Dealings) : Type 0 where
   pub some : d.brought.ended ≡ false → no_more kept ≡ false
   pub waited : d.brought.ended ≡ false
       → (most_open ≤ count_by (λ (b : Bool). b) busy) ⊎ HaveWaited d.brought.waits kept.ports
+  pub rested : d.brought.ended ≡ false → min d.brought.waits (2 ^ 64 - 1) ≤ rests_at kept.ports
 
 -- the front had no posting when it was asked last
 abbrev pub GaveNone : Dealings → Type 0
@@ -169,6 +170,7 @@ GaveNone d = (d.brought.ended ≡ true) ⊎ (0 < d.brought.waits)
 -- so that no failure of what is read is counted here.
 pub record HasDealt (IsMade : Line → Type 0) (parts : ProgramParts) (first now : Sides) (d : Dealings) : Type 0 where
   pub services : services_of now.kept ≡ services_of first.kept
+  pub in_place : places_of now.kept ≡ places_of first.kept
   pub most : now.kept.most ≡ first.kept.most
   pub within : list_all (λ n. nat_lt n (length parts.services)) (services_of now.kept) ≡ true
   pub visits : List Visit

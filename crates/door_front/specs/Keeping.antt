@@ -32,7 +32,7 @@ pub record Keeping : Type 0 where
 
 -- a door that was not tried yet
 abbrev pub is_new_port : PortTold → Type 0
-is_new_port port = port.door ≡ untried
+is_new_port port = port.door ≡ untried port.door.place
 
 -- each of the doors was not tried yet
 abbrev pub AreNew : List PortTold → Type 0
@@ -50,6 +50,14 @@ pub record IsEmpty (k : Keeping) : Type 0 where
 -- the services of the doors, in order
 abbrev pub services_of : Keeping → List ℕ
 services_of k = map (λ (p : PortTold). p.service) k.ports
+
+-- how many doors had been opened before each of them
+abbrev pub places_of : Keeping → List ℕ
+places_of k = map (λ (p : PortTold). p.door.place) k.ports
+
+-- how often was rested, at all doors
+abbrev pub rests_at : List PortTold → ℕ
+rests_at ports = sum_by (λ (p : PortTold). p.door.rests) ports
 
 -- no connection can come any more: as many were accepted as may be, or each door has ended
 abbrev pub no_more : Keeping → Bool

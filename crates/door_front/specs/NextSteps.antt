@@ -1,11 +1,11 @@
 -- These definitions serve the proofs alone: no promise speaks of them.
 -- How a front over doors comes to its next posting.
 use Rattle.std.specs.Prelude.{◌≡◌, ◌⊎◌, ℕ, ◌+◌, ◌-◌, ◌^◌, ◌≤◌, ◌<◌, min, Bool, true, false, ◌&&◌, ◌||◌, List}
-use Rattle.std.specs.Prelude.{[], ◌∷◌, ◌++◌, length, map}
+use Rattle.std.specs.Prelude.{[], ◌∷◌, ◌++◌, length, map, if◌then◌else◌}
 use Rattle.std.specs.Prelude.{nat_eq, nat_lt, nat_le, count_by, slice_get, slice_set, Option, None, Some, option_map}
 use Rattle.std.specs.List.{list_all, list_any, sum_by}
 use Rattle.jsonrpc_text.specs.Posted.{posted}
-use Rattle.outside_doors.specs.Counts.{added, has_ended}
+use Rattle.outside_doors.specs.Counts.{added, rested, has_ended}
 use Rattle.office_core.specs.declared.front.Posting.{Posting}
 use Rattle.office_front.specs.declared.front.Next.{Next}
 use Rattle.office_front.specs.declared.front.Next.TheVariants as next
@@ -20,7 +20,7 @@ use Rattle.http_connection.specs.Talking.{IsTalking, handed}
 use Rattle.door_front.specs.declared.link.Owed.{Owed}
 use Rattle.door_front.specs.declared.reading.Turn.{Turn}
 use Rattle.door_front.specs.declared.reading.Turn.TheVariants as turn
-use Rattle.door_front.specs.Keeping.{PortTold, LinkTold, Keeping, wires_to, leads_to, AreLed}
+use Rattle.door_front.specs.Keeping.{PortTold, LinkTold, Keeping, rests_at, wires_to, leads_to, AreLed}
 use Rattle.door_front.specs.Dealt.{IsNewLine, most_open}
 
 -- ---- doors
@@ -29,11 +29,13 @@ use Rattle.door_front.specs.Dealt.{IsNewLine, most_open}
 abbrev pub HasNotFallen : ℕ → ℕ → Type 0
 HasNotFallen before now = min before (2 ^ 64 - 1) ≤ now
 
--- A door goes on: its service stays, an end stays, and its waits do not fall.
+-- A door goes on: its service and its place stay, an end stays, and its waits and rests do not fall.
 pub record GoesOn (before now : PortTold) : Type 0 where
   pub service : now.service ≡ before.service
+  pub place : now.door.place ≡ before.door.place
   pub ended : has_ended before.door ≡ true → has_ended now.door ≡ true
   pub waits : HasNotFallen before.door.waits now.door.waits
+  pub rests : HasNotFallen before.door.rests now.door.rests
 
 -- nobody comes at a door: it has ended, or it was tried once more
 abbrev pub IsTried : PortTold → PortTold → Type 0
@@ -60,6 +62,25 @@ wires_of port = port.door.wires
 -- the service to which a door leads
 abbrev pub service_of : PortTold → ℕ
 service_of port = port.service
+
+-- how many doors had been opened before it
+abbrev pub place_of : PortTold → ℕ
+place_of port = port.door.place
+
+-- a door that was rested at
+abbrev pub rested_at : PortTold → PortTold
+rested_at port = record port { door = rested port.door }
+
+-- doors behind a rest at the first of them that has not ended
+abbrev pub after_rest : List PortTold → List PortTold
+after_rest [] = []
+after_rest (p ∷ ps) = if has_ended p.door then p ∷ after_rest ps else rested_at p ∷ ps
+
+-- doors behind a call that came to this without a posting: there was a rest where there is nothing yet
+abbrev pub ports_after : Next → List PortTold → List PortTold
+ports_after (next.Posting p) ports = ports
+ports_after next.NotYet ports = after_rest ports
+ports_after next.End ports = ports
 
 -- ---- connections
 
@@ -285,6 +306,7 @@ abbrev pub Looks : (Line → Type 0) → ℕ → Next → Going → Going → Ty
 Looks IsMade most (next.Posting p) before now = Posts IsMade most p before now
 Looks IsMade most next.NotYet before now =
     Rests IsMade most before now × (closed_off most now.ports now.links ≡ false)
+    × (added (rests_at before.ports) 1 ≤ rests_at now.ports)
 Looks IsMade most next.End before now =
     ((most_postings ≤ length before.traffics) × (now ≡ before))
     ⊎ (Rests IsMade most before now × (closed_off most now.ports now.links ≡ true))

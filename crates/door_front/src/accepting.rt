@@ -6,7 +6,7 @@ ghost use Rattle.http_connection.specs.declared.stage.Stage.TheVariants as Stage
 ghost use Rattle.http_connection.specs.Seen.{failures_of, line_of};
 ghost use Rattle.http_connection.specs.Stages.{stage_of};
 ghost use Rattle.http_connection.specs.Talking.{IsTalking};
-ghost use Rattle.door_front.specs.NextSteps.{Accepts, GoesOn, IsTried, doorway, has_room as room, is_open as opened};
+ghost use Rattle.door_front.specs.NextSteps.{Accepts, GoesOn, IsTried, doorway, has_room as room, is_open as opened, rested_at};
 
 use crate::link::Link;
 use crate::port::Port;
@@ -108,7 +108,7 @@ impl<D: Door + Drop> Port<D> {
 
     /// Waits for a while.
     pub(crate) fn rest(&mut self)
-        ensures { self.new ≡ self.old }
+        ensures { self.new ≡ rested_at self.old }
     {
         self.door.rest();
     }

@@ -4,7 +4,7 @@ ghost use Rattle.std.specs.List.{list_all};
 ghost use Rattle.outside_doors.specs.Counts.{has_ended};
 ghost use Rattle.http_connection.specs.Seen.{failures_of, line_of};
 ghost use Rattle.door_front.specs.Keeping.{PortTold};
-ghost use Rattle.door_front.specs.NextSteps.{Idles, Looks, closed_off, going, going_of};
+ghost use Rattle.door_front.specs.NextSteps.{Idles, Looks, after_rest, closed_off, going, going_of, ports_after};
 
 use crate::accepting::accept_all;
 use crate::kept::Kept;
@@ -70,7 +70,7 @@ fn look<D: Door + Drop>(
 /// What there is where no connection reads: nothing yet, after a while, or nothing any more.
 fn idle<D: Door + Drop>(ports: &mut [Port<D>], links: &[Link<D::W>], most: u32) -> Next
     ensures next { Idles result (closed_off most ports.old links.now) }
-    ensures ports { ports.new ≡ ports.old }
+    ensures ports { ports.new ≡ ports_after result ports.old }
 {
     if is_closed_off(ports, links, most) {
         return Next::End;
@@ -95,7 +95,7 @@ fn have_ended<D: Door + Drop>(ports: &[Port<D>]) -> bool
 
 /// Waits for a while at the first door that has not ended.
 fn rest<D: Door + Drop>(ports: &mut [Port<D>])
-    ensures { ports.new ≡ ports.old }
+    ensures { ports.new ≡ after_rest ports.old }
 {
     for port in ports.iter_mut() {
         if !port.has_ended() {

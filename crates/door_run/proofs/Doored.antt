@@ -3,7 +3,7 @@ use Rattle.std.proofs.Common.{◌≡◌, ◌≤◌, ◌+◌, refl, sym, ap, subs
 use Rattle.std.proofs.Common.{inl, inr, nat_eq, nat_lt, sum_by, count_by, true≢false}
 use Rattle.std.specs.List.{list_all, list_any, items_where_true}
 use Rattle.std.proofs.lemmas.List.Sums.{sum_by-cons}
-use Rattle.outside_doors.specs.Counts.{DoorTold}
+use Rattle.outside_doors.specs.Counts.{DoorTold, Tally, with_opened}
 use Rattle.outside_traits.specs.Told.{Lists}
 use Rattle.office_core.specs.Limits.{Setting, run_of}
 use Rattle.office_core.specs.declared.history.Entry.{Entry}
@@ -21,11 +21,11 @@ use Rattle.http_connection.specs.Seen.{Line}
 use Rattle.door_front.specs.Keeping.{PortTold, Keeping, AreNew, IsEmpty, services_of}
 use Rattle.door_front.specs.Dealt.{Sides, HasDealt, MayHaveDealt}
 use Rattle.line_run.specs.declared.run.Ended.{Ended}
-use Rattle.door_run.specs.Used.{DoorsTold, Used, IsUsed, RoseBy, came_at_door, leads_to, wires_to, has_failed, with_wires, with_doors, location_of}
+use Rattle.door_run.specs.Used.{DoorsTold, Used, AreInOrder, IsUsed, RoseBy, came_at_door, leads_to, wires_to, has_failed, with_wires, with_doors, location_of}
 use Rattle.door_run.specs.Doored.{Task, Outside, outside, faults_of, rules_of, AreNoted, IsDoored}
-use Rattle.door_run.specs.Steps.{Opens, opened_by, port_at, GivesBack, traffic_of, wire_of, door_of, some_failed, with_traffic, status_of}
+use Rattle.door_run.specs.Steps.{Opens, opened_by, ports_at, GivesBack, traffic_of, wire_of, door_of, some_failed, with_traffic, status_of}
 use Rattle.door_run.proofs.Lists.{length_map, any_map, all_map}
-use Rattle.door_run.proofs.Leading.{service_at, service_in, wires_at, leads_as}
+use Rattle.door_run.proofs.Leading.{service_at, service_in, place_in, wires_at, leads_as, same_first, same_rest}
 use Rattle.door_run.proofs.Serving.{served_so, as_many}
 use Rattle.door_run.proofs.Wires.{wires_are}
 use Rattle.door_run.proofs.Ending.{noted_so, through_so}
@@ -61,16 +61,17 @@ module _ (w : Setting) (budget : ℕ) (run : Record) (t : List Traffic) where
 
 -- ---- services
 
-services_at : (places : List DoorAt) → map service_in (map port_at places) ≡ map service_at places
-services_at [] = refl
-services_at (p ∷ ps) = ap (λ l. p.service ∷ l) (services_at ps)
+services_at : (tally : Tally) (places : List DoorAt) → map service_in (ports_at tally places) ≡ map service_at places
+services_at tally [] = refl
+services_at tally (p ∷ ps) = ap (λ l. p.service ∷ l) (services_at (with_opened tally) ps)
 
 -- of the doors that were opened each leads to a service of the program
-pub within_so : (t : Task) (opened : List Bool) (kept : Keeping) → kept.ports ≡ map port_at (items_where_true opened (doors_of t.parts))
+pub within_so : (t : Task) (tally : Tally) (opened : List Bool) (kept : Keeping)
+    → kept.ports ≡ ports_at tally (items_where_true opened (doors_of t.parts))
     → list_all (λ n. nat_lt n (length t.parts.services)) (services_of kept) ≡ true
-within_so t opened kept ports =
+within_so t tally opened kept ports =
     ap (λ ps. list_all (λ n. nat_lt n (length t.parts.services)) (map service_in ps)) ports
-    ∙ ap (list_all (λ n. nat_lt n (length t.parts.services))) (services_at (items_where_true opened (doors_of t.parts)))
+    ∙ ap (list_all (λ n. nat_lt n (length t.parts.services))) (services_at tally (items_where_true opened (doors_of t.parts)))
     ∙ all_map (λ n. nat_lt n (length t.parts.services)) service_at (items_where_true opened (doors_of t.parts))
     ∙ all_marked (λ (door : DoorAt). nat_lt door.service (length t.parts.services)) opened (doors_of t.parts)
     (subst (λ n. list_all (λ (door : DoorAt). nat_lt door.service n) (doors_of t.parts) ≡ true) (same (length t.parts.services))
@@ -78,6 +79,20 @@ within_so t opened kept ports =
   where
     same : (n : ℕ) → 0 + n ≡ n
     same n = omega arith
+
+-- ---- places
+
+-- doors in the order in which they were opened, by their places
+in_order_by : (tally : Tally) (places : List DoorAt) (ports : List PortTold) → map place_in ports ≡ map place_in (ports_at tally places)
+    → AreInOrder tally.opened (map door_of ports)
+in_order_by tally [] [] e = tt
+in_order_by tally [] (q ∷ qs) e = absurd (let clash : (q.door.place ∷ map place_in qs) ≡ [] = e in cc)
+in_order_by tally (p ∷ ps) [] e = tt
+in_order_by tally (p ∷ ps) (q ∷ qs) e = (
+  same_first q.door.place tally.opened (map place_in qs) (map place_in (ports_at (with_opened tally) ps)) e,
+  in_order_by (with_opened tally) ps qs
+      (same_rest q.door.place tally.opened (map place_in qs) (map place_in (ports_at (with_opened tally) ps)) e),
+)
 
 -- ---- sums
 
@@ -108,12 +123,12 @@ module _ (IsMade : Line → Type 0) (t : Task) (before mid after : DoorsTold) (p
   abbrev used : Used
   used = record { opened = o.opened; doors = map door_of now.kept.ports; wires = map wire_of now.kept.links }
 
-  begins_opened : first.kept.ports ≡ map port_at opened
+  begins_opened : first.kept.ports ≡ ports_at before.tally opened
   begins_opened = begins ∙ o.ports
 
   -- the services of the doors
   services_now : services_of now.kept ≡ map service_at opened
-  services_now = f.services ∙ ap (map service_in) begins_opened ∙ services_at opened
+  services_now = f.services ∙ ap (map service_in) begins_opened ∙ services_at before.tally opened
 
   -- each door came back
   back_so : length (map door_of now.kept.ports) ≡ length opened
@@ -129,6 +144,7 @@ module _ (IsMade : Line → Type 0) (t : Task) (before mid after : DoorsTold) (p
   uses_so = record {
     tried = o.tried;
     back = back_so;
+    in_order = in_order_by before.tally opened now.kept.ports (f.in_place ∙ ap (map place_in) begins_opened);
     given = given_so;
     tally =
         back.doors_then.tally ∙ ap (with_doors used.doors) back.wires_first.tally
@@ -266,15 +282,15 @@ doored_by IsMade t before mid after ports failed o first now begins most d finis
 
 -- ---- the front at the beginning
 
-new_ports : (places : List DoorAt) → AreNew (map port_at places)
-new_ports [] = tt
-new_ports (p ∷ ps) = (refl, new_ports ps)
+new_ports : (tally : Tally) (places : List DoorAt) → AreNew (ports_at tally places)
+new_ports tally [] = tt
+new_ports tally (p ∷ ps) = (refl, new_ports (with_opened tally) ps)
 
 -- nothing came yet
-pub empty_so : (kept : Keeping) (places : List DoorAt) → kept.ports ≡ map port_at places → kept.links ≡ [] → kept.traffics ≡ []
-    → kept.halted ≡ false → kept.spent ≡ false → IsEmpty kept
-empty_so kept places ports links traffics halted spent = record {
-  ports = subst AreNew (sym ports) (new_ports places);
+pub empty_so : (kept : Keeping) (tally : Tally) (places : List DoorAt) → kept.ports ≡ ports_at tally places → kept.links ≡ []
+    → kept.traffics ≡ [] → kept.halted ≡ false → kept.spent ≡ false → IsEmpty kept
+empty_so kept tally places ports links traffics halted spent = record {
+  ports = subst AreNew (sym ports) (new_ports tally places);
   links = links;
   traffics = traffics;
   halted = halted;

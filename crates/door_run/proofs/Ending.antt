@@ -1,10 +1,11 @@
 -- Why a run over doors asked for no posting any more, and what of its notes was written.
-use Rattle.std.proofs.Common.{◌≡◌, ◌<◌, ◌≤◌, ◌-◌, ◌^◌, min, ℕ, suc, Bool, true, false, ◌||◌, List, [], ◌∷◌, length, map, take}
-use Rattle.std.proofs.Common.{refl, sym, ap, subst, ◌∙◌, arith, ◌⊎◌, inl, inr, ⊎_elim, true≢false, nat_eq, nat_le, count_by, slice_get}
+use Rattle.std.proofs.Common.{◌≡◌, ◌<◌, ◌≤◌, ◌+◌, ◌-◌, ◌^◌, min, ℕ, suc, Bool, true, false, ◌||◌, List, [], ◌∷◌, length, map, take}
+use Rattle.std.proofs.Common.{refl, sym, ap, subst, ◌∙◌, arith, ◌⊎◌, inl, inr, ⊎_elim, true≢false, nat_eq, nat_le, count_by, sum_by, slice_get}
 use Rattle.std.specs.List.{list_all, AllByRecursion}
 use Rattle.std.specs.Io.KnownBytes.{Appends}
+use Rattle.std.proofs.lemmas.List.Sums.{sum_by-cons}
 use Rattle.outside_traits.specs.Causes.{Rose}
-use Rattle.outside_doors.specs.Counts.{has_ended}
+use Rattle.outside_doors.specs.Counts.{DoorTold, has_ended}
 use Rattle.behaviour_tree.specs.Data.{ProgramParts}
 use Rattle.office_core.specs.declared.history.Entry.{Entry}
 use Rattle.office_core.specs.Limits.{Setting, run_of}
@@ -16,12 +17,12 @@ use Rattle.run_alone.specs.Ran.{Dealt, AreNotes, IsOver, GaveNone, finished_earl
 use Rattle.connection_runs.specs.Visits.{Visit}
 use Rattle.http_connection.specs.Seen.{Line}
 use Rattle.http_connection.specs.Stages.{IsOver as IsOverAt}
-use Rattle.door_front.specs.Keeping.{PortTold, LinkTold, Keeping, no_more as no_more_kept}
+use Rattle.door_front.specs.Keeping.{PortTold, LinkTold, Keeping, no_more as no_more_kept, rests_at as rests_kept}
 use Rattle.sink_writing.specs.Sinks.{Taking}
 use Rattle.door_front.specs.Dealt.{Sides, AreLinks, HasDealt, HasNoted, entire, in_part, HadNone, most_open}
 use Rattle.door_front.specs.Dealt.{HadNoAnswer as HadNoneYet, WereBusy as WereBusyThen, HaveWaited}
 use Rattle.door_run.specs.Steps.{door_of}
-use Rattle.door_run.specs.Through.{HadNoAnswer, WereBusy, no_more, waited_long, IsThrough}
+use Rattle.door_run.specs.Through.{HadNoAnswer, WereBusy, no_more, rests_at, waited_long, IsThrough}
 use Rattle.door_run.specs.Doored.{AreNoted}
 use Rattle.door_run.proofs.Covered.{is_in}
 use Rattle.door_run.proofs.Lists.{any_map, all_map, proper_front}
@@ -69,6 +70,14 @@ waited_so n is [] k = tt
 waited_so n is (p ∷ ps) k =
     (⊎_elim (λ ended. inl ended) (λ long. inr (enough n p.door.waits is long)) k.0, waited_so n is ps k.1)
 
+-- how often was rested, by what the doors tell
+rests_by : (ports : List PortTold) → rests_at (map door_of ports) ≡ rests_kept ports
+rests_by [] = refl
+rests_by (p ∷ ps) =
+    sum_by-cons (λ (door : DoorTold). door.rests) p.door (map door_of ps)
+    ∙ ap (λ n. p.door.rests + n) (rests_by ps)
+    ∙ sym (sum_by-cons (λ (q : PortTold). q.door.rests) p ps)
+
 -- ---- connections
 
 module _ (IsMade : Line → Type 0) (parts : ProgramParts) (h : List Entry) (first now : Sides) (d : Dealings)
@@ -102,12 +111,16 @@ module _ (IsMade : Line → Type 0) (parts : ProgramParts) (h : List Entry) (fir
     -- why no posting came, by the doors and the connections
     why_so : (n : HadNone now.kept d) → (d.brought.ended ≡ true) ⊎ (d.brought.waits ≡ most_waits) → (b : Bool) → d.brought.ended ≡ b
         → (no_more most f.visits (map door_of now.kept.ports) ≡ true)
-        ⊎ ((most_open ≤ count_by (λ (x : Bool). x) n.busy) ⊎ AllByRecursion waited_long (map door_of now.kept.ports))
+        ⊎ ((most_waits ≤ rests_at (map door_of now.kept.ports))
+        × ((most_open ≤ count_by (λ (x : Bool). x) n.busy) ⊎ AllByRecursion waited_long (map door_of now.kept.ports)))
     why_so n so true e =
         inl (sym (no_more_is now.kept f.visits most is_most (as_many IsMade now.kept.links f.visits f.links)) ∙ n.over e)
     why_so n (inl ended) false e = absurd (true≢false (sym ended ∙ e))
     why_so n (inr waits) false e =
-        inr (⊎_elim (λ full. inl full) (λ waited. inr (waited_so d.brought.waits waits now.kept.ports waited)) (n.waited e))
+        inr (
+          subst (λ r. most_waits ≤ r) (sym (rests_by now.kept.ports)) (enough d.brought.waits (rests_kept now.kept.ports) waits (n.rested e)),
+          ⊎_elim (λ full. inl full) (λ waited. inr (waited_so d.brought.waits waits now.kept.ports waited)) (n.waited e),
+        )
 
     through_by : GaveNone d → (d.brought.ended ≡ true) ⊎ (d.brought.waits ≡ most_waits) → HadNone now.kept d
         → IsThrough (HadNoAnswer (run_of parts) h f.all.asked) most f.visits (map door_of now.kept.ports)

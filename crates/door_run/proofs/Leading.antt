@@ -19,10 +19,14 @@ service_at door = door.service
 abbrev pub service_in : PortTold → ℕ
 service_in port = port.service
 
-same_first : (m n : ℕ) (ms ns : List ℕ) → m ∷ ms ≡ n ∷ ns → m ≡ n
+-- how many doors had been opened before it
+abbrev pub place_in : PortTold → ℕ
+place_in port = port.door.place
+
+pub same_first : (m n : ℕ) (ms ns : List ℕ) → m ∷ ms ≡ n ∷ ns → m ≡ n
 same_first m n ms ns e = cc
 
-same_rest : (m n : ℕ) (ms ns : List ℕ) → m ∷ ms ≡ n ∷ ns → ms ≡ ns
+pub same_rest : (m n : ℕ) (ms ns : List ℕ) → m ∷ ms ≡ n ∷ ns → ms ≡ ns
 same_rest m n ms ns e = cc
 
 -- the wires of the doors that were opened at these places are those of the ports

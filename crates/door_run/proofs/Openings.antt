@@ -4,7 +4,7 @@ use Rattle.std.proofs.Common.{refl, sym, ap, subst, ◌∙◌, arith, append_ass
 use Rattle.std.specs.List.{list_all, list_any, filter, items_where_true}
 use Rattle.std.proofs.lemmas.List.{map-append, length-take}
 use Rattle.outside_traits.specs.Causes.{Rose}
-use Rattle.outside_doors.specs.Counts.{with_opened}
+use Rattle.outside_doors.specs.Counts.{DoorTold, Tally, untried, with_opened}
 use Rattle.behaviour_tree.specs.PartsView.{port_view, service_view}
 use Rattle.behaviour_tree.specs.declared.program.Port.{Port}
 use Rattle.behaviour_tree.specs.declared.program.Service.{Service}
@@ -15,7 +15,7 @@ use Rattle.connection_runs.specs.Ports.{DoorAt, is_door, locations_of, doors_fro
 use Rattle.door_front.specs.Keeping.{PortTold}
 use Rattle.door_front.proofs.Entries.{count_append}
 use Rattle.door_run.specs.Used.{DoorsTold, RoseBy, location_of, with_openings}
-use Rattle.door_run.specs.Steps.{door_to, location_in, doors_at, port_at, Opened, opened_by, Opens}
+use Rattle.door_run.specs.Steps.{door_to, location_in, doors_at, port_at, ports_at, Opened, opened_by, Opens}
 use Rattle.door_run.proofs.Lists.{length_map}
 use Rattle.door_run.proofs.Telling.{Lists-nil, Lists-then, rose_none, rose_one, rose_then, with_openings-append}
 use Rattle.order_laws.proofs.Least.{filter_append}
@@ -67,6 +67,11 @@ any_marked p (false ∷ ms) (x ∷ xs) h = true_right (p x) (list_any p xs) (any
 
 -- ---- doors are opened
 
+-- those that were opened behind others
+ports_at-append : (t : Tally) (xs ys : List DoorAt) → ports_at t (xs ++ ys) ≡ ports_at t xs ++ ports_at (with_openings xs t) ys
+ports_at-append t [] ys = refl
+ports_at-append t (x ∷ xs) ys = ap (λ ps. port_at t.opened x ∷ ps) (ports_at-append (with_opened t) xs ys)
+
 or_assoc : (x y z : Bool) → ((x || y) || z) ≡ (x || (y || z))
 or_assoc true y z = refl
 or_assoc false y z = refl
@@ -100,10 +105,12 @@ opens_more xs ys a b c k l =
           length-append k.opened l.opened ∙ ap (λ n. n + length l.opened) k.tried ∙ ap (λ n. length xs + n) l.tried
           ∙ sym (length-append xs ys);
       ports =
-          l.ports ∙ ap (λ ps. ps ++ map port_at (items_where_true l.opened ys)) k.ports
-          ∙ append_assoc a.ports (map port_at (items_where_true k.opened xs)) (map port_at (items_where_true l.opened ys))
-          ∙ ap (λ ps. a.ports ++ ps) (sym (map-append port_at (items_where_true k.opened xs) (items_where_true l.opened ys)))
-          ∙ ap (λ ps. a.ports ++ map port_at ps) (sym both);
+          l.ports ∙ ap (λ t. b.ports ++ ports_at t (items_where_true l.opened ys)) k.tally
+          ∙ ap (λ ps. ps ++ ports_at (with_openings (items_where_true k.opened xs) a.doors.tally) (items_where_true l.opened ys)) k.ports
+          ∙ append_assoc a.ports (ports_at a.doors.tally (items_where_true k.opened xs))
+          (ports_at (with_openings (items_where_true k.opened xs) a.doors.tally) (items_where_true l.opened ys))
+          ∙ ap (λ ps. a.ports ++ ps) (sym (ports_at-append a.doors.tally (items_where_true k.opened xs) (items_where_true l.opened ys)))
+          ∙ ap (λ ps. a.ports ++ ports_at a.doors.tally ps) (sym both);
       tally =
           l.tally ∙ ap (with_openings (items_where_true l.opened ys)) k.tally
           ∙ sym (with_openings-append (items_where_true k.opened xs) (items_where_true l.opened ys) a.doors.tally)
@@ -206,11 +213,19 @@ or_true : (x : Bool) → true ≡ (x || true)
 or_true true = refl
 or_true false = refl
 
+abbrev port_of : ℕ → DoorTold → PortTold
+port_of n door = record { service = n; door = door }
+
+-- a port with a door that was not tried yet
+pub port_opened : (n place : ℕ) (location : List ℕ) (port : PortTold) (door : DoorTold) → port ≡ port_of n door → door ≡ untried place
+    → port ≡ port_at place (door_to n location)
+port_opened n place location port door made new = made ∙ ap (port_of n) new
+
 module _ (place : DoorAt) (a b : DoorsTold) (ports : List PortTold) (failed : Bool) where
   -- it is opened
   pub opens_one : (more : List PortTold) → b.tally ≡ with_opened a.tally → Lists a.locations b.locations (place.location ∷ [])
       → b.returned ≡ a.returned → b.returned_doors ≡ a.returned_doors → b.faults ≡ a.faults
-      → more ≡ ports ++ port_at place ∷ []
+      → more ≡ ports ++ port_at a.tally.opened place ∷ []
       → Opens (place ∷ []) (opened_by a ports failed) (opened_by b more failed)
   opens_one more tally locations returned came_back faults is = record {
     opened = true ∷ [];

@@ -1,8 +1,8 @@
 -- These definitions serve the proofs alone: no promise speaks of them.
 -- How the doors of a run are opened and come back, and how its record and its status are made.
-use Rattle.std.specs.Prelude.{◌≡◌, ℕ, Bool, not, ◌||◌, if◌then◌else◌, List, ◌++◌, length, map, count_by}
+use Rattle.std.specs.Prelude.{◌≡◌, ℕ, Bool, not, ◌||◌, if◌then◌else◌, List, [], ◌∷◌, ◌++◌, length, map, count_by}
 use Rattle.std.specs.List.{list_any, filter, items_where_true}
-use Rattle.outside_doors.specs.Counts.{DoorTold, untried}
+use Rattle.outside_doors.specs.Counts.{DoorTold, Tally, untried, with_opened}
 use Rattle.outside_traits.specs.Told.{Lists}
 use Rattle.outside_doors.specs.Returns.{WireTold, wire_told}
 use Rattle.behaviour_tree.specs.Data.{PortPart}
@@ -27,9 +27,14 @@ door_to n location = record { service = n; location = location }
 abbrev pub doors_at : ℕ → List PortPart → List DoorAt
 doors_at n ports = map (door_to n) (map location_in (filter is_door ports))
 
--- a door that was opened there
-abbrev pub port_at : DoorAt → PortTold
-port_at door = record { service = door.service; door = untried }
+-- a door that was opened there, behind so many others
+abbrev pub port_at : ℕ → DoorAt → PortTold
+port_at place door = record { service = door.service; door = untried place }
+
+-- doors that were opened there one after another, behind those that were counted
+abbrev pub ports_at : Tally → List DoorAt → List PortTold
+ports_at tally [] = []
+ports_at tally (door ∷ more) = port_at tally.opened door ∷ ports_at (with_opened tally) more
 
 -- doors while they are opened: what they tell, those that were opened, and whether one could not be
 pub record Opened : Type 0 where
@@ -45,7 +50,7 @@ opened_by doors ports failed = record { doors = doors; ports = ports; failed = f
 pub record Opens (places : List DoorAt) (before now : Opened) : Type 0 where
   pub opened : List Bool
   pub tried : length opened ≡ length places
-  pub ports : now.ports ≡ before.ports ++ map port_at (items_where_true opened places)
+  pub ports : now.ports ≡ before.ports ++ ports_at before.doors.tally (items_where_true opened places)
   pub tally : now.doors.tally ≡ with_openings (items_where_true opened places) before.doors.tally
   pub locations : Lists before.doors.locations now.doors.locations (map location_of (items_where_true opened places))
   pub returned : now.doors.returned ≡ before.doors.returned

@@ -1,6 +1,6 @@
 -- Why a run over connections asked for no posting any more.
 use Rattle.std.specs.Prelude.{◌≡◌, ◌⊎◌, ℕ, suc, ◌≤◌, Bool, true, false, ◌||◌, List, [], ◌∷◌, length, nat_eq, nat_le}
-use Rattle.std.specs.Prelude.{Some, MatchBool, count_by, slice_get}
+use Rattle.std.specs.Prelude.{Some, MatchBool, count_by, sum_by, slice_get}
 use Rattle.std.specs.List.{list_all, list_any, AllByRecursion}
 use Rattle.outside_doors.specs.Counts.{DoorTold, has_ended}
 use Rattle.office_core.specs.declared.history.Entry.{Entry}
@@ -31,15 +31,20 @@ WereBusy Waited k bs vs = ⊥
 abbrev pub no_more : ℕ → List Visit → List DoorTold → Bool
 no_more most visits doors = nat_le most (length visits) || list_all has_ended doors
 
+-- how often was rested, at all doors
+abbrev pub rests_at : List DoorTold → ℕ
+rests_at doors = sum_by (λ (door : DoorTold). door.rests) doors
+
 -- a door has ended, or it has answered as often, in all, that nobody has come yet as a run looks in a row
 abbrev pub waited_long : DoorTold → Type 0
 waited_long door = (has_ended door ≡ true) ⊎ (most_waits ≤ door.waits)
 
 -- A run asked for no posting any more, with connections that each waited for an answer or were over. No connection
--- could come any more; or so many as may be open waited for an answer in the end; or each door has ended, or answered
--- as often, in all, that nobody has come yet as a run looks in a row.
+-- could come any more. Or it rested at the doors as often, in all, as a run looks in a row; and so many connections as
+-- may be open waited for an answer in the end, or each door has waited long.
 pub record IsThrough (Waited : ℕ → Type 0) (most : ℕ) (visits : List Visit) (doors : List DoorTold) : Type 0 where
   pub busy : List Bool
   pub each : WereBusy Waited 0 busy visits
   pub why : (no_more most visits doors ≡ true)
-      ⊎ ((most_open ≤ count_by (λ (b : Bool). b) busy) ⊎ AllByRecursion waited_long doors)
+      ⊎ ((most_waits ≤ rests_at doors)
+      × ((most_open ≤ count_by (λ (b : Bool). b) busy) ⊎ AllByRecursion waited_long doors))

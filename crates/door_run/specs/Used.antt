@@ -61,6 +61,11 @@ wires_to n [] ds = 0
 wires_to n (p ∷ ps) [] = 0
 wires_to n (p ∷ ps) (d ∷ ds) = (if nat_eq n p.service then d.wires else 0) + wires_to n ps ds
 
+-- these doors were opened one after another, before the first of which so many had been
+abbrev pub AreInOrder : ℕ → List DoorTold → Type 0
+AreInOrder n [] = Unit {0}
+AreInOrder n (d ∷ ds) = (d.place ≡ n) × AreInOrder (added n 1) ds
+
 -- ---- what doors count
 
 -- doors were opened there
@@ -90,11 +95,12 @@ pub record RoseBy (failures before now : ℕ) : Type 0 where
   pub calm : failures ≡ 0 → now ≡ before
 
 -- Doors were opened at these locations, in order; where one could not be opened it was left out. All of them came back
--- in this order, and as many wires as they gave; and the doors count and tell just this, with a fault for each door that
--- was not opened or came back and had failed.
+-- in the order in which they were opened, and as many wires as they gave; and the doors count and tell just this, with
+-- a fault for each door that was not opened or came back and had failed.
 pub record IsUsed (places : List DoorAt) (before now : DoorsTold) (used : Used) : Type 0 where
   pub tried : length used.opened ≡ length places
   pub back : length used.doors ≡ length (items_where_true used.opened places)
+  pub in_order : AreInOrder before.tally.opened used.doors
   pub given : sum_by (λ (door : DoorTold). door.wires) used.doors ≡ length used.wires
   pub tally : now.tally
       ≡ with_doors used.doors (with_wires used.wires (with_openings (items_where_true used.opened places) before.tally))

@@ -74,13 +74,13 @@ Answers (Comes wire ∷ rest) result = result ≡ Ok (Came (counted wire))
 Answers (Nobody ∷ rest) result = result ≡ Ok NotYet
 Answers (Fails ∷ rest) result = IsErr result
 
--- the calm door that is opened next: the first that is to be, and behind the last of them one at which nobody comes
-abbrev pub next_entry : List CalmEntry → CalmEntry
-next_entry [] = record { coming = []; quiet = 0; told = untried }
-next_entry (door ∷ rest) = record door { told = untried }
+-- the calm door of this place that is opened next: the first that is to be, and behind the last of them one at which nobody comes
+abbrev pub next_entry : ℕ → List CalmEntry → CalmEntry
+next_entry place [] = record { coming = []; quiet = 0; told = untried place }
+next_entry place (door ∷ rest) = record door { told = untried place }
 
 -- the same of scripted doors, where one that is none fails
-abbrev pub Opens : {E : Type 0} → List (Option ScriptedEntry) → Result ScriptedEntry E → Type 0
-Opens [] result = result ≡ Ok (record { visits = []; told = untried })
-Opens (None ∷ rest) result = IsErr result
-Opens (Some door ∷ rest) result = result ≡ Ok (record door { told = untried })
+abbrev pub Opens : {E : Type 0} → ℕ → List (Option ScriptedEntry) → Result ScriptedEntry E → Type 0
+Opens place [] result = result ≡ Ok (record { visits = []; told = untried place })
+Opens place (None ∷ rest) result = IsErr result
+Opens place (Some door ∷ rest) result = result ≡ Ok (record door { told = untried place })

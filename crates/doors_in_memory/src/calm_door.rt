@@ -1,6 +1,6 @@
 ghost use Rattle.std.specs.Prelude.{◌≡◌, ◌++◌, [], ◌∷◌, Ok, Some, false, IsTrue, OnErr, OnOk, IsOk, IfOk, drop};
 ghost use Rattle.outside_traits.specs.Causes.{HasCause};
-ghost use Rattle.outside_doors.specs.Counts.{untried};
+ghost use Rattle.outside_doors.specs.Counts.{rested, untried};
 ghost use Rattle.outside_doors.specs.Knocks.{IfCame, IsFresh, closed_after, waits_after, wires_after};
 ghost use Rattle.doors_in_memory.specs.Memory.{CalmlyAnswers, calm_line, quiet_after};
 
@@ -31,13 +31,13 @@ impl Model for CalmDoor {
 impl CalmDoor {
     /// A door at which nobody comes for so many tries, and then nobody any more.
     pub fn new(alloc: Global, quiet: u64) -> CalmDoor
-        ensures { result ≡ record { coming = []; quiet = quiet; told = untried } }
+        ensures { result ≡ record { coming = []; quiet = quiet; told = untried 0 } }
     {
         CalmDoor {
             alloc,
             coming: Queue::new(alloc),
             quiet,
-            counts: DoorCounts::new(),
+            counts: DoorCounts::new(0),
         }
     }
 
@@ -58,12 +58,12 @@ impl CalmDoor {
         self.coming.len()
     }
 
-    /// The same door as it was before any try.
-    pub(crate) fn anew(self) -> CalmDoor
-        ensures { result ≡ record self { told = untried } }
+    /// The same door as it is opened, behind so many others.
+    pub(crate) fn anew(self, place: u64) -> CalmDoor
+        ensures { result ≡ record self { told = untried place } }
     {
         let mut door = self;
-        door.counts = DoorCounts::new();
+        door.counts = DoorCounts::new(place);
         door
     }
 
@@ -78,13 +78,7 @@ impl CalmDoor {
 impl Door for CalmDoor {
     type W = CountedWire<CalmWire>;
 
-    ghost faults = { λ d. d.told.faults };
-
-    ghost wires = { λ d. d.told.wires };
-
-    ghost waits = { λ d. d.told.waits };
-
-    ghost closed = { λ d. d.told.closed };
+    ghost told = { λ d. d.told };
 
     fn try_accept(&mut self) -> Result<Knock<CountedWire<CalmWire>>, Failed>
         ensures calm { IsOk result }
@@ -94,8 +88,10 @@ impl Door for CalmDoor {
         ensures fresh { IfCame result (λ wire. IsFresh (Some wire.wire.tape.given) (Some wire.wire.shelf.taken) wire.wire.calls wire.faults wire.wire.closed) }
         ensures uncut { IfCame result (λ wire. wire.cut ≡ false) }
         ensures unended { IfCame result (λ wire. wire.ended ≡ false) }
+        ensures place { self.new.told.place ≡ self.old.told.place }
         ensures wires { self.new.told.wires ≡ wires_after result self.old.told.wires }
         ensures waits { self.new.told.waits ≡ waits_after result self.old.told.waits }
+        ensures rests { self.new.told.rests ≡ self.old.told.rests }
         ensures closed { self.new.told.closed ≡ closed_after result self.old.told.closed }
         ensures stays { IsTrue self.old.told.closed → result ≡ Ok Knock.Closed }
         ensures cause { HasCause self.old.told.faults self.new.told.faults result }
@@ -117,8 +113,10 @@ impl Door for CalmDoor {
     }
 
     fn rest(&mut self)
-        ensures same { self.new ≡ self.old }
-    {}
+        ensures rested { self.new ≡ record self.old { told = rested self.old.told } }
+    {
+        self.counts.add_rest();
+    }
 }
 
 /// A wire that was not used yet.

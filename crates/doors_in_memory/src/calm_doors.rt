@@ -1,6 +1,6 @@
-ghost use Rattle.std.specs.Prelude.{◌≡◌, ◌++◌, [], ◌∷◌, false, IfOk, IfSome, IsOk, OnErr, OnOk, drop};
+ghost use Rattle.std.specs.Prelude.{◌≡◌, ◌++◌, [], ◌∷◌, IfOk, IfSome, IsOk, OnErr, OnOk, drop};
 ghost use Rattle.outside_traits.specs.Causes.{HasCause};
-ghost use Rattle.outside_doors.specs.Counts.{with_opened};
+ghost use Rattle.outside_doors.specs.Counts.{untried, with_opened};
 ghost use Rattle.doors_in_memory.specs.Memory.{next_entry};
 ghost use Rattle.outside_traits.specs.Told.{Lists};
 ghost use Rattle.outside_doors.specs.Returns.{no_book};
@@ -101,12 +101,9 @@ impl Doors for CalmDoors {
 
     fn open(&mut self, location: &str) -> Result<CalmDoor, Failed>
         ensures calm { IsOk result }
-        ensures door { IfOk result (λ door. door ≡ next_entry self.old.coming) }
+        ensures door { IfOk result (λ door. door ≡ next_entry self.old.book.tally.opened self.old.coming) }
         ensures coming { self.new.coming ≡ drop 1 self.old.coming }
-        ensures faultless { IfOk result (λ door. door.told.faults ≡ 0) }
-        ensures ungiven { IfOk result (λ door. door.told.wires ≡ 0) }
-        ensures unwaited { IfOk result (λ door. door.told.waits ≡ 0) }
-        ensures unclosed { IfOk result (λ door. door.told.closed ≡ false) }
+        ensures untried { IfOk result (λ door. door.told ≡ untried self.old.book.tally.opened) }
         ensures opened { IfOk result (λ _. self.new.book.tally ≡ with_opened self.old.book.tally) }
         ensures unopened { OnErr result (self.new.book.tally ≡ self.old.book.tally) }
         ensures listed { IfOk result (λ _. Lists self.old.book.locations self.new.book.locations (location.now ∷ [])) }
@@ -115,12 +112,13 @@ impl Doors for CalmDoors {
         ensures returned_doors { self.new.book.doors ≡ self.old.book.doors }
         ensures cause { HasCause self.old.book.faults self.new.book.faults result }
     {
+        let place = self.book.counts().opened();
         self.book.open(location);
         let door = match self.coming.next() {
             None => CalmDoor::new(self.alloc, 0),
-            Some(door) => door.anew(),
+            Some(door) => door,
         };
-        Ok(door)
+        Ok(door.anew(place))
     }
 
     fn wire_back(&mut self, wire: CountedWire<CalmWire>) {

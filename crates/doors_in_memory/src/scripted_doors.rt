@@ -1,6 +1,6 @@
-ghost use Rattle.std.specs.Prelude.{◌≡◌, ◌++◌, [], ◌∷◌, Some, None, false, IfOk, IfSome, OnErr, OnOk, drop};
+ghost use Rattle.std.specs.Prelude.{◌≡◌, ◌++◌, [], ◌∷◌, Some, None, IfOk, IfSome, OnErr, OnOk, drop};
 ghost use Rattle.outside_traits.specs.Causes.{HasCause};
-ghost use Rattle.outside_doors.specs.Counts.{with_opened};
+ghost use Rattle.outside_doors.specs.Counts.{untried, with_opened};
 ghost use Rattle.doors_in_memory.specs.Memory.{Opens};
 ghost use Rattle.outside_traits.specs.Told.{Lists};
 ghost use Rattle.outside_doors.specs.Returns.{no_book};
@@ -110,12 +110,9 @@ impl Doors for ScriptedDoors {
     ghost returned_doors = { λ d. d.book.doors };
 
     fn open(&mut self, location: &str) -> Result<ScriptedDoor, Failed>
-        ensures scripted { Opens self.old.coming result }
+        ensures scripted { Opens self.old.book.tally.opened self.old.coming result }
         ensures coming { self.new.coming ≡ drop 1 self.old.coming }
-        ensures faultless { IfOk result (λ door. door.told.faults ≡ 0) }
-        ensures ungiven { IfOk result (λ door. door.told.wires ≡ 0) }
-        ensures unwaited { IfOk result (λ door. door.told.waits ≡ 0) }
-        ensures unclosed { IfOk result (λ door. door.told.closed ≡ false) }
+        ensures untried { IfOk result (λ door. door.told ≡ untried self.old.book.tally.opened) }
         ensures opened { IfOk result (λ _. self.new.book.tally ≡ with_opened self.old.book.tally) }
         ensures unopened { OnErr result (self.new.book.tally ≡ self.old.book.tally) }
         ensures listed { IfOk result (λ _. Lists self.old.book.locations self.new.book.locations (location.now ∷ [])) }
@@ -124,16 +121,17 @@ impl Doors for ScriptedDoors {
         ensures returned_doors { self.new.book.doors ≡ self.old.book.doors }
         ensures cause { HasCause self.old.book.faults self.new.book.faults result }
     {
+        let place = self.book.counts().opened();
         let door = match self.coming.next() {
             None => ScriptedDoor::new(self.alloc),
-            Some(Some(door)) => door.anew(),
+            Some(Some(door)) => door,
             Some(None) => {
                 self.book.fail();
                 return Err(Failed);
             }
         };
         self.book.open(location);
-        Ok(door)
+        Ok(door.anew(place))
     }
 
     fn wire_back(&mut self, wire: CountedWire<ScriptedWire>) {

@@ -11,22 +11,26 @@ added_if test before = if test then added before 1 else before
 
 -- what a door tells of itself
 pub record DoorTold : Type 0 where
+  -- how many doors had been opened before it
+  pub place : ℕ
   -- how often a try at it has failed
   pub faults : ℕ
   -- how many wires it gave
   pub wires : ℕ
   -- how often it answered that nobody has come yet
   pub waits : ℕ
+  -- how often it was rested at
+  pub rests : ℕ
   -- whether it has answered that nobody comes any more
   pub closed : Bool
 
--- the same by its parts
-abbrev pub door_told : ℕ → ℕ → ℕ → Bool → DoorTold
-door_told faults wires waits closed = record { faults = faults; wires = wires; waits = waits; closed = closed }
+-- a door of this place that was not tried yet
+abbrev pub untried : ℕ → DoorTold
+untried place = record { place = place; faults = 0; wires = 0; waits = 0; rests = 0; closed = false }
 
--- a door that was not tried yet
-abbrev pub untried : DoorTold
-untried = record { faults = 0; wires = 0; waits = 0; closed = false }
+-- a door that was rested at once more
+abbrev pub rested : DoorTold → DoorTold
+rested door = record door { rests = added door.rests 1 }
 
 -- whether a door has ended: it has answered that nobody comes any more, or a try at it has failed
 abbrev pub has_ended : DoorTold → Bool

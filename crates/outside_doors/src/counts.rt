@@ -1,16 +1,18 @@
 //! The counts of a door, and those of what opens doors.
 ghost use Rattle.std.specs.Prelude.{◌≡◌, ◌≤◌, true};
 ghost use Rattle.outside_traits.specs.Causes.{Rose};
-ghost use Rattle.outside_doors.specs.Counts.{added, no_tally, untried, with_door, with_opened, with_wire};
+ghost use Rattle.outside_doors.specs.Counts.{added, no_tally, rested, untried, with_door, with_opened, with_wire};
 
 use std::marker::Model;
 
 /// What a door tells of itself.
 #[derive(Drop)]
 pub struct DoorCounts {
+    place: u64,
     faults: u64,
     wires: u64,
     waits: u64,
+    rests: u64,
     is_closed: bool,
 }
 
@@ -19,18 +21,20 @@ impl Model for DoorCounts {
 
     ghost Value = { DoorTold };
 
-    ghost view = { λ c. record { faults = c.faults; wires = c.wires; waits = c.waits; closed = c.is_closed } };
+    ghost view = { λ c. record { place = c.place; faults = c.faults; wires = c.wires; waits = c.waits; rests = c.rests; closed = c.is_closed } };
 }
 
 impl DoorCounts {
-    /// Those of a door that was not tried yet.
-    pub fn new() -> DoorCounts
-        ensures { result ≡ untried }
+    /// Those of a door of this place that was not tried yet.
+    pub fn new(place: u64) -> DoorCounts
+        ensures { result ≡ untried place }
     {
         DoorCounts {
+            place,
             faults: 0,
             wires: 0,
             waits: 0,
+            rests: 0,
             is_closed: false,
         }
     }
@@ -40,11 +44,20 @@ impl DoorCounts {
         ensures { result ≡ self.now }
     {
         DoorCounts {
+            place: self.place,
             faults: self.faults,
             wires: self.wires,
             waits: self.waits,
+            rests: self.rests,
             is_closed: self.is_closed,
         }
+    }
+
+    /// How many doors had been opened before it.
+    pub fn place(&self) -> u64
+        ensures { result ≡ self.now.place }
+    {
+        self.place
     }
 
     /// How often a try has failed.
@@ -66,6 +79,13 @@ impl DoorCounts {
         ensures { result ≡ self.now.waits }
     {
         self.waits
+    }
+
+    /// How often it was rested at.
+    pub fn rests(&self) -> u64
+        ensures { result ≡ self.now.rests }
+    {
+        self.rests
     }
 
     /// Whether it has answered that nobody comes any more.
@@ -96,6 +116,13 @@ impl DoorCounts {
         ensures { self.new ≡ record self.old { waits = added self.old.waits 1 } }
     {
         self.waits = self.waits.saturating_add(1);
+    }
+
+    /// Counts a rest.
+    pub fn add_rest(&mut self)
+        ensures { self.new ≡ rested self.old }
+    {
+        self.rests = self.rests.saturating_add(1);
     }
 
     /// Notes the answer that nobody comes any more.

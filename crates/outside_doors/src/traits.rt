@@ -1,7 +1,7 @@
-ghost use Rattle.std.specs.Prelude.{◌≡◌, ◌<◌, ℕ, Bool, false, List, [], ◌∷◌, Ok, IsTrue, IfOk, OnErr};
+ghost use Rattle.std.specs.Prelude.{◌≡◌, ◌<◌, ℕ, false, List, [], ◌∷◌, Ok, IsTrue, IfOk, OnErr};
 ghost use Rattle.std.specs.declared.option.Option.{Option};
 ghost use Rattle.outside_traits.specs.Causes.{HasCause, Rose};
-ghost use Rattle.outside_doors.specs.Counts.{DoorTold, Tally, door_told, with_door, with_opened, with_wire};
+ghost use Rattle.outside_doors.specs.Counts.{DoorTold, Tally, rested, untried, with_door, with_opened, with_wire};
 ghost use Rattle.outside_doors.specs.Knocks.{IfCame, IsFresh, closed_after, waits_after, wires_after};
 ghost use Rattle.outside_traits.specs.Told.{Lists};
 ghost use Rattle.outside_doors.specs.Returns.{WireTold, wire_told};
@@ -20,35 +20,25 @@ pub enum Knock<W> {
 pub trait Door {
     type W: Wire + Drop;
 
-    /// A number that rises with each try that fails, and stands else.
-    ghost faults: { Self → ℕ };
-
-    /// How many wires it gave.
-    ghost wires: { Self → ℕ };
-
-    /// How often it answered that nobody has come yet.
-    ghost waits: { Self → ℕ };
-
-    /// Whether it has answered that nobody comes any more.
-    ghost closed: { Self → Bool };
+    /// What it tells of itself. Its faults rise with each try that fails, and stand else.
+    ghost told: { Self → DoorTold };
 
     /// The next connection, if one has come.
     fn try_accept(&mut self) -> Result<Knock<Self::W>, Failed>
         ensures fresh { IfCame result (λ wire. IsFresh (Self.W.given wire) (Self.W.taken wire) (Self.W.calls wire) (Self.W.faults wire) (Self.W.closed wire)) }
         ensures uncut { IfCame result (λ wire. Self.W.cut wire ≡ false) }
         ensures unended { IfCame result (λ wire. Self.W.ended wire ≡ false) }
-        ensures wires { wires self.new ≡ wires_after result (wires self.old) }
-        ensures waits { waits self.new ≡ waits_after result (waits self.old) }
-        ensures closed { closed self.new ≡ closed_after result (closed self.old) }
-        ensures stays { IsTrue (closed self.old) → result ≡ Ok Knock.Closed }
-        ensures cause { HasCause (faults self.old) (faults self.new) result };
+        ensures place { (told self.new).place ≡ (told self.old).place }
+        ensures wires { (told self.new).wires ≡ wires_after result (told self.old).wires }
+        ensures waits { (told self.new).waits ≡ waits_after result (told self.old).waits }
+        ensures rests { (told self.new).rests ≡ (told self.old).rests }
+        ensures closed { (told self.new).closed ≡ closed_after result (told self.old).closed }
+        ensures stays { IsTrue (told self.old).closed → result ≡ Ok Knock.Closed }
+        ensures cause { HasCause (told self.old).faults (told self.new).faults result };
 
     /// Waits for a while where nobody has come yet. A real door waits for at most 1,000 ms, and one in memory not at all.
     fn rest(&mut self)
-        ensures faults { faults self.new ≡ faults self.old }
-        ensures wires { wires self.new ≡ wires self.old }
-        ensures waits { waits self.new ≡ waits self.old }
-        ensures closed { closed self.new ≡ closed self.old };
+        ensures { told self.new ≡ rested (told self.old) };
 }
 
 /// What opens doors, and takes them and their wires back.
@@ -72,10 +62,7 @@ pub trait Doors {
 
     /// Opens a door at a location.
     fn open(&mut self, location: &str) -> Result<Self::D, Failed>
-        ensures faultless { IfOk result (λ door. Self.D.faults door ≡ 0) }
-        ensures ungiven { IfOk result (λ door. Self.D.wires door ≡ 0) }
-        ensures unwaited { IfOk result (λ door. Self.D.waits door ≡ 0) }
-        ensures unclosed { IfOk result (λ door. Self.D.closed door ≡ false) }
+        ensures untried { IfOk result (λ door. Self.D.told door ≡ untried (tally self.old).opened) }
         ensures opened { IfOk result (λ _. tally self.new ≡ with_opened (tally self.old)) }
         ensures unopened { OnErr result (tally self.new ≡ tally self.old) }
         ensures listed { IfOk result (λ _. Lists (locations self.old) (locations self.new) (location.now ∷ [])) }
@@ -94,10 +81,10 @@ pub trait Doors {
 
     /// Takes a door that its user is through with, and closes it.
     fn door_back(&mut self, door: Self::D)
-        ensures tally { tally self.new ≡ with_door (door_told (Self.D.faults door) (Self.D.wires door) (Self.D.waits door) (Self.D.closed door)) (tally self.old) }
-        ensures listed { Lists (returned_doors self.old) (returned_doors self.new) (door_told (Self.D.faults door) (Self.D.wires door) (Self.D.waits door) (Self.D.closed door) ∷ []) }
+        ensures tally { tally self.new ≡ with_door (Self.D.told door) (tally self.old) }
+        ensures listed { Lists (returned_doors self.old) (returned_doors self.new) (Self.D.told door ∷ []) }
         ensures locations { locations self.new ≡ locations self.old }
         ensures returned { returned self.new ≡ returned self.old }
-        ensures raised { 0 < Self.D.faults door → Rose (faults self.old) (faults self.new) }
-        ensures calm { Self.D.faults door ≡ 0 → faults self.new ≡ faults self.old };
+        ensures raised { 0 < (Self.D.told door).faults → Rose (faults self.old) (faults self.new) }
+        ensures calm { (Self.D.told door).faults ≡ 0 → faults self.new ≡ faults self.old };
 }

@@ -62,6 +62,6 @@ pub record ListenerTold : Type 0 where
   -- whether nobody was there at the last look, of a try or of a rest: then a rest ends when somebody comes
   pub empty : Bool
 
--- before a door was tried
-abbrev pub unvisited : ListenerTold
-unvisited = record { counts = untried; empty = false }
+-- before a door of this place was tried
+abbrev pub unvisited : ℕ → ListenerTold
+unvisited place = record { counts = untried place; empty = false }

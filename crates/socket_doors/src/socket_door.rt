@@ -1,7 +1,8 @@
 ghost use Rattle.std.specs.Prelude.{◌≡◌, ◌/◌, false, true, min, Ok, None, IsTrue, IsErr, IsOk, IfErr};
 ghost use Rattle.std.specs.Duration.{as_nanos};
 ghost use Rattle.outside_traits.specs.Causes.{HasCause};
-ghost use Rattle.outside_doors.specs.Knocks.{IfCame, IsFresh, waits_after, wires_after};
+ghost use Rattle.outside_doors.specs.Counts.{rested};
+ghost use Rattle.outside_doors.specs.Knocks.{IfCame, IsFresh, closed_after, waits_after, wires_after};
 ghost use Rattle.socket_doors.specs.declared.obstacle.Obstacle.TheVariants as Obstacles;
 ghost use Rattle.socket_doors.specs.Arrivals.{GivesWire, obstacle_of, unvisited};
 
@@ -48,15 +49,20 @@ impl<H: Net + Clock + Copy + Drop> Model for SocketDoor<H> {
 }
 
 impl<H: Net + Clock + Copy + Drop> SocketDoor<H> {
-    /// A door over a listener whose accept does not wait.
-    pub(crate) fn new(host: H, listener: H::Listener, patience: Patience) -> SocketDoor<H>
-        ensures { result ≡ unvisited }
+    /// A door of this place over a listener whose accept does not wait.
+    pub(crate) fn new(
+        host: H,
+        listener: H::Listener,
+        patience: Patience,
+        place: u64,
+    ) -> SocketDoor<H>
+        ensures { result ≡ unvisited place }
     {
         SocketDoor {
             host,
             listener,
             patience,
-            counts: DoorCounts::new(),
+            counts: DoorCounts::new(place),
             empty: false,
         }
     }
@@ -82,8 +88,11 @@ impl<H: Net + Clock + Copy + Drop> SocketDoor<H> {
         ensures fresh { IfCame result (λ wire. IsFresh None None None wire.faults wire.closed) }
         ensures uncut { IfCame result (λ wire. wire.cut ≡ false) }
         ensures unended { IfCame result (λ wire. wire.ended ≡ false) }
+        ensures place { self.new.counts.place ≡ self.old.counts.place }
         ensures wires { self.new.counts.wires ≡ wires_after result self.old.counts.wires }
         ensures waits { self.new.counts.waits ≡ waits_after result self.old.counts.waits }
+        ensures rests { self.new.counts.rests ≡ self.old.counts.rests }
+        ensures closed { self.new.counts.closed ≡ closed_after result self.old.counts.closed }
         ensures cause { HasCause self.old.counts.faults self.new.counts.faults result }
     {
         self.empty = false;
@@ -107,8 +116,11 @@ impl<H: Net + Clock + Copy + Drop> SocketDoor<H> {
         ensures fresh { IfCame result (λ wire. IsFresh None None None wire.faults wire.closed) }
         ensures uncut { IfCame result (λ wire. wire.cut ≡ false) }
         ensures unended { IfCame result (λ wire. wire.ended ≡ false) }
+        ensures place { self.new.counts.place ≡ self.old.counts.place }
         ensures wires { self.new.counts.wires ≡ wires_after result self.old.counts.wires }
         ensures waits { self.new.counts.waits ≡ waits_after result self.old.counts.waits }
+        ensures rests { self.new.counts.rests ≡ self.old.counts.rests }
+        ensures closed { self.new.counts.closed ≡ closed_after result self.old.counts.closed }
         ensures cause { HasCause self.old.counts.faults self.new.counts.faults result }
     {
         match obstacle {
@@ -128,11 +140,12 @@ impl<H: Net + Clock + Copy + Drop> SocketDoor<H> {
         }
     }
 
-    /// Waits for a while: until somebody comes, where nobody was there at the last look.
+    /// Waits for a while: until somebody comes, where nobody was there at the last look. It counts it.
     fn wait(&mut self)
-        ensures counts { self.new.counts ≡ self.old.counts }
+        ensures counts { self.new.counts ≡ rested self.old.counts }
         ensures empty { IsTrue self.new.empty → IsTrue self.old.empty }
     {
+        self.counts.add_rest();
         let time = milliseconds(self.patience.rest);
         if self.empty {
             self.empty = stays_empty(self.listener.as_raw_fd(), i32::from(time));
@@ -157,13 +170,7 @@ impl<H: Net + Clock + Copy + Drop> SocketDoor<H> {
 impl<H: Net + Clock + Copy + Drop> Door for SocketDoor<H> {
     type W = SocketWire<PatientStream<H::Stream, H>>;
 
-    ghost faults = { λ d. d.counts.faults };
-
-    ghost wires = { λ d. d.counts.wires };
-
-    ghost waits = { λ d. d.counts.waits };
-
-    ghost closed = { λ _. false };
+    ghost told = { λ d. d.counts };
 
     fn try_accept(&mut self) -> Result<Knock<SocketWire<PatientStream<H::Stream, H>>>, Failed> {
         let accepted = self.listener.accept();

@@ -1,6 +1,6 @@
-ghost use Rattle.std.specs.Prelude.{◌≡◌, ◌∷◌, [], None, false, IfOk, OnErr, IfSome, IsTrue};
+ghost use Rattle.std.specs.Prelude.{◌≡◌, ◌∷◌, [], None, IfOk, OnErr, IfSome, IsTrue};
 ghost use Rattle.outside_traits.specs.Causes.{HasCause};
-ghost use Rattle.outside_doors.specs.Counts.{with_opened};
+ghost use Rattle.outside_doors.specs.Counts.{untried, with_opened};
 ghost use Rattle.outside_traits.specs.Told.{Lists};
 ghost use Rattle.outside_sockets.specs.Locations.{is_of_socket};
 ghost use Rattle.socket_doors.specs.Told.{untold_book};
@@ -96,10 +96,7 @@ impl<H: Net + Clock + Copy + Drop> Doors for SocketDoors<H> {
     // Only the location of a socket has a door.
     fn open(&mut self, location: &str) -> Result<SocketDoor<H>, Failed>
         ensures form { IfOk result (λ _. IsTrue (is_of_socket location.now)) }
-        ensures faultless { IfOk result (λ door. door.counts.faults ≡ 0) }
-        ensures ungiven { IfOk result (λ door. door.counts.wires ≡ 0) }
-        ensures unwaited { IfOk result (λ door. door.counts.waits ≡ 0) }
-        ensures unclosed { IfOk result (λ door. door.counts.closed ≡ false) }
+        ensures untried { IfOk result (λ door. door.counts ≡ untried self.old.tally.opened) }
         ensures opened { IfOk result (λ _. self.new.tally ≡ with_opened self.old.tally) }
         ensures unopened { OnErr result (self.new.tally ≡ self.old.tally) }
         ensures listed { IfOk result (λ _. Lists self.old.locations self.new.locations (location.now ∷ [])) }
@@ -110,9 +107,10 @@ impl<H: Net + Clock + Copy + Drop> Doors for SocketDoors<H> {
     {
         match listener_at(&self.host, location) {
             Some(listener) => {
+                let place = self.counts.opened();
                 self.counts.add_opened();
                 self.locations.keep(location);
-                Ok(SocketDoor::new(self.host, listener, self.patience))
+                Ok(SocketDoor::new(self.host, listener, self.patience, place))
             }
             None => {
                 self.faults = self.faults.saturating_add(1);

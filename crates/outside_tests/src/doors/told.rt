@@ -50,8 +50,10 @@ pub fn tell_doors(
 ) -> Result<(), AllocError> {
     for door in doors {
         said.push_str("\ndoor ")?;
+        add_count(alloc, "place", door.place(), said)?;
         add_count(alloc, "given", door.wires(), said)?;
         add_count(alloc, "waits", door.waits(), said)?;
+        add_count(alloc, "rests", door.rests(), said)?;
         add_count(alloc, "faults", door.faults(), said)?;
         tell_close(door.is_closed(), said)?;
     }

@@ -1,5 +1,11 @@
-use Rattle.std.proofs.Common.{◌≡◌}
+-- All doors before this one have ended.
+use Rattle.std.proofs.Common.{◌≡◌, true, take}
+use Rattle.std.specs.List.{list_all}
+use Rattle.door_front.proofs.Resting.{is_done}
 use Rattle.door_front.proofs.next.rest.Given as goal
 
 abbrev pub invariant-loop-port : goal.invariant-loop-port
-invariant-loop-port g l = l.ports ≡ l.fn.ports
+invariant-loop-port g l = record {
+  same : l.ports ≡ l.fn.ports;
+  done : list_all is_done (take l.port-index l.fn.ports) ≡ true;
+}

@@ -18,7 +18,7 @@ new-front-requires g c =
     let o = c.in_ok-ports.ensures in
     record {
       empty =
-          empty_so c.new-kept.result (items_where_true o.opened (doors_of (parts_of c.args.program))) (c.new-kept.ensures.ports ∙ o.ports)
+          empty_so c.new-kept.result (g.D.Doors.tally c.args.doors.now) (items_where_true o.opened (doors_of (parts_of c.args.program))) (c.new-kept.ensures.ports ∙ o.ports)
           c.new-kept.ensures.links c.new-kept.ensures.traffics c.new-kept.ensures.halted c.new-kept.ensures.spent;
     }
 
@@ -30,7 +30,7 @@ returns-clause-doored g c =
     let begins : c.new-front.result.kept.now.ports ≡ c.in_ok-ports.field-0.ports.items =
     ap (λ k. k.ports) c.new-front.ensures.kept ∙ c.new-kept.ensures.ports in
     let begun = c.new-front.ensures.begun (parts_of c.args.program)
-    (within_so t o.opened c.new-front.result.kept.now (begins ∙ o.ports)) in
+    (within_so t (g.D.Doors.tally c.args.doors.now) o.opened c.new-front.result.kept.now (begins ∙ o.ports)) in
     let after = c.in_ok-finished.ensures.ran c.new-front.result begun.0 (refl, refl, begun.2) begun.1 in
     let kept = c.kept-2-1.given.1 (sym (after.1.0 ∙ c.new-front.ensures.same_kept)) in
     doored_by
