@@ -1,5 +1,5 @@
--- What well-formed parts are: each number names something that is there, and no rule is broken that can be told of these
--- parts, which have neither the protocols of ports nor the names of types.
+-- What well-formed parts are: each number names something that is there, and no rule is broken that can be told of
+-- these parts, which have neither the protocols of ports nor the names of types.
 use Rattle.std.specs.Prelude.{ℕ, Bool, true, false, ◌&&◌, bytes_eq, codes, List, [], ◌∷◌, length, map}
 use Rattle.std.specs.List.{list_all}
 use Rattle.behaviour_tree.specs.Data.{InterfacePart, ServicePart, ProgramParts}

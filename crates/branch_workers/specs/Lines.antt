@@ -1,5 +1,5 @@
 -- What a run over lines posts and writes.
-use Rattle.std.specs.Prelude.{◌≡◌, ◌≢◌, ◌⊎◌, ℕ, Bool, true, List, [], ◌∷◌, ◌++◌, length}
+use Rattle.std.specs.Prelude.{◌≡◌, ◌≢◌, ◌⊎◌, ℕ, ◌-◌, Bool, true, List, [], ◌∷◌, ◌++◌, length}
 use Rattle.std.specs.Prelude.{map, take, flat_map, nat_eq, Option, None, Some, slice_get}
 use Rattle.std.specs.Option.{option_map_or}
 use Rattle.jsonrpc_text.specs.Posted.{posted}
@@ -9,7 +9,7 @@ use Rattle.office_core.specs.Limits.{Setting, first_worker}
 use Rattle.office_core.specs.Past.{Past}
 use Rattle.office_core.specs.Accepted.{past_of}
 use Rattle.run_record.specs.Postings.{posts_by, posts_of}
-use Rattle.run_record.specs.Order.{order_alone, IsOrder}
+use Rattle.run_record.specs.Order.{numbers_from, finished_there, order_alone, IsOrder}
 use Rattle.run_record.specs.Outside.{notes}
 use Rattle.run_record.specs.Run.{Hands, alone, workers}
 use Rattle.branch_workers.specs.Texts.{Came, posting_of, response}
@@ -48,6 +48,10 @@ line_of w past all j =
 abbrev pub lines_in : Setting → List Entry → List Came → List ℕ → List ℕ
 lines_in w h all order = flat_map (line_of w (past_of w h) all) order
 
+-- the postings, among so many, that are finished at one before posting j, in the order in which one worker answers them
+abbrev pub finished_before : Setting → List Entry → ℕ → ℕ → List ℕ
+finished_before w h count j = flat_map (finished_there w (past_of w h) first_worker count) (numbers_from 0 j)
+
 -- the order is one in which those who work may answer so many postings
 abbrev pub IsOrderOf : Hands → Setting → List Entry → ℕ → List ℕ → Type 0
 IsOrderOf alone w h count order = order ≡ order_alone w h first_worker count
@@ -75,7 +79,8 @@ pub record IsAnswered (hands : Hands) (w : Setting) (h : List Entry) (all : List
   pub noted : out.noted ≡ notes w h
 
 -- After a halt what was posted is the front of what came in; what was written and what was noted end inside the answers
--- of what was posted and inside its notes, one of the two before their end.
+-- of what was posted and inside its notes, one of the two before their end. One worker had written by then the answers
+-- of all that was finished before the last posting.
 pub record IsCutShort (hands : Hands) (w : Setting) (h : List Entry) (all : List Came) (out : Output) : Type 0 where
   pub came : List Came
   pub front : IsFront came all
@@ -83,5 +88,7 @@ pub record IsCutShort (hands : Hands) (w : Setting) (h : List Entry) (all : List
   pub order : List ℕ
   pub in_order : IsOrderOf hands w h (length came) order
   pub written : IsFront out.written (lines_in w h came order)
+  pub early : hands ≡ alone
+      → IsFront (lines_in w h came (finished_before w h (length came) (length came - 1))) out.written
   pub noted : IsFront out.noted (notes w h)
   pub cut : IsProperFront out.written (lines_in w h came order) ⊎ IsProperFront out.noted (notes w h)

@@ -1,5 +1,5 @@
 -- What a run over connections posted and wrote.
-use Rattle.std.specs.Prelude.{◌≡◌, ℕ, ◌<◌, Bool, true, false, List, length, map, nat_eq}
+use Rattle.std.specs.Prelude.{◌≡◌, ℕ, suc, ◌<◌, Bool, true, false, List, length, map, nat_eq}
 use Rattle.std.specs.Prelude.{Option, Some, slice_get}
 use Rattle.std.specs.List.{list_all, AllZip}
 use Rattle.office_core.specs.declared.history.Entry.{Entry}
@@ -31,16 +31,22 @@ abbrev pub AreOneByOne : Setting → List Entry → List Asked → Type 0
 AreOneByOne w h asked = (i j : ℕ) (a b : Asked) → slice_get asked i ≡ Some a → slice_get asked j ≡ Some b
     → a.traffic ≡ b.traffic → i < j → finished_at w (past_of w h) first_worker (length asked) i < j
 
+-- A text was told to each request whose posting was finished at one before the last.
+abbrev pub AreToldEarly : Setting → List Entry → List Visit → List Asked → Type 0
+AreToldEarly w h visits asked = (j : ℕ) (a : Asked) (visit : Visit) → slice_get asked j ≡ Some a
+    → slice_get visits a.traffic ≡ Some visit
+    → suc (finished_at w (past_of w h) first_worker (length asked) j) < length asked → a.request < length visit.texts
+
 -- a text was told to each request that was taken from a connection
 abbrev pub is_told : Visit → Bool
 is_told visit = nat_eq (length visit.texts) (length visit.bodies)
 
 -- The requests that were taken from the connections of this traffic were posted to the services of their doors, each
--- once and those of one connection in their order, by the worker that has the connections; and, whether the front halted
--- or not, each once the one before it on its connection was answered. What was written on each is what is to be written
--- where the responses to its postings are told; where it stands as failed the last of these, or what is due behind it,
--- may have been cut. Unless the front halted, each posting's response was told. Whether a connection that stands so has
--- failed its wire tells, when it comes back.
+-- once and those of one connection in their order, by the worker that has the connections; and, whether the front
+-- halted or not, each once the one before it on its connection was answered. What was written on each is what is to be
+-- written where the responses to its postings are told; where it stands as failed the last of these, or what is due
+-- behind it, may have been cut. The response to each posting was told that was finished before the last one came; and
+-- unless the front halted, to each. Whether a connection that stands so has failed its wire tells, when it comes back.
 pub record IsServed (w : Setting) (h : List Entry) (halted : Bool) (traffic : List Traffic) : Type 0 where
   pub visits : List Visit
   pub all : Requests
@@ -51,4 +57,5 @@ pub record IsServed (w : Setting) (h : List Entry) (halted : Bool) (traffic : Li
   pub posted : posts_by first_worker h ≡ posts_of 0 (map posting_of all.came)
   pub one_by_one : AreOneByOne w h all.asked
   pub responses : AreResponses w h visits all
+  pub told_early : AreToldEarly w h visits all.asked
   pub told : halted ≡ false → list_all is_told visits ≡ true

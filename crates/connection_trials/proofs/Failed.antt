@@ -1,5 +1,5 @@
 -- Two calls that were sent at once over one connection, of which a write failed, or a read behind them.
-use Rattle.std.specs.Prelude.{◌≡◌, ◌≢◌, ◌<◌, ℕ, false, List, [], ◌∷◌, ◌++◌, take, drop, length, map}
+use Rattle.std.specs.Prelude.{◌≡◌, ◌≢◌, ◌<◌, ℕ, true, false, List, [], ◌∷◌, ◌++◌, take, drop, length, map}
 use Rattle.std.specs.Prelude.{Option, Some, slice_get}
 use Rattle.std.specs.Io.{StartsWith}
 use Rattle.std.proofs.Common.{refl, sym, ap, subst, ◌∙◌, arith, append_assoc, take-append-drop, length-take-le}
@@ -25,6 +25,7 @@ use Rattle.http_port.specs.declared.head_reader.Fed.TheVariants.{Request}
 use Rattle.http_port.specs.Talk.{answer as answer_bytes}
 use Rattle.http_port.proofs.TalkLemmas.{spoken}
 use Rattle.http_port.proofs.TurnLemmas.{starts_with}
+use Rattle.http_connection.specs.declared.stage.Stage.TheVariants as Stages
 use Rattle.http_connection.specs.Stages.{IsFailed}
 use Rattle.http_connection.proofs.Words.{same_early, shorter_behind}
 use Rattle.connection_runs.specs.Visits.{Visit, HasPassed}
@@ -32,8 +33,8 @@ use Rattle.connection_runs.specs.Served.{IsServed}
 use Rattle.connection_trials.proofs.Requests.{cons_nil}
 use Rattle.connection_trials.proofs.Sent.{go, more}
 use Rattle.connection_trials.proofs.Parts.{read_failed, write_failed, IsCut, passed_to_the_end, passed_in_part}
-use Rattle.connection_trials.proofs.First.{differ, behind_first, first_op, refused_behind, refused_untaken}
-use Rattle.connection_trials.proofs.TwoCalls.{setting, history, go_alone, call_more, text_go, text_more, written_go, written_more, came_go, came_more, response_go, is_posted_alone, response_go_alone}
+use Rattle.connection_trials.proofs.First.{differ, behind_first, first_op, refused_untold, refused_behind, refused_untaken}
+use Rattle.connection_trials.proofs.TwoCalls.{setting, history, go_alone, call_more, text_go, text_more, written_go, written_more, came_go, came_more, response_go, go_early, is_posted_alone, response_go_alone}
 use Rattle.connection_trials.proofs.Pipelined.{gives, gives_read, reading, wrote, written, texts, one_door}
 
 -- ---- what passed
@@ -99,3 +100,11 @@ unfolding digits
 spoilt_second_not_posted =
     refused_untaken setting go_alone false (wrote written_go) reading go (Request more false ∷ []) (gives_read reading) refl one_posted one_door
     (Some text_go) (sym response_go_alone) more [] refl not_both refl
+
+-- Where it halted the first request was told its answer all the same: it had that before the second was posted.
+pub spoilt_untold_where_it_halted : (s : IsServed setting history true (wrote [] ∷ []))
+    → ((v : Visit) → slice_get s.visits 0 ≡ Some v → v.stage ≢ Stages.WriteFailed) → ⊥
+unfolding digits
+spoilt_untold_where_it_halted =
+    refused_untold setting history true (wrote []) reading go (Request more false ∷ []) (gives_read reading) go_early some_posted one_door
+    (Some text_go) (sym response_go) (λ e. cons_nil _ _ (ap behind_first (e ∙ sym is_posted_alone))) (λ texts e. cons_nil _ _ (sym e))

@@ -16,7 +16,7 @@ use Rattle.office_front.specs.Dealings.{Asked}
 use Rattle.office_front.specs.Calls.{is_of}
 use Rattle.run_record.specs.declared.record.Traffic.{Traffic}
 use Rattle.run_record.specs.Postings.{Post, posts_by, posts_from, posts_of}
-use Rattle.run_record.specs.Order.{least_from, is_finished}
+use Rattle.run_record.specs.Order.{least_from, is_finished, finished_at}
 use Rattle.branch_workers.specs.Texts.{Came, posting_of, response}
 use Rattle.http_port.specs.declared.head_reader.Fed.{Fed}
 use Rattle.http_port.specs.declared.head_reader.Fed.TheVariants.{Request}
@@ -32,7 +32,7 @@ use Rattle.http_connection.specs.Law.{holding, bodies_of, talk_of, IsCutOff, Kee
 use Rattle.http_connection.proofs.Words.{begins_from}
 use Rattle.connection_runs.specs.Ports.{has_door}
 use Rattle.connection_runs.specs.Visits.{Visit, came_with, came_of, came_at, AreTaken, HasPassed}
-use Rattle.connection_runs.specs.Served.{Requests, AreOneByOne, AreResponses, is_told, IsServed}
+use Rattle.connection_runs.specs.Served.{Requests, AreOneByOne, AreResponses, AreToldEarly, is_told, IsServed}
 use Rattle.connection_trials.proofs.Requests.{bodies_by, talk_by, cons_nil, head_same}
 use Rattle.connection_trials.proofs.Parts.{IsCut}
 
@@ -413,8 +413,37 @@ second_came v (a ∷ b ∷ asked) c (d ∷ others) taken is many =
     (head_same (came_at (v ∷ []) b) (Some d) (map (came_at (v ∷ [])) asked) (map Some others) (ap behind_first is)) in
     record { body = second.0; taken = second.1; more = others; came = ap (λ (x : Came). x ∷ others) second.2 }
 
-none_told : (length_of : ℕ) → 0 ≡ length_of → 0 < length_of → ⊥
-none_told n e some = omega (arith, e, some)
+none_told : 0 < 0 → ⊥
+none_told some = omega (arith, some)
+
+-- where the first of some numbers is of a kind, it is the least of the kind
+least_first : (p : ℕ → Bool) (n : ℕ) → p 0 ≡ true → 0 < n → least_from p 0 n ≡ 0
+least_first p zero is some = absurd (none_told some)
+least_first p (suc n) is some = ap (λ (b : Bool). if b then 0 else least_from p 1 n) is
+
+some_behind : (n : ℕ) → 0 < suc n - 0
+some_behind n = omega arith
+
+before_two : (k n : ℕ) → k ≡ 0 → suc k < suc (suc n)
+before_two k n e = omega (arith, e)
+
+-- where more than one came in, and the first posting was finished at itself, its request was told
+early_told : (w : Setting) (h : List Entry) → is_finished w (past_of w h) first_worker 0 0 ≡ true
+    → (v : Visit) (asked : List Asked) (c d : Came) (others : List Came) → AreTaken (v ∷ []) asked
+    → map (came_at (v ∷ [])) asked ≡ map Some (c ∷ d ∷ others) → AreToldEarly w h (v ∷ []) asked → 0 < length v.texts
+early_told w h first v [] c d others taken is told = absurd (cons_nil (Some c) (map Some (d ∷ others)) (sym is))
+early_told w h first v (a ∷ []) c d others taken is told =
+    absurd (cons_nil (Some d) (map Some others) (sym (ap behind_first is)))
+early_told w h first v (a ∷ b ∷ asked) c d others taken is told =
+    let s = is_taken (v ∷ []) a c
+    (head_same (came_at (v ∷ []) a) (Some c) (map (came_at (v ∷ [])) (b ∷ asked)) (map Some (d ∷ others)) is) in
+    let one : a.traffic ≡ 0 = (alone_at v s.visit a.traffic s.there).0 in
+    let request : a.request ≡ 0 = taken.in_order 0 a refl in
+    let least : finished_at w (past_of w h) first_worker (length (a ∷ b ∷ asked)) 0 ≡ 0 =
+    least_first (is_finished w (past_of w h) first_worker 0) (length (a ∷ b ∷ asked) - 0) first (some_behind (length (b ∷ asked))) in
+    subst (λ (n : ℕ). n < length v.texts) request
+    (told 0 a v refl (ap (slice_get (v ∷ [])) one)
+    (before_two (finished_at w (past_of w h) first_worker (length (a ∷ b ∷ asked)) 0) (length asked) least))
 
 module _ (w : Setting) (h : List Entry) (halted : Bool) (t : Traffic) (reading : Reading t.read) (body : List ℕ)
     (later : List Fed) (gives : given t.read reading ≡ Request body false ∷ later) where
@@ -520,13 +549,13 @@ module _ (w : Setting) (h : List Entry) (halted : Bool) (t : Traffic) (reading :
       (λ f number k. wrong (first_posted s one f k
       ∙ ap (λ (others : List Came). posts_of 0 (map posting_of (came_with 0 body ∷ others))) (one_alone s last f k)))
 
-  -- what was written begins with the first answer, where each request was told its own
-  answer_first : (bodies : List (List ℕ)) (texts : List (Option (List ℕ))) (text : Option (List ℕ))
-      → length texts ≡ length bodies → 0 < length bodies → ((x : Option (List ℕ)) → slice_get texts 0 ≡ Some x → x ≡ text)
+  -- what was written begins with the first answer, where a request was told its own
+  answer_first : (texts : List (Option (List ℕ))) (text : Option (List ℕ)) → 0 < length texts
+      → ((x : Option (List ℕ)) → slice_get texts 0 ≡ Some x → x ≡ text)
       → t.written ≡ spoken (Request body false ∷ later) texts
       → (others : List (Option (List ℕ))) × (t.written ≡ answer text false ++ spoken later others)
-  answer_first bodies [] text told some answered e = absurd (none_told (length bodies) told some)
-  answer_first bodies (x ∷ texts) text told some answered e =
+  answer_first [] text some answered e = absurd (none_told some)
+  answer_first (x ∷ texts) text some answered e =
       (texts, e ∙ ap (λ (y : Option (List ℕ)). answer y false ++ spoken later texts) (answered x refl))
 
   -- It is refused where this is not what was written first, unless it halted or a write failed.
@@ -538,9 +567,38 @@ module _ (w : Setting) (h : List Entry) (halted : Bool) (t : Traffic) (reading :
       with_first s some
       (λ f number k.
       let whole = k.whole (calm f.visit (subst (λ (n : ℕ). slice_get s.visits n ≡ Some f.visit) number f.there)) in
-      let first = answer_first f.visit.bodies f.visit.texts text
-      (eqb-true (length f.visit.texts) (length f.visit.bodies) (all_at is_told s.visits f.number f.visit (s.told goes) f.there))
-      (slice_get_within f.visit.bodies 0 f.body f.asked)
+      let told : length f.visit.texts ≡ length f.visit.bodies =
+      eqb-true (length f.visit.texts) (length f.visit.bodies) (all_at is_told s.visits f.number f.visit (s.told goes) f.there) in
+      let first = answer_first f.visit.texts text
+      (subst (λ (n : ℕ). 0 < n) (sym told) (slice_get_within f.visit.bodies 0 f.body f.asked))
+      (λ x e. f.answered x e ∙ first_response s one f k ∙ is_text) whole in
+      apart first.0 first.1)
+
+  -- the first request was told, whether it halted or not, where others came in and it was answered before them
+  first_told : is_finished w (past_of w h) first_worker 0 0 ≡ true → (s : IsServed w h halted (t ∷ []))
+      → (f : IsFirst w h s.visits s.all.came) (others : List Came) → f.others ≡ others → others ≢ [] → 0 < length f.visit.texts
+  first_told first s f [] e some = absurd (some refl)
+  first_told first s f (d ∷ others) e some =
+      let v = only s f in
+      subst (λ (u : Visit). 0 < length u.texts) v.2
+      (early_told w h first v.0 s.all.asked (came_with f.visit.service f.body) d others (only_taken s v.0 v.1)
+      (only_came s f v.0 v.1 ∙ ap (λ (l : List Came). map Some (came_with f.visit.service f.body ∷ l)) e)
+      (subst (λ (l : List Visit). AreToldEarly w h l s.all.asked) v.1 s.told_early))
+
+  -- It is refused where this is not what was written first, unless a write failed, also where it halted, if the first
+  -- request was answered before another was posted.
+  pub refused_untold : is_finished w (past_of w h) first_worker 0 0 ≡ true → posts_by first_worker h ≢ [] → LeadToOne w
+      → (text : Option (List ℕ)) → response w (past_of w h) first_worker 0 (came_with 0 body) ≡ text
+      → (posts_by first_worker h ≡ posts_of 0 (map posting_of (came_with 0 body ∷ [])) → ⊥)
+      → ((texts : List (Option (List ℕ))) → t.written ≡ answer text false ++ spoken later texts → ⊥)
+      → (s : IsServed w h halted (t ∷ [])) → ((v : Visit) → slice_get s.visits 0 ≡ Some v → v.stage ≢ Stages.WriteFailed) → ⊥
+  refused_untold early some one text is_text more apart s calm =
+      with_first s some
+      (λ f number k.
+      let whole = k.whole (calm f.visit (subst (λ (n : ℕ). slice_get s.visits n ≡ Some f.visit) number f.there)) in
+      let first = answer_first f.visit.texts text
+      (first_told early s f f.others refl
+      (λ none. more (first_posted s one f k ∙ ap (λ (l : List Came). posts_of 0 (map posting_of (came_with 0 body ∷ l))) none)))
       (λ x e. f.answered x e ∙ first_response s one f k ∙ is_text) whole in
       apart first.0 first.1)
 
@@ -656,17 +714,11 @@ least_low p i (suc n) = low_by (p i) i (least_from p (suc i) n) (least_low p (su
 above : (n r : ℕ) → n ≡ r → 1 ≤ r → n < 1 → ⊥
 above n r is low less = omega (arith, is, low, less)
 
-none_left : 0 < 0 → ⊥
-none_left less = omega (arith, less)
-
 -- where the first of some numbers is none of a kind, the least of the kind is another
 not_first : (p : ℕ → Bool) (n : ℕ) → p 0 ≡ false → 0 < n → least_from p 0 n < 1 → ⊥
-not_first p zero other some less = absurd (none_left some)
+not_first p zero other some less = absurd (none_told some)
 not_first p (suc n) other some less =
     above (least_from p 0 (suc n)) (least_from p 1 n) (ap (λ (b : Bool). if b then 0 else least_from p 1 n) other) (least_low p 1 n) less
-
-some_left : (n : ℕ) → 0 < suc n - 0
-some_left n = omega arith
 
 module _ (w : Setting) (h : List Entry) (open_yet : is_finished w (past_of w h) first_worker 0 0 ≡ false) where
   not_one_by_one : (v : Visit) (asked : List Asked) (c d : Came) (others : List Came)
@@ -683,7 +735,7 @@ module _ (w : Setting) (h : List Entry) (open_yet : is_finished w (past_of w h) 
       let other : b.traffic ≡ 0 = (alone_at v t.visit b.traffic t.there).0 in
       let first : 0 < 1 = omega arith in
       not_first (is_finished w (past_of w h) first_worker 0) (length (a ∷ b ∷ asked) - 0) open_yet
-      (some_left (length (b ∷ asked))) (turns 0 1 a b refl refl (one ∙ sym other) first)
+      (some_behind (length (b ∷ asked))) (turns 0 1 a b refl refl (one ∙ sym other) first)
 
   -- A run over one connection is refused where something is posted of the second request before the first is answered.
   pub refused_early : (halted : Bool) (t : Traffic) (p : Post) → slice_get (posts_by first_worker h) 1 ≡ Some p → p.posting ≡ 1

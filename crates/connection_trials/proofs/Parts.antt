@@ -18,7 +18,7 @@ use Rattle.http_port.proofs.TalkLemmas.{spoken}
 use Rattle.http_connection.specs.declared.stage.Stage.TheVariants as Stages
 use Rattle.http_connection.proofs.Histories.{closes_in, closing_given, unclosed}
 use Rattle.connection_runs.specs.Visits.{Visit, HasPassed}
-use Rattle.connection_runs.specs.Served.{AreOneByOne, AreResponses}
+use Rattle.connection_runs.specs.Served.{AreOneByOne, AreResponses, AreToldEarly}
 use Rattle.connection_trials.proofs.Requests.{bodies_by, talk_by}
 
 -- a connection that reads on, whose requests were all taken and told these texts
@@ -149,3 +149,25 @@ module _ (w : Setting) (h : List Entry) where
       (ap (λ (z : Asked). z.traffic) (same_Some x a e) ∙ same ∙ sym (ap (λ (z : Asked). z.traffic) (same_Some y b f)))
   two_by_one x y early (suc i) (suc zero) a b e f same less = absurd (none_between i less)
   two_by_one x y early i (suc (suc j)) a b e f same less = absurd (none-some b f)
+
+-- ---- told early
+
+-- a text was told to a request
+abbrev pub HasText : List Visit → Asked → Type 0
+HasText visits a = (v : Visit) → slice_get visits a.traffic ≡ Some v → a.request < length v.texts
+
+pub has_text : (visits : List Visit) (a : Asked) (visit : Visit) → slice_get visits a.traffic ≡ Some visit
+    → a.request < length visit.texts → HasText visits a
+has_text visits a visit there inside v e =
+    subst (λ (u : Visit). a.request < length u.texts) (same_Some visit v (sym there ∙ e)) inside
+
+module _ (w : Setting) (h : List Entry) (visits : List Visit) where
+  -- of one posting none was finished before the last
+  pub early_alone : (x : Asked) → AreToldEarly w h visits (x ∷ [])
+  early_alone x j a v e there early = absurd (none_between (finished_at w (past_of w h) first_worker 1 j) early)
+
+  -- of two both were told
+  pub two_told : (x y : Asked) → HasText visits x → HasText visits y → AreToldEarly w h visits (x ∷ y ∷ [])
+  two_told x y one two zero a v e there early = subst (HasText visits) (same_Some x a e) one v there
+  two_told x y one two (suc zero) a v e there early = subst (HasText visits) (same_Some y a e) two v there
+  two_told x y one two (suc (suc j)) a v e there early = absurd (none-some a e)

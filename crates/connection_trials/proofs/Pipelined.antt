@@ -36,7 +36,7 @@ use Rattle.connection_runs.specs.Visits.{Visit, HasPassed}
 use Rattle.connection_runs.specs.Served.{AreResponses, IsServed}
 use Rattle.connection_trials.proofs.Requests.{judged, more_requests, cons_nil}
 use Rattle.connection_trials.proofs.Sent.{go, more, read_go, read_more, head_go, gives_more, reading_more}
-use Rattle.connection_trials.proofs.Parts.{read_on, passed_on, IsTextAt, text_at, told_responses, two_by_one}
+use Rattle.connection_trials.proofs.Parts.{read_on, passed_on, IsTextAt, text_at, told_responses, two_by_one, has_text, two_told}
 use Rattle.connection_trials.proofs.First.{differ, first_op, holds_alone, IsOther, LeadToOne, refused, refused_first, refused_early}
 use Rattle.connection_trials.proofs.TwoCalls.{setting, history, another_order, at_once, go_first, go_open, post_more, is_post_more, call_go, call_more, text_go, text_more, written_go, written_more, came_go, came_more, is_posted, response_go, response_more}
 
@@ -109,6 +109,12 @@ responses =
 none_one : 0 < 1
 none_one = omega arith
 
+none_two : 0 < 2
+none_two = omega arith
+
+one_two : 1 < 2
+one_two = omega arith
+
 -- the first was answered before the second was posted
 pub served : IsServed setting history false (wrote written ∷ [])
 unfolding encode
@@ -122,6 +128,7 @@ served = record {
   posted = is_posted;
   one_by_one = two_by_one setting history asked_go asked_more (λ _. subst (λ (n : ℕ). n < 1) (sym go_first) none_one);
   responses = responses;
+  told_early = two_told setting history (visit ∷ []) asked_go asked_more (has_text (visit ∷ []) asked_go visit refl none_two) (has_text (visit ∷ []) asked_more visit refl one_two);
   told = λ _. refl;
 }
 

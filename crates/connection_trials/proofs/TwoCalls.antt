@@ -172,6 +172,11 @@ pub go_first : finished_at setting (past_of setting history) first_worker 2 0 �
 unfolding encode
 go_first = refl
 
+-- since it is finished at itself
+pub go_early : is_finished setting (past_of setting history) first_worker 0 0 ≡ true
+unfolding encode
+go_early = refl
+
 -- where both are posted at once, it is not
 pub go_open : is_finished setting (past_of setting at_once) first_worker 0 0 ≡ false
 unfolding encode

@@ -1,5 +1,5 @@
 -- The run of two calls over two connections; each has the answer to its own.
-use Rattle.std.specs.Prelude.{◌≡◌, ◌≢◌, ℕ, zero, suc, true, false, List, [], ◌∷◌, take, length, count_by, codes}
+use Rattle.std.specs.Prelude.{◌≡◌, ◌<◌, ◌≢◌, ℕ, zero, suc, true, false, List, [], ◌∷◌, take, length, count_by, codes}
 use Rattle.std.specs.Prelude.{Option, Some, slice_get}
 use Rattle.std.proofs.Common.{refl, sym, subst, arith}
 use Rattle.std.proofs.lemmas.Bool.{eqb-true}
@@ -31,7 +31,7 @@ use Rattle.connection_runs.specs.Visits.{Visit, AreTaken, HasPassed}
 use Rattle.connection_runs.specs.Served.{AreResponses, IsServed}
 use Rattle.connection_trials.proofs.Requests.{cons_nil}
 use Rattle.connection_trials.proofs.Sent.{go, more, read_go, read_more, gives_go, gives_more, reading_go, reading_more}
-use Rattle.connection_trials.proofs.Parts.{read_on, passed_on, IsTextAt, text_at, told_responses, two_by_one}
+use Rattle.connection_trials.proofs.Parts.{read_on, passed_on, IsTextAt, text_at, told_responses, two_by_one, has_text, two_told}
 use Rattle.connection_trials.proofs.First.{differ, holds_alone, IsOther, LeadToOne, refused}
 use Rattle.connection_trials.proofs.TwoCalls.{setting, history, another_order, text_go, text_more, written_go, written_more, came_go, came_more, is_posted, response_go, response_more, is_posted_so, response_more_first, response_go_second}
 
@@ -84,6 +84,9 @@ responses =
       (subst (IsTextAt visits asked_more) response_more (text_at visits asked_more visit_more (Some text_more) refl refl), tt),
     )
 
+none_one : 0 < 1
+none_one = omega arith
+
 -- they are two guests
 apart : (n : ℕ) → n ≡ 0 → n ≡ 1 → ⊥
 apart n one other = omega (arith, one, other)
@@ -100,6 +103,7 @@ served = record {
   posted = is_posted;
   one_by_one = two_by_one setting history asked_go asked_more (λ same. absurd (apart 0 refl same));
   responses = responses;
+  told_early = two_told setting history visits asked_go asked_more (has_text visits asked_go visit_go refl none_one) (has_text visits asked_more visit_more refl none_one);
   told = λ _. refl;
 }
 
@@ -138,6 +142,7 @@ served_in_another_order = record {
   posted = is_posted_so;
   one_by_one = two_by_one setting another_order asked_more asked_go (λ same. absurd (apart 1 same refl));
   responses = responses_so;
+  told_early = two_told setting another_order visits asked_more asked_go (has_text visits asked_more visit_more refl none_one) (has_text visits asked_go visit_go refl none_one);
   told = λ _. refl;
 }
 

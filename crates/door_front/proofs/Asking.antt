@@ -28,7 +28,7 @@ use Rattle.door_front.proofs.Leading.{led-asked}
 use Rattle.door_front.proofs.Coming.{goes-none}
 use Rattle.door_front.proofs.Requests.{Serves, serves-on, came_length}
 use Rattle.door_front.proofs.OneMore.{one_more, next_of, serves-more, service_there}
-use Rattle.door_front.proofs.OneByOne.{told_all, one_count_more, told_first-more, heard-where_reads}
+use Rattle.door_front.proofs.OneByOne.{told_all, one_count_more, told_first-more, heard_by-more, heard-where_reads}
 use Rattle.door_front.proofs.Waiting.{once_more, waited-none, waited-more, owes, opened_owe, owes-grow, busy-few, busy-all, busy-count}
 
 -- ---- calls
@@ -157,6 +157,7 @@ module _ (IsMade : Line → Type 0) (parts : ProgramParts) (first : Sides) (note
       heard = h.heard;
       told = h.told;
       all_told = h.all_told;
+      heard_by = h.heard_by;
       places = h.places;
       answers = still_serves.answers;
       one_by_one = record { counts = h.one_by_one.counts; each = h.one_by_one.each };
@@ -316,7 +317,7 @@ module _ (IsMade : Line → Type 0) (parts : ProgramParts) (first : Sides) (note
 
   -- ---- a posting comes
 
-  module _ (p : Posting) (g : Posts IsMade before.most p (going_of before) (going_of now)) where
+  module _ (p : Posting) (running : d.said.halted ≡ false) (g : Posts IsMade before.most p (going_of before) (going_of now)) where
     hands : Hands p (listing g.mid.links g.mid.traffics) (listing now.links now.traffics)
     hands = g.hands
 
@@ -399,6 +400,7 @@ module _ (IsMade : Line → Type 0) (parts : ProgramParts) (first : Sides) (note
       heard = h.heard;
       told = h.told;
       all_told = h.all_told;
+      heard_by = heard_by-more d.brought.seens h.heard d.said.told (h.all_told running) h.heard_by;
       places = places_below (length h.all.asked) (length (h.all.asked ++ asker ∷ []))
           (let one = length_push h.all.asked asker in omega arith) h.heard h.places;
       answers = now_serves.answers;
@@ -441,16 +443,16 @@ module _ (IsMade : Line → Type 0) (parts : ProgramParts) (first : Sides) (note
   -- ---- all of it
 
   -- what the call came to
-  pub asked-so : (which : Next) → d.brought.ended ≡ false → IsQuiet d → Looks IsMade before.most which (going_of before) (going_of now)
+  pub asked-so : (which : Next) → d.brought.ended ≡ false → d.said.halted ≡ false → IsQuiet d → Looks IsMade before.most which (going_of before) (going_of now)
       → After (HasDealt IsMade parts first (sides_of now notes)) (Asks parts which d)
-  asked-so (nexts.Posting p) yet quiet l = post-so p l
-  asked-so nexts.NotYet yet quiet l = yet-so l.0 yet quiet l.1 l.2
-  asked-so nexts.End yet quiet l = elim l [ inl many ↦ most-so many.1 many.0 | inr rest ↦ over-so rest.0 rest.1 ]
+  asked-so (nexts.Posting p) yet running quiet l = post-so p running l
+  asked-so nexts.NotYet yet running quiet l = yet-so l.0 yet quiet l.1 l.2
+  asked-so nexts.End yet running quiet l = elim l [ inl many ↦ most-so many.1 many.0 | inr rest ↦ over-so rest.0 rest.1 ]
 
 -- ---- and where memory ran out
 
 module _ (IsMade : Line → Type 0) (parts : ProgramParts) (A B : Type 0) (a : A) (b : B) (first : Sides) (notes : Taking) (before now : Keeping) (d : Dealings)
-    (most : now.most ≡ before.most) (halted : now.halted ≡ before.halted) (yet : d.brought.ended ≡ false) (quiet : IsQuiet d) where
+    (most : now.most ≡ before.most) (halted : now.halted ≡ before.halted) (yet : d.brought.ended ≡ false) (running : d.said.halted ≡ false) (quiet : IsQuiet d) where
   -- the same front, as far as its outside is concerned
   abbrev Same : Keeping → Dealings → Type 0
   Same k x = A × B × MayHaveDealt IsMade parts first (sides_of k notes) x
@@ -461,7 +463,7 @@ module _ (IsMade : Line → Type 0) (parts : ProgramParts) (A B : Type 0) (a : A
   next-so may (Ok which) looks = elim may [
     | inl out ↦ absurd (true≢false (sym out.0 ∙ looks.0))
     | inr h ↦
-        let passed = asked-so IsMade parts first notes before now d h most halted which yet quiet looks.2 in
+        let passed = asked-so IsMade parts first notes before now d h most halted which yet running quiet looks.2 in
         (passed.0, (a, b, inr passed.1), passed.2)
   ]
   next-so may (Err error) spent = (a, b, inl (spent, elim may [ inl out ↦ out.1 ∙ sym halted | inr h ↦ h.said.halted ∙ sym halted ]))

@@ -1,5 +1,5 @@
 -- That the requests of a connection come one by one.
-use Rattle.std.proofs.Common.{◌≡◌, refl, sym, ap, ◌∙◌, subst, arith, ℕ, zero, suc, ◌<◌, Bool, true, false, ◌||◌, inl, inr, List, [], ◌∷◌, ◌++◌, length, take, Some, slice_get, nat_eq}
+use Rattle.std.proofs.Common.{◌≡◌, refl, sym, ap, ◌∙◌, subst, arith, ℕ, zero, suc, ◌<◌, ◌≤◌, le_refl, Bool, true, false, ◌||◌, inl, inr, List, [], ◌∷◌, ◌++◌, length, length-append, take, Some, slice_get, nat_eq}
 use Rattle.std.specs.List.{list_any}
 use Rattle.std.proofs.lemmas.Bool.{true≢false}
 use Rattle.std.proofs.lemmas.Option.{same_Some, slice_get_within}
@@ -11,7 +11,7 @@ use Rattle.connection_runs.specs.Served.{Requests}
 use Rattle.http_connection.specs.declared.stage.Stage.TheVariants as Stages
 use Rattle.http_connection.specs.Seen.{Line}
 use Rattle.door_front.specs.Keeping.{LinkTold}
-use Rattle.door_front.specs.Dealt.{OwesAt, CameOneByOne}
+use Rattle.door_front.specs.Dealt.{OwesAt, CameOneByOne, HeardByThen}
 use Rattle.door_front.specs.NextSteps.{stage_at}
 use Rattle.door_front.proofs.Entries.{get_cases}
 use Rattle.door_front.proofs.Links.{reads_not_owes, any-left}
@@ -100,6 +100,21 @@ told_first-more asked seens ts whose counts before now i j n a b x y same less s
     ]
   ]
 ]
+
+-- what had been told by then is heard also with the count of the next, where all that was told was heard
+pub heard_by-more : (seens : List ℕ) (heard ts : List Told) → heard ≡ ts → HeardByThen seens heard
+    → HeardByThen (seens ++ length ts ∷ []) heard
+heard_by-more seens heard ts all before j n seen = elim (get_cases seens (length ts) j n seen) [
+  | inl old ↦ before j n old
+  | inr last ↦ subst (λ m. m ≤ length heard) (ap (λ (l : List Told). length l) all ∙ last.1) (le_refl (length heard))
+]
+
+-- and where more is heard
+pub heard_by-longer : (seens : List ℕ) (heard more : List Told) → HeardByThen seens heard → HeardByThen seens (heard ++ more)
+heard_by-longer seens heard more before j n seen =
+    let less : n ≤ length heard = before j n seen in
+    let both = length-append heard more in
+    omega (arith, less, both)
 
 -- ---- a connection that reads
 

@@ -31,7 +31,7 @@ use Rattle.door_front.specs.Dealt.{Sides, sides_of, OwesAt, IsLink, AreLinks, Is
 use Rattle.door_front.specs.AnswerSteps.{told_of, HasTold, HasAnswered}
 use Rattle.door_front.proofs.Changing.{eq_true, eq_false, not_eq, same_of, none_not_some, set_here, set_other, set_cases, list_all-set, slice_get-front, slice_get-last, map_alike, slice_get-mapped}
 use Rattle.door_front.proofs.Leading.{led-set, led-new}
-use Rattle.door_front.proofs.OneByOne.{one_by_one-longer}
+use Rattle.door_front.proofs.OneByOne.{one_by_one-longer, heard_by-longer}
 use Rattle.door_front.proofs.Notes.{halts_still, halts_unknown, NotesSo, said_told, said_cut, said_noted}
 
 -- ---- stages
@@ -374,6 +374,7 @@ module _ (IsMade : Line → Type 0) (parts : ProgramParts) (first : Sides) (old 
         heard = now_heard;
         told = ([], append-nil now_heard ∙ ap (λ l. l ++ told_of place outcomes ∷ []) heard_all);
         all_told = λ _. ap (λ l. l ++ told_of place outcomes ∷ []) heard_all;
+        heard_by = heard_by-longer d.brought.seens h.heard (told_of place outcomes ∷ []) h.heard_by;
         places =
             list_all-append (λ (t : Told). nat_lt t.place (length h.all.asked)) h.heard (told_of place outcomes ∷ [])
             ∙ and_from (list_all (λ (t : Told). nat_lt t.place (length h.all.asked)) h.heard) (nat_lt place (length h.all.asked) && true) h.places
@@ -419,6 +420,7 @@ module _ (IsMade : Line → Type 0) (parts : ProgramParts) (first before : Sides
         heard = h.heard;
         told = front_longer;
         all_told = λ runs. absurd (true≢false (sym (h.said.halted ∙ cut) ∙ runs));
+        heard_by = h.heard_by;
         places = h.places;
         answers = h.answers;
         one_by_one = one_by_one-longer d (record d.said { told = d.said.told ++ t ∷ [] }) (t ∷ []) refl h.one_by_one;
@@ -470,6 +472,7 @@ module _ (IsMade : Line → Type 0) (parts : ProgramParts) (first : Sides) (old 
     heard = h.heard;
     told = subst (IsFront h.heard) (sym n.told) h.told;
     all_told = λ runs. h.all_told (n.stays runs) ∙ sym n.told;
+    heard_by = h.heard_by;
     places = h.places;
     answers = h.answers;
     one_by_one = one_by_one-longer d n.after [] (n.told ∙ sym (append-nil d.said.told)) h.one_by_one;
@@ -650,6 +653,7 @@ nothing_dealt IsMade parts kept notes empty within = (
     heard = [];
     told = ([], refl);
     all_told = λ _. refl;
+    heard_by = λ j n there. absurd (none_not_some n there);
     places = refl;
     answers = λ j q c visit asked. absurd (none_not_some q asked);
     one_by_one = record { counts = refl; each = λ i j n q r there. absurd (none_not_some q there) };

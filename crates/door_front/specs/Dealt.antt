@@ -102,6 +102,10 @@ pub record CameOneByOne (d : Dealings) : Type 0 where
       → a.traffic ≡ b.traffic → i < j → slice_get d.brought.seens j ≡ Some n
       → list_any (λ (t : Told). nat_eq i t.place) (take n d.said.told) ≡ true
 
+-- What had been told when a posting was asked for was heard, whether the front halted later or not.
+abbrev pub HeardByThen : List ℕ → List Told → Type 0
+HeardByThen seens heard = (j n : ℕ) → slice_get seens j ≡ Some n → n ≤ length heard
+
 -- The notes were written, unless the front halted: then a front of them was, since their sink failed.
 pub data HasNoted (first now : Taking) (s : Said) (notes : List ℕ) : Type 0 where
   entire : s.halted ≡ false → now.faults ≡ first.faults → notes ≡ s.noted → HasNoted first now s notes
@@ -188,6 +192,7 @@ pub record HasDealt (IsMade : Line → Type 0) (parts : ProgramParts) (first now
   pub heard : List Told
   pub told : IsFront heard d.said.told
   pub all_told : d.said.halted ≡ false → heard ≡ d.said.told
+  pub heard_by : HeardByThen d.brought.seens heard
   pub places : list_all (λ (t : Told). nat_lt t.place (length all.asked)) heard ≡ true
   pub answers : AreHeard parts now.kept visits all heard
   pub one_by_one : CameOneByOne d

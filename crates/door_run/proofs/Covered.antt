@@ -77,32 +77,40 @@ in_flat f i j (x ∷ xs) h g =
 
 -- ---- the order
 
--- each posting is answered
-pub order_has : (w : Setting) (h : List Entry) (actor count j : ℕ) → j < count
-    → is_in j (order_alone w h actor count) ≡ true
-order_has w h actor count j below =
-    in_flat (finished_there w (past_of w h) actor count) at j (numbers_from 0 (suc count))
-    (in_numbers 0 (suc count) at low high)
-    (in_filter (λ m. nat_eq at (finished_at w (past_of w h) actor count m)) j (numbers_from 0 count)
-    (in_numbers 0 count j from below_all) (itself at))
+-- a posting that is finished before a number is among those
+pub before_has : (w : Setting) (h : List Entry) (actor count i j : ℕ) → i < count
+    → finished_at w (past_of w h) actor count i < j
+    → is_in i (flat_map (finished_there w (past_of w h) actor count) (numbers_from 0 j)) ≡ true
+before_has w h actor count i j inside before =
+    in_flat (finished_there w (past_of w h) actor count) at i (numbers_from 0 j) (in_numbers 0 j at low high)
+    (in_filter (λ m. nat_eq at (finished_at w (past_of w h) actor count m)) i (numbers_from 0 count)
+    (in_numbers 0 count i from within) (itself at))
   where
     at : ℕ
-    at = finished_at w (past_of w h) actor count j
-
-    bound : at ≤ j + (count - j)
-    bound = least_bound (is_finished w (past_of w h) actor j) j (count - j)
+    at = finished_at w (past_of w h) actor count i
 
     low : 0 ≤ at
     low = omega arith
 
-    high : at < 0 + suc count
-    high = omega (arith, bound, below)
+    high : at < 0 + j
+    high = omega (arith, before)
 
-    from : 0 ≤ j
+    from : 0 ≤ i
     from = omega arith
 
-    below_all : j < 0 + count
-    below_all = omega (arith, below)
+    within : i < 0 + count
+    within = omega (arith, inside)
+
+-- each posting is answered
+pub order_has : (w : Setting) (h : List Entry) (actor count j : ℕ) → j < count
+    → is_in j (order_alone w h actor count) ≡ true
+order_has w h actor count j below = before_has w h actor count j (suc count) below at_last
+  where
+    bound : finished_at w (past_of w h) actor count j ≤ j + (count - j)
+    bound = least_bound (is_finished w (past_of w h) actor j) j (count - j)
+
+    at_last : finished_at w (past_of w h) actor count j < suc count
+    at_last = omega (arith, bound, below)
 
 -- ---- what is answered early
 

@@ -1,6 +1,6 @@
 -- Lists: what stands at a place, what holds of all or of one, and fronts.
-use Rattle.std.proofs.Common.{◌≡◌, ◌≢◌, ◌<◌, ℕ, zero, suc, ◌+◌, Bool, true, ◌&&◌, ◌||◌, List, [], ◌∷◌, ◌++◌}
-use Rattle.std.proofs.Common.{refl, sym, ap, subst, ◌∙◌, arith, length, map, Contains, get_or, append_assoc}
+use Rattle.std.proofs.Common.{◌≡◌, ◌≢◌, ◌<◌, ◌≤◌, ℕ, zero, suc, ◌+◌, Bool, true, false, ◌&&◌, ◌||◌, List, [], ◌∷◌, ◌++◌}
+use Rattle.std.proofs.Common.{refl, sym, ap, subst, ◌∙◌, arith, length, map, take, true≢false, Contains, get_or, append_assoc}
 use Rattle.std.proofs.Common.{None, Some, option_map, slice_get}
 use Rattle.std.specs.List.{list_all, list_any}
 use Rattle.branch_workers.specs.Lines.{IsFront, IsProperFront}
@@ -24,6 +24,12 @@ one_within m n h = omega (arith, h)
 
 one_less : (m n : ℕ) → suc m < suc n → m < n
 one_less m n h = omega (arith, h)
+
+one_fewer : (m n : ℕ) → suc m ≤ suc n → m ≤ n
+one_fewer m n h = omega (arith, h)
+
+none_fewer : (n : ℕ) → suc n ≤ 0 → ⊥
+none_fewer n h = omega (arith, h)
 
 -- what is there is within
 pub get_within : {A : Type 0} (xs : List A) (n : ℕ) (x : A) → slice_get xs n ≡ Some x → n < length xs
@@ -65,6 +71,18 @@ all_map p f [] = refl
 all_map p f (x ∷ xs) = ap (λ b. p (f x) && b) (all_map p f xs)
 
 -- ---- fronts
+
+or_keeps : (a b c : Bool) → (b ≡ true → c ≡ true) → (a || b) ≡ true → (a || c) ≡ true
+or_keeps true b c f h = refl
+or_keeps false b c f h = f h
+
+-- what is found among the first so many, which stand in a front, is found in the front
+pub any_first : {A : Type 0} (p : A → Bool) (n : ℕ) (xs ys : List A) → n ≤ length xs
+    → list_any p (take n (xs ++ ys)) ≡ true → list_any p xs ≡ true
+any_first p zero xs ys inside h = absurd (true≢false (sym h))
+any_first p (suc n) [] ys inside h = absurd (none_fewer n inside)
+any_first p (suc n) (x ∷ xs) ys inside h =
+    or_keeps (p x) (list_any p (take n (xs ++ ys))) (list_any p xs) (λ k. any_first p n xs ys (one_fewer n (length xs) inside) k) h
 
 -- what stands in a front stands in the whole
 pub contains_more : {A : Type 0} (xs ys : List A) (x : A) → Contains xs x → Contains (xs ++ ys) x

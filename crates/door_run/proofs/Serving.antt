@@ -10,13 +10,15 @@ use Rattle.office_core.specs.Accepted.{past_of}
 use Rattle.office_front.specs.Dealings.{Asked, Told, Dealings}
 use Rattle.office_front.specs.Calls.{is_of}
 use Rattle.run_record.specs.Postings.{told, posts_of}
+use Rattle.run_record.specs.Order.{finished_at}
+use Rattle.branch_workers.specs.Lines.{finished_before}
 use Rattle.branch_workers.specs.Texts.{Came, posting_of, response}
 use Rattle.posting_texts.specs.Told.{response_told}
 use Rattle.posting_texts.proofs.Responses.{response_told-of}
-use Rattle.run_alone.specs.Ran.{Dealt, finished_before}
+use Rattle.run_alone.specs.Ran.{Dealt}
 use Rattle.connection_runs.specs.Ports.{has_door}
 use Rattle.connection_runs.specs.Visits.{Visit, came_at, HasPassed}
-use Rattle.connection_runs.specs.Served.{AreOneByOne, IsServed, is_told}
+use Rattle.connection_runs.specs.Served.{AreOneByOne, AreToldEarly, IsServed, is_told}
 use Rattle.http_connection.specs.Law.{holding, Keeps}
 use Rattle.http_connection.specs.Talking.{log}
 use Rattle.http_connection.specs.Seen.{Line}
@@ -24,10 +26,10 @@ use Rattle.http_connection.proofs.Words.{keeps_word}
 use Rattle.door_front.specs.Keeping.{LinkTold}
 use Rattle.door_front.specs.Dealt.{Sides, IsLink, AreLinks, IsHeard, IsOwed, HasDealt}
 use Rattle.door_run.specs.Steps.{traffic_of}
-use Rattle.door_run.proofs.Covered.{order_has, is_in, finished_below}
+use Rattle.door_run.proofs.Covered.{order_has, before_has, is_in, finished_below}
 use Rattle.door_run.proofs.Requests.{IsNth, nth_of}
 use Rattle.door_run.proofs.Texts.{texts_within}
-use Rattle.door_run.proofs.Lists.{get_past, get_within, get_some, get_map, length_map, all_by_place, any_map, contains_front}
+use Rattle.door_run.proofs.Lists.{get_past, get_within, get_some, get_map, length_map, all_by_place, any_map, any_first, contains_front}
 use Rattle.order_laws.proofs.Lists.{same_of, none_not_some, eq_true, itself}
 
 -- ---- connections
@@ -131,6 +133,46 @@ module _ (IsMade : Line → Type 0) (parts : ProgramParts) (h : List Entry) (fir
       ∙ any_map (nat_eq i) (λ (t : Told). t.place) (take n.0 d.said.told)
       ∙ f.one_by_one.each i j n.0 a b (asked_there i a early) (asked_there j b late) same less n.1)
 
+  -- ---- which were told
+
+  came_there : (j : ℕ) (a : Asked) → slice_get f.all.asked j ≡ Some a → (c : Came) × (slice_get f.all.came j ≡ Some c)
+  came_there j a asked =
+      get_some f.all.came j (subst (λ n. j < n) came_long (get_within f.all.asked j a asked))
+
+  -- the request of a place that was heard has its text
+  text_heard : (j : ℕ) → list_any (λ (t : Told). nat_eq j t.place) f.heard ≡ true → (a : Asked) (visit : Visit)
+      → slice_get f.all.asked j ≡ Some a → slice_get f.visits a.traffic ≡ Some visit → a.request < length visit.texts
+  text_heard j is a visit asked there =
+      let came = came_there j a asked in
+      ⊎_elim (λ heard. get_within visit.texts a.request (response_told parts came.0 heard.told.outcomes) heard.said)
+      (λ owed. absurd (true≢false (sym is ∙ owed.1)))
+      (f.answers j a came.0 visit asked came.1 there)
+
+  -- what had been told when the posting of a number was asked for was heard
+  heard_by_then : (i j n : ℕ) → slice_get d.brought.seens j ≡ Some n
+      → list_any (λ (t : Told). nat_eq i t.place) (take n d.said.told) ≡ true
+      → list_any (λ (t : Told). nat_eq i t.place) f.heard ≡ true
+  heard_by_then i j n seen is =
+      any_first (λ (t : Told). nat_eq i t.place) n f.heard f.told.0 (f.heard_by j n seen)
+      (ap (λ l. list_any (λ (t : Told). nat_eq i t.place) (take n l)) f.told.1 ∙ is)
+
+  one_below : (n : ℕ) → n < suc n
+  one_below n = omega arith
+
+  -- so each was heard that was finished before the last posting
+  pub told_early_so : AreToldEarly (run_of parts) h f.visits f.all.asked
+  told_early_so j a visit asked there early =
+      let at : ℕ = finished_at (run_of parts) (past_of (run_of parts) h) first_worker (length f.all.asked) j in
+      let next = get_some f.all.asked (suc at) early in
+      let n = told_count (suc at) next.0 next.1 in
+      text_heard j
+      (heard_by_then j (suc at) n.0 n.1
+      (sym (any_map (nat_eq j) (λ (t : Told). t.place) (take n.0 d.said.told))
+      ∙ ap (is_in j) (k.told_before (suc at) n.0 n.1)
+      ∙ ap (λ c. is_in j (finished_before (run_of parts) h c (suc at))) given_long
+      ∙ before_has (run_of parts) h first_worker (length f.all.asked) j (suc at) (get_within f.all.asked j a asked) (one_below at)))
+      a visit asked there
+
   -- ---- all were told
 
   module _ (running : d.said.halted ≡ false) where
@@ -142,18 +184,6 @@ module _ (IsMade : Line → Type 0) (parts : ProgramParts) (h : List Entry) (fir
         ∙ ap (is_in j) k.order
         ∙ order_has (run_of parts) h first_worker (length d.brought.given) j (subst (λ n. j < n) (sym given_long) below)
 
-    -- so each request that was asked has its text
-    text_there : (j : ℕ) (a : Asked) (c : Came) (visit : Visit) → slice_get f.all.asked j ≡ Some a
-        → slice_get f.all.came j ≡ Some c → slice_get f.visits a.traffic ≡ Some visit → a.request < length visit.texts
-    text_there j a c visit asked came there =
-        ⊎_elim (λ heard. get_within visit.texts a.request (response_told parts c heard.told.outcomes) heard.said)
-        (λ owed. absurd (true≢false (sym (told_each j (get_within f.all.asked j a asked)) ∙ owed.1)))
-        (f.answers j a c visit asked came there)
-
-    came_there : (j : ℕ) (a : Asked) → slice_get f.all.asked j ≡ Some a → (c : Came) × (slice_get f.all.came j ≡ Some c)
-    came_there j a asked =
-        get_some f.all.came j (subst (λ n. j < n) came_long (get_within f.all.asked j a asked))
-
     -- the last request of a connection has its text
     last_told : (n : ℕ) (visit : Visit) → slice_get f.visits n ≡ Some visit → (m : ℕ) → length visit.bodies ≡ suc m
         → m < length visit.texts
@@ -161,12 +191,11 @@ module _ (IsMade : Line → Type 0) (parts : ProgramParts) (h : List Entry) (fir
         let nth : IsNth (is_of n) f.all.asked m =
         nth_of (is_of n) f.all.asked m (less_than (count_by (is_of n) f.all.asked) m (f.taken.all n visit there ∙ long)) in
         let of : n ≡ nth.item.traffic = eq_true n nth.item.traffic nth.kind in
-        let came = came_there nth.place nth.item nth.there in
         let request : nth.item.request ≡ m =
         f.taken.in_order nth.place nth.item nth.there
         ∙ ap (λ t. count_by (is_of t) (take nth.place f.all.asked)) (sym of) ∙ nth.before in
         subst (λ r. r < length visit.texts) request
-        (text_there nth.place nth.item came.0 visit nth.there came.1
+        (text_heard nth.place (told_each nth.place (get_within f.all.asked nth.place nth.item nth.there)) nth.item visit nth.there
         (ap (slice_get f.visits) (sym of) ∙ there))
       where
         less_than : (c l : ℕ) → c ≡ suc l → l < c
@@ -207,5 +236,6 @@ module _ (IsMade : Line → Type 0) (parts : ProgramParts) (h : List Entry) (fir
       posted = k.posted ∙ ap (posts_of 0) f.given;
       one_by_one = one_by_one_so;
       responses = response_so;
+      told_early = told_early_so;
       told = all_told_so;
     }

@@ -112,8 +112,9 @@ pub record IsUsed (places : List DoorAt) (before now : DoorsTold) (used : Used) 
 -- ---- wires
 
 -- A wire that came back from a connection which has these bytes: it was made so, and nothing was read or written on it
--- then; what it told since is these bytes; it has failed exactly where its connection ended with a failure, and in a write
--- exactly where that was a write's; and its connection stands as ended only where a read told the end of what comes in.
+-- then; what it told since is these bytes; it has failed exactly where its connection ended with a failure, and in a
+-- write exactly where that was a write's; and its connection stands as ended only where a read told the end of what
+-- comes in.
 pub record IsWireOf (IsMade : Line → Type 0) (visit : Visit) (traffic : Traffic) (wire : WireTold) : Type 0 where
   pub first : Line
   pub came : IsMade first

@@ -74,7 +74,8 @@ Answers (Comes wire ∷ rest) result = result ≡ Ok (Came (counted wire))
 Answers (Nobody ∷ rest) result = result ≡ Ok NotYet
 Answers (Fails ∷ rest) result = IsErr result
 
--- the calm door of this place that is opened next: the first that is to be, and behind the last of them one at which nobody comes
+-- the calm door of this place that is opened next: the first that is to be, and behind the last of them one at which
+-- nobody comes
 abbrev pub next_entry : ℕ → List CalmEntry → CalmEntry
 next_entry place [] = record { coming = []; quiet = 0; told = untried place }
 next_entry place (door ∷ rest) = record door { told = untried place }

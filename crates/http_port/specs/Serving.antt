@@ -82,8 +82,8 @@ AllAtOnce (Says.Text bytes ∷ more) = AllAtOnce more
 AllAtOnce (Says.Nothing ∷ more) = AllAtOnce more
 AllAtOnce (Says.Later ∷ more) = ⊥
 
--- The serving was cut off in a write: a front of what is to be written was written, and not all of it; and all of it that
--- stands before the answer of the last request that was handed on. No answer comes later.
+-- The serving was cut off in a write: a front of what is to be written was written, and not all of it; and all of it
+-- that stands before the answer of the last request that was handed on. No answer comes later.
 pub record IsCutOff (demand : Demand) (did : Service) : Type 0 where
   pub hands_on : HandsOn demand did
   pub at_once : AllAtOnce did.said

@@ -1,12 +1,12 @@
 -- What passed between a front over lines and its run, as it goes on.
-use Rattle.std.proofs.Common.{◌≡◌, refl, sym, ap, ap₂, subst, ◌∙◌, ℕ, zero, suc, ◌+◌, ◌<◌, ◌≤◌, nat_lt, Bool, true, false, ◌&&◌, arith, List, [], ◌∷◌, ◌++◌, length, map}
-use Rattle.std.proofs.Common.{length-append, Option, None, Some, slice_get, Result, Ok, Err, MatchResult}
+use Rattle.std.proofs.Common.{◌≡◌, ◌⊎◌, refl, sym, ap, ap₂, subst, ◌∙◌, ℕ, zero, suc, ◌+◌, ◌<◌, ◌≤◌, nat_lt, Bool, true, false, true≢false, ◌&&◌, arith, inl, inr, ⊎_elim, List, [], ◌∷◌, ◌++◌, length, map, take}
+use Rattle.std.proofs.Common.{length-append, append-nil, append_assoc, le_refl, Option, None, Some, slice_get, Result, Ok, Err, MatchResult}
 use Rattle.std.specs.List.{list_all}
 use Rattle.std.specs.declared.alloc.AllocError.{AllocError}
 use Rattle.std.proofs.KnownBytes.{Consumes-nil, Appends-nil}
 use Rattle.std.proofs.lemmas.Bool.{and_parts, and_from, lt-ltb, ltb-true}
-use Rattle.std.proofs.lemmas.List.{map-append, length-map}
-use Rattle.std.proofs.lemmas.Option.{slice_get_within}
+use Rattle.std.proofs.lemmas.List.{map-append, length-map, take_all, take-append-le}
+use Rattle.std.proofs.lemmas.Option.{none-some, same_Some, slice_get_within}
 use Rattle.std.proofs.lemmas.List.Folds.{list_all-append}
 use Rattle.behaviour_tree.specs.Data.{ProgramParts}
 use Rattle.behaviour_tree.specs.declared.words.Outcome.{Outcome}
@@ -17,14 +17,14 @@ use Rattle.office_front.specs.Dealings.{Told, Brought, Said, Dealings, IsNew}
 use Rattle.office_front.specs.declared.front.Next.TheVariants as nexts
 use Rattle.office_front.specs.Calls.{After, Leaves, GivesNone, IsOver, none_left, failed, most, Came, Asks, Halts, IsDue, Notes, Tells}
 use Rattle.branch_workers.specs.Split.{split, whole_lines, said_lines}
-use Rattle.branch_workers.specs.Lines.{come_in}
+use Rattle.branch_workers.specs.Lines.{come_in, IsFront}
 use Rattle.branch_workers.specs.Texts.{Came as Incoming, posting_of}
 use Rattle.line_front.specs.Passing.{nothing_read}
 use Rattle.line_front.specs.Reading.{Input, input_of, came_by, came_in, some, HasBrought}
 use Rattle.sink_writing.specs.Sinks.{Taking}
-use Rattle.line_front.specs.Writing.{Output, output_of, faults_of, HasWritten, entire, HasSaid}
+use Rattle.line_front.specs.Writing.{Output, output_of, faults_of, HasWritten, entire, in_part, HasSaid}
 use Rattle.line_front.specs.Told.{line_to, line_told, lines_told}
-use Rattle.line_front.specs.Dealt.{Sides, sides_of, HasDealt}
+use Rattle.line_front.specs.Dealt.{Sides, sides_of, WroteByThen, HasDealt}
 
 -- ---- before the first call
 
@@ -84,6 +84,7 @@ nothing_dealt parts left faults to_lines to_notes = (
       faults = refl;
     };
     places = refl;
+    by_then = λ j n at. absurd (none-some n at);
   },
 )
 
@@ -199,6 +200,56 @@ came_seen parts nexts.End before now count g = record {
   ended = g.ended;
 }
 
+-- ---- what was written by then
+
+-- of the first that were told each place is given too
+first_given : (p : Told → Bool) (n : ℕ) (ts : List Told) → list_all p ts ≡ true → list_all p (take n ts) ≡ true
+first_given p zero ts h = refl
+first_given p (suc n) [] h = refl
+first_given p (suc n) (t ∷ ts) h =
+    let both = and_parts (p t) (list_all p ts) h in
+    and_from (p t) (list_all p (take n ts)) both.0 (first_given p n ts both.1)
+
+-- with one count more each is one of those before, or the last
+one_of_more : (counts : List ℕ) (count j n : ℕ) → slice_get (counts ++ count ∷ []) j ≡ Some n
+    → (slice_get counts j ≡ Some n) ⊎ (count ≡ n)
+one_of_more [] count zero n at = inr (same_Some count n at)
+one_of_more [] count (suc j) n at = absurd (none-some n at)
+one_of_more (c ∷ counts) count zero n at = inl at
+one_of_more (c ∷ counts) count (suc j) n at = one_of_more counts count j n at
+
+-- a front that did not halt wrote all that it was told
+wrote_all : (parts : ProgramParts) (came : List Incoming) (first now : Output) (s : Said) → s.halted ≡ false
+    → HasSaid parts came first now s → now.written ≡ lines_told parts came s.told
+wrote_all parts came first now s running h = by h.wrote
+  where
+    by : HasWritten first now h.notes (record { lines = lines_told parts came s.told; notes = s.noted })
+        → now.written ≡ lines_told parts came s.told
+    by (entire e a b written c) = written
+    by (in_part e rose f g part) = absurd (true≢false (sym e ∙ sym h.halted ∙ running))
+
+-- of what is told so many were told by then, and their lines were written
+abbrev WroteOf : ProgramParts → Sides → List Told → ℕ → Type 0
+WroteOf parts now ts n = (n ≤ length ts) × IsFront (lines_told parts (came_in now.input) (take n ts)) now.output.written
+
+longer_told : (n : ℕ) (ts more : List Told) → n ≤ length ts → n ≤ length (ts ++ more)
+longer_told n ts more within = let both = length-append ts more in omega (arith, both, within)
+
+-- a front of a front
+longer_front : (xs ys zs : List ℕ) → IsFront xs ys → IsFront ys zs → IsFront xs zs
+longer_front xs ys zs f g = (f.0 ++ g.0, sym (append_assoc xs f.0 g.0) ∙ ap (λ l. l ++ g.0) f.1 ∙ g.1)
+
+-- it stays so where more is told, and more is written
+wrote_longer : (parts : ProgramParts) (before now : Sides) (ts more : List Told) (n : ℕ) → now.input ≡ before.input
+    → IsFront before.output.written now.output.written → WroteOf parts before ts n → WroteOf parts now (ts ++ more) n
+wrote_longer parts before now ts more n same grew w = (
+  longer_told n ts more w.0,
+  subst (λ (l : List Told). IsFront (lines_told parts (came_in now.input) l) now.output.written)
+      (sym (take-append-le n ts more w.0))
+      (subst (λ (i : Input). IsFront (lines_told parts (came_in i) (take n ts)) now.output.written) (sym same)
+      (longer_front (lines_told parts (came_in before.input) (take n ts)) before.output.written now.output.written w.1 grew)),
+)
+
 -- ---- calls
 
 module _ (parts : ProgramParts) (A B C E F : Type 0) (a : A) (b : B) (c : C) (e : E) (f : F) (first before : Sides) (d : Dealings) (h : HasDealt parts first before d) where
@@ -225,32 +276,74 @@ module _ (parts : ProgramParts) (A B C E F : Type 0) (a : A) (b : B) (c : C) (e 
         let long : length now.input.reads ≡ length before.input.reads + length more = ap length longer ∙ length-append before.input.reads more in
         given_longer (length before.input.reads) (length now.input.reads) (omega arith) d.said.told h.places
 
-    -- with what came
-    with_brought : (x : Brought) → HasBrought first.input now.input x → HasDealt parts first now (record { brought = x; said = d.said })
-    with_brought x k = record { brought = k; said = still_said; places = still_given }
+    -- what was written by then stays so
+    still_wrote : (n : ℕ) → WroteOf parts before d.said.told n → WroteOf parts now d.said.told n
+    still_wrote n w =
+        let came : came_in now.input ≡ came_in before.input ++ map came_by more = ap (map came_by) longer ∙ map-append came_by before.input.reads more in
+        let count : length (came_in before.input) ≡ length before.input.reads = length-map before.input.reads came_by in
+        let placed : list_all (is_given (length (came_in before.input))) (take n d.said.told) ≡ true =
+        first_given (is_given (length (came_in before.input))) n d.said.told (subst (λ m. list_all (is_given m) d.said.told ≡ true) (sym count) h.places) in
+        let same : lines_told parts (came_in now.input) (take n d.said.told) ≡ lines_told parts (came_in before.input) (take n d.said.told) =
+        ap (λ l. lines_told parts l (take n d.said.told)) came ∙ lines_told-longer parts (came_in before.input) (map came_by more) (take n d.said.told) placed in (
+          w.0,
+          subst (λ (o : Output). IsFront (lines_told parts (came_in now.input) (take n d.said.told)) o.written) (sym unsaid)
+              (subst (λ l. IsFront l before.output.written) (sym same) w.1),
+        )
 
-    pub asked-so : (result : Result Next AllocError)
+    -- all that it was told is written now
+    wrote_now : d.said.halted ≡ false → WroteOf parts now d.said.told (length d.said.told)
+    wrote_now running =
+        let all : take (length d.said.told) d.said.told ≡ d.said.told = take_all (length d.said.told) d.said.told (le_refl (length d.said.told)) in (
+          le_refl (length d.said.told),
+          (
+            [],
+            append-nil (lines_told parts (came_in now.input) (take (length d.said.told) d.said.told))
+                ∙ ap (lines_told parts (came_in now.input)) all
+                ∙ sym (wrote_all parts (came_in now.input) first.output now.output d.said running still_said),
+          ),
+        )
+
+    -- so the same is true with what was asked for now
+    wrote_asked : d.said.halted ≡ false → (which : Next) (j n : ℕ)
+        → slice_get (seens_by which (length d.said.told) d.brought.seens) j ≡ Some n → WroteOf parts now d.said.told n
+    wrote_asked running (nexts.Posting p) j n at =
+        ⊎_elim
+        (λ (old : slice_get d.brought.seens j ≡ Some n). still_wrote n (h.by_then j n old))
+        (λ (last : length d.said.told ≡ n). subst (WroteOf parts now d.said.told) last (wrote_now running))
+        (one_of_more d.brought.seens (length d.said.told) j n at)
+    wrote_asked running nexts.NotYet j n at = still_wrote n (h.by_then j n at)
+    wrote_asked running nexts.End j n at = still_wrote n (h.by_then j n at)
+
+    -- with what came
+    with_brought : (x : Brought) → HasBrought first.input now.input x → WroteByThen parts now (record { brought = x; said = d.said })
+        → HasDealt parts first now (record { brought = x; said = d.said })
+    with_brought x k wrote = record { brought = k; said = still_said; places = still_given; by_then = wrote }
+
+    pub asked-so : d.said.halted ≡ false → (result : Result Next AllocError)
         → MatchResult result (λ next. (x : Brought) × HasBrought first.input now.input x × Came parts next d.brought x) (λ _. HasBrought first.input now.input d.brought)
         → MatchResult result (λ next. After (Same now) (Asks parts next d)) (λ _. Same now d)
-    asked-so (Ok which) came =
+    asked-so running (Ok which) came =
         let count = length d.said.told in
         let counts = seens_by which count d.brought.seens in
         let x : Brought = with_seen count counts came.0 in (
           record { brought = x; said = d.said },
-          (a, b, c, e, f, with_brought x (brought_seen first.input now.input count counts came.0 came.1)),
+          (a, b, c, e, f, with_brought x (brought_seen first.input now.input count counts came.0 came.1) (wrote_asked running which)),
           record { came = came_seen parts which d.brought came.0 count came.2; silent = refl; seen = refl },
         )
-    asked-so (Err error) kept = (a, b, c, e, f, with_brought d.brought kept)
+    asked-so running (Err error) kept = (a, b, c, e, f, with_brought d.brought kept (wrote_asked running nexts.End))
 
   -- something is said
   module _ (now : Sides) (unasked : now.input ≡ before.input) where
     -- what was brought stays, and what is said is given
     with_said : (s : Said) → HasSaid parts (came_in before.input) first.output now.output s → list_all (is_given (length before.input.reads)) s.told ≡ true
+        → (more : List Told) → s.told ≡ d.said.told ++ more → IsFront before.output.written now.output.written
         → HasDealt parts first now (record { brought = d.brought; said = s })
-    with_said s k placed = record {
+    with_said s k placed more told grew = record {
       brought = subst (λ i. HasBrought first.input i d.brought) (sym unasked) h.brought;
       said = subst (λ i. HasSaid parts (came_in i) first.output now.output s) (sym unasked) k;
       places = subst (λ (i : Input). list_all (is_given (length i.reads)) s.told ≡ true) (sym unasked) placed;
+      by_then = λ j n at. subst (λ (ts : List Told). WroteOf parts now ts n) (sym told)
+          (wrote_longer parts before now d.said.told more n unasked grew (h.by_then j n at));
     }
 
     -- one place more was given
@@ -270,25 +363,27 @@ module _ (parts : ProgramParts) (A B C E F : Type 0) (a : A) (b : B) (c : C) (e 
 
     -- it is told of a place
     pub told-so : (place : ℕ) (outcomes : List Outcome) → IsDue place outcomes d
-        → ((s : Said) × HasSaid parts (came_in before.input) first.output now.output s × (s.told ≡ d.said.told ++ record { place = place; outcomes = outcomes } ∷ []) × (s.noted ≡ d.said.noted) × Halts d.said s)
+        → ((s : Said) × HasSaid parts (came_in before.input) first.output now.output s × (s.told ≡ d.said.told ++ record { place = place; outcomes = outcomes } ∷ []) × (s.noted ≡ d.said.noted) × Halts d.said s
+        × IsFront before.output.written now.output.written)
         → After (Same now) (Tells place outcomes d)
     told-so place outcomes due went =
         let s = went.0 in
         let placed = subst (λ l. list_all (is_given (length before.input.reads)) l ≡ true) (sym went.2) (placed_more (record { place = place; outcomes = outcomes }) (due_given place outcomes due)) in (
           record { brought = d.brought; said = s },
-          (a, b, c, e, f, with_said s went.1 placed),
+          (a, b, c, e, f, with_said s went.1 placed (record { place = place; outcomes = outcomes } ∷ []) went.2 went.5),
           record { told = went.2; noted = went.3; halts = went.4; brought = refl },
         )
 
     -- a text is noted
     pub noted-so : (text : List ℕ)
-        → ((s : Said) × HasSaid parts (came_in before.input) first.output now.output s × (s.told ≡ d.said.told) × (s.noted ≡ d.said.noted ++ text) × Halts d.said s)
+        → ((s : Said) × HasSaid parts (came_in before.input) first.output now.output s × (s.told ≡ d.said.told) × (s.noted ≡ d.said.noted ++ text) × Halts d.said s
+        × IsFront before.output.written now.output.written)
         → After (Same now) (Notes text d)
     noted-so text went =
         let s = went.0 in
         let placed = subst (λ l. list_all (is_given (length before.input.reads)) l ≡ true) (sym went.2) h.places in (
           record { brought = d.brought; said = s },
-          (a, b, c, e, f, with_said s went.1 placed),
+          (a, b, c, e, f, with_said s went.1 placed [] (went.2 ∙ sym (append-nil d.said.told)) went.5),
           record { told = went.2; noted = went.3; halts = went.4; brought = refl },
         )
 

@@ -156,6 +156,7 @@ module _ (parts : ProgramParts) (came : List Came) (first before : Output) (s : 
   -- a front that halted is told of a place
   pub told-halted : (t : Told) → before.halted ≡ true
       → (after : Said) × HasSaid parts came first before after × (after.told ≡ s.told ++ t ∷ []) × (after.noted ≡ s.noted) × Halts s after
+      × IsFront before.written before.written
   told-halted t halted =
       let after : Said = record { told = s.told ++ t ∷ []; noted = s.noted; halted = s.halted; faults = s.faults } in (
         after,
@@ -172,11 +173,13 @@ module _ (parts : ProgramParts) (came : List Came) (first before : Output) (s : 
         refl,
         refl,
         halts_still s after refl refl,
+        front_of_all before.written before.written refl,
       )
 
   -- a text is noted to a front that halted
   pub noted-halted : (text : List ℕ) → before.halted ≡ true
       → (after : Said) × HasSaid parts came first before after × (after.told ≡ s.told) × (after.noted ≡ s.noted ++ text) × Halts s after
+      × IsFront before.written before.written
   noted-halted text halted =
       let after : Said = record { told = s.told; noted = s.noted ++ text; halted = s.halted; faults = s.faults } in (
         after,
@@ -193,6 +196,7 @@ module _ (parts : ProgramParts) (came : List Came) (first before : Output) (s : 
         refl,
         refl,
         halts_still s after refl refl,
+        front_of_all before.written before.written refl,
       )
 
   -- what is due so far was written whole
@@ -203,6 +207,7 @@ module _ (parts : ProgramParts) (came : List Came) (first before : Output) (s : 
   pub told-written : (t : Told) (now : Output) (text : List ℕ) (count : ℕ) → before.halted ≡ false → text ≡ line_told parts came t
       → Takes text count before.lines now.lines → now.notes ≡ before.notes → now.written ≡ before.written ++ take count text → now.halted ≡ nat_lt count (length text)
       → (after : Said) × HasSaid parts came first now after × (after.told ≡ s.told ++ t ∷ []) × (after.noted ≡ s.noted) × Halts s after
+      × IsFront before.written now.written
   told-written t now text count running is takes same written halted =
       let after : Said = record { told = s.told ++ t ∷ []; noted = s.noted; halted = now.halted; faults = faults_of now } in
       let other : now.notes.faults ≡ before.notes.faults = ap (λ (x : Taking). x.faults) same in
@@ -226,12 +231,14 @@ module _ (parts : ProgramParts) (came : List Came) (first before : Output) (s : 
             (λ e. ap (λ k. min (k + now.notes.faults) (2 ^ 64 - 1)) (sym e) ∙ ap (λ k. min (before.lines.faults + k) (2 ^ 64 - 1)) other ∙ sym h.faults)
             (λ rose. subst (λ k. Rose k (faults_of now)) (ap (λ k. min (before.lines.faults + k) (2 ^ 64 - 1)) other ∙ sym h.faults) (rose_left before.lines.faults now.lines.faults now.notes.faults rose))
             (omega arith),
+        (take count text, sym written),
       )
 
   -- a text is noted, as far as the notes' sink takes it
   pub noted-written : (now : Output) (text : List ℕ) (count : ℕ) → before.halted ≡ false
       → Takes text count before.notes now.notes → now.lines ≡ before.lines → now.written ≡ before.written → now.halted ≡ nat_lt count (length text)
       → (after : Said) × HasSaid parts came first now after × (after.told ≡ s.told) × (after.noted ≡ s.noted ++ text) × Halts s after
+      × IsFront before.written now.written
   noted-written now text count running takes same written halted =
       let after : Said = record { told = s.told; noted = s.noted ++ text; halted = now.halted; faults = faults_of now } in
       let other : now.lines.faults ≡ before.lines.faults = ap (λ (x : Taking). x.faults) same in
@@ -254,4 +261,5 @@ module _ (parts : ProgramParts) (came : List Came) (first before : Output) (s : 
             (λ e. ap (λ k. min (now.lines.faults + k) (2 ^ 64 - 1)) (sym e) ∙ ap (λ k. min (k + before.notes.faults) (2 ^ 64 - 1)) other ∙ sym h.faults)
             (λ rose. subst (λ k. Rose k (faults_of now)) (ap (λ k. min (k + before.notes.faults) (2 ^ 64 - 1)) other ∙ sym h.faults) (rose_right before.notes.faults now.notes.faults now.lines.faults rose))
             (omega arith),
+        front_of_all before.written now.written (sym written),
       )

@@ -1,7 +1,9 @@
 -- A run over lines by what its front and its worker say.
-use Rattle.std.proofs.Common.{◌≡◌, ◌≢◌, refl, sym, ap, subst, ◌∙◌, ℕ, zero, ◌+◌, ◌≤◌, Bool, true, false, arith, List, [], ◌∷◌, length, map}
-use Rattle.std.proofs.Common.{◌⊎◌, inl, inr, ⊎_elim, true≢false, Contains, Option}
-use Rattle.std.proofs.lemmas.List.{length-map}
+use Rattle.std.proofs.Common.{◌≡◌, ◌≢◌, refl, sym, ap, subst, ◌∙◌, ℕ, zero, suc, ◌+◌, ◌-◌, ◌<◌, ◌≤◌, Bool, true, false, arith, List, [], ◌∷◌, length, map, take, drop}
+use Rattle.std.proofs.Common.{◌⊎◌, inl, inr, ⊎_elim, true≢false, Contains, get_or, Option, Some, slice_get}
+use Rattle.std.proofs.lemmas.List.{length-map, take-append-drop}
+use Rattle.std.proofs.lemmas.List.Elements.{Contains-append_left}
+use Rattle.std.proofs.lemmas.Option.{slice_get-get_or}
 use Rattle.std.specs.Io.KnownBytes.{IsAtEnd}
 use Rattle.outside_traits.specs.Causes.{Rose}
 use Rattle.office_core.specs.declared.front.Posting.{Posting}
@@ -16,7 +18,7 @@ use Rattle.run_record.specs.Outside.{notes}
 use Rattle.run_record.specs.Run.{Hands, alone, IsRun, IsSpent}
 use Rattle.branch_workers.specs.Split.{whole_lines, all_lines, said_lines}
 use Rattle.branch_workers.specs.Texts.{Came, posting_of}
-use Rattle.branch_workers.specs.Lines.{come_in, lines_in, most_postings, IsFront, IsProperFront, Output, IsAnswered, IsCutShort}
+use Rattle.branch_workers.specs.Lines.{come_in, finished_before, lines_in, most_postings, IsFront, IsProperFront, Output, IsAnswered, IsCutShort}
 use Rattle.branch_workers.specs.Statuses.{Faults, Halted, IsCalm, HasStatus}
 use Rattle.branch_workers.specs.Headline.{Ending, AnswersLines, IsHalted, IsLineRun}
 use Rattle.branch_workers.specs.Headline.{whole as all_answered, cut as ended_answered, halted as cut_short, halted_at_end as all_cut_short}
@@ -114,6 +116,20 @@ module _ (w : Setting) (budget : ℕ) (run : Record) (t : Traffic) where
 
 -- ---- what was written
 
+-- what stands among the first of a list stands in it
+first_contains : (n : ℕ) (ts : List Told) (x : Told) → Contains (take n ts) x → Contains ts x
+first_contains n ts x k =
+    subst (λ (l : List Told). Contains l x) (take-append-drop n ts) (Contains-append_left (take n ts) (drop n ts) x k)
+
+below_next : (m n j : ℕ) → m ≡ n → n ≡ suc j → j < m
+below_next m n j e h = omega (arith, e, h)
+
+none_before : (m : ℕ) → m ≡ 0 → 0 ≡ m - 1
+none_before m e = omega (arith, e)
+
+one_before : (m j : ℕ) → m ≡ suc j → j ≡ m - 1
+one_before m j e = omega (arith, e)
+
 -- the outside of a front over lines
 abbrev pub outside_of : Sides → Outside
 outside_of s = outside (giving s.input.left s.input.faults) s.output.lines s.output.notes
@@ -153,6 +169,40 @@ module _ (t : Task) (first now : Sides) (d : Dealings) (finished : Finished)
       (λ x k. subst (λ ps. IsTold (run_of t.parts) (past_of (run_of t.parts) h) ps x) f.brought.given (ran.dealt.told x k))
       ∙ ap (lines_in (run_of t.parts) h came) in_order
 
+  -- ---- what was written by the last posting
+
+  given_long : length d.brought.given ≡ length came
+  given_long = ap length f.brought.given ∙ length-map came posting_of
+
+  -- the answers of what is finished before a posting
+  abbrev answers_before : ℕ → List ℕ
+  answers_before j = lines_in (run_of t.parts) h came (finished_before (run_of t.parts) h (length came) j)
+
+  -- what was finished before the last posting was written
+  before_last : (j : ℕ) → length came ≡ suc j → IsFront (answers_before j) now.output.written
+  before_last j long =
+      let n : ℕ = get_or d.brought.seens j 0 in
+      let at : slice_get d.brought.seens j ≡ Some n =
+      slice_get-get_or d.brought.seens j 0 (below_next (length d.brought.seens) (length came) j (ran.dealt.asked ∙ given_long) long) in
+      let lines : lines_told t.parts came (take n d.said.told) ≡ answers_before j =
+      lines_told-of (run_of t.parts) (past_of (run_of t.parts) h) came (take n d.said.told)
+      (λ x k. subst (λ ps. IsTold (run_of t.parts) (past_of (run_of t.parts) h) ps x) f.brought.given
+      (ran.dealt.told x (first_contains n d.said.told x k)))
+      ∙ ap (lines_in (run_of t.parts) h came)
+      (ran.dealt.told_before j n at ∙ ap (λ c. finished_before (run_of t.parts) h c j) given_long) in
+      subst (λ (l : List ℕ). IsFront l now.output.written) lines (f.by_then j n at).1
+
+  early_so : IsFront (answers_before (length came - 1)) now.output.written
+  early_so = by (length came) refl
+    where
+      by : (m : ℕ) → length came ≡ m → IsFront (answers_before (length came - 1)) now.output.written
+      by zero e =
+          subst (λ (k : ℕ). IsFront (answers_before k) now.output.written) (none_before (length came) e)
+          (now.output.written, refl)
+      by (suc j) e =
+          subst (λ (k : ℕ). IsFront (answers_before k) now.output.written) (one_before (length came) j e)
+          (before_last j e)
+
   -- nothing failed: all was answered
   answered_so : d.said.halted ≡ false → now.output.written ≡ lines_told t.parts came d.said.told → f.said.notes ≡ d.said.noted
       → IsAnswered alone (run_of t.parts) h came out
@@ -176,6 +226,7 @@ module _ (t : Task) (first now : Sides) (d : Dealings) (finished : Finished)
       order = order;
       in_order = refl;
       written = subst (IsFront now.output.written) answers written;
+      early = λ one. early_so;
       noted = IsFront-trans f.said.notes d.said.noted (notes (run_of t.parts) h) noted ran.dealt.noted.0;
       cut = ⊎_elim (λ p. inl (subst (IsProperFront now.output.written) answers p))
           (λ p. inr (IsProperFront-trans f.said.notes d.said.noted (notes (run_of t.parts) h) p ran.dealt.noted.0)) part;

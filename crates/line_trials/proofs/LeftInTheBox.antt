@@ -46,9 +46,10 @@ use Rattle.jsonrpc_text.specs.Posted.{posted}
 use Rattle.jsonrpc_text.specs.Responses.{answer, batch, early_answer}
 use Rattle.run_record.specs.Run.{alone}
 use Rattle.branch_workers.specs.Split.{split, all_lines, said_lines}
-use Rattle.branch_workers.specs.Lines.{come_in, IsAnswered, IsCutShort}
+use Rattle.branch_workers.specs.Texts.{Came}
+use Rattle.branch_workers.specs.Lines.{come_in, finished_before, lines_in, IsFront, IsAnswered, IsCutShort}
 use Rattle.std.specs.Prelude.{◌≢◌}
-use Rattle.std.proofs.Common.{true≢false, ap}
+use Rattle.std.proofs.Common.{◌<◌, ◌-◌, true≢false, ap, subst, arith, ◌++◌, length, length-append, drop, ltb-true}
 use mathlib.Core.Logic.{inl, inr}
 
 -- the program
@@ -97,14 +98,49 @@ pub answered : IsAnswered alone setting history (come_in (said_lines (all_lines 
 unfolding digits escape_byte is_utf8 chars encode scan_numeral value punctuate lex content word after_number number_of root_name posted answer batch early_answer split
 answered = record { posted = refl; order = (0 ∷ 1 ∷ []); in_order = refl; written = refl; noted = refl }
 
--- what was not written of it
-abbrev rest : List ℕ
-rest = (46 ∷ 48 ∷ 34 ∷ 44 ∷ 34 ∷ 114 ∷ 101 ∷ 115 ∷ 117 ∷ 108 ∷ 116 ∷ 34 ∷ 58 ∷ 34 ∷ 111 ∷ 115 ∷ 49 ∷ 34 ∷ 125 ∷ 10 ∷ 91 ∷ 123 ∷ 34 ∷ 105 ∷ 100 ∷ 34 ∷ 58 ∷ 49 ∷ 44 ∷ 34 ∷ 106 ∷ 115 ∷ 111 ∷ 110 ∷ 114 ∷ 112 ∷ 99 ∷ 34 ∷ 58 ∷ 34 ∷ 50 ∷ 46 ∷ 48 ∷ 34 ∷ 44 ∷ 34 ∷ 114 ∷ 101 ∷ 115 ∷ 117 ∷ 108 ∷ 116 ∷ 34 ∷ 58 ∷ 34 ∷ 109 ∷ 115 ∷ 49 ∷ 34 ∷ 125 ∷ 44 ∷ 123 ∷ 34 ∷ 101 ∷ 114 ∷ 114 ∷ 111 ∷ 114 ∷ 34 ∷ 58 ∷ 123 ∷ 34 ∷ 99 ∷ 111 ∷ 100 ∷ 101 ∷ 34 ∷ 58 ∷ 45 ∷ 51 ∷ 50 ∷ 48 ∷ 48 ∷ 53 ∷ 44 ∷ 34 ∷ 109 ∷ 101 ∷ 115 ∷ 115 ∷ 97 ∷ 103 ∷ 101 ∷ 34 ∷ 58 ∷ 34 ∷ 115 ∷ 101 ∷ 115 ∷ 115 ∷ 105 ∷ 111 ∷ 110 ∷ 32 ∷ 101 ∷ 110 ∷ 100 ∷ 101 ∷ 100 ∷ 34 ∷ 125 ∷ 44 ∷ 34 ∷ 105 ∷ 100 ∷ 34 ∷ 58 ∷ 50 ∷ 44 ∷ 34 ∷ 106 ∷ 115 ∷ 111 ∷ 110 ∷ 114 ∷ 112 ∷ 99 ∷ 34 ∷ 58 ∷ 34 ∷ 50 ∷ 46 ∷ 48 ∷ 34 ∷ 125 ∷ 44 ∷ 123 ∷ 34 ∷ 101 ∷ 114 ∷ 114 ∷ 111 ∷ 114 ∷ 34 ∷ 58 ∷ 123 ∷ 34 ∷ 99 ∷ 111 ∷ 100 ∷ 101 ∷ 34 ∷ 58 ∷ 45 ∷ 51 ∷ 50 ∷ 48 ∷ 48 ∷ 53 ∷ 44 ∷ 34 ∷ 109 ∷ 101 ∷ 115 ∷ 115 ∷ 97 ∷ 103 ∷ 101 ∷ 34 ∷ 58 ∷ 34 ∷ 115 ∷ 101 ∷ 115 ∷ 115 ∷ 105 ∷ 111 ∷ 110 ∷ 32 ∷ 101 ∷ 110 ∷ 100 ∷ 101 ∷ 100 ∷ 34 ∷ 125 ∷ 44 ∷ 34 ∷ 105 ∷ 100 ∷ 34 ∷ 58 ∷ 51 ∷ 44 ∷ 34 ∷ 106 ∷ 115 ∷ 111 ∷ 110 ∷ 114 ∷ 112 ∷ 99 ∷ 34 ∷ 58 ∷ 34 ∷ 50 ∷ 46 ∷ 48 ∷ 34 ∷ 125 ∷ 93 ∷ 10 ∷ [])
+-- the first answer, and the front of the second
+abbrev cut : List ℕ
+cut = take 60 written
 
-rest_is_some : rest ≢ []
+rest_is_some : drop 60 written ≢ []
 rest_is_some h = true≢false (ap (λ l. elim l [ [] ↦ false | b ∷ bs ↦ true ]) h)
 
 pub cut_short : IsCutShort alone setting history (come_in (said_lines (all_lines read)))
-    (record { written = (123 ∷ 34 ∷ 105 ∷ 100 ∷ 34 ∷ 58 ∷ 48 ∷ 44 ∷ 34 ∷ 106 ∷ 115 ∷ 111 ∷ 110 ∷ 114 ∷ 112 ∷ 99 ∷ 34 ∷ 58 ∷ 34 ∷ 50 ∷ []); noted = [] })
+    (record { written = cut; noted = [] })
 unfolding digits escape_byte is_utf8 chars encode scan_numeral value punctuate lex content word after_number number_of root_name posted answer batch early_answer split
-cut_short = record { came = come_in (said_lines (all_lines read)); front = ([], refl); posted = refl; order = (0 ∷ 1 ∷ []); in_order = refl; written = (rest, refl); noted = ([], refl); cut = inl (rest, rest_is_some, refl) }
+cut_short = record { came = come_in (said_lines (all_lines read)); front = ([], refl); posted = refl; order = (0 ∷ 1 ∷ []); in_order = refl; written = (drop 60 written, refl); early = λ one. (drop 40 cut, refl); noted = ([], refl); cut = inl (drop 60 written, rest_is_some, refl) }
+
+-- ---- spoilt
+
+-- what stands at the front is no longer than all
+too_long : (xs rest ys : List ℕ) → length ys < length xs → xs ++ rest ≡ ys → ⊥
+too_long xs rest ys less e =
+    let long = length-append xs rest in
+    let same : length (xs ++ rest) ≡ length ys = ap length e in
+    omega (arith, less, long, same)
+
+-- the first answer is due before the second line is posted
+abbrev due : List ℕ
+due = lines_in setting history (come_in (said_lines (all_lines read))) (finished_before setting history 2 1)
+
+spoilt_by : (bytes : List ℕ) → length bytes < length due
+    → (s : IsCutShort alone setting history (come_in (said_lines (all_lines read))) (record { written = bytes; noted = [] }))
+    → s.came ≡ come_in (said_lines (all_lines read)) → ⊥
+unfolding posted split
+spoilt_by bytes less s all =
+    let early : IsFront due bytes =
+    subst (λ (c : List Came). IsFront (lines_in setting history c (finished_before setting history (length c) (length c - 1))) bytes)
+    all (s.early refl) in
+    too_long due early.0 bytes less early.1
+
+-- Where both were posted the first answer was not written, whatever was cut of the notes,
+pub spoilt_nothing_written : (s : IsCutShort alone setting history (come_in (said_lines (all_lines read))) (record { written = []; noted = [] }))
+    → s.came ≡ come_in (said_lines (all_lines read)) → ⊥
+unfolding digits escape_byte is_utf8 chars encode scan_numeral value punctuate lex content word after_number number_of root_name posted answer batch early_answer split
+spoilt_nothing_written = spoilt_by [] (ltb-true 0 (length due) refl)
+
+-- or not all of it.
+pub spoilt_first_cut : (s : IsCutShort alone setting history (come_in (said_lines (all_lines read))) (record { written = take 20 written; noted = [] }))
+    → s.came ≡ come_in (said_lines (all_lines read)) → ⊥
+unfolding digits escape_byte is_utf8 chars encode scan_numeral value punctuate lex content word after_number number_of root_name posted answer batch early_answer split
+spoilt_first_cut = spoilt_by (take 20 written) (ltb-true (length (take 20 written)) (length due) refl)

@@ -97,4 +97,4 @@ rest_is_some h = true≢false (ap (λ l. elim l [ [] ↦ false | b ∷ bs ↦ tr
 pub cut_short : IsCutShort alone setting history (come_in (said_lines (all_lines read)))
     (record { written = (123 ∷ 34 ∷ 101 ∷ 114 ∷ 114 ∷ 111 ∷ 114 ∷ 34 ∷ 58 ∷ 123 ∷ 34 ∷ 99 ∷ 111 ∷ 100 ∷ 101 ∷ 34 ∷ 58 ∷ 45 ∷ 51 ∷ 50 ∷ 48 ∷ 48 ∷ 52 ∷ 44 ∷ 34 ∷ 109 ∷ 101 ∷ 115 ∷ 115 ∷ 97 ∷ 103 ∷ 101 ∷ 34 ∷ 58 ∷ []); noted = [] })
 unfolding digits escape_byte is_utf8 chars encode scan_numeral value punctuate lex content word after_number number_of root_name posted answer batch early_answer split
-cut_short = record { came = come_in (said_lines (all_lines read)); front = ([], refl); posted = refl; order = (0 ∷ []); in_order = refl; written = (rest, refl); noted = ([], refl); cut = inl (rest, rest_is_some, refl) }
+cut_short = record { came = come_in (said_lines (all_lines read)); front = ([], refl); posted = refl; order = (0 ∷ []); in_order = refl; written = (rest, refl); early = λ one. (_, refl); noted = ([], refl); cut = inl (rest, rest_is_some, refl) }

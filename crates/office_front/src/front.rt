@@ -22,12 +22,12 @@ pub trait Front {
     /// says of the front's own outside holds at the end of each run, whatever the run knows of it.
     ghost dealt: { ProgramParts → Self → Self → Dealings → Type 0 };
 
-    /// The next posting. A front that ended is asked nothing more, and one that had none yet is told nothing before it is
-    /// asked again. After want of memory nothing has passed.
+    /// The next posting. A front that ended or halted is asked nothing more, and one that had none yet is told nothing
+    /// before it is asked again. After want of memory nothing has passed.
     fn next(&mut self, program: &Program) -> Result<Next, AllocError>
         requires some { 0 < length (parts_of program.now).services }
         ensures came { (first : Self) (before : Dealings) → dealt (parts_of program.now) first self.old before
-            → before.brought.ended ≡ false → IsQuiet before → MatchResult result
+            → before.brought.ended ≡ false → before.said.halted ≡ false → IsQuiet before → MatchResult result
             (λ next. After (dealt (parts_of program.now) first self.new) (Asks (parts_of program.now) next before))
             (λ _. dealt (parts_of program.now) first self.new before) };
 

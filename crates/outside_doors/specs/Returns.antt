@@ -1,10 +1,11 @@
--- What is told of the locations that were opened and of the wires that came back, and what doors keep of these and of the
--- doors that came back.
+-- What is told of the locations that were opened and of the wires that came back, and what doors keep of these and of
+-- the doors that came back.
 use Rattle.std.specs.Prelude.{ℕ, Bool, false, List, [], Option, Some}
 use Rattle.outside_doors.specs.Counts.{DoorTold, Tally, no_tally}
 
 -- a wire that came back: the bytes that were read and those that were written, each where the wire tells them; its
--- count of faults; whether a write had failed before it was closed; and whether a read had told the end of what comes in
+-- count of faults; whether a write had failed before it was closed; and whether a read had told the end of what comes
+-- in
 pub record WireTold : Type 0 where
   pub read : Option (List ℕ)
   pub written : Option (List ℕ)

@@ -30,7 +30,7 @@ use Rattle.trip_laws.proofs.Settling.{noted_on, over_all, settled_on}
 use Rattle.session_turn.proofs.Histories.{some_of}
 use Rattle.run_alone.specs.Between.{Passed}
 use Rattle.run_alone.specs.Overs.{IsOver, GaveNone}
-use Rattle.run_alone.specs.Ran.{finished_before}
+use Rattle.branch_workers.specs.Lines.{finished_before}
 use Rattle.run_alone.specs.declared.worker.Finished.{Finished}
 use Rattle.run_alone.proofs.Assembling.{HasEnded}
 use Rattle.run_alone.proofs.Finishing.{CanEnd, adoptions_add, adoptions_between, at_end, closed_by, closing_adds, closing_between, closing_by, closing_closes, earlier_end, early_end, open_end, open_gathered, order_end, settled_waits, stop_gathers}

@@ -27,7 +27,7 @@ use Rattle.session_turn.proofs.Histories.{some_of}
 use Rattle.run_posts.specs.Fates.{Wait, all_collected, is_finished, is_open, settled_in, told_of}
 use Rattle.run_posts.proofs.Ending.{StandsInOrder, all_finished, open_collected, open_told, other_all, settled_collected, stands_early, stands_ended}
 use Rattle.run_posts.proofs.Opening.{IsOpen, is_between, open_between, told_places}
-use Rattle.run_alone.specs.Ran.{finished_before}
+use Rattle.branch_workers.specs.Lines.{finished_before}
 use Rattle.run_alone.proofs.Earlier.{first_told}
 use Rattle.run_alone.proofs.Stepping.{all_append, all_weaker, between_other, other_over, places_settled}
 

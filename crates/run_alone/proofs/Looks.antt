@@ -27,8 +27,8 @@ pub record IsAt (s : State) (xs : List Wait) (n : ℕ) (calm : Bool) (looks : �
 -- what a front has when it is asked for a posting
 abbrev pub Came : {F : Type 0} → (ProgramParts → F → F → Dealings → Type 0) → ProgramParts → F → F → Next → Type 0
 Came {F} dealt parts old now which =
-    (first : F) (before : Dealings) → dealt parts first old before → before.brought.ended ≡ false → IsQuiet before
-    → After (dealt parts first now) (Asks parts which before)
+    (first : F) (before : Dealings) → dealt parts first old before → before.brought.ended ≡ false
+    → before.said.halted ≡ false → IsQuiet before → After (dealt parts first now) (Asks parts which before)
 
 -- the same of what is told
 pub tells_under : {F : Type 0} (dealt : ProgramParts → F → F → Dealings → Type 0) {p q : ProgramParts} (old now : F) (xs : List Wait)
@@ -160,6 +160,12 @@ asks_by n looks calm halted going is so =
     let b = and_parts (calm && not halted) (nat_lt looks most_waits) a.0 in
     let e = and_parts calm (not halted) b.0 in
     (e.0, ltb-true looks most_waits b.1, ltb-true n most_postings a.1)
+
+-- so the front had not halted
+pub runs_so : (n looks : ℕ) (calm halted said : Bool) → halted ≡ said → asks calm halted looks n ≡ true → said ≡ false
+runs_so n looks false halted said is so = absurd (false≢true so)
+runs_so n looks true true said is so = absurd (false≢true so)
+runs_so n looks true false said is so = sym is
 
 -- how many looks there may still be
 abbrev pub looks_left : ℕ → ℕ → ℕ

@@ -20,7 +20,7 @@ use Rattle.run_posts.specs.Fates.{Wait, all_collected, is_finished, is_open, pos
 use Rattle.run_posts.proofs.Settling.{none_of_all}
 use Rattle.run_posts.proofs.Ending.{AreSettled, StandsInOrder, open_collected, open_told, other_all, settled_collected, stands_next}
 use Rattle.run_posts.proofs.Opening.{IsOpen, all_posts_of, is_between, next_wait, open_between, open_posts, places, told_places}
-use Rattle.run_alone.specs.Ran.{finished_before}
+use Rattle.branch_workers.specs.Lines.{finished_before}
 use Rattle.run_alone.proofs.Earlier.{first_told}
 
 -- ---- entries

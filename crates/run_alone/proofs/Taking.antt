@@ -34,7 +34,7 @@ use Rattle.run_sweep.specs.Swept.{NotesBy, StaysQuiet, Swept}
 use Rattle.trip_laws.specs.Going.{AreSettled, NotedSoFar, is_inward, is_silent}
 use Rattle.trip_laws.proofs.Settling.{brought_over, noted_on, over_all, settled_on}
 use Rattle.run_alone.specs.Between.{Answered, Between, Brings, IsCalm, Passed, SaidMore, WasTold}
-use Rattle.run_alone.specs.Ran.{finished_before}
+use Rattle.branch_workers.specs.Lines.{finished_before}
 use Rattle.run_alone.proofs.Between.{swept_between}
 use Rattle.run_alone.proofs.Earlier.{asked_within, longer_told}
 use Rattle.run_alone.proofs.Stepping.{CanStep, after_step, after_sweep, all_append, earlier_step, longer, open_gathered, open_step, order_step, posted, settled_waits, waiting}

@@ -16,7 +16,7 @@ use Rattle.run_posts.specs.Open.{IsOpen, StandsInOrder, told_places}
 use Rattle.run_sweep.specs.Swept.{StaysQuiet, is_swept}
 use Rattle.trip_laws.specs.Going.{AreSettled, NotedSoFar}
 use Rattle.run_alone.specs.Overs.{IsOver, GaveNone}
-use Rattle.run_alone.specs.Ran.{finished_before}
+use Rattle.branch_workers.specs.Lines.{finished_before}
 
 -- posting n may begin
 abbrev pub IsCalm : ℕ → State → Type 0

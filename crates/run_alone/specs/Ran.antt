@@ -1,5 +1,5 @@
 -- What one worker that runs a program alone leaves: the record, and what its front was told.
-use Rattle.std.specs.Prelude.{◌≡◌, ◌↔◌, ℕ, Bool, true, false, List, [], length, map, take, flat_map}
+use Rattle.std.specs.Prelude.{◌≡◌, ◌↔◌, ℕ, Bool, true, false, List, [], length, map, take}
 use Rattle.std.specs.Prelude.{Some, Contains, slice_get}
 use Rattle.std.specs.List.{list_all}
 use Rattle.office_core.specs.declared.front.Posting.{Posting}
@@ -8,10 +8,10 @@ use Rattle.office_core.specs.Limits.{Setting, first_worker}
 use Rattle.office_core.specs.Past.{Past}
 use Rattle.office_core.specs.Accepted.{past_of}
 use Rattle.run_record.specs.Postings.{posts_by, posts_of, told}
-use Rattle.run_record.specs.Order.{finished_there, numbers_from, order_alone}
+use Rattle.run_record.specs.Order.{order_alone}
 use Rattle.run_record.specs.Outside.{notes}
 use Rattle.run_record.specs.Run.{alone, IsRun, IsSpent}
-use Rattle.branch_workers.specs.Lines.{is_by_first, IsFront}
+use Rattle.branch_workers.specs.Lines.{is_by_first, finished_before, IsFront}
 use Rattle.office_front.specs.Dealings.{Told, Dealings}
 pub use Rattle.trip_laws.specs.Trips.{AreVoid, Travelled}
 pub use Rattle.run_alone.specs.Overs.{IsOver, GaveNone, most_waits}
@@ -33,12 +33,7 @@ IsTold w past given t =
 abbrev pub AreNotes : Bool → List ℕ → List ℕ → Type 0
 AreNotes halted noted all = IsFront noted all × (halted ≡ false → noted ≡ all)
 
--- the places of the postings, among so many, that are finished at one before posting j, in the order in which they are
--- answered
-abbrev pub finished_before : Setting → List Entry → ℕ → ℕ → List ℕ
-finished_before w h count j = flat_map (finished_there w (past_of w h) first_worker count) (numbers_from 0 j)
-
--- those that are finished before the end
+-- the postings, among so many, that are finished before the end, in the order in which they are answered
 abbrev pub finished_early : Setting → List Entry → ℕ → List ℕ
 finished_early w h count = finished_before w h count count
 

@@ -82,8 +82,8 @@ pub record HasNotEnded (st : Stand) : Type 0 where
   pub going : config.ended ≡ false
 
 -- what a turn came to: the first event that is allowed from the pick on was done; or the session has not ended and not
--- used its budget, and none is allowed; or it has ended; or it has not, and has used its budget. Where no event was done
--- it stands where it stood
+-- used its budget, and none is allowed; or it has ended; or it has not, and has used its budget. Where no event was
+-- done it stands where it stood
 pub data Turned (p : Play) (old new : Spot) : Turn → Type 0 where
   did : (event : Event) (strands : List ℕ) → AreEnabled (seat_of p) (moment_at old.stand old.history) strands
       → FirstDone (seat_of p) (from_pick strands p.pick) (moment_at old.stand old.history)

@@ -12,8 +12,8 @@ use Rattle.run_cells.specs.Turns.{IsAdoption, RoundFrom}
 abbrev pub is_by_worker : Entry → Bool
 is_by_worker e = nat_eq first_worker e.actor
 
--- How a run goes on: once each call that went out has its outcome, the sessions have a round of turns, each turn with the
--- next pick; or one that was born is adopted, or the worker makes entries of its own, which leave the picks.
+-- How a run goes on: once each call that went out has its outcome, the sessions have a round of turns, each turn with
+-- the next pick; or one that was born is adopted, or the worker makes entries of its own, which leave the picks.
 pub data Goes (old : State) : State → Type 0 where
   stays : Goes old old
   round : (mid new : State) (moved : Bool) → Goes old mid → Team mid → unbrought (past_in mid) ≡ []

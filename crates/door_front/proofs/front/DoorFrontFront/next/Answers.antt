@@ -6,7 +6,7 @@ use Rattle.door_front.proofs.front.DoorFrontFront.next.Goals as goal
 
 pub returns : goal.returns
 returns g c = record {
-  came = λ first before h yet quiet.
+  came = λ first before h yet running quiet.
       next-so _ (parts_of c.args._program.now) _ _ h.0 h.1 _ (taking (g.N.Sink.taken c.args.self.now.notes.now) (g.N.Sink.faults c.args.self.now.notes.now))
-      c.args.self.now.kept.now c.next_posting.new.self before c.next_posting.ensures.most c.next_posting.ensures.halted yet quiet h.2 c.next_posting.result c.next_posting.ensures.looks;
+      c.args.self.now.kept.now c.next_posting.new.self before c.next_posting.ensures.most c.next_posting.ensures.halted yet running quiet h.2 c.next_posting.result c.next_posting.ensures.looks;
 }

@@ -9,12 +9,12 @@ use Rattle.line_front.proofs.front.LineFrontFront.next.Goals as goal
 
 pub returns : goal.returns
 returns g c = record {
-  came = λ first before h yet quiet.
+  came = λ first before h yet running quiet.
       let failed : first.kept.now.reader.failed ≡ false → Fails c.next.new.self.failed (g.S.Source.faults first.source.now) (g.S.Source.faults c.next.new.source) =
       λ is. c.next.ensures.failed (g.S.Source.faults first.source.now) (h.4 is) in
       asked-so (parts_of c.args._program.now) _ _ _ _ _ h.0 h.1 h.2 h.3 failed _ _ before h.5
       (sides_in (record c.args.self.now.kept.now { reader = c.next.new.self }) (g.S.Source.left c.next.new.source) (g.S.Source.faults c.next.new.source)
       (taking (g.K.Sink.taken c.args.self.now.output.now) (g.K.Sink.faults c.args.self.now.output.now)) (taking (g.N.Sink.taken c.args.self.now.notes.now) (g.N.Sink.faults c.args.self.now.notes.now)))
-      refl c.next.ensures.longer.0 c.next.ensures.longer.1 c.next.result
+      refl c.next.ensures.longer.0 c.next.ensures.longer.1 running c.next.result
       (c.next.ensures.came (parts_of c.args._program.now) _ before.brought c.requires.some h.5.brought yet);
 }

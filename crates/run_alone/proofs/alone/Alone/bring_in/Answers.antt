@@ -4,7 +4,7 @@ use Rattle.behaviour_tree.specs.declared.program.Program.{Program}
 use Rattle.behaviour_tree.specs.PartsView.{parts_of}
 use Rattle.run_sweep.specs.Courses.{stays}
 use Rattle.run_alone.proofs.Picking.{goes_both}
-use Rattle.run_alone.proofs.Looks.{after_under, asks_so, at_end, at_first, at_posting, at_wait, calm_between, came_as, closes_so, dealt_under, fewer_posting, fewer_wait, quiet_at}
+use Rattle.run_alone.proofs.Looks.{after_under, asks_so, at_end, at_first, at_posting, at_wait, calm_between, came_as, closes_so, dealt_under, fewer_posting, fewer_wait, quiet_at, runs_so}
 use Rattle.office_core.specs.Limits.{run_of}
 use Rattle.run_alone.proofs.Touring.{toured_both}
 use Rattle.run_alone.proofs.alone.Alone.bring_in.Goals as goal
@@ -54,7 +54,10 @@ looks-preserved-in-Posting g c =
           let at = i.passed first before so new passed in
           at_posting at.2 (dealt parts first c.next.new.self) c.in-Posting.posting (dealt parts first c.take_in.new.front)
           (came_as dealt c.looks.front c.next.new.self (ap parts_of (c.program.ensures ∙ i.program)) c.in-Posting.is
-          c.in_ok-posting.ensures.came first at.0 at.1 at.2.going (quiet_at at.2))
+          c.in_ok-posting.ensures.came first at.0 at.1 at.2.going
+          (runs_so c.postings.result c.looks.looks c.looks.calm c.halted-halted.result at.0.said.halted
+          (c.halted-halted.ensures parts first at.0 at.1) (sym c.may_ask-going.ensures ∙ c.if-not-going.false))
+          (quiet_at at.2))
           (λ mid is brings.
           after_under dealt first c.take_in.new.front (ap parts_of i.program)
           (e.passed first mid (dealt_under dealt first c.next.new.self mid (sym (ap parts_of i.program)) is) brings));
@@ -85,7 +88,10 @@ looks-preserved g c =
           (asks_so c.looks.self.pendings.postings c.looks.looks c.looks.calm c.halted-halted.result c.may_ask-going.result
           c.postings.result c.postings.ensures c.may_ask-going.ensures c.if-not-going.false).1
           (came_as dealt c.looks.front c.next.new.self (ap parts_of (c.program.ensures ∙ i.program)) c.in-NotYet.is
-          c.in_ok-posting.ensures.came first at.0 at.1 at.2.going (quiet_at at.2));
+          c.in_ok-posting.ensures.came first at.0 at.1 at.2.going
+          (runs_so c.postings.result c.looks.looks c.looks.calm c.halted-halted.result at.0.said.halted
+          (c.halted-halted.ensures parts first at.0 at.1) (sym c.may_ask-going.ensures ∙ c.if-not-going.false))
+          (quiet_at at.2));
     }
 
 pub looks-smaller : goal.looks-smaller
@@ -103,7 +109,10 @@ returns-in-End-clause-passed g c =
     let at = i.passed first before so new passed in
     at_end at.2 (dealt parts first c.next.new.self)
     (came_as dealt c.looks.front c.next.new.self (ap parts_of (c.program.ensures ∙ i.program)) c.in-End.is
-    c.in_ok-posting.ensures.came first at.0 at.1 at.2.going (quiet_at at.2))
+    c.in_ok-posting.ensures.came first at.0 at.1 at.2.going
+    (runs_so c.postings.result c.looks.looks c.looks.calm c.halted-halted.result at.0.said.halted
+    (c.halted-halted.ensures parts first at.0 at.1) (sym c.may_ask-going.ensures ∙ c.if-not-going.false))
+    (quiet_at at.2))
 
 pub returns-then-not-going-clause-passed : goal.returns-then-not-going-clause-passed
 returns-then-not-going-clause-passed g c =
