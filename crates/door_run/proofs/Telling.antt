@@ -5,7 +5,7 @@ use Rattle.std.specs.Prelude.{◌==◌}
 use Rattle.std.specs.List.{list_any}
 use Rattle.std.proofs.lemmas.Bool.{eqb-true, eqb-false, not-true, not-false, or_parts}
 use Rattle.outside_traits.specs.Causes.{Rose}
-use Rattle.outside_doors.specs.Counts.{DoorTold, Tally, door_told, with_door}
+use Rattle.outside_doors.specs.Counts.{DoorTold, Tally, with_door}
 use Rattle.outside_traits.specs.Told.{Lists}
 use Rattle.outside_doors.specs.Returns.{WireTold}
 use Rattle.connection_runs.specs.Ports.{DoorAt}
@@ -136,15 +136,6 @@ more_doors xs ys a b c k l = record {
   faults = subst (λ n. RoseBy n a.faults c.faults) (sym (count_append has_failed xs ys))
       (rose_then (count_by has_failed xs) (count_by has_failed ys) a.faults b.faults c.faults k.faults l.faults);
 }
-
--- what a door tells, by its parts
-pub door_as : (door : DoorTold) (faults wires waits : ℕ) (closed : Bool) → faults ≡ door.faults → wires ≡ door.wires
-    → waits ≡ door.waits → closed ≡ door.closed → door_told faults wires waits closed ≡ door
-door_as door faults wires waits closed f w n c =
-    ap (λ x. door_told x wires waits closed) f
-    ∙ ap (λ x. door_told door.faults x waits closed) w
-    ∙ ap (λ x. door_told door.faults door.wires x closed) n
-    ∙ ap (λ x. door_told door.faults door.wires door.waits x) c
 
 above : (n : ℕ) → (n == 0) ≡ false → 0 < n
 above zero e = absurd (eqb-false 0 0 e refl)
