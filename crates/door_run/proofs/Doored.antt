@@ -21,7 +21,7 @@ use Rattle.http_connection.specs.Seen.{Line}
 use Rattle.door_front.specs.Keeping.{PortTold, Keeping, AreNew, IsEmpty, services_of}
 use Rattle.door_front.specs.Dealt.{Sides, HasDealt, MayHaveDealt}
 use Rattle.line_run.specs.declared.run.Ended.{Ended}
-use Rattle.door_run.specs.Used.{DoorsTold, Used, AreInOrder, IsUsed, RoseBy, came_at_door, leads_to, wires_to, has_failed, with_wires, with_doors, location_of}
+use Rattle.door_run.specs.Used.{DoorsTold, Used, AreInOrder, IsUsed, RoseBy, came_at_door, leads_to, wires_to, has_failed, with_wires, with_doors, tries_at}
 use Rattle.door_run.specs.Doored.{Task, Outside, outside, faults_of, rules_of, AreNoted, IsDoored}
 use Rattle.door_run.specs.Steps.{Opens, opened_by, ports_at, GivesBack, traffic_of, wire_of, door_of, some_failed, with_traffic, status_of}
 use Rattle.door_run.proofs.Lists.{length_map, any_map, all_map}
@@ -149,8 +149,8 @@ module _ (IsMade : Line → Type 0) (t : Task) (before mid after : DoorsTold) (p
     tally =
         back.doors_then.tally ∙ ap (with_doors used.doors) back.wires_first.tally
         ∙ ap (λ x. with_doors used.doors (with_wires used.wires x)) o.tally;
-    locations = subst (λ x. Lists before.locations x (map location_of opened))
-        (sym (back.doors_then.locations ∙ back.wires_first.locations)) o.locations;
+    tries = subst (λ x. Lists before.tries x (tries_at (doors_of t.parts) o.opened))
+        (sym (back.doors_then.tries ∙ back.wires_first.tries)) o.tries;
     returned = subst (λ x. Lists x after.returned used.wires) o.returned
         (subst (λ x. Lists mid.returned x used.wires) (sym back.doors_then.returned) back.wires_first.returned);
     came_back = subst (λ x. Lists x after.returned_doors used.doors) (back.wires_first.came_back ∙ o.came_back)

@@ -5,6 +5,7 @@ use Rattle.std.specs.List.{list_all, list_any, filter, items_where_true}
 use Rattle.std.proofs.lemmas.List.{map-append, length-take}
 use Rattle.outside_traits.specs.Causes.{Rose}
 use Rattle.outside_doors.specs.Counts.{DoorTold, Tally, untried, with_opened}
+use Rattle.outside_doors.specs.Returns.{try_told}
 use Rattle.behaviour_tree.specs.PartsView.{port_view, service_view}
 use Rattle.behaviour_tree.specs.declared.program.Port.{Port}
 use Rattle.behaviour_tree.specs.declared.program.Service.{Service}
@@ -14,7 +15,7 @@ use Rattle.outside_traits.specs.Told.{Lists}
 use Rattle.connection_runs.specs.Ports.{DoorAt, is_door, locations_of, doors_from}
 use Rattle.door_front.specs.Keeping.{PortTold}
 use Rattle.door_front.proofs.Entries.{count_append}
-use Rattle.door_run.specs.Used.{DoorsTold, RoseBy, location_of, with_openings}
+use Rattle.door_run.specs.Used.{DoorsTold, RoseBy, tries_at, with_openings}
 use Rattle.door_run.specs.Steps.{door_to, location_in, doors_at, port_at, ports_at, Opened, opened_by, Opens}
 use Rattle.door_run.proofs.Lists.{length_map}
 use Rattle.door_run.proofs.Telling.{Lists-nil, Lists-then, rose_none, rose_one, rose_then, with_openings-append}
@@ -72,6 +73,15 @@ ports_at-append : (t : Tally) (xs ys : List DoorAt) → ports_at t (xs ++ ys) �
 ports_at-append t [] ys = refl
 ports_at-append t (x ∷ xs) ys = ap (λ ps. port_at t.opened x ∷ ps) (ports_at-append (with_opened t) xs ys)
 
+-- the tries at more places
+tries_at-append : (xs ys : List DoorAt) (ms ns : List Bool) → length ms ≡ length xs
+    → tries_at (xs ++ ys) (ms ++ ns) ≡ tries_at xs ms ++ tries_at ys ns
+tries_at-append [] ys [] ns e = refl
+tries_at-append [] ys (m ∷ ms) ns e = absurd (no_suc (length ms) (sym e))
+tries_at-append (x ∷ xs) ys [] ns e = absurd (no_suc (length xs) e)
+tries_at-append (x ∷ xs) ys (m ∷ ms) ns e =
+    ap (λ l. try_told x.location m ∷ l) (tries_at-append xs ys ms ns (one_less (length ms) (length xs) e))
+
 or_assoc : (x y z : Bool) → ((x || y) || z) ≡ (x || (y || z))
 or_assoc true y z = refl
 or_assoc false y z = refl
@@ -87,7 +97,7 @@ opens_none a = record {
   tried = refl;
   ports = sym (append-nil a.ports);
   tally = refl;
-  locations = Lists-nil a.doors.locations;
+  tries = Lists-nil a.doors.tries;
   returned = refl;
   came_back = refl;
   faults = rose_none a.doors.faults a.doors.faults refl;
@@ -115,9 +125,8 @@ opens_more xs ys a b c k l =
           l.tally ∙ ap (with_openings (items_where_true l.opened ys)) k.tally
           ∙ sym (with_openings-append (items_where_true k.opened xs) (items_where_true l.opened ys) a.doors.tally)
           ∙ ap (λ ps. with_openings ps a.doors.tally) (sym both);
-      locations = subst (λ ls. Lists a.doors.locations c.doors.locations ls)
-          (sym (map-append location_of (items_where_true k.opened xs) (items_where_true l.opened ys)) ∙ ap (map location_of) (sym both))
-          (Lists-then a.doors.locations b.doors.locations c.doors.locations _ _ k.locations l.locations);
+      tries = subst (λ ts. Lists a.doors.tries c.doors.tries ts) (sym (tries_at-append xs ys k.opened l.opened k.tried))
+          (Lists-then a.doors.tries b.doors.tries c.doors.tries (tries_at xs k.opened) (tries_at ys l.opened) k.tries l.tries);
       returned = l.returned ∙ k.returned;
       came_back = l.came_back ∙ k.came_back;
       faults = subst (λ n. RoseBy n a.doors.faults c.doors.faults) (sym (count_append not k.opened l.opened))
@@ -223,16 +232,16 @@ port_opened n place location port door made new = made ∙ ap (port_of n) new
 
 module _ (place : DoorAt) (a b : DoorsTold) (ports : List PortTold) (failed : Bool) where
   -- it is opened
-  pub opens_one : (more : List PortTold) → b.tally ≡ with_opened a.tally → Lists a.locations b.locations (place.location ∷ [])
+  pub opens_one : (more : List PortTold) → b.tally ≡ with_opened a.tally → Lists a.tries b.tries (try_told place.location true ∷ [])
       → b.returned ≡ a.returned → b.returned_doors ≡ a.returned_doors → b.faults ≡ a.faults
       → more ≡ ports ++ port_at a.tally.opened place ∷ []
       → Opens (place ∷ []) (opened_by a ports failed) (opened_by b more failed)
-  opens_one more tally locations returned came_back faults is = record {
+  opens_one more tally tries returned came_back faults is = record {
     opened = true ∷ [];
     tried = refl;
     ports = is;
     tally = tally;
-    locations = locations;
+    tries = tries;
     returned = returned;
     came_back = came_back;
     faults = rose_none a.faults b.faults faults;
@@ -240,15 +249,15 @@ module _ (place : DoorAt) (a b : DoorsTold) (ports : List PortTold) (failed : Bo
   }
 
   -- it can't be opened
-  pub opens_failed : b.tally ≡ a.tally → b.locations ≡ a.locations → b.returned ≡ a.returned
+  pub opens_failed : b.tally ≡ a.tally → Lists a.tries b.tries (try_told place.location false ∷ []) → b.returned ≡ a.returned
       → b.returned_doors ≡ a.returned_doors → Rose a.faults b.faults
       → Opens (place ∷ []) (opened_by a ports failed) (opened_by b ports true)
-  opens_failed tally locations returned came_back rose = record {
+  opens_failed tally tries returned came_back rose = record {
     opened = false ∷ [];
     tried = refl;
     ports = sym (append-nil ports);
     tally = tally;
-    locations = subst (λ l. Lists a.locations l []) (sym locations) (Lists-nil a.locations);
+    tries = tries;
     returned = returned;
     came_back = came_back;
     faults = rose_one a.faults b.faults rose;

@@ -104,7 +104,7 @@ no_wires a = record {
   tally = refl;
   returned = Lists-nil a.returned;
   came_back = refl;
-  locations = refl;
+  tries = refl;
   faults = refl;
 }
 
@@ -113,7 +113,7 @@ no_doors a = record {
   tally = refl;
   returned = refl;
   came_back = Lists-nil a.returned_doors;
-  locations = refl;
+  tries = refl;
   faults = rose_none a.faults a.faults refl;
 }
 
@@ -123,7 +123,7 @@ more_wires xs ys a b c k l = record {
   tally = l.tally ∙ ap (with_wires ys) k.tally ∙ sym (with_wires-append xs ys a.tally);
   returned = Lists-then a.returned b.returned c.returned xs ys k.returned l.returned;
   came_back = l.came_back ∙ k.came_back;
-  locations = l.locations ∙ k.locations;
+  tries = l.tries ∙ k.tries;
   faults = l.faults ∙ k.faults;
 }
 
@@ -132,7 +132,7 @@ more_doors xs ys a b c k l = record {
   tally = l.tally ∙ ap (with_doors ys) k.tally ∙ sym (with_doors-append xs ys a.tally);
   returned = l.returned ∙ k.returned;
   came_back = Lists-then a.returned_doors b.returned_doors c.returned_doors xs ys k.came_back l.came_back;
-  locations = l.locations ∙ k.locations;
+  tries = l.tries ∙ k.tries;
   faults = subst (λ n. RoseBy n a.faults c.faults) (sym (count_append has_failed xs ys))
       (rose_then (count_by has_failed xs) (count_by has_failed ys) a.faults b.faults c.faults k.faults l.faults);
 }
@@ -149,14 +149,14 @@ rose_if false before now raised calm = rose_none before now (calm refl)
 
 -- one door that came back
 pub one_door : (told door : DoorTold) (a b : DoorsTold) → told ≡ door → b.tally ≡ with_door told a.tally
-    → b.returned ≡ a.returned → Lists a.returned_doors b.returned_doors (told ∷ []) → b.locations ≡ a.locations
+    → b.returned ≡ a.returned → Lists a.returned_doors b.returned_doors (told ∷ []) → b.tries ≡ a.tries
     → (0 < told.faults → Rose a.faults b.faults) → (told.faults ≡ 0 → b.faults ≡ a.faults) → GivesDoors (door ∷ []) a b
-one_door told door a b is tally returned came_back locations raised calm =
+one_door told door a b is tally returned came_back tries raised calm =
     subst (λ (d : DoorTold). GivesDoors (d ∷ []) a b) is (record {
       tally = tally;
       returned = returned;
       came_back = came_back;
-      locations = locations;
+      tries = tries;
       faults = subst (λ n. RoseBy n a.faults b.faults) (sym (count_cons has_failed told []))
           (rose_if (has_failed told) a.faults b.faults
           (λ e. raised (above told.faults (not-true (told.faults == 0) e)))

@@ -10,7 +10,7 @@ use Rattle.run_record.specs.declared.record.Record.{Record}
 use Rattle.run_record.specs.declared.record.Traffic.{Traffic}
 use Rattle.connection_runs.specs.Ports.{DoorAt, is_door}
 use Rattle.door_front.specs.Keeping.{PortTold, LinkTold}
-use Rattle.door_run.specs.Used.{DoorsTold, Used, RoseBy, location_of, has_failed}
+use Rattle.door_run.specs.Used.{DoorsTold, Used, RoseBy, tries_at, has_failed}
 use Rattle.door_run.specs.Used.{with_openings, with_wires, with_doors}
 
 -- ---- doors are opened
@@ -46,13 +46,13 @@ pub record Opened : Type 0 where
 abbrev pub opened_by : DoorsTold → List PortTold → Bool → Opened
 opened_by doors ports failed = record { doors = doors; ports = ports; failed = failed }
 
--- Doors were opened at these locations, in order; where one could not be opened it was left out.
+-- One try to open a door was made at each of these places, in order; where it could not be opened it was left out.
 pub record Opens (places : List DoorAt) (before now : Opened) : Type 0 where
   pub opened : List Bool
   pub tried : length opened ≡ length places
   pub ports : now.ports ≡ before.ports ++ ports_at before.doors.tally (items_where_true opened places)
   pub tally : now.doors.tally ≡ with_openings (items_where_true opened places) before.doors.tally
-  pub locations : Lists before.doors.locations now.doors.locations (map location_of (items_where_true opened places))
+  pub tries : Lists before.doors.tries now.doors.tries (tries_at places opened)
   pub returned : now.doors.returned ≡ before.doors.returned
   pub came_back : now.doors.returned_doors ≡ before.doors.returned_doors
   pub faults : RoseBy (count_by not opened) before.doors.faults now.doors.faults
@@ -65,7 +65,7 @@ pub record GivesWires (wires : List WireTold) (before now : DoorsTold) : Type 0 
   pub tally : now.tally ≡ with_wires wires before.tally
   pub returned : Lists before.returned now.returned wires
   pub came_back : now.returned_doors ≡ before.returned_doors
-  pub locations : now.locations ≡ before.locations
+  pub tries : now.tries ≡ before.tries
   pub faults : now.faults ≡ before.faults
 
 -- These doors came back.
@@ -73,7 +73,7 @@ pub record GivesDoors (doors : List DoorTold) (before now : DoorsTold) : Type 0 
   pub tally : now.tally ≡ with_doors doors before.tally
   pub returned : now.returned ≡ before.returned
   pub came_back : Lists before.returned_doors now.returned_doors doors
-  pub locations : now.locations ≡ before.locations
+  pub tries : now.tries ≡ before.tries
   pub faults : RoseBy (count_by has_failed doors) before.faults now.faults
 
 -- First these wires came back, and then these doors.

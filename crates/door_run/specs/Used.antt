@@ -1,11 +1,11 @@
 -- What a run did with doors: where it opened them, and what came back to them.
 use Rattle.std.specs.Prelude.{◌≡◌, ◌↔◌, ℕ, ◌+◌, ◌<◌, ◌≤◌, ◌==◌, Bool, true, not, if◌then◌else◌}
-use Rattle.std.specs.Prelude.{List, [], ◌∷◌, length, map, fold, sum_by, count_by, Option, nat_eq}
+use Rattle.std.specs.Prelude.{List, [], ◌∷◌, length, fold, sum_by, count_by, Option, nat_eq}
 use Rattle.std.specs.List.{list_any, items_where_true}
 use Rattle.std.specs.Io.KnownBytes.{Appends}
 use Rattle.outside_doors.specs.Counts.{DoorTold, Tally, added, with_opened, with_door, with_wire}
 use Rattle.outside_traits.specs.Told.{Lists}
-use Rattle.outside_doors.specs.Returns.{WireTold}
+use Rattle.outside_doors.specs.Returns.{TryTold, try_told, WireTold}
 use Rattle.run_record.specs.declared.record.Traffic.{Traffic}
 use Rattle.connection_runs.specs.Ports.{DoorAt}
 use Rattle.connection_runs.specs.Visits.{Visit}
@@ -15,21 +15,21 @@ use Rattle.http_connection.specs.Seen.{Line}
 use Rattle.door_front.specs.Dealt.{IsNewLine}
 
 -- What doors tell of themselves: how often a door failed to open or came back that had failed, their counts, and, where
--- they are told, the locations that were opened, the wires that came back, and what each door told that came back.
+-- they are told, the tries to open a door, the wires that came back, and what each door told that came back.
 pub record DoorsTold : Type 0 where
   pub faults : ℕ
   pub tally : Tally
-  pub locations : Option (List (List ℕ))
+  pub tries : Option (List TryTold)
   pub returned : Option (List WireTold)
   pub returned_doors : Option (List DoorTold)
 
 -- the same by its parts
-abbrev pub doors_told : ℕ → Tally → Option (List (List ℕ)) → Option (List WireTold) → Option (List DoorTold)
+abbrev pub doors_told : ℕ → Tally → Option (List TryTold) → Option (List WireTold) → Option (List DoorTold)
     → DoorsTold
-doors_told faults tally locations returned returned_doors = record {
+doors_told faults tally tries returned returned_doors = record {
   faults = faults;
   tally = tally;
-  locations = locations;
+  tries = tries;
   returned = returned;
   returned_doors = returned_doors;
 }
@@ -43,9 +43,10 @@ pub record Used : Type 0 where
 
 -- ---- where doors are opened
 
--- the location of a door
-abbrev pub location_of : DoorAt → List ℕ
-location_of door = door.location
+-- the tries to open a door at these places, in order, by whether it was opened there
+abbrev pub tries_at : List DoorAt → List Bool → List TryTold
+tries_at (p ∷ ps) (b ∷ bs) = try_told p.location b ∷ tries_at ps bs
+tries_at ps bs = []
 
 -- a connection came at one of the doors: it leads to its service
 abbrev pub came_at_door : List DoorAt → Visit → Bool
@@ -94,9 +95,9 @@ pub record RoseBy (failures before now : ℕ) : Type 0 where
   pub counted : added before failures ≤ now
   pub calm : failures ≡ 0 → now ≡ before
 
--- Doors were opened at these locations, in order; where one could not be opened it was left out. All of them came back
--- in the order in which they were opened, and as many wires as they gave; and the doors count and tell just this, with
--- a fault for each door that was not opened or came back and had failed.
+-- One try to open a door was made at each of these places, in order. All that were opened came back in that order, and
+-- as many wires as they gave; and the doors count and tell just this, with a fault for each that was not opened or came
+-- back and had failed.
 pub record IsUsed (places : List DoorAt) (before now : DoorsTold) (used : Used) : Type 0 where
   pub tried : length used.opened ≡ length places
   pub back : length used.doors ≡ length (items_where_true used.opened places)
@@ -104,7 +105,7 @@ pub record IsUsed (places : List DoorAt) (before now : DoorsTold) (used : Used) 
   pub given : sum_by (λ (door : DoorTold). door.wires) used.doors ≡ length used.wires
   pub tally : now.tally
       ≡ with_doors used.doors (with_wires used.wires (with_openings (items_where_true used.opened places) before.tally))
-  pub locations : Lists before.locations now.locations (map location_of (items_where_true used.opened places))
+  pub tries : Lists before.tries now.tries (tries_at places used.opened)
   pub returned : Lists before.returned now.returned used.wires
   pub came_back : Lists before.returned_doors now.returned_doors used.doors
   pub faults : RoseBy (failures_in used) before.faults now.faults

@@ -27,8 +27,8 @@ pub(crate) fn give_back<D: Doors>(
     ensures traffic { IfOk result (λ back. back.traffic ≡ map traffic_of kept.links) }
     ensures failed { IfOk result (λ back. back.failed ≡ list_any has_failed (map door_of kept.ports)) }
     ensures doors { OnOk result (GivesBack (map wire_of kept.links) (map door_of kept.ports)
-        (doors_told (D.faults doors.old) (D.tally doors.old) (D.locations doors.old) (D.returned doors.old) (D.returned_doors doors.old))
-        (doors_told (D.faults doors.new) (D.tally doors.new) (D.locations doors.new) (D.returned doors.new) (D.returned_doors doors.new))) }
+        (doors_told (D.faults doors.old) (D.tally doors.old) (D.tries doors.old) (D.returned doors.old) (D.returned_doors doors.old))
+        (doors_told (D.faults doors.new) (D.tally doors.new) (D.tries doors.new) (D.returned doors.new) (D.returned_doors doors.new))) }
 {
     let (ports, links) = kept.into_parts();
     let traffic = wires_back(alloc, doors, links)?;
@@ -44,8 +44,8 @@ fn wires_back<D: Doors>(
 ) -> Result<Items<Traffic>, AllocError>
     ensures traffic { IfOk result (λ traffic. traffic ≡ map traffic_of links.items) }
     ensures doors { OnOk result (GivesWires (map wire_of links.items)
-        (doors_told (D.faults doors.old) (D.tally doors.old) (D.locations doors.old) (D.returned doors.old) (D.returned_doors doors.old))
-        (doors_told (D.faults doors.new) (D.tally doors.new) (D.locations doors.new) (D.returned doors.new) (D.returned_doors doors.new))) }
+        (doors_told (D.faults doors.old) (D.tally doors.old) (D.tries doors.old) (D.returned doors.old) (D.returned_doors doors.old))
+        (doors_told (D.faults doors.new) (D.tally doors.new) (D.tries doors.new) (D.returned doors.new) (D.returned_doors doors.new))) }
 {
     let mut traffic = Items::new(alloc);
     for link in links {
@@ -59,8 +59,8 @@ fn wires_back<D: Doors>(
 fn wire_back<D: Doors>(doors: &mut D, link: Link<<D::D as Door>::W>) -> Traffic
     ensures traffic { result ≡ traffic_of link }
     ensures doors { GivesWires (wire_of link ∷ [])
-        (doors_told (D.faults doors.old) (D.tally doors.old) (D.locations doors.old) (D.returned doors.old) (D.returned_doors doors.old))
-        (doors_told (D.faults doors.new) (D.tally doors.new) (D.locations doors.new) (D.returned doors.new) (D.returned_doors doors.new)) }
+        (doors_told (D.faults doors.old) (D.tally doors.old) (D.tries doors.old) (D.returned doors.old) (D.returned_doors doors.old))
+        (doors_told (D.faults doors.new) (D.tally doors.new) (D.tries doors.new) (D.returned doors.new) (D.returned_doors doors.new)) }
 {
     let (wire, read, written) = link.into_parts();
     doors.wire_back(wire);
@@ -74,8 +74,8 @@ fn wire_back<D: Doors>(doors: &mut D, link: Link<<D::D as Door>::W>) -> Traffic
 fn doors_back<D: Doors>(doors: &mut D, ports: Vec<Port<D::D>>) -> bool
     ensures failed { result ≡ list_any has_failed (map door_of ports.items) }
     ensures doors { GivesDoors (map door_of ports.items)
-        (doors_told (D.faults doors.old) (D.tally doors.old) (D.locations doors.old) (D.returned doors.old) (D.returned_doors doors.old))
-        (doors_told (D.faults doors.new) (D.tally doors.new) (D.locations doors.new) (D.returned doors.new) (D.returned_doors doors.new)) }
+        (doors_told (D.faults doors.old) (D.tally doors.old) (D.tries doors.old) (D.returned doors.old) (D.returned_doors doors.old))
+        (doors_told (D.faults doors.new) (D.tally doors.new) (D.tries doors.new) (D.returned doors.new) (D.returned_doors doors.new)) }
 {
     let mut failed = false;
     for port in ports {
@@ -88,8 +88,8 @@ fn doors_back<D: Doors>(doors: &mut D, ports: Vec<Port<D::D>>) -> bool
 fn door_back<D: Doors>(doors: &mut D, port: Port<D::D>) -> bool
     ensures failed { result ≡ has_failed port.door }
     ensures doors { GivesDoors (port.door ∷ [])
-        (doors_told (D.faults doors.old) (D.tally doors.old) (D.locations doors.old) (D.returned doors.old) (D.returned_doors doors.old))
-        (doors_told (D.faults doors.new) (D.tally doors.new) (D.locations doors.new) (D.returned doors.new) (D.returned_doors doors.new)) }
+        (doors_told (D.faults doors.old) (D.tally doors.old) (D.tries doors.old) (D.returned doors.old) (D.returned_doors doors.old))
+        (doors_told (D.faults doors.new) (D.tally doors.new) (D.tries doors.new) (D.returned doors.new) (D.returned_doors doors.new)) }
 {
     let failed = port.failed();
     doors.door_back(port.into_door());

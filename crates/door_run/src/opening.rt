@@ -25,8 +25,8 @@ pub(crate) fn open_doors<D: Doors>(
     doors: &mut D,
 ) -> Result<Opening<D::D>, AllocError>
     ensures { IfOk result (λ opening. Opens (doors_of (parts_of program.now))
-        (opened_by (doors_told (D.faults doors.old) (D.tally doors.old) (D.locations doors.old) (D.returned doors.old) (D.returned_doors doors.old)) [] false)
-        (opened_by (doors_told (D.faults doors.new) (D.tally doors.new) (D.locations doors.new) (D.returned doors.new) (D.returned_doors doors.new)) opening.ports.items opening.failed)) }
+        (opened_by (doors_told (D.faults doors.old) (D.tally doors.old) (D.tries doors.old) (D.returned doors.old) (D.returned_doors doors.old)) [] false)
+        (opened_by (doors_told (D.faults doors.new) (D.tally doors.new) (D.tries doors.new) (D.returned doors.new) (D.returned_doors doors.new)) opening.ports.items opening.failed)) }
 {
     let mut opening = Opening {
         ports: Vec::new(alloc),
@@ -47,8 +47,8 @@ fn open_service<D: Doors>(
     opening: &mut Opening<D::D>,
 ) -> Result<(), AllocError>
     ensures { OnOk result (Opens (doors_at number (map port_view service.now.ports.items))
-        (opened_by (doors_told (D.faults doors.old) (D.tally doors.old) (D.locations doors.old) (D.returned doors.old) (D.returned_doors doors.old)) opening.old.ports.items opening.old.failed)
-        (opened_by (doors_told (D.faults doors.new) (D.tally doors.new) (D.locations doors.new) (D.returned doors.new) (D.returned_doors doors.new)) opening.new.ports.items opening.new.failed)) }
+        (opened_by (doors_told (D.faults doors.old) (D.tally doors.old) (D.tries doors.old) (D.returned doors.old) (D.returned_doors doors.old)) opening.old.ports.items opening.old.failed)
+        (opened_by (doors_told (D.faults doors.new) (D.tally doors.new) (D.tries doors.new) (D.returned doors.new) (D.returned_doors doors.new)) opening.new.ports.items opening.new.failed)) }
 {
     for port in &service.ports {
         open_port(doors, number, port, opening)?;
@@ -64,8 +64,8 @@ fn open_port<D: Doors>(
     opening: &mut Opening<D::D>,
 ) -> Result<(), AllocError>
     ensures { OnOk result (Opens (doors_at number (port_view port.now ∷ []))
-        (opened_by (doors_told (D.faults doors.old) (D.tally doors.old) (D.locations doors.old) (D.returned doors.old) (D.returned_doors doors.old)) opening.old.ports.items opening.old.failed)
-        (opened_by (doors_told (D.faults doors.new) (D.tally doors.new) (D.locations doors.new) (D.returned doors.new) (D.returned_doors doors.new)) opening.new.ports.items opening.new.failed)) }
+        (opened_by (doors_told (D.faults doors.old) (D.tally doors.old) (D.tries doors.old) (D.returned doors.old) (D.returned_doors doors.old)) opening.old.ports.items opening.old.failed)
+        (opened_by (doors_told (D.faults doors.new) (D.tally doors.new) (D.tries doors.new) (D.returned doors.new) (D.returned_doors doors.new)) opening.new.ports.items opening.new.failed)) }
 {
     if !is_door(port) {
         return Ok(());
@@ -81,8 +81,8 @@ fn open_at<D: Doors>(
     opening: &mut Opening<D::D>,
 ) -> Result<(), AllocError>
     ensures { OnOk result (Opens (record { service = number; location = location.now } ∷ [])
-        (opened_by (doors_told (D.faults doors.old) (D.tally doors.old) (D.locations doors.old) (D.returned doors.old) (D.returned_doors doors.old)) opening.old.ports.items opening.old.failed)
-        (opened_by (doors_told (D.faults doors.new) (D.tally doors.new) (D.locations doors.new) (D.returned doors.new) (D.returned_doors doors.new)) opening.new.ports.items opening.new.failed)) }
+        (opened_by (doors_told (D.faults doors.old) (D.tally doors.old) (D.tries doors.old) (D.returned doors.old) (D.returned_doors doors.old)) opening.old.ports.items opening.old.failed)
+        (opened_by (doors_told (D.faults doors.new) (D.tally doors.new) (D.tries doors.new) (D.returned doors.new) (D.returned_doors doors.new)) opening.new.ports.items opening.new.failed)) }
 {
     match doors.open(location) {
         Ok(door) => opening.ports.push(Port::new(number, door))?,

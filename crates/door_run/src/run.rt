@@ -42,8 +42,8 @@ pub fn run_doors<S: Seating, D: Doors, N: Sink, L: Link>(
     ensures doored { IfOk result (IsDoored
         (λ line. (wire : D.D.W) × (line ≡ line_of (D.D.W.given wire) (D.D.W.left wire) (D.D.W.taken wire) (failures_of (D.D.W.faults wire) (D.D.W.cut wire)) (D.D.W.closed wire)))
         (task (parts_of program) text.now budget connections)
-        (outside (doors_told (D.faults doors.old) (D.tally doors.old) (D.locations doors.old) (D.returned doors.old) (D.returned_doors doors.old)) (taking (N.taken notes.old) (N.faults notes.old)))
-        (outside (doors_told (D.faults doors.new) (D.tally doors.new) (D.locations doors.new) (D.returned doors.new) (D.returned_doors doors.new)) (taking (N.taken notes.new) (N.faults notes.new)))) }
+        (outside (doors_told (D.faults doors.old) (D.tally doors.old) (D.tries doors.old) (D.returned doors.old) (D.returned_doors doors.old)) (taking (N.taken notes.old) (N.faults notes.old)))
+        (outside (doors_told (D.faults doors.new) (D.tally doors.new) (D.tries doors.new) (D.returned doors.new) (D.returned_doors doors.new)) (taking (N.taken notes.new) (N.faults notes.new)))) }
     ensures travelled { IfOk result (λ ended. Travelled (run_of (parts_of program)) ended.report.history.entries.items (trips_told (L.trips link.old) (L.faults link.old)) (trips_told (L.trips link.new) (L.faults link.new))) }
 {
     let Opening { ports, failed } = open_doors(alloc, &program, doors)?;

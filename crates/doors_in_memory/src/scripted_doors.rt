@@ -1,13 +1,13 @@
-ghost use Rattle.std.specs.Prelude.{◌≡◌, ◌++◌, [], ◌∷◌, Some, None, IfOk, IfSome, OnErr, OnOk, drop};
+ghost use Rattle.std.specs.Prelude.{◌≡◌, ◌++◌, [], ◌∷◌, Some, None, IfOk, IfSome, OnErr, OnOk, drop, is_ok};
 ghost use Rattle.outside_traits.specs.Causes.{HasCause};
 ghost use Rattle.outside_doors.specs.Counts.{untried, with_opened};
 ghost use Rattle.doors_in_memory.specs.Memory.{Opens};
 ghost use Rattle.outside_traits.specs.Told.{Lists};
-ghost use Rattle.outside_doors.specs.Returns.{no_book};
+ghost use Rattle.outside_doors.specs.Returns.{no_book, try_told};
 
 use crate::queue::Queue;
 use crate::scripted_door::ScriptedDoor;
-use outside_doors::{Book, CountedWire, Counts, DoorCounts, Doors, Location, Return};
+use outside_doors::{Book, CountedWire, Counts, DoorCounts, Doors, Return, Try};
 use outside_traits::{Failed, ScriptedWire};
 use std::alloc::{AllocError, Global};
 use std::marker::Model;
@@ -74,11 +74,11 @@ impl ScriptedDoors {
         self.book.faults()
     }
 
-    /// The locations that were opened in order: all, where they are told.
-    pub fn locations(&self) -> &[Location]
-        ensures { IfSome self.now.book.locations (λ locations. result.now ≡ locations) }
+    /// The tries to open a door in order: all, where they are told.
+    pub fn tries(&self) -> &[Try]
+        ensures { IfSome self.now.book.tries (λ tries. result.now ≡ tries) }
     {
-        self.book.locations()
+        self.book.tries()
     }
 
     /// The wires that came back in order: all, where they are told.
@@ -103,7 +103,7 @@ impl Doors for ScriptedDoors {
 
     ghost tally = { λ d. d.book.tally };
 
-    ghost locations = { λ d. d.book.locations };
+    ghost tries = { λ d. d.book.tries };
 
     ghost returned = { λ d. d.book.wires };
 
@@ -115,8 +115,7 @@ impl Doors for ScriptedDoors {
         ensures untried { IfOk result (λ door. door.told ≡ untried self.old.book.tally.opened) }
         ensures opened { IfOk result (λ _. self.new.book.tally ≡ with_opened self.old.book.tally) }
         ensures unopened { OnErr result (self.new.book.tally ≡ self.old.book.tally) }
-        ensures listed { IfOk result (λ _. Lists self.old.book.locations self.new.book.locations (location.now ∷ [])) }
-        ensures unlisted { OnErr result (self.new.book.locations ≡ self.old.book.locations) }
+        ensures listed { Lists self.old.book.tries self.new.book.tries (try_told location.now (is_ok result) ∷ []) }
         ensures returned { self.new.book.wires ≡ self.old.book.wires }
         ensures returned_doors { self.new.book.doors ≡ self.old.book.doors }
         ensures cause { HasCause self.old.book.faults self.new.book.faults result }
@@ -126,7 +125,7 @@ impl Doors for ScriptedDoors {
             None => ScriptedDoor::new(self.alloc),
             Some(Some(door)) => door,
             Some(None) => {
-                self.book.fail();
+                self.book.fail(location);
                 return Err(Failed);
             }
         };

@@ -2,12 +2,12 @@
 
 use crate::peers::Calling;
 use crate::served::Meeting;
-use outside_doors::Return;
+use outside_doors::{Return, Try};
 use outside_traits::ScriptedWire;
 use std::alloc::{AllocError, Global};
 
-/// The status and the notes, what the doors count, and a line for each connection with what was written on it. Then the
-/// lines that were written, and what was written to the last peer.
+/// The status and the notes, what the doors count and where none could be opened, and a line for each connection with
+/// what was written on it. Then the lines that were written, and what was written to the last peer.
 pub fn told(alloc: Global, status: u8, world: &Meeting) -> Result<String, AllocError> {
     let noted = text_of(world.notes.bytes());
     let mut said = format!(in alloc; "status {status}, notes {noted:?}\n")?;
@@ -22,6 +22,7 @@ pub fn told(alloc: Global, status: u8, world: &Meeting) -> Result<String, AllocE
         "doors {opened} back {back}, wires {wires} failed {failed} cut {cut} ended {ended}"
     )?;
     said.push_str(counted.as_str())?;
+    tell_unopened(world.doors.tries(), &mut said)?;
     for wire in world.doors.returned() {
         tell_wire(wire, &mut said)?;
     }
@@ -30,6 +31,17 @@ pub fn told(alloc: Global, status: u8, world: &Meeting) -> Result<String, AllocE
         tell_peer(link, &mut said)?;
     }
     Ok(said)
+}
+
+/// Where no door could be opened.
+fn tell_unopened(tries: &[Try], said: &mut String) -> Result<(), AllocError> {
+    for made in tries {
+        if !made.was_opened() {
+            said.push_str(", none at ")?;
+            said.push_str(made.location())?;
+        }
+    }
+    Ok(())
 }
 
 fn tell_peer(link: &Calling, said: &mut String) -> Result<(), AllocError> {

@@ -1,7 +1,16 @@
--- What is told of the locations that were opened and of the wires that came back, and what doors keep of these and of
--- the doors that came back.
+-- What is told of the tries to open a door and of the wires that came back, and what doors keep of these and of the
+-- doors that came back.
 use Rattle.std.specs.Prelude.{ℕ, Bool, false, List, [], Option, Some}
 use Rattle.outside_doors.specs.Counts.{DoorTold, Tally, no_tally}
+
+-- a try to open a door: where, and whether it was opened
+pub record TryTold : Type 0 where
+  pub location : List ℕ
+  pub opened : Bool
+
+-- the same by its parts
+abbrev pub try_told : List ℕ → Bool → TryTold
+try_told location opened = record { location = location; opened = opened }
 
 -- a wire that came back: the bytes that were read and those that were written, each where the wire tells them; its
 -- count of faults; whether a write had failed before it was closed; and whether a read had told the end of what comes
@@ -30,15 +39,15 @@ pub record Counted (W : Type 0) : Type 0 where
 abbrev pub counted : {W : Type 0} → W → Counted W
 counted wire = record { wire = wire; faults = 0; cut = false; ended = false }
 
--- What doors keep: their counts, how often one of their calls has failed, and, while there is room for them, the
--- locations opened, the wires that came back, and what each door told that came back.
+-- What doors keep: their counts, how often one of their calls has failed, and, while there is room for them, the tries
+-- to open a door, the wires that came back, and what each door told that came back.
 pub record BookTold : Type 0 where
   pub tally : Tally
   pub faults : ℕ
-  pub locations : Option (List (List ℕ))
+  pub tries : Option (List TryTold)
   pub wires : Option (List WireTold)
   pub doors : Option (List DoorTold)
 
 -- before anything was opened
 abbrev pub no_book : BookTold
-no_book = record { tally = no_tally; faults = 0; locations = Some []; wires = Some []; doors = Some [] }
+no_book = record { tally = no_tally; faults = 0; tries = Some []; wires = Some []; doors = Some [] }

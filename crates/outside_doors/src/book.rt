@@ -1,23 +1,23 @@
 //! What doors keep of what was opened and of what came back.
-ghost use Rattle.std.specs.Prelude.{◌≡◌, ◌≤◌, ◌==◌, [], ◌∷◌, not, IfSome};
+ghost use Rattle.std.specs.Prelude.{◌≡◌, ◌≤◌, ◌==◌, [], ◌∷◌, true, false, not, IfSome};
 ghost use Rattle.outside_traits.specs.Causes.{Rose};
 ghost use Rattle.outside_doors.specs.Counts.{added, added_if, with_door, with_opened, with_wire};
 ghost use Rattle.outside_traits.specs.Told.{Lists};
-ghost use Rattle.outside_doors.specs.Returns.{no_book, wire_told};
+ghost use Rattle.outside_doors.specs.Returns.{no_book, try_told, wire_told};
 
 use crate::counted_wire::CountedWire;
 use crate::counts::{Counts, DoorCounts};
-use crate::returns::{Location, Locations, Return, ReturnedDoors, Returns};
+use crate::returns::{Return, ReturnedDoors, Returns, Tries, Try};
 use outside_traits::Wire;
 use std::alloc::{AllocError, Global};
 use std::marker::Model;
 
-/// What doors tell: their counts, how often a call has failed, the locations that were opened, and the wires and doors that came back.
+/// What doors tell: their counts, how often a call has failed, the tries to open a door, and the wires and doors that came back.
 #[derive(Drop)]
 pub struct Book<W: Wire + Drop> {
     counts: Counts,
     faults: u64,
-    locations: Locations,
+    tries: Tries,
     returns: Returns<W>,
     doors: ReturnedDoors,
 }
@@ -27,7 +27,7 @@ impl<W: Wire + Drop> Model for Book<W> {
 
     ghost Value = { BookTold };
 
-    ghost view = { λ b. record { tally = b.counts; faults = b.faults; locations = b.locations; wires = b.returns; doors = b.doors } };
+    ghost view = { λ b. record { tally = b.counts; faults = b.faults; tries = b.tries; wires = b.returns; doors = b.doors } };
 }
 
 impl<W: Wire + Drop> Book<W> {
@@ -38,7 +38,7 @@ impl<W: Wire + Drop> Book<W> {
         Book {
             counts: Counts::new(),
             faults: 0,
-            locations: Locations::new(alloc),
+            tries: Tries::new(alloc),
             returns: Returns::new(alloc),
             doors: ReturnedDoors::new(alloc),
         }
@@ -51,32 +51,37 @@ impl<W: Wire + Drop> Book<W> {
         self.returns.reserve(more)
     }
 
-    /// A door was opened.
+    /// A door was opened there.
     pub fn open(&mut self, location: &str)
         ensures tally { self.new.tally ≡ with_opened self.old.tally }
         ensures faults { self.new.faults ≡ self.old.faults }
-        ensures locations { Lists self.old.locations self.new.locations (location.now ∷ []) }
+        ensures tries { Lists self.old.tries self.new.tries (try_told location.now true ∷ []) }
         ensures wires { self.new.wires ≡ self.old.wires }
         ensures doors { self.new.doors ≡ self.old.doors }
     {
         self.counts.add_opened();
-        self.locations.keep(location);
+        self.tries.keep(location, true);
     }
 
-    /// A door could not be opened.
-    pub fn fail(&mut self)
-        ensures faults { self.new ≡ record self.old { faults = added self.old.faults 1 } }
+    /// A door could not be opened there.
+    pub fn fail(&mut self, location: &str)
+        ensures tally { self.new.tally ≡ self.old.tally }
+        ensures faults { self.new.faults ≡ added self.old.faults 1 }
         ensures rose { Rose self.old.faults self.new.faults }
         ensures later { self.old.faults ≤ self.new.faults }
+        ensures tries { Lists self.old.tries self.new.tries (try_told location.now false ∷ []) }
+        ensures wires { self.new.wires ≡ self.old.wires }
+        ensures doors { self.new.doors ≡ self.old.doors }
     {
         self.faults = self.faults.saturating_add(1);
+        self.tries.keep(location, false);
     }
 
     /// A wire came back.
     pub fn wire_back(&mut self, wire: CountedWire<W>)
         ensures tally { self.new.tally ≡ with_wire wire.faults wire.cut wire.ended self.old.tally }
         ensures faults { self.new.faults ≡ self.old.faults }
-        ensures locations { self.new.locations ≡ self.old.locations }
+        ensures tries { self.new.tries ≡ self.old.tries }
         ensures wires { Lists self.old.wires self.new.wires (wire_told (W.given wire.wire) (W.taken wire.wire) wire.faults wire.cut wire.ended ∷ []) }
         ensures doors { self.new.doors ≡ self.old.doors }
     {
@@ -89,7 +94,7 @@ impl<W: Wire + Drop> Book<W> {
     pub fn door_back(&mut self, door: &DoorCounts)
         ensures tally { self.new.tally ≡ with_door door.now self.old.tally }
         ensures faults { self.new.faults ≡ added_if (not (door.now.faults == 0)) self.old.faults }
-        ensures locations { self.new.locations ≡ self.old.locations }
+        ensures tries { self.new.tries ≡ self.old.tries }
         ensures wires { self.new.wires ≡ self.old.wires }
         ensures doors { Lists self.old.doors self.new.doors (door.now ∷ []) }
     {
@@ -114,11 +119,11 @@ impl<W: Wire + Drop> Book<W> {
         self.faults
     }
 
-    /// The locations that were opened in order: all, where they are told.
-    pub fn locations(&self) -> &[Location]
-        ensures { IfSome self.now.locations (λ locations. result.now ≡ locations) }
+    /// The tries to open a door in order: all, where they are told.
+    pub fn tries(&self) -> &[Try]
+        ensures { IfSome self.now.tries (λ tries. result.now ≡ tries) }
     {
-        self.locations.kept()
+        self.tries.kept()
     }
 
     /// The wires that came back in order: all, where they are told.

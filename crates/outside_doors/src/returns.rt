@@ -1,7 +1,7 @@
-//! What is kept of the locations that were opened and of the wires and doors that came back.
+//! What is kept of the tries to open a door and of the wires and doors that came back.
 ghost use Rattle.std.specs.Prelude.{◌≡◌, [], ◌∷◌, Some, true, IfOk, IfSome};
 ghost use Rattle.outside_traits.specs.Told.{Lists};
-ghost use Rattle.outside_doors.specs.Returns.{wire_told};
+ghost use Rattle.outside_doors.specs.Returns.{try_told, wire_told};
 
 use crate::counted_wire::CountedWire;
 use crate::counts::DoorCounts;
@@ -9,84 +9,95 @@ use outside_traits::Wire;
 use std::alloc::{AllocError, Global};
 use std::marker::Model;
 
-/// A location that was opened.
+/// A try to open a door.
 #[derive(Drop)]
-pub struct Location {
-    text: String,
+pub struct Try {
+    location: String,
+    opened: bool,
 }
 
-impl Model for Location {
-    ghost use Rattle.std.specs.Prelude.{List, ℕ, string_bytes};
+impl Model for Try {
+    ghost use Rattle.std.specs.Prelude.{string_bytes};
+    ghost use Rattle.outside_doors.specs.Returns.{TryTold};
 
-    ghost Value = { List ℕ };
+    ghost Value = { TryTold };
 
-    ghost view = { λ l. string_bytes l.text };
+    ghost view = { λ t. record { location = string_bytes t.location; opened = t.opened } };
 }
 
-impl Location {
-    fn new(alloc: Global, text: &str) -> Result<Location, AllocError>
-        ensures { IfOk result (λ location. location ≡ text.now) }
+impl Try {
+    fn new(alloc: Global, location: &str, opened: bool) -> Result<Try, AllocError>
+        ensures { IfOk result (λ made. made ≡ try_told location.now opened) }
     {
-        let text = String::from_str(alloc, text)?;
-        Ok(Location { text })
+        let location = String::from_str(alloc, location)?;
+        Ok(Try { location, opened })
     }
 
-    pub fn as_str(&self) -> &str
-        ensures { result.now ≡ self.now }
+    /// Where it was.
+    pub fn location(&self) -> &str
+        ensures { result.now ≡ self.now.location }
     {
-        self.text.as_str()
+        self.location.as_str()
+    }
+
+    /// Whether the door was opened.
+    pub fn was_opened(&self) -> bool
+        ensures { result ≡ self.now.opened }
+    {
+        self.opened
     }
 }
 
-/// The locations that were opened in order, which are kept for as long as there is memory for it.
+/// The tries to open a door in order, which are kept for as long as there is memory for it.
 #[derive(Drop)]
-pub struct Locations {
+pub struct Tries {
     alloc: Global,
-    kept: Vec<Location>,
+    kept: Vec<Try>,
     is_whole: bool,
 }
 
-impl Model for Locations {
-    ghost use Rattle.std.specs.Prelude.{Option, None, Some, List, ℕ, if◌then◌else◌};
+impl Model for Tries {
+    ghost use Rattle.std.specs.Prelude.{Option, None, Some, List, if◌then◌else◌};
+    ghost use Rattle.outside_doors.specs.Returns.{TryTold};
 
-    ghost Value = { Option (List (List ℕ)) };
+    ghost Value = { Option (List TryTold) };
 
-    ghost view = { λ l. if l.is_whole then Some l.kept.items else None };
+    ghost view = { λ t. if t.is_whole then Some t.kept.items else None };
 }
 
-impl Locations {
-    /// Those before one was opened.
-    pub fn new(alloc: Global) -> Locations
+impl Tries {
+    /// Those before the first.
+    pub fn new(alloc: Global) -> Tries
         ensures { result ≡ Some [] }
     {
-        Locations {
+        Tries {
             alloc,
             kept: Vec::new(alloc),
             is_whole: true,
         }
     }
 
-    /// Keeps one more location.
-    pub fn keep(&mut self, text: &str)
-        ensures { Lists self.old self.new (text.now ∷ []) }
+    /// Keeps one more try, at this location.
+    pub fn keep(&mut self, location: &str, opened: bool)
+        ensures { Lists self.old self.new (try_told location.now opened ∷ []) }
     {
-        match Location::new(self.alloc, text) {
-            Ok(location) => self.push(location),
+        match Try::new(self.alloc, location, opened) {
+            Ok(made) => self.push(made),
             Err(AllocError) => self.is_whole = false,
         }
     }
 
-    fn push(&mut self, location: Location)
-        ensures { Lists self.old self.new (location ∷ []) }
+    fn push(&mut self, made: Try)
+        ensures { Lists self.old self.new (made ∷ []) }
     {
-        if self.kept.push(location).is_err() {
+        if self.kept.push(made).is_err() {
             self.is_whole = false;
         }
     }
 
-    /// The locations that were kept: all, where they are told.
-    pub fn kept(&self) -> &[Location]
-        ensures { IfSome self.now (λ locations. result.now ≡ locations) }
+    /// The tries that were kept: all, where they are told.
+    pub fn kept(&self) -> &[Try]
+        ensures { IfSome self.now (λ tries. result.now ≡ tries) }
     {
         self.kept.as_slice()
     }

@@ -1,10 +1,10 @@
-ghost use Rattle.std.specs.Prelude.{◌≡◌, ◌<◌, ℕ, false, List, [], ◌∷◌, Ok, IsTrue, IfOk, OnErr};
+ghost use Rattle.std.specs.Prelude.{◌≡◌, ◌<◌, ℕ, false, List, [], ◌∷◌, Ok, IsTrue, IfOk, OnErr, is_ok};
 ghost use Rattle.std.specs.declared.option.Option.{Option};
 ghost use Rattle.outside_traits.specs.Causes.{HasCause, Rose};
 ghost use Rattle.outside_doors.specs.Counts.{DoorTold, Tally, rested, untried, with_door, with_opened, with_wire};
 ghost use Rattle.outside_doors.specs.Knocks.{IfCame, IsFresh, closed_after, waits_after, wires_after};
 ghost use Rattle.outside_traits.specs.Told.{Lists};
-ghost use Rattle.outside_doors.specs.Returns.{WireTold, wire_told};
+ghost use Rattle.outside_doors.specs.Returns.{TryTold, WireTold, try_told, wire_told};
 
 use outside_traits::{Failed, Wire};
 
@@ -51,8 +51,8 @@ pub trait Doors {
     /// What is counted of what was opened and of what came back.
     ghost tally: { Self → Tally };
 
-    /// The locations that were opened in order, where they are told.
-    ghost locations: { Self → Option (List (List ℕ)) };
+    /// The tries to open a door in order, where they are told.
+    ghost tries: { Self → Option (List TryTold) };
 
     /// The wires that came back in order, where they are told.
     ghost returned: { Self → Option (List WireTold) };
@@ -65,8 +65,7 @@ pub trait Doors {
         ensures untried { IfOk result (λ door. Self.D.told door ≡ untried (tally self.old).opened) }
         ensures opened { IfOk result (λ _. tally self.new ≡ with_opened (tally self.old)) }
         ensures unopened { OnErr result (tally self.new ≡ tally self.old) }
-        ensures listed { IfOk result (λ _. Lists (locations self.old) (locations self.new) (location.now ∷ [])) }
-        ensures unlisted { OnErr result (locations self.new ≡ locations self.old) }
+        ensures listed { Lists (tries self.old) (tries self.new) (try_told location.now (is_ok result) ∷ []) }
         ensures returned { returned self.new ≡ returned self.old }
         ensures returned_doors { returned_doors self.new ≡ returned_doors self.old }
         ensures cause { HasCause (faults self.old) (faults self.new) result };
@@ -76,14 +75,14 @@ pub trait Doors {
         ensures tally { tally self.new ≡ with_wire (Self.D.W.faults wire) (Self.D.W.cut wire) (Self.D.W.ended wire) (tally self.old) }
         ensures listed { Lists (returned self.old) (returned self.new) (wire_told (Self.D.W.given wire) (Self.D.W.taken wire) (Self.D.W.faults wire) (Self.D.W.cut wire) (Self.D.W.ended wire) ∷ []) }
         ensures returned_doors { returned_doors self.new ≡ returned_doors self.old }
-        ensures locations { locations self.new ≡ locations self.old }
+        ensures tries { tries self.new ≡ tries self.old }
         ensures faults { faults self.new ≡ faults self.old };
 
     /// Takes a door that its user is through with, and closes it.
     fn door_back(&mut self, door: Self::D)
         ensures tally { tally self.new ≡ with_door (Self.D.told door) (tally self.old) }
         ensures listed { Lists (returned_doors self.old) (returned_doors self.new) (Self.D.told door ∷ []) }
-        ensures locations { locations self.new ≡ locations self.old }
+        ensures tries { tries self.new ≡ tries self.old }
         ensures returned { returned self.new ≡ returned self.old }
         ensures raised { 0 < (Self.D.told door).faults → Rose (faults self.old) (faults self.new) }
         ensures calm { (Self.D.told door).faults ≡ 0 → faults self.new ≡ faults self.old };

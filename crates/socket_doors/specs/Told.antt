@@ -1,5 +1,5 @@
--- What a contract sees of doors over sockets. They tell what they count, the locations that were opened, and what each
--- door counted that came back, but not the wires.
+-- What a contract sees of doors over sockets. They tell what they count, the tries to open a door, and what each door
+-- counted that came back, but not the wires.
 use Rattle.std.specs.Prelude.{None}
 use Rattle.outside_doors.specs.Returns.{BookTold, no_book}
 

@@ -1,14 +1,15 @@
-ghost use Rattle.std.specs.Prelude.{◌≡◌, ◌∷◌, [], None, IfOk, OnErr, IfSome, IsTrue};
+ghost use Rattle.std.specs.Prelude.{◌≡◌, ◌∷◌, [], None, IfOk, OnErr, IfSome, IsTrue, is_ok};
 ghost use Rattle.outside_traits.specs.Causes.{HasCause};
 ghost use Rattle.outside_doors.specs.Counts.{untried, with_opened};
 ghost use Rattle.outside_traits.specs.Told.{Lists};
+ghost use Rattle.outside_doors.specs.Returns.{try_told};
 ghost use Rattle.outside_sockets.specs.Locations.{is_of_socket};
 ghost use Rattle.socket_doors.specs.Told.{untold_book};
 
 use crate::patience::Patience;
 use crate::patient_stream::PatientStream;
 use crate::socket_door::SocketDoor;
-use outside_doors::{Counts, DoorCounts, Doors, Location, Locations, ReturnedDoors};
+use outside_doors::{Counts, DoorCounts, Doors, ReturnedDoors, Tries, Try};
 use outside_sockets::{SocketWire, address_of};
 use outside_traits::{Failed, Wire};
 use std::alloc::Global;
@@ -16,14 +17,14 @@ use std::marker::Model;
 use std::net::{Net, OpenListener, TcpListener};
 use std::rt::Clock;
 
-/// Doors over the TCP sockets of the system. They tell what they count, and for as long as there is memory to keep it the locations that were opened and what each door counted that came back. They do not tell the wires: to tell these they would have to keep them, and they have no end.
+/// Doors over the TCP sockets of the system. They tell what they count, and for as long as there is memory to keep it the tries to open a door and what each door counted that came back. They do not tell the wires.
 #[derive(Drop)]
 pub struct SocketDoors<H: Net + Clock + Copy + Drop> {
     host: H,
     patience: Patience,
     counts: Counts,
     faults: u64,
-    locations: Locations,
+    tries: Tries,
     returned_doors: ReturnedDoors,
 }
 
@@ -33,7 +34,7 @@ impl<H: Net + Clock + Copy + Drop> Model for SocketDoors<H> {
 
     ghost Value = { BookTold };
 
-    ghost view = { λ d. record { tally = d.counts; faults = d.faults; locations = d.locations; wires = None; doors = d.returned_doors } };
+    ghost view = { λ d. record { tally = d.counts; faults = d.faults; tries = d.tries; wires = None; doors = d.returned_doors } };
 }
 
 impl<H: Net + Clock + Copy + Drop> SocketDoors<H> {
@@ -46,7 +47,7 @@ impl<H: Net + Clock + Copy + Drop> SocketDoors<H> {
             patience,
             counts: Counts::new(),
             faults: 0,
-            locations: Locations::new(alloc),
+            tries: Tries::new(alloc),
             returned_doors: ReturnedDoors::new(alloc),
         }
     }
@@ -65,11 +66,11 @@ impl<H: Net + Clock + Copy + Drop> SocketDoors<H> {
         self.faults
     }
 
-    /// The locations that were opened in order: all, where they are told.
-    pub fn locations(&self) -> &[Location]
-        ensures { IfSome self.now.locations (λ locations. result.now ≡ locations) }
+    /// The tries to open a door in order: all, where they are told.
+    pub fn tries(&self) -> &[Try]
+        ensures { IfSome self.now.tries (λ tries. result.now ≡ tries) }
     {
-        self.locations.kept()
+        self.tries.kept()
     }
 
     /// What each door counted that came back, in order: all, where they are told.
@@ -87,7 +88,7 @@ impl<H: Net + Clock + Copy + Drop> Doors for SocketDoors<H> {
 
     ghost tally = { λ d. d.tally };
 
-    ghost locations = { λ d. d.locations };
+    ghost tries = { λ d. d.tries };
 
     ghost returned = { λ d. d.wires };
 
@@ -99,8 +100,7 @@ impl<H: Net + Clock + Copy + Drop> Doors for SocketDoors<H> {
         ensures untried { IfOk result (λ door. door.counts ≡ untried self.old.tally.opened) }
         ensures opened { IfOk result (λ _. self.new.tally ≡ with_opened self.old.tally) }
         ensures unopened { OnErr result (self.new.tally ≡ self.old.tally) }
-        ensures listed { IfOk result (λ _. Lists self.old.locations self.new.locations (location.now ∷ [])) }
-        ensures unlisted { OnErr result (self.new.locations ≡ self.old.locations) }
+        ensures listed { Lists self.old.tries self.new.tries (try_told location.now (is_ok result) ∷ []) }
         ensures returned { self.new.wires ≡ self.old.wires }
         ensures returned_doors { self.new.doors ≡ self.old.doors }
         ensures cause { HasCause self.old.faults self.new.faults result }
@@ -109,11 +109,12 @@ impl<H: Net + Clock + Copy + Drop> Doors for SocketDoors<H> {
             Some(listener) => {
                 let place = self.counts.opened();
                 self.counts.add_opened();
-                self.locations.keep(location);
+                self.tries.keep(location, true);
                 Ok(SocketDoor::new(self.host, listener, self.patience, place))
             }
             None => {
                 self.faults = self.faults.saturating_add(1);
+                self.tries.keep(location, false);
                 Err(Failed)
             }
         }

@@ -1,6 +1,6 @@
 //! The doors of a row.
 
-use crate::doors::told::{tell_calm, tell_counts, tell_doors, tell_locations, tell_scripted};
+use crate::doors::told::{tell_calm, tell_counts, tell_doors, tell_scripted, tell_tries};
 use crate::doors::visits::visit_all;
 use doors_in_memory::{CalmDoor, CalmDoors, ScriptedDoor, ScriptedDoors};
 use outside_doors::Doors;
@@ -42,14 +42,14 @@ fn visit_row<D: Doors>(
     doors: &mut D,
     said: &mut String,
 ) -> Result<(), TableError> {
-    let tries = row.number(alloc, "tries")?;
+    let knocks = row.number(alloc, "knocks")?;
     let locations = row.text(alloc, "opens")?;
-    Ok(visit_all(doors, locations.as_str(), tries, said)?)
+    Ok(visit_all(doors, locations.as_str(), knocks, said)?)
 }
 
 fn told_calm(alloc: Global, doors: &CalmDoors, said: &mut String) -> Result<(), AllocError> {
     tell_counts(alloc, doors.counts(), doors.faults(), said)?;
-    tell_locations(doors.locations(), said)?;
+    tell_tries(doors.tries(), said)?;
     tell_doors(alloc, doors.returned_doors(), said)?;
     tell_calm(alloc, doors.returned(), said)
 }
@@ -60,7 +60,7 @@ fn told_scripted(
     said: &mut String,
 ) -> Result<(), AllocError> {
     tell_counts(alloc, doors.counts(), doors.faults(), said)?;
-    tell_locations(doors.locations(), said)?;
+    tell_tries(doors.tries(), said)?;
     tell_doors(alloc, doors.returned_doors(), said)?;
     tell_scripted(alloc, doors.returned(), said)
 }

@@ -1,7 +1,7 @@
 //! What doors tell behind all.
 
 use crate::doors::visits::add_bytes;
-use outside_doors::{Counts, DoorCounts, Location, Return};
+use outside_doors::{Counts, DoorCounts, Return, Try};
 use outside_traits::{CalmWire, ScriptedWire};
 use std::alloc::{AllocError, Global};
 
@@ -32,14 +32,22 @@ fn add_count(alloc: Global, name: &str, count: u64, said: &mut String) -> Result
     said.push(' ')
 }
 
-/// The locations, in a line.
-pub fn tell_locations(locations: &[Location], said: &mut String) -> Result<(), AllocError> {
+/// The tries to open a door, in a line.
+pub fn tell_tries(tries: &[Try], said: &mut String) -> Result<(), AllocError> {
     said.push('\n')?;
-    for location in locations {
-        said.push_str(location.as_str())?;
-        said.push(' ')?;
+    for made in tries {
+        tell_try(made, said)?;
     }
     Ok(())
+}
+
+/// Where it was, with a `!` where no door was opened.
+fn tell_try(made: &Try, said: &mut String) -> Result<(), AllocError> {
+    said.push_str(made.location())?;
+    if !made.was_opened() {
+        said.push('!')?;
+    }
+    said.push(' ')
 }
 
 /// What each door counted that came back, a line each.

@@ -7,18 +7,18 @@ use std::alloc::AllocError;
 /// How many reads there are of a connection at most.
 const READS: u32 = 20;
 
-/// Opens a door at each location, tries it so often, answers each connection with `ok`, and gives all back. It says what it met: `>` and the bytes of a connection, `.` where nobody had come, `#` where nobody comes any more, and `!` of what failed.
+/// Opens a door at each location, knocks at it so often, answers each connection with `ok`, and gives all back. It says what it met: `>` and the bytes of a connection, `.` where nobody had come, `#` where nobody comes any more, and `!` of what failed.
 pub fn visit_all<D: Doors>(
     doors: &mut D,
     locations: &str,
-    tries: u32,
+    knocks: u32,
     said: &mut String,
 ) -> Result<(), AllocError> {
     for location in locations.split(' ') {
         said.push_str(location)?;
         said.push(':')?;
         match doors.open(location) {
-            Ok(door) => visit(doors, door, tries, said)?,
+            Ok(door) => visit(doors, door, knocks, said)?,
             Err(Failed) => said.push('!')?,
         }
         said.push('\n')?;
@@ -29,11 +29,11 @@ pub fn visit_all<D: Doors>(
 fn visit<D: Doors>(
     doors: &mut D,
     door: D::D,
-    tries: u32,
+    knocks: u32,
     said: &mut String,
 ) -> Result<(), AllocError> {
     let mut door = door;
-    for _ in 0..tries {
+    for _ in 0..knocks {
         knock(doors, &mut door, said)?;
     }
     doors.door_back(door);

@@ -19,9 +19,9 @@ loop-port-preserved g c =
           steps.0 c.door_back-failed.ensures.failed at.invariant.same;
       doors =
           doors_on (map door_of c.args.ports.items)
-          (doors_told (g.D.Doors.faults c.args.doors.now) (g.D.Doors.tally c.args.doors.now) (g.D.Doors.locations c.args.doors.now) (g.D.Doors.returned c.args.doors.now) (g.D.Doors.returned_doors c.args.doors.now))
-          (doors_told (g.D.Doors.faults at.doors) (g.D.Doors.tally at.doors) (g.D.Doors.locations at.doors) (g.D.Doors.returned at.doors) (g.D.Doors.returned_doors at.doors))
-          (doors_told (g.D.Doors.faults c.door_back-failed.new.doors) (g.D.Doors.tally c.door_back-failed.new.doors) (g.D.Doors.locations c.door_back-failed.new.doors) (g.D.Doors.returned c.door_back-failed.new.doors) (g.D.Doors.returned_doors c.door_back-failed.new.doors))
+          (doors_told (g.D.Doors.faults c.args.doors.now) (g.D.Doors.tally c.args.doors.now) (g.D.Doors.tries c.args.doors.now) (g.D.Doors.returned c.args.doors.now) (g.D.Doors.returned_doors c.args.doors.now))
+          (doors_told (g.D.Doors.faults at.doors) (g.D.Doors.tally at.doors) (g.D.Doors.tries at.doors) (g.D.Doors.returned at.doors) (g.D.Doors.returned_doors at.doors))
+          (doors_told (g.D.Doors.faults c.door_back-failed.new.doors) (g.D.Doors.tally c.door_back-failed.new.doors) (g.D.Doors.tries c.door_back-failed.new.doors) (g.D.Doors.returned c.door_back-failed.new.doors) (g.D.Doors.returned_doors c.door_back-failed.new.doors))
           c.in-Some.port old rest steps.0 at.invariant.doors c.door_back-failed.ensures.doors;
       left = left_on c.in-Some.port old rest (into_iter_len at.port-iterator) (into_iter_len c.next.new.self) steps.0 steps.1 at.invariant.left;
     }
@@ -29,8 +29,8 @@ loop-port-preserved g c =
 pub returns-clause-doors : goal.returns-clause-doors
 returns-clause-doors g c =
     doors_end (map door_of c.args.ports.items)
-    (doors_told (g.D.Doors.faults c.args.doors.now) (g.D.Doors.tally c.args.doors.now) (g.D.Doors.locations c.args.doors.now) (g.D.Doors.returned c.args.doors.now) (g.D.Doors.returned_doors c.args.doors.now))
-    (doors_told (g.D.Doors.faults c.loop-port.doors) (g.D.Doors.tally c.loop-port.doors) (g.D.Doors.locations c.loop-port.doors) (g.D.Doors.returned c.loop-port.doors) (g.D.Doors.returned_doors c.loop-port.doors))
+    (doors_told (g.D.Doors.faults c.args.doors.now) (g.D.Doors.tally c.args.doors.now) (g.D.Doors.tries c.args.doors.now) (g.D.Doors.returned c.args.doors.now) (g.D.Doors.returned_doors c.args.doors.now))
+    (doors_told (g.D.Doors.faults c.loop-port.doors) (g.D.Doors.tally c.loop-port.doors) (g.D.Doors.tries c.loop-port.doors) (g.D.Doors.returned c.loop-port.doors) (g.D.Doors.returned_doors c.loop-port.doors))
     (into_iter_items c.loop-port.port-iterator)
     (none_left (into_iter_items c.loop-port.port-iterator) (into_iter_len c.loop-port.port-iterator) c.in-None.ensures.steps.0 c.loop-port.invariant.left)
     c.loop-port.invariant.doors

@@ -11,8 +11,8 @@ invariant-loop-port g l = record {
   same : (l.failed || list_any has_failed (map door_of (into_iter_items l.port-iterator))) ≡ list_any has_failed (map door_of l.fn.ports.items);
   doors : (after : DoorsTold)
       → GivesDoors (map door_of (into_iter_items l.port-iterator))
-      (doors_told (g.D.Doors.faults l.doors) (g.D.Doors.tally l.doors) (g.D.Doors.locations l.doors) (g.D.Doors.returned l.doors) (g.D.Doors.returned_doors l.doors)) after
+      (doors_told (g.D.Doors.faults l.doors) (g.D.Doors.tally l.doors) (g.D.Doors.tries l.doors) (g.D.Doors.returned l.doors) (g.D.Doors.returned_doors l.doors)) after
       → GivesDoors (map door_of l.fn.ports.items)
-      (doors_told (g.D.Doors.faults l.initial.doors) (g.D.Doors.tally l.initial.doors) (g.D.Doors.locations l.initial.doors) (g.D.Doors.returned l.initial.doors) (g.D.Doors.returned_doors l.initial.doors)) after;
+      (doors_told (g.D.Doors.faults l.initial.doors) (g.D.Doors.tally l.initial.doors) (g.D.Doors.tries l.initial.doors) (g.D.Doors.returned l.initial.doors) (g.D.Doors.returned_doors l.initial.doors)) after;
   left : into_iter_len l.port-iterator ≡ length (into_iter_items l.port-iterator);
 }

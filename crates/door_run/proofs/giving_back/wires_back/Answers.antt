@@ -19,9 +19,9 @@ loop-link-preserved g c =
           steps.0 c.wire_back-passed.ensures.traffic at.invariant.same;
       doors =
           wires_on (map wire_of c.args.links.items)
-          (doors_told (g.D.Doors.faults c.args.doors.now) (g.D.Doors.tally c.args.doors.now) (g.D.Doors.locations c.args.doors.now) (g.D.Doors.returned c.args.doors.now) (g.D.Doors.returned_doors c.args.doors.now))
-          (doors_told (g.D.Doors.faults at.doors) (g.D.Doors.tally at.doors) (g.D.Doors.locations at.doors) (g.D.Doors.returned at.doors) (g.D.Doors.returned_doors at.doors))
-          (doors_told (g.D.Doors.faults c.wire_back-passed.new.doors) (g.D.Doors.tally c.wire_back-passed.new.doors) (g.D.Doors.locations c.wire_back-passed.new.doors) (g.D.Doors.returned c.wire_back-passed.new.doors) (g.D.Doors.returned_doors c.wire_back-passed.new.doors))
+          (doors_told (g.D.Doors.faults c.args.doors.now) (g.D.Doors.tally c.args.doors.now) (g.D.Doors.tries c.args.doors.now) (g.D.Doors.returned c.args.doors.now) (g.D.Doors.returned_doors c.args.doors.now))
+          (doors_told (g.D.Doors.faults at.doors) (g.D.Doors.tally at.doors) (g.D.Doors.tries at.doors) (g.D.Doors.returned at.doors) (g.D.Doors.returned_doors at.doors))
+          (doors_told (g.D.Doors.faults c.wire_back-passed.new.doors) (g.D.Doors.tally c.wire_back-passed.new.doors) (g.D.Doors.tries c.wire_back-passed.new.doors) (g.D.Doors.returned c.wire_back-passed.new.doors) (g.D.Doors.returned_doors c.wire_back-passed.new.doors))
           c.in-Some.link old rest steps.0 at.invariant.doors c.wire_back-passed.ensures.doors;
       left = left_on c.in-Some.link old rest (into_iter_len at.link-iterator) (into_iter_len c.next.new.self) steps.0 steps.1 at.invariant.left;
     }
@@ -29,8 +29,8 @@ loop-link-preserved g c =
 pub returns-clause-doors : goal.returns-clause-doors
 returns-clause-doors g c =
     wires_end (map wire_of c.args.links.items)
-    (doors_told (g.D.Doors.faults c.args.doors.now) (g.D.Doors.tally c.args.doors.now) (g.D.Doors.locations c.args.doors.now) (g.D.Doors.returned c.args.doors.now) (g.D.Doors.returned_doors c.args.doors.now))
-    (doors_told (g.D.Doors.faults c.loop-link.doors) (g.D.Doors.tally c.loop-link.doors) (g.D.Doors.locations c.loop-link.doors) (g.D.Doors.returned c.loop-link.doors) (g.D.Doors.returned_doors c.loop-link.doors))
+    (doors_told (g.D.Doors.faults c.args.doors.now) (g.D.Doors.tally c.args.doors.now) (g.D.Doors.tries c.args.doors.now) (g.D.Doors.returned c.args.doors.now) (g.D.Doors.returned_doors c.args.doors.now))
+    (doors_told (g.D.Doors.faults c.loop-link.doors) (g.D.Doors.tally c.loop-link.doors) (g.D.Doors.tries c.loop-link.doors) (g.D.Doors.returned c.loop-link.doors) (g.D.Doors.returned_doors c.loop-link.doors))
     (into_iter_items c.loop-link.link-iterator)
     (none_left (into_iter_items c.loop-link.link-iterator) (into_iter_len c.loop-link.link-iterator) c.in-None.ensures.steps.0 c.loop-link.invariant.left)
     c.loop-link.invariant.doors

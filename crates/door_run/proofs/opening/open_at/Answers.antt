@@ -8,8 +8,8 @@ use Rattle.door_run.proofs.opening.open_at.Goals as goal
 pub returns-in_ok-push-in-Ok : goal.returns-in_ok-push-in-Ok
 returns-in_ok-push-in-Ok g c =
     opens_one (door_to c.args.number c.args.location.now)
-    (doors_told (g.D.Doors.faults c.args.doors.now) (g.D.Doors.tally c.args.doors.now) (g.D.Doors.locations c.args.doors.now) (g.D.Doors.returned c.args.doors.now) (g.D.Doors.returned_doors c.args.doors.now))
-    (doors_told (g.D.Doors.faults c.open.new.self) (g.D.Doors.tally c.open.new.self) (g.D.Doors.locations c.open.new.self) (g.D.Doors.returned c.open.new.self) (g.D.Doors.returned_doors c.open.new.self))
+    (doors_told (g.D.Doors.faults c.args.doors.now) (g.D.Doors.tally c.args.doors.now) (g.D.Doors.tries c.args.doors.now) (g.D.Doors.returned c.args.doors.now) (g.D.Doors.returned_doors c.args.doors.now))
+    (doors_told (g.D.Doors.faults c.open.new.self) (g.D.Doors.tally c.open.new.self) (g.D.Doors.tries c.open.new.self) (g.D.Doors.returned c.open.new.self) (g.D.Doors.returned_doors c.open.new.self))
     c.args.opening.now.ports.items c.args.opening.now.failed c.push.new.self.items
     c.in-Ok.ensures.opened c.in-Ok.ensures.listed c.open.ensures.returned c.open.ensures.returned_doors c.in-Ok.ensures.cause.calm
     (c.in_ok-push-in-Ok.ensures.items
@@ -19,7 +19,7 @@ returns-in_ok-push-in-Ok g c =
 pub returns-in-Err : goal.returns-in-Err
 returns-in-Err g c =
     opens_failed (door_to c.args.number c.args.location.now)
-    (doors_told (g.D.Doors.faults c.args.doors.now) (g.D.Doors.tally c.args.doors.now) (g.D.Doors.locations c.args.doors.now) (g.D.Doors.returned c.args.doors.now) (g.D.Doors.returned_doors c.args.doors.now))
-    (doors_told (g.D.Doors.faults c.open.new.self) (g.D.Doors.tally c.open.new.self) (g.D.Doors.locations c.open.new.self) (g.D.Doors.returned c.open.new.self) (g.D.Doors.returned_doors c.open.new.self))
+    (doors_told (g.D.Doors.faults c.args.doors.now) (g.D.Doors.tally c.args.doors.now) (g.D.Doors.tries c.args.doors.now) (g.D.Doors.returned c.args.doors.now) (g.D.Doors.returned_doors c.args.doors.now))
+    (doors_told (g.D.Doors.faults c.open.new.self) (g.D.Doors.tally c.open.new.self) (g.D.Doors.tries c.open.new.self) (g.D.Doors.returned c.open.new.self) (g.D.Doors.returned_doors c.open.new.self))
     c.args.opening.now.ports.items c.args.opening.now.failed
-    c.in-Err.ensures.unopened c.in-Err.ensures.unlisted c.open.ensures.returned c.open.ensures.returned_doors c.in-Err.ensures.cause.failed
+    c.in-Err.ensures.unopened c.in-Err.ensures.listed c.open.ensures.returned c.open.ensures.returned_doors c.in-Err.ensures.cause.failed

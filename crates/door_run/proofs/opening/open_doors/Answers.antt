@@ -8,7 +8,7 @@ use Rattle.door_run.proofs.opening.open_doors.Goals as goal
 
 pub loop-place-init : goal.loop-place-init
 loop-place-init g c =
-    let before = doors_told (g.D.Doors.faults c.args.doors.now) (g.D.Doors.tally c.args.doors.now) (g.D.Doors.locations c.args.doors.now) (g.D.Doors.returned c.args.doors.now) (g.D.Doors.returned_doors c.args.doors.now) in
+    let before = doors_told (g.D.Doors.faults c.args.doors.now) (g.D.Doors.tally c.args.doors.now) (g.D.Doors.tries c.args.doors.now) (g.D.Doors.returned c.args.doors.now) (g.D.Doors.returned_doors c.args.doors.now) in
     subst (λ ps. Opens [] (opened_by before [] false) (opened_by before ps false)) (sym c.new.ensures.items) (opens_none (opened_by before [] false))
 
 pub loop-place-preserved : goal.loop-place-preserved
@@ -19,14 +19,14 @@ loop-place-preserved g c =
     opens_service services c.loop-place.place c.service-item.result
     (subst (λ l. c.loop-place.place < length l) same c.loop-place-test.true)
     (subst (λ l. c.service-item.result ≡ get_or l c.loop-place.place c.service-item.result) same c.service-item.is)
-    (opened_by (doors_told (g.D.Doors.faults c.args.doors.now) (g.D.Doors.tally c.args.doors.now) (g.D.Doors.locations c.args.doors.now) (g.D.Doors.returned c.args.doors.now) (g.D.Doors.returned_doors c.args.doors.now)) [] false)
-    (opened_by (doors_told (g.D.Doors.faults c.loop-place.doors) (g.D.Doors.tally c.loop-place.doors) (g.D.Doors.locations c.loop-place.doors) (g.D.Doors.returned c.loop-place.doors) (g.D.Doors.returned_doors c.loop-place.doors))
+    (opened_by (doors_told (g.D.Doors.faults c.args.doors.now) (g.D.Doors.tally c.args.doors.now) (g.D.Doors.tries c.args.doors.now) (g.D.Doors.returned c.args.doors.now) (g.D.Doors.returned_doors c.args.doors.now)) [] false)
+    (opened_by (doors_told (g.D.Doors.faults c.loop-place.doors) (g.D.Doors.tally c.loop-place.doors) (g.D.Doors.tries c.loop-place.doors) (g.D.Doors.returned c.loop-place.doors) (g.D.Doors.returned_doors c.loop-place.doors))
     c.loop-place.opening.ports.items c.loop-place.opening.failed)
-    (opened_by (doors_told (g.D.Doors.faults c.open_service.new.doors) (g.D.Doors.tally c.open_service.new.doors) (g.D.Doors.locations c.open_service.new.doors) (g.D.Doors.returned c.open_service.new.doors) (g.D.Doors.returned_doors c.open_service.new.doors))
+    (opened_by (doors_told (g.D.Doors.faults c.open_service.new.doors) (g.D.Doors.tally c.open_service.new.doors) (g.D.Doors.tries c.open_service.new.doors) (g.D.Doors.returned c.open_service.new.doors) (g.D.Doors.returned_doors c.open_service.new.doors))
     c.open_service.new.opening.ports.items c.open_service.new.opening.failed)
     c.loop-place.invariant
     (subst (λ n. Opens (doors_at n (map port_view c.service-item.result.ports.items))
-    (opened_by (doors_told (g.D.Doors.faults c.loop-place.doors) (g.D.Doors.tally c.loop-place.doors) (g.D.Doors.locations c.loop-place.doors) (g.D.Doors.returned c.loop-place.doors) (g.D.Doors.returned_doors c.loop-place.doors))
+    (opened_by (doors_told (g.D.Doors.faults c.loop-place.doors) (g.D.Doors.tally c.loop-place.doors) (g.D.Doors.tries c.loop-place.doors) (g.D.Doors.returned c.loop-place.doors) (g.D.Doors.returned_doors c.loop-place.doors))
     c.loop-place.opening.ports.items c.loop-place.opening.failed)
-    (opened_by (doors_told (g.D.Doors.faults c.open_service.new.doors) (g.D.Doors.tally c.open_service.new.doors) (g.D.Doors.locations c.open_service.new.doors) (g.D.Doors.returned c.open_service.new.doors) (g.D.Doors.returned_doors c.open_service.new.doors))
+    (opened_by (doors_told (g.D.Doors.faults c.open_service.new.doors) (g.D.Doors.tally c.open_service.new.doors) (g.D.Doors.tries c.open_service.new.doors) (g.D.Doors.returned c.open_service.new.doors) (g.D.Doors.returned_doors c.open_service.new.doors))
     c.open_service.new.opening.ports.items c.open_service.new.opening.failed)) number c.in_ok-open_service.ensures)

@@ -8,7 +8,7 @@ use Rattle.door_run.proofs.opening.open_port.Goals as goal
 
 pub returns-then-not-is_door : goal.returns-then-not-is_door
 returns-then-not-is_door g c =
-    let before = opened_by (doors_told (g.D.Doors.faults c.args.doors.now) (g.D.Doors.tally c.args.doors.now) (g.D.Doors.locations c.args.doors.now) (g.D.Doors.returned c.args.doors.now) (g.D.Doors.returned_doors c.args.doors.now))
+    let before = opened_by (doors_told (g.D.Doors.faults c.args.doors.now) (g.D.Doors.tally c.args.doors.now) (g.D.Doors.tries c.args.doors.now) (g.D.Doors.returned c.args.doors.now) (g.D.Doors.returned_doors c.args.doors.now))
     c.args.opening.now.ports.items c.args.opening.now.failed in
     subst (λ places. Opens places before before)
     (sym (no_door_at c.args.number (port_view c.args.port.now) (sym c.is_door.ensures ∙ c.if-not-is_door.true)))

@@ -7,7 +7,7 @@ use Rattle.door_run.proofs.opening.open_service.Goals as goal
 
 pub loop-port-init : goal.loop-port-init
 loop-port-init g c =
-    opens_none (opened_by (doors_told (g.D.Doors.faults c.args.doors.now) (g.D.Doors.tally c.args.doors.now) (g.D.Doors.locations c.args.doors.now) (g.D.Doors.returned c.args.doors.now) (g.D.Doors.returned_doors c.args.doors.now))
+    opens_none (opened_by (doors_told (g.D.Doors.faults c.args.doors.now) (g.D.Doors.tally c.args.doors.now) (g.D.Doors.tries c.args.doors.now) (g.D.Doors.returned c.args.doors.now) (g.D.Doors.returned_doors c.args.doors.now))
     c.args.opening.now.ports.items c.args.opening.now.failed)
 
 pub loop-port-preserved : goal.loop-port-preserved
@@ -16,10 +16,10 @@ loop-port-preserved g c =
     opens_port c.args.number c.args.service.now.ports.items c.loop-port.port-index c.port-item.result
     (subst (λ l. c.loop-port.port-index < length l) same c.loop-port-test.true)
     (subst (λ l. c.port-item.result ≡ get_or l c.loop-port.port-index c.port-item.result) same c.port-item.is)
-    (opened_by (doors_told (g.D.Doors.faults c.args.doors.now) (g.D.Doors.tally c.args.doors.now) (g.D.Doors.locations c.args.doors.now) (g.D.Doors.returned c.args.doors.now) (g.D.Doors.returned_doors c.args.doors.now))
+    (opened_by (doors_told (g.D.Doors.faults c.args.doors.now) (g.D.Doors.tally c.args.doors.now) (g.D.Doors.tries c.args.doors.now) (g.D.Doors.returned c.args.doors.now) (g.D.Doors.returned_doors c.args.doors.now))
     c.args.opening.now.ports.items c.args.opening.now.failed)
-    (opened_by (doors_told (g.D.Doors.faults c.loop-port.doors) (g.D.Doors.tally c.loop-port.doors) (g.D.Doors.locations c.loop-port.doors) (g.D.Doors.returned c.loop-port.doors) (g.D.Doors.returned_doors c.loop-port.doors))
+    (opened_by (doors_told (g.D.Doors.faults c.loop-port.doors) (g.D.Doors.tally c.loop-port.doors) (g.D.Doors.tries c.loop-port.doors) (g.D.Doors.returned c.loop-port.doors) (g.D.Doors.returned_doors c.loop-port.doors))
     c.loop-port.opening.ports.items c.loop-port.opening.failed)
-    (opened_by (doors_told (g.D.Doors.faults c.open_port.new.doors) (g.D.Doors.tally c.open_port.new.doors) (g.D.Doors.locations c.open_port.new.doors) (g.D.Doors.returned c.open_port.new.doors) (g.D.Doors.returned_doors c.open_port.new.doors))
+    (opened_by (doors_told (g.D.Doors.faults c.open_port.new.doors) (g.D.Doors.tally c.open_port.new.doors) (g.D.Doors.tries c.open_port.new.doors) (g.D.Doors.returned c.open_port.new.doors) (g.D.Doors.returned_doors c.open_port.new.doors))
     c.open_port.new.opening.ports.items c.open_port.new.opening.failed)
     c.loop-port.invariant c.in_ok-open_port.ensures

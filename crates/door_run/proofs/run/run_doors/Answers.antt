@@ -36,9 +36,9 @@ returns-clause-doored g c =
     doored_by
     (λ line. (wire : _) × (line ≡ line_of (g.D.D.W.Wire.given wire) (g.D.D.W.Wire.left wire) (g.D.D.W.Wire.taken wire) (failures_of (g.D.D.W.Wire.faults wire) (g.D.D.W.Wire.cut wire)) (g.D.D.W.Wire.closed wire)))
     t
-    (doors_told (g.D.Doors.faults c.args.doors.now) (g.D.Doors.tally c.args.doors.now) (g.D.Doors.locations c.args.doors.now) (g.D.Doors.returned c.args.doors.now) (g.D.Doors.returned_doors c.args.doors.now))
-    (doors_told (g.D.Doors.faults c.open_doors.new.doors) (g.D.Doors.tally c.open_doors.new.doors) (g.D.Doors.locations c.open_doors.new.doors) (g.D.Doors.returned c.open_doors.new.doors) (g.D.Doors.returned_doors c.open_doors.new.doors))
-    (doors_told (g.D.Doors.faults c.give_back.new.doors) (g.D.Doors.tally c.give_back.new.doors) (g.D.Doors.locations c.give_back.new.doors) (g.D.Doors.returned c.give_back.new.doors) (g.D.Doors.returned_doors c.give_back.new.doors))
+    (doors_told (g.D.Doors.faults c.args.doors.now) (g.D.Doors.tally c.args.doors.now) (g.D.Doors.tries c.args.doors.now) (g.D.Doors.returned c.args.doors.now) (g.D.Doors.returned_doors c.args.doors.now))
+    (doors_told (g.D.Doors.faults c.open_doors.new.doors) (g.D.Doors.tally c.open_doors.new.doors) (g.D.Doors.tries c.open_doors.new.doors) (g.D.Doors.returned c.open_doors.new.doors) (g.D.Doors.returned_doors c.open_doors.new.doors))
+    (doors_told (g.D.Doors.faults c.give_back.new.doors) (g.D.Doors.tally c.give_back.new.doors) (g.D.Doors.tries c.give_back.new.doors) (g.D.Doors.returned c.give_back.new.doors) (g.D.Doors.returned_doors c.give_back.new.doors))
     c.in_ok-ports.field-0.ports.items c.in_ok-ports.field-0.failed o
     (sides_of c.new-front.result.kept.now (taking (g.N.Sink.taken c.new-front.result.notes.now) (g.N.Sink.faults c.new-front.result.notes.now)))
     (sides_of c.run_over.new.front.kept.now (taking (g.N.Sink.taken c.run_over.new.front.notes.now) (g.N.Sink.faults c.run_over.new.front.notes.now)))
@@ -48,8 +48,8 @@ returns-clause-doored g c =
     c.in_ok-finished.ensures.picks
     it
     (subst (λ k. Ends c.in_ok-ports.field-0.failed
-    (doors_told (g.D.Doors.faults c.open_doors.new.doors) (g.D.Doors.tally c.open_doors.new.doors) (g.D.Doors.locations c.open_doors.new.doors) (g.D.Doors.returned c.open_doors.new.doors) (g.D.Doors.returned_doors c.open_doors.new.doors))
-    (doors_told (g.D.Doors.faults c.give_back.new.doors) (g.D.Doors.tally c.give_back.new.doors) (g.D.Doors.locations c.give_back.new.doors) (g.D.Doors.returned c.give_back.new.doors) (g.D.Doors.returned_doors c.give_back.new.doors))
+    (doors_told (g.D.Doors.faults c.open_doors.new.doors) (g.D.Doors.tally c.open_doors.new.doors) (g.D.Doors.tries c.open_doors.new.doors) (g.D.Doors.returned c.open_doors.new.doors) (g.D.Doors.returned_doors c.open_doors.new.doors))
+    (doors_told (g.D.Doors.faults c.give_back.new.doors) (g.D.Doors.tally c.give_back.new.doors) (g.D.Doors.tries c.give_back.new.doors) (g.D.Doors.returned c.give_back.new.doors) (g.D.Doors.returned_doors c.give_back.new.doors))
     k c.in_ok-finished.finished it) kept
     (record {
       back = c.in_ok-back.ensures.doors;
@@ -59,7 +59,7 @@ returns-clause-doored g c =
       report = c.with_traffic-report.ensures ∙ ap (with_traffic c.in_ok-finished.finished.report) c.in_ok-back.ensures.traffic;
     }))
     _ _
-    (ap (λ n. outside (doors_told (g.D.Doors.faults c.args.doors.now) (g.D.Doors.tally c.args.doors.now) (g.D.Doors.locations c.args.doors.now) (g.D.Doors.returned c.args.doors.now) (g.D.Doors.returned_doors c.args.doors.now))
+    (ap (λ n. outside (doors_told (g.D.Doors.faults c.args.doors.now) (g.D.Doors.tally c.args.doors.now) (g.D.Doors.tries c.args.doors.now) (g.D.Doors.returned c.args.doors.now) (g.D.Doors.returned_doors c.args.doors.now))
     (taking (g.N.Sink.taken n) (g.N.Sink.faults n))) c.new-front.ensures.notes)
-    (ap (λ n. outside (doors_told (g.D.Doors.faults c.give_back.new.doors) (g.D.Doors.tally c.give_back.new.doors) (g.D.Doors.locations c.give_back.new.doors) (g.D.Doors.returned c.give_back.new.doors) (g.D.Doors.returned_doors c.give_back.new.doors))
+    (ap (λ n. outside (doors_told (g.D.Doors.faults c.give_back.new.doors) (g.D.Doors.tally c.give_back.new.doors) (g.D.Doors.tries c.give_back.new.doors) (g.D.Doors.returned c.give_back.new.doors) (g.D.Doors.returned_doors c.give_back.new.doors))
     (taking (g.N.Sink.taken n) (g.N.Sink.faults n))) (sym (c.notes-1.given.1 (sym (after.1.1 ∙ c.new-front.ensures.same_notes)))))
