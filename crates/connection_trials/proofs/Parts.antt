@@ -180,7 +180,7 @@ module _ (w : Setting) (h : List Entry) (visits : List Visit) where
   -- of two the first came on it, and before the second each connection before its own waited or was over
   pub two_in_turn : (x y : Asked) → x.traffic ≡ 0
       → ((k : ℕ) (v : Visit) → slice_get visits k ≡ Some v → k < y.traffic
-          → HadToWait w h (x ∷ y ∷ []) 1 k ⊎ (IsOver v.stage × (count_by (is_of k) (x ∷ []) ≡ length v.bodies)))
+      → HadToWait w h (x ∷ y ∷ []) 1 k ⊎ (IsOver v.stage × (count_by (is_of k) (x ∷ []) ≡ length v.bodies)))
       → AreInTurn w h visits (x ∷ y ∷ [])
   two_in_turn x y first second zero k a v e there less = absurd (none_before x a k first e less)
   two_in_turn x y first second (suc zero) k a v e there less =

@@ -60,7 +60,7 @@ abbrev pub OverStay : List LinkTold → List LinkTold → Type 0
 OverStay ls ms = (k : ℕ) (l m : LinkTold) → slice_get ls k ≡ Some l → slice_get ms k ≡ Some m → IsOver (stage_at l) → IsOver (stage_at m)
 
 over_still : (l m : LinkTold) → LinkGoesOn l m → IsOver (stage_at l) → IsOver (stage_at m)
-over_still l m g over = elim g.stage [ | inl same ↦ subst IsOver (sym same) over | inr ended ↦ ended.1 ]
+over_still l m g over = elim g.stage [ inl same ↦ subst IsOver (sym same) over | inr ended ↦ ended.1 ]
 
 pub over_on : (IsMade : Line → Type 0) (services : List ℕ) (ls ms : List LinkTold) → LinksGoOn IsMade services ls ms → OverStay ls ms
 over_on IsMade services [] ms g k l m x y over = absurd (none-some l x)
@@ -162,7 +162,7 @@ module _ (asked : List Asked) (whose : Asked) where
   module _ (seens : List ℕ) (ts : List Told) (links : List LinkTold) (counts : length seens ≡ length asked)
       (not_over : (link : LinkTold) → slice_get links whose.traffic ≡ Some link → IsOver (stage_at link) → ⊥)
       (now : (k : ℕ) (link : LinkTold) → slice_get links k ≡ Some link → k < whose.traffic
-          → HadToWait asked (take (length ts) ts) (length asked) k ⊎ IsOver (stage_at link))
+      → HadToWait asked (take (length ts) ts) (length asked) k ⊎ IsOver (stage_at link))
       (before : InTurn asked seens ts links) where
     -- the others stay
     others_still : (told : List Told) (link : LinkTold) (j k : ℕ) → slice_get links k ≡ Some link → j < length asked
@@ -181,7 +181,7 @@ module _ (asked : List Asked) (whose : Asked) where
     last_so link k there less = elim (now k link there less) [
       | inl w ↦ inl (waits_still (take (length ts) ts) (length asked) k w)
       | inr over ↦ inr (over_yet link (length asked) k (omega arith) (below_unlike k whose.traffic less)
-        (over, ap (count_by (is_of k)) (take_all (length asked) asked (omega arith))))
+          (over, ap (count_by (is_of k)) (take_all (length asked) asked (omega arith))))
     ]
 
     in_turn-more : InTurn (asked ++ whose ∷ []) (seens ++ length ts ∷ []) ts links
