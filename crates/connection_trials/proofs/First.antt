@@ -26,13 +26,13 @@ use Rattle.http_port.specs.Talk.{answer}
 use Rattle.http_port.proofs.TalkLemmas.{spoken}
 use Rattle.http_connection.specs.declared.stage.Stage.{Stage}
 use Rattle.http_connection.specs.declared.stage.Stage.TheVariants as Stages
-use Rattle.http_connection.specs.Stages.{IsFailed}
+use Rattle.http_connection.specs.Stages.{IsFailed, IsOver}
 use Rattle.http_connection.specs.Talking.{log}
 use Rattle.http_connection.specs.Law.{holding, bodies_of, talk_of, IsCutOff, Keeps}
 use Rattle.http_connection.proofs.Words.{begins_from}
 use Rattle.connection_runs.specs.Ports.{has_door}
 use Rattle.connection_runs.specs.Visits.{Visit, came_with, came_of, came_at, AreTaken, HasPassed}
-use Rattle.connection_runs.specs.Served.{Requests, AreOneByOne, AreResponses, AreToldEarly, is_told, IsServed}
+use Rattle.connection_runs.specs.Served.{Requests, AreOneByOne, HadToWait, AreResponses, AreToldEarly, is_told, IsServed}
 use Rattle.connection_trials.proofs.Requests.{bodies_by, talk_by, cons_nil, head_same}
 use Rattle.connection_trials.proofs.Parts.{IsCut}
 
@@ -81,6 +81,12 @@ but_last : (x : Option (List ℕ)) (xs : List (Option (List ℕ)))
 but_last x [] = ([], x, refl)
 but_last x (y ∷ ys) =
     let b = but_last y ys in (x ∷ b.0, b.1, ap (λ (l : List (Option (List ℕ))). x ∷ l) b.2)
+
+fewer : (m n k : ℕ) → m ≡ n + k → n ≤ m
+fewer m n k e = omega (arith, e)
+
+as_few : (m n : ℕ) → m ≡ n → m ≤ n
+as_few m n e = omega (arith, e)
 
 few_at_most : (n : ℕ) → n ≤ 1 → 1 < n → ⊥
 few_at_most n few many = omega (arith, few, many)
@@ -131,10 +137,11 @@ is_taken visits a c = by_visit (slice_get visits a.traffic) refl
     by_visit (Some v) e f = by_body v (slice_get v.bodies a.request) e refl f
 
 -- The first posting: the connection whose first request it is, and what that is answered.
-pub record IsFirst (w : Setting) (h : List Entry) (visits : List Visit) (came : List Came) : Type 0 where
-  pub number : ℕ
+pub record IsFirst (w : Setting) (h : List Entry) (visits : List Visit) (all : List Asked) (came : List Came) : Type 0 where
+  pub whose : Asked
+  pub is_whose : slice_get all 0 ≡ Some whose
   pub visit : Visit
-  pub there : slice_get visits number ≡ Some visit
+  pub there : slice_get visits whose.traffic ≡ Some visit
   pub body : List ℕ
   pub asked : slice_get visit.bodies 0 ≡ Some body
   pub others : List Came
@@ -145,12 +152,13 @@ pub record IsFirst (w : Setting) (h : List Entry) (visits : List Visit) (came : 
 module _ (w : Setting) (h : List Entry) (visits : List Visit) where
   first_asked : (a : Asked) (asked : List Asked) (c : Came) (came : List Came) → AreTaken visits (a ∷ asked)
       → AreResponses w h visits (record { asked = a ∷ asked; came = c ∷ came }) → came_at visits a ≡ Some c
-      → IsFirst w h visits (c ∷ came)
+      → IsFirst w h visits (a ∷ asked) (c ∷ came)
   first_asked a asked c came taken responses is =
       let t = is_taken visits a c is in
       let request : a.request ≡ 0 = taken.in_order 0 a refl in
       record {
-        number = a.traffic;
+        whose = a;
+        is_whose = refl;
         visit = t.visit;
         there = t.there;
         body = t.body;
@@ -164,7 +172,7 @@ module _ (w : Setting) (h : List Entry) (visits : List Visit) where
 
   first_of : (asked : List Asked) (came : List Came) → AreTaken visits asked → map (came_at visits) asked ≡ map Some came
       → AreResponses w h visits (record { asked = asked; came = came }) → posts_of 0 (map posting_of came) ≢ []
-      → IsFirst w h visits came
+      → IsFirst w h visits asked came
   first_of [] [] taken is responses some = absurd (some refl)
   first_of [] (c ∷ came) taken is responses some = absurd (cons_nil (Some c) (map Some came) (sym is))
   first_of (a ∷ asked) [] taken is responses some = absurd (cons_nil (came_at visits a) (map (came_at visits) asked) is)
@@ -174,22 +182,23 @@ module _ (w : Setting) (h : List Entry) (visits : List Visit) where
 
 -- a run that posted something posted something first
 pub is_first : (w : Setting) (h : List Entry) (halted : Bool) (traffic : List Traffic) (s : IsServed w h halted traffic)
-    → posts_by first_worker h ≢ [] → IsFirst w h s.visits s.all.came
+    → posts_by first_worker h ≢ [] → IsFirst w h s.visits s.all.asked s.all.came
 is_first w h halted traffic s some =
     first_of w h s.visits s.all.asked s.all.came (record { in_order = s.taken.in_order; all = s.taken.all }) s.came
     s.responses (λ e. some (s.posted ∙ e))
 
 -- ---- how a connection stands
 
--- The reader of a connection gives this of its bytes: the bodies that were taken are the first of it, and what was
--- written is a front of what is to be written. It is all of that, or it was cut; and all where no write failed. From a
--- connection that has failed all was taken, or it was cut.
+-- The reader of a connection gives this of its bytes: the bodies that were taken are the first of it, no more texts were
+-- told, and what was written is a front of what is to be written. It is all of that, or it was cut; and all where no
+-- write failed. From a connection that is over all was taken, or it was cut.
 pub record Stands (fs : List Fed) (v : Visit) (written : List ℕ) : Type 0 where
   pub bodies : v.bodies ≡ take (length v.bodies) (bodies_in fs)
+  pub told : length v.texts ≤ length v.bodies
   pub front : StartsWith (spoken fs v.texts) written
   pub wrote : (written ≡ spoken fs v.texts) ⊎ IsCut fs v.texts written
   pub whole : v.stage ≢ Stages.WriteFailed → written ≡ spoken fs v.texts
-  pub failed : IsFailed v.stage → (v.bodies ≡ bodies_in fs) ⊎ IsCut fs v.texts written
+  pub over : IsOver v.stage → (v.bodies ≡ bodies_in fs) ⊎ IsCut fs v.texts written
 
 module _ (t : Traffic) (r : Reading t.read) (fs : List Fed) (gives : given t.read r ≡ fs) where
   first_bodies : (bodies : List (List ℕ)) → bodies ≡ take (length bodies) (bodies_of (holding t.read r).queue)
@@ -200,16 +209,17 @@ module _ (t : Traffic) (r : Reading t.read) (fs : List Fed) (gives : given t.rea
       → bodies ≡ take (length bodies) (bodies_in fs)
   all_bodies bodies e = sym (take-length bodies) ∙ ap (take (length bodies)) (e ∙ bodies_by t.read r fs gives)
 
-  well : (v : Visit) → v.bodies ≡ take (length v.bodies) (bodies_in fs) → t.written ≡ talk_of (holding t.read r) v.texts
-      → (IsFailed v.stage → v.bodies ≡ bodies_in fs) → Stands fs v t.written
-  well v bodies e all =
+  well : (v : Visit) → v.bodies ≡ take (length v.bodies) (bodies_in fs) → length v.texts ≤ length v.bodies
+      → t.written ≡ talk_of (holding t.read r) v.texts → (IsOver v.stage → v.bodies ≡ bodies_in fs) → Stands fs v t.written
+  well v bodies few e all =
       let whole : t.written ≡ spoken fs v.texts = e ∙ talk_by t.read r fs v.texts gives in
       record {
         bodies = bodies;
+        told = few;
         front = subst (λ (l : List ℕ). StartsWith l t.written) whole (take-length t.written);
         wrote = inl whole;
         whole = λ _. whole;
-        failed = λ failed. inl (all failed);
+        over = λ over. inl (all over);
       }
 
   cut_at : (v : Visit) → IsCutOff (holding t.read r) (log t.read t.written v.bodies v.texts) → IsCut fs v.texts t.written
@@ -225,38 +235,43 @@ module _ (t : Traffic) (r : Reading t.read) (fs : List Fed) (gives : given t.rea
       let cut = cut_at v k in
       record {
         bodies = first_bodies v.bodies k.in_order.bodies;
+        told = fewer (length v.bodies) (length v.texts) 0 k.in_order.texts;
         front = cut.front;
         wrote = inr cut;
         whole = λ other. absurd (other failed);
-        failed = λ _. inr cut;
+        over = λ _. inr cut;
       }
 
-  reads_not_failed : IsFailed Stages.Reads → ⊥
-  reads_not_failed (inl e) = let clash : Stages.Reads ≡ Stages.ReadFailed = e in cc
-  reads_not_failed (inr e) = let clash : Stages.Reads ≡ Stages.WriteFailed = e in cc
+  reads_not_over : IsOver Stages.Reads → ⊥
+  reads_not_over (inl e) = let clash : Stages.Reads ≡ Stages.Ended = e in cc
+  reads_not_over (inr (inl e)) = let clash : Stages.Reads ≡ Stages.Closed = e in cc
+  reads_not_over (inr (inr (inl e))) = let clash : Stages.Reads ≡ Stages.ReadFailed = e in cc
+  reads_not_over (inr (inr (inr e))) = let clash : Stages.Reads ≡ Stages.WriteFailed = e in cc
 
-  owes_not_failed : IsFailed Stages.Owes → ⊥
-  owes_not_failed (inl e) = let clash : Stages.Owes ≡ Stages.ReadFailed = e in cc
-  owes_not_failed (inr e) = let clash : Stages.Owes ≡ Stages.WriteFailed = e in cc
+  owes_not_over : IsOver Stages.Owes → ⊥
+  owes_not_over (inl e) = let clash : Stages.Owes ≡ Stages.Ended = e in cc
+  owes_not_over (inr (inl e)) = let clash : Stages.Owes ≡ Stages.Closed = e in cc
+  owes_not_over (inr (inr (inl e))) = let clash : Stages.Owes ≡ Stages.ReadFailed = e in cc
+  owes_not_over (inr (inr (inr e))) = let clash : Stages.Owes ≡ Stages.WriteFailed = e in cc
 
   stands_at : (service : ℕ) (stage : Stage) (bodies : List (List ℕ)) (texts : List (Option (List ℕ))) → stage ≢ Stages.Spent
       → Keeps stage (holding t.read r) (log t.read t.written bodies texts)
       → Stands fs (record { service = service; stage = stage; bodies = bodies; texts = texts }) t.written
   stands_at service Stages.Reads bodies texts memory k =
-      well (record { service = service; stage = Stages.Reads; bodies = bodies; texts = texts }) (first_bodies bodies k.0.bodies) k.1
-      (λ failed. absurd (reads_not_failed failed))
+      well (record { service = service; stage = Stages.Reads; bodies = bodies; texts = texts }) (first_bodies bodies k.0.bodies)
+      (fewer (length bodies) (length texts) 0 k.0.texts) k.1 (λ over. absurd (reads_not_over over))
   stands_at service Stages.Owes bodies texts memory k =
-      well (record { service = service; stage = Stages.Owes; bodies = bodies; texts = texts }) (first_bodies bodies k.0.bodies) k.1
-      (λ failed. absurd (owes_not_failed failed))
+      well (record { service = service; stage = Stages.Owes; bodies = bodies; texts = texts }) (first_bodies bodies k.0.bodies)
+      (fewer (length bodies) (length texts) 1 k.0.texts) k.1 (λ over. absurd (owes_not_over over))
   stands_at service Stages.Ended bodies texts memory k =
-      well (record { service = service; stage = Stages.Ended; bodies = bodies; texts = texts }) (all_bodies bodies k.0.bodies) k.1
-      (λ _. k.0.bodies ∙ bodies_by t.read r fs gives)
+      well (record { service = service; stage = Stages.Ended; bodies = bodies; texts = texts }) (all_bodies bodies k.0.bodies)
+      (as_few (length texts) (length bodies) k.0.texts) k.1 (λ _. k.0.bodies ∙ bodies_by t.read r fs gives)
   stands_at service Stages.Closed bodies texts memory k =
-      well (record { service = service; stage = Stages.Closed; bodies = bodies; texts = texts }) (all_bodies bodies k.0.bodies) k.1
-      (λ _. k.0.bodies ∙ bodies_by t.read r fs gives)
+      well (record { service = service; stage = Stages.Closed; bodies = bodies; texts = texts }) (all_bodies bodies k.0.bodies)
+      (as_few (length texts) (length bodies) k.0.texts) k.1 (λ _. k.0.bodies ∙ bodies_by t.read r fs gives)
   stands_at service Stages.ReadFailed bodies texts memory k =
-      well (record { service = service; stage = Stages.ReadFailed; bodies = bodies; texts = texts }) (all_bodies bodies k.0.bodies) k.1
-      (λ _. k.0.bodies ∙ bodies_by t.read r fs gives)
+      well (record { service = service; stage = Stages.ReadFailed; bodies = bodies; texts = texts }) (all_bodies bodies k.0.bodies)
+      (as_few (length texts) (length bodies) k.0.texts) k.1 (λ _. k.0.bodies ∙ bodies_by t.read r fs gives)
   stands_at service Stages.WriteFailed bodies texts memory k =
       write_failed_at (record { service = service; stage = Stages.WriteFailed; bodies = bodies; texts = texts }) refl k
   stands_at service Stages.Spent bodies texts memory k = absurd (memory refl)
@@ -315,10 +330,10 @@ module _ (w : Setting) (h : List Entry) where
       → IsServed w h halted traffic → ⊥
   refused halted traffic some one others s =
       let f = is_first w h halted traffic s some in
-      let at = passed_at s.visits traffic s.passed f.number f.visit f.there in
-      let o = other_at traffic others f.number at.0 at.1 in
+      let at = passed_at s.visits traffic s.passed f.whose.traffic f.visit f.there in
+      let o = other_at traffic others f.whose.traffic at.0 at.1 in
       let service : f.visit.service ≡ 0 =
-      one f.visit.service (all_at (λ (v : Visit). has_door w.parts v.service) s.visits f.number f.visit s.doors f.there) in
+      one f.visit.service (all_at (λ (v : Visit). has_door w.parts v.service) s.visits f.whose.traffic f.visit s.doors f.there) in
       stands_so at.0 o.reading (Request o.body false ∷ o.later) o.gives f.visit at.2
       (λ k. not_answered at.0 o f.visit.texts k.front
       (λ text e.
@@ -445,42 +460,85 @@ early_told w h first v (a ∷ b ∷ asked) c d others taken is told =
     (told 0 a v refl (ap (slice_get (v ∷ [])) one)
     (before_two (finished_at w (past_of w h) first_worker (length (a ∷ b ∷ asked)) 0) (length asked) least))
 
+-- ---- the first posting
+
+first_there : (vs : List Visit) (n : ℕ) (v : Visit) → slice_get vs n ≡ Some v → (u : Visit) × (slice_get vs 0 ≡ Some u)
+first_there [] n v there = absurd (none-some v there)
+first_there (u ∷ vs) n v there = (u, refl)
+
+none_is : (xs : List (Option (List ℕ))) (n : ℕ) → length xs ≤ n → n ≡ 0 → xs ≡ []
+none_is [] n few none = refl
+none_is (x ∷ xs) n few none = absurd (omega (arith, few, none))
+
+none_below_some : (n : ℕ) → 0 ≡ suc n → ⊥
+none_below_some n e = omega (arith, e)
+
+some_above : (n m : ℕ) → n ≡ suc m → 0 < n
+some_above n m e = omega (arith, e)
+
+module _ {w : Setting} {h : List Entry} {halted : Bool} {t : Traffic} {ts : List Traffic} {body : List ℕ} {later : List Fed}
+    (s : IsServed w h halted (t ∷ ts)) where
+  first_came : LeadToOne w → (f : IsFirst w h s.visits s.all.asked s.all.came) → Stands (Request body false ∷ later) f.visit t.written
+      → came_with f.visit.service f.body ≡ came_with 0 body
+  first_came one f k =
+      ap (λ (n : ℕ). came_with n f.body)
+      (one f.visit.service (all_at (λ (v : Visit). has_door w.parts v.service) s.visits f.whose.traffic f.visit s.doors f.there))
+      ∙ ap (came_with 0) (first_same (length f.visit.bodies) body f.body (bodies_in later) f.visit.bodies k.bodies f.asked)
+
+  first_response : LeadToOne w → (f : IsFirst w h s.visits s.all.asked s.all.came) → Stands (Request body false ∷ later) f.visit t.written
+      → response w (past_of w h) first_worker 0 (came_with f.visit.service f.body)
+      ≡ response w (past_of w h) first_worker 0 (came_with 0 body)
+  first_response one f k = ap (response w (past_of w h) first_worker 0) (first_came one f k)
+
+  first_posted : LeadToOne w → (f : IsFirst w h s.visits s.all.asked s.all.came) → Stands (Request body false ∷ later) f.visit t.written
+      → posts_by first_worker h ≡ posts_of 0 (map posting_of (came_with 0 body ∷ f.others))
+  first_posted one f k =
+      s.posted
+      ∙ ap (λ (came : List Came). posts_of 0 (map posting_of came))
+      (f.first ∙ ap (λ (c : Came). c ∷ f.others) (first_came one f k))
+
+  -- how the first connection stands
+  stands_first : (reading : Reading t.read) → given t.read reading ≡ Request body false ∷ later → (v : Visit) → slice_get s.visits 0 ≡ Some v
+      → (Stands (Request body false ∷ later) v t.written → ⊥) → ⊥
+  stands_first reading gives v there wrong =
+      let at = passed_at s.visits (t ∷ ts) s.passed 0 v there in
+      stands_so t reading (Request body false ∷ later) gives v (subst (λ (u : Traffic). HasPassed v u) (sym (same_Some t at.0 at.1)) at.2) wrong
+
+  -- before the first posting it did not wait, and was not over, since it had sent a request
+  not_over_yet : (v : Visit) → Stands (Request body false ∷ later) v t.written → (asked : List Asked)
+      → HadToWait w h asked 0 0 ⊎ (IsOver v.stage × (count_by (is_of 0) (take 0 asked) ≡ length v.bodies)) → ⊥
+  not_over_yet v k asked (inl wait) = below_none wait.0 wait.4
+  not_over_yet v k asked (inr over) = by_stand (k.over over.0)
+    where
+      by_stand : (v.bodies ≡ bodies_in (Request body false ∷ later)) ⊎ IsCut (Request body false ∷ later) v.texts t.written → ⊥
+      by_stand (inl all) = none_below_some (length (bodies_in later)) (over.1 ∙ ap length all)
+      by_stand (inr cut) =
+          below_none (length t.written)
+          (subst (λ (l : List (Option (List ℕ))). length t.written < length (spoken (Request body false ∷ later) l))
+          (none_is v.texts (length v.bodies) k.told (sym over.1)) cut.part)
+
+  -- so the first posting is its own
+  with_first : (reading : Reading t.read) → given t.read reading ≡ Request body false ∷ later → posts_by first_worker h ≢ []
+      → ((f : IsFirst w h s.visits s.all.asked s.all.came) → f.whose.traffic ≡ 0 → Stands (Request body false ∷ later) f.visit t.written → ⊥) → ⊥
+  with_first reading gives some wrong =
+      let f = is_first w h halted (t ∷ ts) s some in by_number f f.whose.traffic refl
+    where
+      by_number : (f : IsFirst w h s.visits s.all.asked s.all.came) (n : ℕ) → f.whose.traffic ≡ n → ⊥
+      by_number f zero is = stands_first reading gives f.visit (ap (slice_get s.visits) (sym is) ∙ f.there) (wrong f is)
+      by_number f (suc n) is =
+          let v = first_there s.visits f.whose.traffic f.visit f.there in
+          stands_first reading gives v.0 v.1
+          (λ k. not_over_yet v.0 k s.all.asked (s.in_turn 0 0 f.whose v.0 f.is_whose v.1 (some_above f.whose.traffic n is)))
+
+-- ---- spoilt runs
+
 module _ (w : Setting) (h : List Entry) (halted : Bool) (t : Traffic) (reading : Reading t.read) (body : List ℕ)
     (later : List Fed) (gives : given t.read reading ≡ Request body false ∷ later) where
-  -- its first posting, and how its connection stands
   module _ (s : IsServed w h halted (t ∷ [])) where
-    with_first : posts_by first_worker h ≢ []
-        → ((f : IsFirst w h s.visits s.all.came) → f.number ≡ 0 → Stands (Request body false ∷ later) f.visit t.written → ⊥) → ⊥
-    with_first some wrong =
-        let f = is_first w h halted (t ∷ []) s some in
-        let at = passed_at s.visits (t ∷ []) s.passed f.number f.visit f.there in
-        let only = alone_at t at.0 f.number at.1 in
-        stands_so t reading (Request body false ∷ later) gives f.visit
-        (subst (λ (u : Traffic). HasPassed f.visit u) (sym only.1) at.2) (wrong f only.0)
-
-    first_came : LeadToOne w → (f : IsFirst w h s.visits s.all.came) → Stands (Request body false ∷ later) f.visit t.written
-        → came_with f.visit.service f.body ≡ came_with 0 body
-    first_came one f k =
-        ap (λ (n : ℕ). came_with n f.body)
-        (one f.visit.service (all_at (λ (v : Visit). has_door w.parts v.service) s.visits f.number f.visit s.doors f.there))
-        ∙ ap (came_with 0) (first_same (length f.visit.bodies) body f.body (bodies_in later) f.visit.bodies k.bodies f.asked)
-
-    first_response : LeadToOne w → (f : IsFirst w h s.visits s.all.came) → Stands (Request body false ∷ later) f.visit t.written
-        → response w (past_of w h) first_worker 0 (came_with f.visit.service f.body)
-        ≡ response w (past_of w h) first_worker 0 (came_with 0 body)
-    first_response one f k = ap (response w (past_of w h) first_worker 0) (first_came one f k)
-
-    first_posted : LeadToOne w → (f : IsFirst w h s.visits s.all.came) → Stands (Request body false ∷ later) f.visit t.written
-        → posts_by first_worker h ≡ posts_of 0 (map posting_of (came_with 0 body ∷ f.others))
-    first_posted one f k =
-        s.posted
-        ∙ ap (λ (came : List Came). posts_of 0 (map posting_of came))
-        (f.first ∙ ap (λ (c : Came). c ∷ f.others) (first_came one f k))
-
-    one_alone : later ≡ [] → (f : IsFirst w h s.visits s.all.came) → Stands (Request body false ∷ later) f.visit t.written → f.others ≡ []
+    one_alone : later ≡ [] → (f : IsFirst w h s.visits s.all.asked s.all.came) → Stands (Request body false ∷ later) f.visit t.written → f.others ≡ []
     one_alone last f k =
         let v = alone s.visits t s.passed in
-        let same : v.0 ≡ f.visit = (alone_at v.0 f.visit f.number (ap (λ (l : List Visit). slice_get l f.number) (sym v.1) ∙ f.there)).1 in
+        let same : v.0 ≡ f.visit = (alone_at v.0 f.visit f.whose.traffic (ap (λ (l : List Visit). slice_get l f.whose.traffic) (sym v.1) ∙ f.there)).1 in
         no_others v.0 (length f.visit.bodies) body
         (ap (λ (u : Visit). u.bodies) same ∙ k.bodies ∙ ap (λ (l : List Fed). take (length f.visit.bodies) (body ∷ bodies_in l)) last)
         s.all.asked (came_with f.visit.service f.body) f.others
@@ -489,23 +547,23 @@ module _ (w : Setting) (h : List Entry) (halted : Bool) (t : Traffic) (reading :
         (s.came ∙ ap (map Some) f.first))
 
     -- the only connection
-    only : (f : IsFirst w h s.visits s.all.came) → (v : Visit) × (s.visits ≡ v ∷ []) × (v ≡ f.visit)
+    only : (f : IsFirst w h s.visits s.all.asked s.all.came) → (v : Visit) × (s.visits ≡ v ∷ []) × (v ≡ f.visit)
     only f =
         let v = alone s.visits t s.passed in
-        (v.0, v.1, (alone_at v.0 f.visit f.number (ap (λ (l : List Visit). slice_get l f.number) (sym v.1) ∙ f.there)).1)
+        (v.0, v.1, (alone_at v.0 f.visit f.whose.traffic (ap (λ (l : List Visit). slice_get l f.whose.traffic) (sym v.1) ∙ f.there)).1)
 
     only_taken : (v : Visit) → s.visits ≡ v ∷ [] → AreTaken (v ∷ []) s.all.asked
     only_taken v e =
         subst (λ (l : List Visit). AreTaken l s.all.asked) e (record { in_order = s.taken.in_order; all = s.taken.all })
 
-    only_came : (f : IsFirst w h s.visits s.all.came) (v : Visit) → s.visits ≡ v ∷ []
+    only_came : (f : IsFirst w h s.visits s.all.asked s.all.came) (v : Visit) → s.visits ≡ v ∷ []
         → map (came_at (v ∷ [])) s.all.asked ≡ map Some (came_with f.visit.service f.body ∷ f.others)
     only_came f v e =
         subst (λ (l : List Visit). map (came_at l) s.all.asked ≡ map Some (came_with f.visit.service f.body ∷ f.others)) e
         (s.came ∙ ap (map Some) f.first)
 
     -- where others came in, more than one was taken
-    more_taken : (f : IsFirst w h s.visits s.all.came) (others : List Came) → f.others ≡ others → others ≢ []
+    more_taken : (f : IsFirst w h s.visits s.all.asked s.all.came) (others : List Came) → f.others ≡ others → others ≢ []
         → 1 < length f.visit.bodies
     more_taken f [] e some = absurd (some refl)
     more_taken f (d ∷ others) e some =
@@ -515,7 +573,7 @@ module _ (w : Setting) (h : List Entry) (halted : Bool) (t : Traffic) (reading :
         (only_came f v.0 v.1 ∙ ap (λ (l : List Came). map Some (came_with f.visit.service f.body ∷ l)) e))
 
     -- where more than one was taken, the second was posted
-    second_posted : LeadToOne w → (f : IsFirst w h s.visits s.all.came) → Stands (Request body false ∷ later) f.visit t.written
+    second_posted : LeadToOne w → (f : IsFirst w h s.visits s.all.asked s.all.came) → Stands (Request body false ∷ later) f.visit t.written
         → (other : List ℕ) (rest : List Fed) → later ≡ Request other false ∷ rest → 1 < length f.visit.bodies
         → (others : List Came) × (posts_by first_worker h ≡ posts_of 0 (map posting_of (came_with 0 body ∷ came_with 0 other ∷ others)))
     second_posted one f k other rest is many =
@@ -524,7 +582,7 @@ module _ (w : Setting) (h : List Entry) (halted : Bool) (t : Traffic) (reading :
         (subst (λ (u : Visit). 1 < length u.bodies) (sym v.2) many) in
         let service : v.0.service ≡ 0 =
         ap (λ (u : Visit). u.service) v.2
-        ∙ one f.visit.service (all_at (λ (u : Visit). has_door w.parts u.service) s.visits f.number f.visit s.doors f.there) in
+        ∙ one f.visit.service (all_at (λ (u : Visit). has_door w.parts u.service) s.visits f.whose.traffic f.visit s.doors f.there) in
         let second : z.body ≡ other =
         second_same (length f.visit.bodies) body other z.body (bodies_in rest) f.visit.bodies
         (k.bodies ∙ ap (λ (l : List Fed). take (length f.visit.bodies) (body ∷ bodies_in l)) is)
@@ -535,17 +593,17 @@ module _ (w : Setting) (h : List Entry) (halted : Bool) (t : Traffic) (reading :
               (z.came ∙ ap (λ (n : ℕ). came_with n z.body ∷ z.more) service ∙ ap (λ (b : List ℕ). came_with 0 b ∷ z.more) second),
         )
 
-  -- A run over one connection is refused unless what it posts first is the first request.
-  pub refused_first : posts_by first_worker h ≢ [] → LeadToOne w
+  -- A run is refused unless what it posts first is the first request of the first connection.
+  pub refused_first : (ts : List Traffic) → posts_by first_worker h ≢ [] → LeadToOne w
       → ((others : List Came) → posts_by first_worker h ≡ posts_of 0 (map posting_of (came_with 0 body ∷ others)) → ⊥)
-      → IsServed w h halted (t ∷ []) → ⊥
-  refused_first some one wrong s = with_first s some (λ f number k. wrong f.others (first_posted s one f k))
+      → IsServed w h halted (t ∷ ts) → ⊥
+  refused_first ts some one wrong s = with_first s reading gives some (λ f number k. wrong f.others (first_posted s one f k))
 
   -- It is refused where there is one request alone, and more is posted.
   pub refused_once : later ≡ [] → posts_by first_worker h ≢ [] → LeadToOne w
       → (posts_by first_worker h ≡ posts_of 0 (map posting_of (came_with 0 body ∷ [])) → ⊥) → IsServed w h halted (t ∷ []) → ⊥
   refused_once last some one wrong s =
-      with_first s some
+      with_first s reading gives some
       (λ f number k. wrong (first_posted s one f k
       ∙ ap (λ (others : List Came). posts_of 0 (map posting_of (came_with 0 body ∷ others))) (one_alone s last f k)))
 
@@ -564,11 +622,11 @@ module _ (w : Setting) (h : List Entry) (halted : Bool) (t : Traffic) (reading :
       → ((texts : List (Option (List ℕ))) → t.written ≡ answer text false ++ spoken later texts → ⊥)
       → (s : IsServed w h halted (t ∷ [])) → ((v : Visit) → slice_get s.visits 0 ≡ Some v → v.stage ≢ Stages.WriteFailed) → ⊥
   refused_cut goes some one text is_text apart s calm =
-      with_first s some
+      with_first s reading gives some
       (λ f number k.
       let whole = k.whole (calm f.visit (subst (λ (n : ℕ). slice_get s.visits n ≡ Some f.visit) number f.there)) in
       let told : length f.visit.texts ≡ length f.visit.bodies =
-      eqb-true (length f.visit.texts) (length f.visit.bodies) (all_at is_told s.visits f.number f.visit (s.told goes) f.there) in
+      eqb-true (length f.visit.texts) (length f.visit.bodies) (all_at is_told s.visits f.whose.traffic f.visit (s.told goes) f.there) in
       let first = answer_first f.visit.texts text
       (subst (λ (n : ℕ). 0 < n) (sym told) (slice_get_within f.visit.bodies 0 f.body f.asked))
       (λ x e. f.answered x e ∙ first_response s one f k ∙ is_text) whole in
@@ -576,7 +634,7 @@ module _ (w : Setting) (h : List Entry) (halted : Bool) (t : Traffic) (reading :
 
   -- the first request was told, whether it halted or not, where others came in and it was answered before them
   first_told : is_finished w (past_of w h) first_worker 0 0 ≡ true → (s : IsServed w h halted (t ∷ []))
-      → (f : IsFirst w h s.visits s.all.came) (others : List Came) → f.others ≡ others → others ≢ [] → 0 < length f.visit.texts
+      → (f : IsFirst w h s.visits s.all.asked s.all.came) (others : List Came) → f.others ≡ others → others ≢ [] → 0 < length f.visit.texts
   first_told first s f [] e some = absurd (some refl)
   first_told first s f (d ∷ others) e some =
       let v = only s f in
@@ -593,7 +651,7 @@ module _ (w : Setting) (h : List Entry) (halted : Bool) (t : Traffic) (reading :
       → ((texts : List (Option (List ℕ))) → t.written ≡ answer text false ++ spoken later texts → ⊥)
       → (s : IsServed w h halted (t ∷ [])) → ((v : Visit) → slice_get s.visits 0 ≡ Some v → v.stage ≢ Stages.WriteFailed) → ⊥
   refused_untold early some one text is_text more apart s calm =
-      with_first s some
+      with_first s reading gives some
       (λ f number k.
       let whole = k.whole (calm f.visit (subst (λ (n : ℕ). slice_get s.visits n ≡ Some f.visit) number f.there)) in
       let first = answer_first f.visit.texts text
@@ -629,12 +687,12 @@ module _ (w : Setting) (h : List Entry) (halted : Bool) (t : Traffic) (reading :
       → (posts_by first_worker h ≡ posts_of 0 (map posting_of (came_with 0 body ∷ [])) → ⊥)
       → length t.written < length (answer text false) → IsServed w h halted (t ∷ []) → ⊥
   refused_behind goes some one text is_text apart short s =
-      with_first s some
+      with_first s reading gives some
       (λ f number k.
       let many = more_taken s f f.others refl
       (λ none. apart (first_posted s one f k ∙ ap (λ (l : List Came). posts_of 0 (map posting_of (came_with 0 body ∷ l))) none)) in
       let told : length f.visit.texts ≡ length f.visit.bodies =
-      eqb-true (length f.visit.texts) (length f.visit.bodies) (all_at is_told s.visits f.number f.visit (s.told goes) f.there) in
+      eqb-true (length f.visit.texts) (length f.visit.bodies) (all_at is_told s.visits f.whose.traffic f.visit (s.told goes) f.there) in
       let first = answer_behind f.visit.texts text k.wrote (subst (λ (n : ℕ). 1 < n) (sym told) many)
       (λ x e. f.answered x e ∙ first_response s one f k ∙ is_text) in
       none_shorter t.written (answer text false) (spoken later first.0) first.1 short)
@@ -661,14 +719,14 @@ module _ (w : Setting) (h : List Entry) (halted : Bool) (t : Traffic) (reading :
       → t.written ≡ answer text false → (s : IsServed w h halted (t ∷ []))
       → ((v : Visit) → slice_get s.visits 0 ≡ Some v → IsFailed v.stage) → ⊥
   refused_untaken goes some one text is_text other rest is apart wrote s failed =
-      with_first s some (λ f number k. wrong f k (k.failed (failed f.visit (subst (λ (n : ℕ). slice_get s.visits n ≡ Some f.visit) number f.there))))
+      with_first s reading gives some (λ f number k. wrong f k (k.over (inr (inr (failed f.visit (subst (λ (n : ℕ). slice_get s.visits n ≡ Some f.visit) number f.there))))))
     where
-      not_two : (f : IsFirst w h s.visits s.all.came) → Stands (Request body false ∷ later) f.visit t.written
+      not_two : (f : IsFirst w h s.visits s.all.asked s.all.came) → Stands (Request body false ∷ later) f.visit t.written
           → 1 < length f.visit.bodies → ⊥
       not_two f k many =
           let z = second_posted s one f k other rest is many in apart z.0 z.1
 
-      wrong : (f : IsFirst w h s.visits s.all.came) → Stands (Request body false ∷ later) f.visit t.written
+      wrong : (f : IsFirst w h s.visits s.all.asked s.all.came) → Stands (Request body false ∷ later) f.visit t.written
           → (f.visit.bodies ≡ bodies_in (Request body false ∷ later)) ⊎ IsCut (Request body false ∷ later) f.visit.texts t.written → ⊥
       wrong f k (inl all) =
           let two : length f.visit.bodies ≡ suc (suc (length (bodies_in rest))) =
@@ -676,7 +734,7 @@ module _ (w : Setting) (h : List Entry) (halted : Bool) (t : Traffic) (reading :
           not_two f k (subst (λ (n : ℕ). 1 < n) (sym two) (two_at_least (length (bodies_in rest))))
       wrong f k (inr cut) =
           let told : length f.visit.texts ≡ length f.visit.bodies =
-          eqb-true (length f.visit.texts) (length f.visit.bodies) (all_at is_told s.visits f.number f.visit (s.told goes) f.there) in
+          eqb-true (length f.visit.texts) (length f.visit.bodies) (all_at is_told s.visits f.whose.traffic f.visit (s.told goes) f.there) in
           not_cut f.visit.texts text (λ many. not_two f k (subst (λ (n : ℕ). 1 < n) told many))
           (λ x e. f.answered x e ∙ first_response s one f k ∙ is_text) other rest is wrote cut.part
 

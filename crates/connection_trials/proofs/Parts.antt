@@ -1,5 +1,5 @@
 -- What makes a run served, by lists that are written out.
-use Rattle.std.proofs.Common.{◌≡◌, ◌<◌, ℕ, zero, suc, ◌+◌, List, [], ◌∷◌, length, take, Option, Some, sym, refl, ap, ◌∙◌, subst, arith, false, ◌++◌}
+use Rattle.std.proofs.Common.{◌≡◌, ◌⊎◌, ◌<◌, ℕ, zero, suc, ◌+◌, List, [], ◌∷◌, length, take, count_by, Option, Some, sym, refl, ap, ◌∙◌, subst, arith, false, ◌++◌}
 use Rattle.std.specs.Prelude.{slice_get}
 use Rattle.std.specs.Io.{StartsWith}
 use Rattle.std.proofs.Math.Seq.{take-length}
@@ -8,6 +8,7 @@ use Rattle.office_core.specs.declared.history.Entry.{Entry}
 use Rattle.office_core.specs.Limits.{Setting, first_worker}
 use Rattle.office_core.specs.Accepted.{past_of}
 use Rattle.office_front.specs.Dealings.{Asked}
+use Rattle.office_front.specs.Calls.{is_of}
 use Rattle.run_record.specs.declared.record.Traffic.{Traffic}
 use Rattle.run_record.specs.Order.{finished_at}
 use Rattle.branch_workers.specs.Texts.{Came, response}
@@ -16,9 +17,10 @@ use Rattle.http_port.specs.Connections.{Reading, end_of, given}
 use Rattle.http_port.specs.Serving.{bodies_in}
 use Rattle.http_port.proofs.TalkLemmas.{spoken}
 use Rattle.http_connection.specs.declared.stage.Stage.TheVariants as Stages
+use Rattle.http_connection.specs.Stages.{IsOver}
 use Rattle.http_connection.proofs.Histories.{closes_in, closing_given, unclosed}
 use Rattle.connection_runs.specs.Visits.{Visit, HasPassed}
-use Rattle.connection_runs.specs.Served.{AreOneByOne, AreResponses, AreToldEarly}
+use Rattle.connection_runs.specs.Served.{AreOneByOne, HadToWait, AreInTurn, AreResponses, AreToldEarly}
 use Rattle.connection_trials.proofs.Requests.{bodies_by, talk_by}
 
 -- a connection that reads on, whose requests were all taken and told these texts
@@ -58,6 +60,18 @@ passed_to_the_end t fs texts gives even stays written = record {
     written ∙ sym (talk_by t.read r fs texts (gives r)),
     unclosed (end_of t.read r) (closing_given t.read r ∙ ap closes_in (gives r) ∙ stays),
   ) ∣₁;
+}
+
+-- a connection that ended, whose requests were all taken and told these texts
+abbrev pub read_out : List Fed → List (Option (List ℕ)) → Visit
+read_out fs texts = record { service = 0; stage = Stages.Ended; bodies = bodies_in fs; texts = texts }
+
+-- it has passed as one of which a read failed
+pub passed_out : (t : Traffic) (fs : List Fed) (texts : List (Option (List ℕ))) → ((r : Reading t.read) → given t.read r ≡ fs)
+    → length texts ≡ length (bodies_in fs) → closes_in fs ≡ false → t.written ≡ spoken fs texts → HasPassed (read_out fs texts) t
+passed_out t fs texts gives even stays written = record {
+  stage = λ e. let clash : Stages.Ended ≡ Stages.Spent = e in cc;
+  keeps = (passed_to_the_end t fs texts gives even stays written).keeps;
 }
 
 -- What is due last was cut: a front of what is to be written was written, and not all of it; and all that stands before
@@ -128,10 +142,10 @@ module _ (w : Setting) (h : List Entry) (visits : List Visit) where
 
 -- ---- one by one
 
-none_below : (i : ℕ) → i < 0 → ⊥
+pub none_below : (i : ℕ) → i < 0 → ⊥
 none_below i less = omega (arith, less)
 
-none_between : (i : ℕ) → suc i < 1 → ⊥
+pub none_between : (i : ℕ) → suc i < 1 → ⊥
 none_between i less = omega (arith, less)
 
 module _ (w : Setting) (h : List Entry) where
@@ -149,6 +163,29 @@ module _ (w : Setting) (h : List Entry) where
       (ap (λ (z : Asked). z.traffic) (same_Some x a e) ∙ same ∙ sym (ap (λ (z : Asked). z.traffic) (same_Some y b f)))
   two_by_one x y early (suc i) (suc zero) a b e f same less = absurd (none_between i less)
   two_by_one x y early i (suc (suc j)) a b e f same less = absurd (none-some b f)
+
+-- ---- in turn
+
+module _ (w : Setting) (h : List Entry) (visits : List Visit) where
+  -- before the first connection there is no other
+  none_before : (x a : Asked) (k : ℕ) → x.traffic ≡ 0 → Some x ≡ Some a → k < a.traffic → ⊥
+  none_before x a k first e less =
+      none_below k (subst (λ (n : ℕ). k < n) (ap (λ (z : Asked). z.traffic) (sym (same_Some x a e)) ∙ first) less)
+
+  -- one request alone came on the first
+  pub in_turn_alone : (x : Asked) → x.traffic ≡ 0 → AreInTurn w h visits (x ∷ [])
+  in_turn_alone x first zero k a v e there less = absurd (none_before x a k first e less)
+  in_turn_alone x first (suc j) k a v e there less = absurd (none-some a e)
+
+  -- of two the first came on it, and before the second each connection before its own waited or was over
+  pub two_in_turn : (x y : Asked) → x.traffic ≡ 0
+      → ((k : ℕ) (v : Visit) → slice_get visits k ≡ Some v → k < y.traffic
+      → HadToWait w h (x ∷ y ∷ []) 1 k ⊎ (IsOver v.stage × (count_by (is_of k) (x ∷ []) ≡ length v.bodies)))
+      → AreInTurn w h visits (x ∷ y ∷ [])
+  two_in_turn x y first second zero k a v e there less = absurd (none_before x a k first e less)
+  two_in_turn x y first second (suc zero) k a v e there less =
+      second k v there (subst (λ (z : Asked). k < z.traffic) (sym (same_Some y a e)) less)
+  two_in_turn x y first second (suc (suc j)) k a v e there less = absurd (none-some a e)
 
 -- ---- told early
 

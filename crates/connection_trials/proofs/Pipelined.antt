@@ -36,7 +36,7 @@ use Rattle.connection_runs.specs.Visits.{Visit, HasPassed}
 use Rattle.connection_runs.specs.Served.{AreResponses, IsServed}
 use Rattle.connection_trials.proofs.Requests.{judged, more_requests, cons_nil}
 use Rattle.connection_trials.proofs.Sent.{go, more, read_go, read_more, head_go, gives_more, reading_more}
-use Rattle.connection_trials.proofs.Parts.{read_on, passed_on, IsTextAt, text_at, told_responses, two_by_one, has_text, two_told}
+use Rattle.connection_trials.proofs.Parts.{read_on, passed_on, IsTextAt, text_at, told_responses, none_below, two_by_one, two_in_turn, has_text, two_told}
 use Rattle.connection_trials.proofs.First.{differ, first_op, holds_alone, IsOther, LeadToOne, refused, refused_first, refused_early}
 use Rattle.connection_trials.proofs.TwoCalls.{setting, history, another_order, at_once, go_first, go_open, post_more, is_post_more, call_go, call_more, text_go, text_more, written_go, written_more, came_go, came_more, is_posted, response_go, response_more}
 
@@ -127,6 +127,7 @@ served = record {
   came = refl;
   posted = is_posted;
   one_by_one = two_by_one setting history asked_go asked_more (λ _. subst (λ (n : ℕ). n < 1) (sym go_first) none_one);
+  in_turn = two_in_turn setting history (visit ∷ []) asked_go asked_more refl (λ k v there less. absurd (none_below k less));
   responses = responses;
   told_early = two_told setting history (visit ∷ []) asked_go asked_more (has_text (visit ∷ []) asked_go visit refl none_two) (has_text (visit ∷ []) asked_more visit refl one_two);
   told = λ _. refl;
@@ -138,7 +139,7 @@ pub one_door : LeadToOne setting
 unfolding encode
 one_door n e = eqb-true n 0 (holds_alone _ e)
 
-other_first : (others : List Came)
+pub other_first : (others : List Came)
     → posts_by first_worker another_order ≡ posts_of 0 (map posting_of (came_go ∷ others)) → ⊥
 unfolding digits escape_byte is_utf8 chars encode scan_numeral value punctuate lex content word after_number number_of root_name posted answer batch early_answer
 other_first others e = differ call_more.op call_go.op refl refl (ap first_op e)
@@ -146,7 +147,7 @@ other_first others e = differ call_more.op call_go.op refl refl (ap first_op e)
 -- what was sent behind the other was posted before it
 pub spoilt_posted_in_another_order : IsServed setting another_order false (wrote written ∷ []) → ⊥
 spoilt_posted_in_another_order =
-    refused_first setting another_order false (wrote written) reading go (Request more false ∷ []) (gives_read reading)
+    refused_first setting another_order false (wrote written) reading go (Request more false ∷ []) (gives_read reading) []
     (λ e. cons_nil _ _ e) one_door other_first
 
 -- what was sent behind the other was posted before that was answered

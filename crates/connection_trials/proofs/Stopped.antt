@@ -37,7 +37,7 @@ use Rattle.http_port.specs.declared.head_reader.Fed.TheVariants.{Request}
 use Rattle.connection_runs.specs.Visits.{Visit, came_with, AreTaken, HasPassed}
 use Rattle.connection_runs.specs.Served.{AreResponses, IsServed}
 use Rattle.connection_trials.proofs.Sent.{go, read_go, gives_go}
-use Rattle.connection_trials.proofs.Parts.{read_on, passed_on, IsTextAt, text_at, told_responses, one_alone, early_alone}
+use Rattle.connection_trials.proofs.Parts.{read_on, passed_on, IsTextAt, text_at, told_responses, one_alone, in_turn_alone, early_alone}
 
 -- the program
 abbrev pub program : ProgramParts
@@ -126,6 +126,7 @@ served = record {
   came = refl;
   posted = is_posted;
   one_by_one = one_alone setting history asked;
+  in_turn = in_turn_alone setting history (visit ∷ []) asked refl;
   responses = responses visit refl;
   told_early = early_alone setting history (visit ∷ []) asked;
   told = λ _. refl;

@@ -30,7 +30,7 @@ use Rattle.connection_runs.specs.Served.{IsServed}
 use Rattle.connection_trials.proofs.Requests.{bodies_by, talk_by, cons_nil}
 use Rattle.connection_trials.proofs.Sent.{go, read_go, reading_go, gives_go}
 use Rattle.connection_trials.proofs.First.{differ, behind_first, first_op, holds_alone, IsOther, LeadToOne, refused, refused_once, refused_cut}
-use Rattle.connection_trials.proofs.Parts.{IsTextAt, told_responses, one_alone, early_alone, IsCut, passed_to_the_end, passed_in_part}
+use Rattle.connection_trials.proofs.Parts.{IsTextAt, told_responses, one_alone, in_turn_alone, early_alone, IsCut, passed_to_the_end, passed_in_part}
 use Rattle.connection_trials.proofs.Stopped.{setting, history, text, written, gives, asked, came, one_taken, is_response, responses, is_posted}
 
 one_door : LeadToOne setting
@@ -168,6 +168,7 @@ served_at stage bytes passed = record {
   came = refl;
   posted = is_posted;
   one_by_one = one_alone setting history asked;
+  in_turn = in_turn_alone setting history (at_stage stage ∷ []) asked refl;
   responses = responses (at_stage stage) refl;
   told_early = early_alone setting history (at_stage stage ∷ []) asked;
   told = λ _. refl;
@@ -229,6 +230,7 @@ served_where_it_halted = record {
   came = refl;
   posted = is_posted;
   one_by_one = one_alone setting history asked;
+  in_turn = in_turn_alone setting history (owing ∷ []) asked refl;
   responses = told_responses setting history (owing ∷ []) (asked ∷ []) (came ∷ []) (owing_told, tt);
   told_early = early_alone setting history (owing ∷ []) asked;
   told = λ e. absurd (true≢false e);
@@ -259,6 +261,7 @@ served_before_it_is_taken = record {
   came = refl;
   posted = refl;
   one_by_one = λ i j a b e. absurd (none-some a e);
+  in_turn = λ j k a v e. absurd (none-some a e);
   responses = λ j a c v t ea ec ev et. absurd (none-some a ea);
   told_early = λ j a v e. absurd (none-some a e);
   told = λ _. refl;

@@ -154,18 +154,18 @@ pub response_more : Some text_more ≡ response setting (past_of setting history
 unfolding digits escape_byte is_utf8 chars encode scan_numeral value punctuate lex content word after_number number_of root_name posted answer batch early_answer
 response_more = refl
 
--- the same where more was posted first
-pub is_posted_so : posts_by first_worker another_order ≡ posts_of 0 (map posting_of (came_more ∷ came_go ∷ []))
+-- the same where both were posted at once
+pub is_posted_at_once : posts_by first_worker at_once ≡ posts_of 0 (map posting_of (came_go ∷ came_more ∷ []))
 unfolding digits escape_byte is_utf8 chars encode scan_numeral value punctuate lex content word after_number number_of root_name posted answer batch early_answer
-is_posted_so = refl
+is_posted_at_once = refl
 
-pub response_more_first : Some text_more ≡ response setting (past_of setting another_order) first_worker 0 came_more
+pub response_go_at_once : Some text_go ≡ response setting (past_of setting at_once) first_worker 0 came_go
 unfolding digits escape_byte is_utf8 chars encode scan_numeral value punctuate lex content word after_number number_of root_name posted answer batch early_answer
-response_more_first = refl
+response_go_at_once = refl
 
-pub response_go_second : Some text_go ≡ response setting (past_of setting another_order) first_worker 1 came_go
+pub response_more_at_once : Some text_more ≡ response setting (past_of setting at_once) first_worker 1 came_more
 unfolding digits escape_byte is_utf8 chars encode scan_numeral value punctuate lex content word after_number number_of root_name posted answer batch early_answer
-response_go_second = refl
+response_more_at_once = refl
 
 -- where they are posted one after the other, the first posting is finished before the second
 pub go_first : finished_at setting (past_of setting history) first_worker 2 0 ≡ 0
@@ -181,6 +181,11 @@ go_early = refl
 pub go_open : is_finished setting (past_of setting at_once) first_worker 0 0 ≡ false
 unfolding encode
 go_open = refl
+
+-- but at the second
+pub go_late : finished_at setting (past_of setting at_once) first_worker 2 0 ≡ 1
+unfolding encode
+go_late = refl
 
 -- the second post there
 abbrev pub post_more : Post

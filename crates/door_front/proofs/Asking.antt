@@ -20,8 +20,8 @@ use Rattle.connection_runs.specs.Visits.{Visit, came_with}
 use Rattle.http_connection.specs.Seen.{Line}
 use Rattle.door_front.specs.Keeping.{PortTold, LinkTold, Keeping, services_of, rests_at, no_more, AreLed}
 use Rattle.sink_writing.specs.Sinks.{Taking}
-use Rattle.door_front.specs.Dealt.{most_open, Sides, sides_of, HadNone, GaveNone, HaveWaited, HasSaid, HasDealt, MayHaveDealt}
-use Rattle.door_front.specs.NextSteps.{service_of, place_of, wires_of, is_open, has_room, closed_off, AreTried, listing, Hands, going_of, Goes, Rests, Posts, Looks}
+use Rattle.door_front.specs.Dealt.{most_open, Sides, sides_of, CameInTurn, HadNone, GaveNone, HaveWaited, HasSaid, HasDealt, MayHaveDealt}
+use Rattle.door_front.specs.NextSteps.{service_of, place_of, wires_of, is_open, has_room, closed_off, AreTried, LinksGoOn, listing, Hands, going_of, Goes, Rests, Posts, Looks}
 use Rattle.door_front.proofs.Entries.{length_set, nat_eq_is}
 use Rattle.door_front.proofs.Doors.{services-same, places-same}
 use Rattle.door_front.proofs.Leading.{led-asked}
@@ -29,6 +29,7 @@ use Rattle.door_front.proofs.Coming.{goes-none}
 use Rattle.door_front.proofs.Requests.{Serves, serves-on, came_length}
 use Rattle.door_front.proofs.OneMore.{one_more, next_of, serves-more, service_there}
 use Rattle.door_front.proofs.OneByOne.{told_all, one_count_more, told_first-more, heard_by-more, heard-where_reads}
+use Rattle.door_front.proofs.InTurn.{asked_within, over_on, in_turn-on, in_turn-asked}
 use Rattle.door_front.proofs.Waiting.{once_more, waited-none, waited-more, owes, opened_owe, owes-grow, busy-few, busy-all, busy-count}
 
 -- ---- calls
@@ -92,6 +93,13 @@ module _ (IsMade : Line → Type 0) (parts : ProgramParts) (first : Sides) (note
   -- what was asked and told by then
   serves : Serves IsMade parts (services_of before) before.links h.all h.heard
   serves = record { visits = h.visits; are = h.links; doors = h.doors; taken = h.taken; came = h.came; answers = h.answers }
+
+  -- connections go on without a request
+  in_turn-goes : (links : List LinkTold) → LinksGoOn IsMade (services_of before) before.links links → CameInTurn d links
+  in_turn-goes links g =
+      in_turn-on d.brought.asked d.brought.seens d.said.told before.links links
+      (λ j a x. asked_within IsMade before.links h.visits h.links h.all.asked h.all.came h.came j a (ap (λ xs. slice_get xs j) h.asked ∙ x))
+      (over_on IsMade (services_of before) before.links links g) h.in_turn
 
   -- as many were given as were asked
   given_count : length d.brought.given ≡ length before.traffics
@@ -161,6 +169,7 @@ module _ (IsMade : Line → Type 0) (parts : ProgramParts) (first : Sides) (note
       places = h.places;
       answers = still_serves.answers;
       one_by_one = record { counts = h.one_by_one.counts; each = h.one_by_one.each };
+      in_turn = in_turn-goes now.links g.links;
       said = said_still;
       left = refl;
       faults = h.faults;
@@ -374,6 +383,13 @@ module _ (IsMade : Line → Type 0) (parts : ProgramParts) (first : Sides) (note
         (heard-where_reads IsMade parts (services_of before) g.mid.links h.all h.heard mid_serves hands.number hands.one.link hands.one.there hands.one.read
         i a (ap (λ xs. slice_get xs i) h.asked ∙ there) traffic)
 
+    -- and each connection before its own waited for an answer or was over
+    in_turn_now : CameInTurn (record { brought = brought_now; said = d.said }) now.links
+    in_turn_now =
+        in_turn-asked IsMade parts (services_of before) (listing g.mid.links g.mid.traffics) (listing now.links now.traffics) h.all h.heard
+        (record { brought = without 0 false; said = d.said }) hands.number hands.body hands.one mid_serves h.asked
+        (h.all_told running ∙ take_length d.said.told) refl h.one_by_one.counts (in_turn-goes g.mid.links g.goes.links)
+
     none_now : GaveNone (record { brought = brought_now; said = d.said }) → ⊥
     none_now gave = elim gave [ inl e ↦ true≢false (sym e) | inr more ↦ (omega arith) ]
 
@@ -408,6 +424,7 @@ module _ (IsMade : Line → Type 0) (parts : ProgramParts) (first : Sides) (note
         counts = one_count_more d.brought.asked d.brought.seens asker (length d.said.told) h.one_by_one.counts;
         each = told_first-more d.brought.asked d.brought.seens d.said.told asker h.one_by_one.counts h.one_by_one.each told_before;
       };
+      in_turn = in_turn_now;
       said = said_still;
       left = refl;
       faults = h.faults;

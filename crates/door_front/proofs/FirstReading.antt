@@ -40,6 +40,13 @@ module _ {A : Type 0} (p : A → Bool) where
       let parts = cond_some (nat_lt (position_or_len p xs) (length xs)) (position_or_len p xs) i e in
       subst (λ n. p (get_or xs n d) ≡ true) parts.1 (passes_at_first p xs d (ltb-true (position_or_len p xs) (length xs) parts.0))
 
+  -- none before it passes
+  pub fails_before : (xs : List A) (i : ℕ) → position p xs ≡ Some i → (k : ℕ) (x : A) → slice_get xs k ≡ Some x → k < i → p x ≡ false
+  fails_before xs i e k x is less =
+      let parts = cond_some (nat_lt (position_or_len p xs) (length xs)) (position_or_len p xs) i e in
+      let before : k < position_or_len p xs = subst (λ n. k < n) (sym parts.1) less in
+      ap p (sym (get_or_from_slice_get xs k x x is)) ∙ fails_before_first p xs k x before
+
   none_any : (xs : List A) → ((k : ℕ) (x : A) → slice_get xs k ≡ Some x → p x ≡ false) → list_any p xs ≡ false
   none_any [] h = refl
   none_any (x ∷ xs) h = ap₂ (λ a b. a || b) (h 0 x refl) (none_any xs (λ k y e. h (suc k) y e))
@@ -123,6 +130,7 @@ module _ (links : List LinkTold) (traffics : List ℕ) (number place : ℕ) (l l
     later = later;
     there = link_read links number l first is;
     read = stage_read links number l first is;
+    first = fails_before reads links number first;
     asked = subst (λ b. IsAsked (length traffics) b l later) e (subst (λ n. IsAsked n a.body l later) numbered a.asked);
     set = refl;
   }

@@ -13,5 +13,6 @@ pub mod Requests
 pub mod OneMore
 pub mod Waiting
 pub mod OneByOne
+pub mod InTurn
 pub mod Asking
 pub mod FirstReading

@@ -66,10 +66,10 @@ one_count_more asked seens a n same =
     let two = length_push asked a in
     omega (arith, one, two, same)
 
-no_count : (j m n : ℕ) → j < m → n ≡ m → j ≡ n → ⊥
+pub no_count : (j m n : ℕ) → j < m → n ≡ m → j ≡ n → ⊥
 no_count j m n less same is = omega (arith, less, same, is)
 
-no_request : (j m n : ℕ) → j < n → n ≡ m → j ≡ m → ⊥
+pub no_request : (j m n : ℕ) → j < n → n ≡ m → j ≡ m → ⊥
 no_request j m n less same is = omega (arith, less, same, is)
 
 not_behind : (i j m : ℕ) → i ≡ m → i < j → j < m → ⊥

@@ -27,11 +27,12 @@ use Rattle.http_connection.specs.Seen.{Line}
 use Rattle.door_front.specs.declared.link.Owed.{Owed}
 use Rattle.door_front.specs.Keeping.{PortTold, LinkTold, Keeping, AreNew, IsEmpty, services_of, rests_at, no_more, leads_to, AreLed}
 use Rattle.sink_writing.specs.Sinks.{Taking, Takes}
-use Rattle.door_front.specs.Dealt.{Sides, sides_of, OwesAt, IsLink, AreLinks, IsHeard, IsOwed, AreHeard, HadNoAnswer, WasBusy, WereBusy, HaveWaited, HadNone, most_open, entire, HasDealt, HasRunOut, MayHaveDealt}
+use Rattle.door_front.specs.Dealt.{Sides, sides_of, OwesAt, IsLink, AreLinks, IsHeard, IsOwed, AreHeard, HadNoAnswer, CameInTurn, WasBusy, WereBusy, HaveWaited, HadNone, most_open, entire, HasDealt, HasRunOut, MayHaveDealt}
 use Rattle.door_front.specs.AnswerSteps.{told_of, HasTold, HasAnswered}
 use Rattle.door_front.proofs.Changing.{eq_true, eq_false, not_eq, same_of, none_not_some, set_here, set_other, set_cases, list_all-set, slice_get-front, slice_get-last, map_alike, slice_get-mapped}
 use Rattle.door_front.proofs.Leading.{led-set, led-new}
 use Rattle.door_front.proofs.OneByOne.{one_by_one-longer, heard_by-longer}
+use Rattle.door_front.proofs.InTurn.{seen_within, in_turn-told, over_set, asked_within, in_turn-on}
 use Rattle.door_front.proofs.Notes.{halts_still, halts_unknown, NotesSo, said_told, said_cut, said_noted}
 
 -- ---- stages
@@ -314,6 +315,15 @@ module _ (IsMade : Line → Type 0) (parts : ProgramParts) (first : Sides) (old 
           (heard_here j q c asked came is.0 (h.answers j q c here.visit asked came (ap (slice_get h.visits) is.0 ∙ here.there))))
       by (inr other) = heard_there j q c visit asked other.0 (h.answers j q c visit asked came other.1)
 
+  -- the connections came in turn as before
+  in_turn_now : CameInTurn now_dealt (slice_set old.links a.number a.after)
+  in_turn_now =
+      in_turn-told d now_dealt.said (told_of place outcomes ∷ []) (slice_set old.links a.number a.after) refl
+      (seen_within d.brought.seens h.heard d.said.told h.heard_by h.told)
+      (in_turn-on d.brought.asked d.brought.seens d.said.told old.links (slice_set old.links a.number a.after)
+      (λ j q there. asked_within IsMade old.links h.visits h.links h.all.asked h.all.came h.came j q (ap (λ l. slice_get l j) h.asked ∙ there))
+      (over_set old.links a.number a.link a.after a.there (not_over (stage_of a.link.seen.kept.next) a.tells.tells.owing)) h.in_turn)
+
   -- ---- all of it
 
   -- where there was no posting the connection waited for its answer
@@ -381,6 +391,7 @@ module _ (IsMade : Line → Type 0) (parts : ProgramParts) (first : Sides) (old 
             (and_from (nat_lt place (length h.all.asked)) true (lt-ltb place (length h.all.asked) given_before) refl);
         answers = all_heard;
         one_by_one = one_by_one-longer d now_dealt.said (told_of place outcomes ∷ []) refl h.one_by_one;
+        in_turn = subst (CameInTurn now_dealt) (sym a.links) in_turn_now;
         said = said_told first (sides_of old notes) d.said h.said new (told_of place outcomes) a.halted;
         left = h.left;
         faults = h.faults;
@@ -424,6 +435,8 @@ module _ (IsMade : Line → Type 0) (parts : ProgramParts) (first before : Sides
         places = h.places;
         answers = h.answers;
         one_by_one = one_by_one-longer d (record d.said { told = d.said.told ++ t ∷ [] }) (t ∷ []) refl h.one_by_one;
+        in_turn = in_turn-told d (record d.said { told = d.said.told ++ t ∷ [] }) (t ∷ []) before.kept.links refl
+            (seen_within d.brought.seens h.heard d.said.told h.heard_by h.told) h.in_turn;
         said = said_told first before d.said h.said before.kept t refl;
         left = h.left;
         faults = h.faults;
@@ -476,6 +489,8 @@ module _ (IsMade : Line → Type 0) (parts : ProgramParts) (first : Sides) (old 
     places = h.places;
     answers = h.answers;
     one_by_one = one_by_one-longer d n.after [] (n.told ∙ sym (append-nil d.said.told)) h.one_by_one;
+    in_turn = in_turn-told d n.after [] old.links (n.told ∙ sym (append-nil d.said.told))
+        (seen_within d.brought.seens h.heard d.said.told h.heard_by h.told) h.in_turn;
     said = n.said;
     left = h.left;
     faults = h.faults;
@@ -657,6 +672,7 @@ nothing_dealt IsMade parts kept notes empty within = (
     places = refl;
     answers = λ j q c visit asked. absurd (none_not_some q asked);
     one_by_one = record { counts = refl; each = λ i j n q r there. absurd (none_not_some q there) };
+    in_turn = λ j k n q link there. absurd (none_not_some q there);
     said = record {
       notes = [];
       written = Appends-nil notes.taken;

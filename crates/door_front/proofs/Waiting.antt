@@ -1,5 +1,5 @@
 -- When a front over doors has no posting.
-use Rattle.std.proofs.Common.{◌≡◌, ◌≢◌, refl, sym, ap, ap₂, ◌∙◌, subst, arith, ℕ, suc, ◌+◌, ◌-◌, ◌^◌, ◌≤◌, min, Bool, true, false, ◌||◌, inl, inr, List, [], ◌∷◌, length, map, take, Some, count_by, slice_get, nat_eq}
+use Rattle.std.proofs.Common.{◌≡◌, ◌≢◌, refl, sym, ap, ap₂, ◌∙◌, subst, arith, ℕ, suc, ◌+◌, ◌-◌, ◌^◌, ◌≤◌, min, Bool, true, false, ◌||◌, ◌⊎◌, inl, inr, List, [], ◌∷◌, length, map, take, Some, count_by, slice_get, nat_eq}
 use Rattle.std.specs.Prelude.{Contains}
 use Rattle.std.specs.List.{list_any}
 use Rattle.std.proofs.lemmas.Bool.{true≢false}
@@ -187,6 +187,16 @@ module _ (IsMade : Line → Type 0) (parts : ProgramParts) (services : List ℕ)
           untold = ap (list_any (λ (t : Told). nat_eq found.0 t.place)) (sym told) ∙ w.1;
         }
       ]
+
+  -- one that does not read has a request without an answer, or it is over
+  pub idle-waits : (k : ℕ) (link : LinkTold) → slice_get links k ≡ Some link → reads link ≡ false → HadNoAnswer d k ⊎ IsOver (stage_at link)
+  idle-waits k link is idle = by_stage (owes link) refl
+    where
+      by_stage : (b : Bool) → owes link ≡ b → HadNoAnswer d k ⊎ IsOver (stage_at link)
+      by_stage true e = inl (owes-unanswered k link is e)
+      by_stage false e =
+          let here = link_there IsMade links s.visits k link is s.are in
+          inr (idle_over (stage_at link) (memory_at IsMade link here.0 here.2) idle e)
 
   -- as many waited for an answer as owe one, at most
   busy_few : (k : ℕ) (bs : List Bool) (ls : List LinkTold) → ((i : ℕ) (link : LinkTold) → slice_get ls i ≡ Some link → HadNoAnswer d (k + i) → owes link ≡ true)

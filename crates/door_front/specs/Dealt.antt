@@ -102,6 +102,22 @@ pub record CameOneByOne (d : Dealings) : Type 0 where
       → a.traffic ≡ b.traffic → i < j → slice_get d.brought.seens j ≡ Some n
       → list_any (λ (t : Told). nat_eq i t.place) (take n d.said.told) ≡ true
 
+-- connection k waited for an answer when posting j was asked for: an earlier posting of it had not been told of by then
+abbrev pub HadToWait : List Asked → List Told → ℕ → ℕ → Type 0
+HadToWait asked told j k = (i : ℕ) × (a : Asked) × (slice_get asked i ≡ Some a) × (a.traffic ≡ k) × (i < j)
+    × (list_any (λ (t : Told). nat_eq i t.place) told ≡ false)
+
+-- a connection, which has the number k, is over, and all its requests had come before posting j
+abbrev pub WasOver : List Asked → LinkTold → ℕ → ℕ → Type 0
+WasOver asked link j k =
+    IsOver (stage_of link.seen.kept.next) × (count_by (is_of k) (take j asked) ≡ count_by (is_of k) asked)
+
+-- When a posting was asked for each connection before its own waited for an answer, or it was over.
+abbrev pub CameInTurn : Dealings → List LinkTold → Type 0
+CameInTurn d links = (j k n : ℕ) (a : Asked) (link : LinkTold) → slice_get d.brought.asked j ≡ Some a
+    → slice_get d.brought.seens j ≡ Some n → slice_get links k ≡ Some link → k < a.traffic
+    → HadToWait d.brought.asked (take n d.said.told) j k ⊎ WasOver d.brought.asked link j k
+
 -- What had been told when a posting was asked for was heard, whether the front halted later or not.
 abbrev pub HeardByThen : List ℕ → List Told → Type 0
 HeardByThen seens heard = (j n : ℕ) → slice_get seens j ≡ Some n → n ≤ length heard
@@ -196,6 +212,7 @@ pub record HasDealt (IsMade : Line → Type 0) (parts : ProgramParts) (first now
   pub places : list_all (λ (t : Told). nat_lt t.place (length all.asked)) heard ≡ true
   pub answers : AreHeard parts now.kept visits all heard
   pub one_by_one : CameOneByOne d
+  pub in_turn : CameInTurn d now.kept.links
   pub said : HasSaid first now d.said
   pub left : d.brought.left ≡ None
   pub faults : d.brought.faults ≡ 0

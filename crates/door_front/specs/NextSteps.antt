@@ -221,12 +221,13 @@ pub record Listing : Type 0 where
 abbrev pub listing : List LinkTold → List ℕ → Listing
 listing links traffics = record { links = links; traffics = traffics }
 
--- The connection of a number, which read, was asked for its next request, and this body came.
+-- The connection of a number, which is the first that read, was asked for its next request, and this body came.
 pub record AsksOne (number : ℕ) (body : Option (List ℕ)) (before now : Listing) : Type 0 where
   pub link : LinkTold
   pub later : LinkTold
   pub there : slice_get before.links number ≡ Some link
   pub read : stage_at link ≡ Stages.Reads
+  pub first : (k : ℕ) (earlier : LinkTold) → slice_get before.links k ≡ Some earlier → k < number → reads earlier ≡ false
   pub asked : IsAsked (length before.traffics) body link later
   pub set : now.links ≡ slice_set before.links number later
 

@@ -1,8 +1,9 @@
 -- What came on connections was served, by what passed between their front and a run.
-use Rattle.std.proofs.Common.{◌≡◌, ◌≢◌, ◌<◌, ◌≤◌, ℕ, zero, suc, true, false, List, [], ◌∷◌, length, map, take}
-use Rattle.std.proofs.Common.{refl, sym, ap, subst, ◌∙◌, arith, ◌⊎◌, ⊎_elim, true≢false, count_by, nat_eq}
+use Rattle.std.proofs.Common.{◌≡◌, ◌≢◌, ◌<◌, ◌≤◌, ℕ, zero, suc, Bool, true, false, List, [], ◌∷◌, length, map, take}
+use Rattle.std.proofs.Common.{refl, sym, ap, subst, ◌∙◌, arith, ◌⊎◌, inl, inr, ⊎_elim, true≢false, count_by, nat_eq, nat_lt}
 use Rattle.std.proofs.Common.{Option, Some, option_map, slice_get, Contains}
 use Rattle.std.specs.List.{list_all, list_any, AllZip}
+use Rattle.std.proofs.lemmas.Bool.{ltb-true, ltb-false}
 use Rattle.behaviour_tree.specs.Data.{ProgramParts}
 use Rattle.office_core.specs.declared.history.Entry.{Entry}
 use Rattle.office_core.specs.Limits.{run_of, first_worker}
@@ -18,13 +19,15 @@ use Rattle.posting_texts.proofs.Responses.{response_told-of}
 use Rattle.run_alone.specs.Ran.{Dealt}
 use Rattle.connection_runs.specs.Ports.{has_door}
 use Rattle.connection_runs.specs.Visits.{Visit, came_at, HasPassed}
-use Rattle.connection_runs.specs.Served.{AreOneByOne, AreToldEarly, IsServed, is_told}
+use Rattle.connection_runs.specs.Served.{AreOneByOne, HadToWait, AreInTurn, AreToldEarly, IsServed, is_told}
+use Rattle.http_connection.specs.Stages.{IsOver}
 use Rattle.http_connection.specs.Law.{holding, Keeps}
 use Rattle.http_connection.specs.Talking.{log}
 use Rattle.http_connection.specs.Seen.{Line}
 use Rattle.http_connection.proofs.Words.{keeps_word}
 use Rattle.door_front.specs.Keeping.{LinkTold}
-use Rattle.door_front.specs.Dealt.{Sides, IsLink, AreLinks, IsHeard, IsOwed, HasDealt}
+use Rattle.door_front.specs.Dealt.{Sides, IsLink, AreLinks, IsHeard, IsOwed, WasOver, HasDealt}
+use Rattle.door_front.specs.Dealt.{HadToWait as HadToWaitThen}
 use Rattle.door_run.specs.Steps.{traffic_of}
 use Rattle.door_run.proofs.Covered.{order_has, before_has, is_in, finished_below}
 use Rattle.door_run.proofs.Requests.{IsNth, nth_of}
@@ -51,11 +54,11 @@ module _ (IsMade : Line → Type 0) where
 
   -- each visit has its connection
   pub link_at : (ls : List LinkTold) (vs : List Visit) → AreLinks IsMade ls vs → (n : ℕ) (v : Visit) → slice_get vs n ≡ Some v
-      → (l : LinkTold) × IsLink IsMade l v
+      → (l : LinkTold) × (slice_get ls n ≡ Some l) × IsLink IsMade l v
   link_at [] [] k n v h = absurd (none_not_some v h)
   link_at [] (u ∷ vs) k n v h = absurd k
   link_at (l ∷ ls) [] k n v h = absurd k
-  link_at (l ∷ ls) (u ∷ vs) k zero v h = (l, subst (IsLink IsMade l) (same_of u v h) k.0)
+  link_at (l ∷ ls) (u ∷ vs) k zero v h = (l, refl, subst (IsLink IsMade l) (same_of u v h) k.0)
   link_at (l ∷ ls) (u ∷ vs) k (suc n) v h = link_at ls vs k.1 n v h
 
   -- they are as many
@@ -133,6 +136,50 @@ module _ (IsMade : Line → Type 0) (parts : ProgramParts) (h : List Entry) (fir
       ∙ any_map (nat_eq i) (λ (t : Told). t.place) (take n.0 d.said.told)
       ∙ f.one_by_one.each i j n.0 a b (asked_there i a early) (asked_there j b late) same less n.1)
 
+  -- what had been told when a posting was asked for has each that was finished before it
+  told_by : (i j n : ℕ) → slice_get d.brought.seens j ≡ Some n → i < length f.all.asked
+      → finished_at (run_of parts) (past_of (run_of parts) h) first_worker (length f.all.asked) i < j
+      → list_any (λ (t : Told). nat_eq i t.place) (take n d.said.told) ≡ true
+  told_by i j n seen inside before =
+      sym (any_map (nat_eq i) (λ (t : Told). t.place) (take n d.said.told))
+      ∙ ap (is_in i) (k.told_before j n seen)
+      ∙ ap (λ c. is_in i (finished_before (run_of parts) h c j)) given_long
+      ∙ before_has (run_of parts) h first_worker (length f.all.asked) i j inside before
+
+  -- ---- in turn
+
+  -- what had not been told of by then was finished there or later
+  waited_so : (j m n : ℕ) → slice_get d.brought.seens j ≡ Some n → HadToWaitThen d.brought.asked (take n d.said.told) j m
+      → HadToWait (run_of parts) h f.all.asked j m
+  waited_so j m n seen w = (w.0, w.1, there, w.3, w.4, by_order (nat_lt at j) refl)
+    where
+      there : slice_get f.all.asked w.0 ≡ Some w.1
+      there = ap (λ l. slice_get l w.0) f.asked ∙ w.2
+
+      at : ℕ
+      at = finished_at (run_of parts) (past_of (run_of parts) h) first_worker (length f.all.asked) w.0
+
+      by_order : (b : Bool) → nat_lt at j ≡ b → j ≤ at
+      by_order true e =
+          absurd (true≢false (sym (told_by w.0 j n seen (get_within f.all.asked w.0 w.1 there) (ltb-true at j e)) ∙ w.5))
+      by_order false e = ltb-false at j e
+
+  -- one that was over then had all its requests posted before
+  over_so : (j m : ℕ) (l : LinkTold) (visit : Visit) → slice_get f.visits m ≡ Some visit → IsLink IsMade l visit → WasOver d.brought.asked l j m
+      → IsOver visit.stage × (count_by (is_of m) (take j f.all.asked) ≡ length visit.bodies)
+  over_so j m l visit there is over = (
+    subst IsOver (sym is.stage) over.0,
+    ap (λ asked. count_by (is_of m) (take j asked)) f.asked ∙ over.1 ∙ ap (count_by (is_of m)) (sym f.asked) ∙ f.taken.all m visit there,
+  )
+
+  -- when a posting came each connection before its own waited for an answer or was over
+  pub in_turn_so : AreInTurn (run_of parts) h f.visits f.all.asked
+  in_turn_so j m a visit there at less =
+      let n = told_count j a there in
+      let link = link_at IsMade now.kept.links f.visits f.links m visit at in
+      ⊎_elim (λ w. inl (waited_so j m n.0 n.1 w)) (λ over. inr (over_so j m link.0 visit at link.2 over))
+      (f.in_turn j m n.0 a link.0 (asked_there j a there) n.1 link.1 less)
+
   -- ---- which were told
 
   came_there : (j : ℕ) (a : Asked) → slice_get f.all.asked j ≡ Some a → (c : Came) × (slice_get f.all.came j ≡ Some c)
@@ -166,11 +213,7 @@ module _ (IsMade : Line → Type 0) (parts : ProgramParts) (h : List Entry) (fir
       let next = get_some f.all.asked (suc at) early in
       let n = told_count (suc at) next.0 next.1 in
       text_heard j
-      (heard_by_then j (suc at) n.0 n.1
-      (sym (any_map (nat_eq j) (λ (t : Told). t.place) (take n.0 d.said.told))
-      ∙ ap (is_in j) (k.told_before (suc at) n.0 n.1)
-      ∙ ap (λ c. is_in j (finished_before (run_of parts) h c (suc at))) given_long
-      ∙ before_has (run_of parts) h first_worker (length f.all.asked) j (suc at) (get_within f.all.asked j a asked) (one_below at)))
+      (heard_by_then j (suc at) n.0 n.1 (told_by j (suc at) n.0 n.1 (get_within f.all.asked j a asked) (one_below at)))
       a visit asked there
 
   -- ---- all were told
@@ -215,8 +258,8 @@ module _ (IsMade : Line → Type 0) (parts : ProgramParts) (h : List Entry) (fir
         let link = link_at IsMade now.kept.links f.visits f.links n visit there in
         same_eq (length visit.texts) (length visit.bodies)
         (all_told_by n visit there (length visit.bodies) refl
-        (texts_within link.1.first link.0.seen visit.bodies visit.texts
-        (λ e. link.1.memory (link.1.stage ∙ e)) link.1.talks))
+        (texts_within link.2.first link.0.seen visit.bodies visit.texts
+        (λ e. link.2.memory (link.2.stage ∙ e)) link.2.talks))
 
     pub all_told_so : list_all is_told f.visits ≡ true
     all_told_so = all_by_place is_told f.visits told_so
@@ -235,6 +278,7 @@ module _ (IsMade : Line → Type 0) (parts : ProgramParts) (h : List Entry) (fir
       came = f.came;
       posted = k.posted ∙ ap (posts_of 0) f.given;
       one_by_one = one_by_one_so;
+      in_turn = in_turn_so;
       responses = response_so;
       told_early = told_early_so;
       told = all_told_so;
