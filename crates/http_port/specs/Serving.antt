@@ -141,7 +141,7 @@ pub record IsFed (was : Place) (did : Service) (end : WireEnd) (now : Place) : T
   pub bodies : bodies_in (before ++ last ∷ []) ≡ did.bodies
   pub ends : IsLastGiven end last
 
--- whether a read of a wire has failed behind a serving that ended so, where that was known of it before
+-- whether a read of a wire has failed behind a serving that ended so, by whether one had before
 abbrev pub lost_behind : WireEnd → Bool → Bool
 lost_behind Ends.Ended before = before
 lost_behind Ends.Closed before = before
@@ -149,7 +149,7 @@ lost_behind Ends.ReadFailed before = true
 lost_behind Ends.WriteFailed before = before
 lost_behind (Ends.Later close) before = before
 
--- whether a write of it has failed then before it was closed, where it is closed or not
+-- whether a write of it has failed then, before it was closed, by whether it is closed and one had before
 abbrev pub cut_behind : WireEnd → Bool → Bool → Bool
 cut_behind Ends.Ended closed before = before
 cut_behind Ends.Closed closed before = before

@@ -36,7 +36,7 @@ Reacts (Request body close) said went turn = (first : Said) × (said ≡ first �
 Reacts (Refused status) said went turn =
     (said ≡ []) × Writes (response status [] true) (Turns.Ends Ends.Closed) went turn
 
--- whether a write of a wire has failed behind a turn before it was closed, where it is closed or not
+-- whether a write of a wire has failed behind a turn, before it was closed, by whether it is closed and one had before
 abbrev pub cut_by : Turn → Bool → Bool → Bool
 cut_by Turns.GoesOn closed before = before
 cut_by Turns.Waits closed before = before
