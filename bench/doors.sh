@@ -169,9 +169,10 @@ impl<H: Net + Clock + Copy + Drop> House<H> {
     fn told(&mut self) -> Result<String, AllocError> {
         let counts = self.doors.counts();
         let (opened, back, ended) = (counts.opened(), counts.doors_back(), counts.doors_ended());
-        let (given, wires, failed) = (counts.wires_given(), counts.wires_back(), counts.wires_failed());
+        let (given, wires) = (counts.wires_given(), counts.wires_back());
+        let (lost, cut) = (counts.wires_lost(), counts.wires_cut());
         let (waits, faults) = (counts.waits(), self.doors.faults());
-        let doors = format!(in self.alloc; "doors {opened} {back} {ended} wires {given} {wires} {failed}")?;
+        let doors = format!(in self.alloc; "doors {opened} {back} {ended} wires {given} {wires} {lost} {cut}")?;
         format!(in self.alloc; "{doors} waits {waits} faults {faults}")
     }
 }

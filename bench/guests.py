@@ -243,7 +243,7 @@ def few_files(rows, program):
     rows.row("who waited is heard", house.say("read"), "read fifth")
     rows.row("it was the last file", house.say("accept"), "not yet")
     house.say("shut")
-    rows.row("no door has failed", house.say("told"), "doors 1 1 0 wires 5 1 0 waits 10 faults 0")
+    rows.row("no door has failed", house.say("told"), "doors 1 1 0 wires 5 1 0 0 waits 10 faults 0")
     rows.row("the door tells so", house.say("doors"), "5 10 0;")
     rows.row("it ends", house.end(), 0)
     for guest in guests:
@@ -297,7 +297,7 @@ def failing_accepts(rows, program, preloaded):
         rows.row(f"{name} again", house.say("accept"), "not yet")
     rows.row("who waited through all of it", house.say("accept"), "came")
     house.say("shut")
-    rows.row("none was a failure", house.say("told"), f"doors 1 1 0 wires 1 0 0 waits {len(errors)} faults 0")
+    rows.row("none was a failure", house.say("told"), f"doors 1 1 0 wires 1 0 0 0 waits {len(errors)} faults 0")
     rows.row("the door tells so", house.say("doors"), f"1 {len(errors)} 0;")
     rows.row("it ends then", house.end(), 0)
     guest.close()
@@ -307,7 +307,7 @@ def failing_accepts(rows, program, preloaded):
         rows.row(errno.errorcode[number], house.say("accept"), "failed")
         house.say("shut")
         rows.row(f"{errno.errorcode[number]} is told", house.say("told"),
-                 "doors 1 1 1 wires 0 0 0 waits 0 faults 1")
+                 "doors 1 1 1 wires 0 0 0 0 waits 0 faults 1")
         rows.row(f"{errno.errorcode[number]} is told of its door", house.say("doors"), "0 0 1;")
         house.end()
 
@@ -322,7 +322,7 @@ def main(program, preloaded):
     places(rows, house, port)
     rows.row("the first door still stands", house.say("accept"), "not yet")
     house.say("shut")
-    rows.row("what is told", house.say("told"), "doors 5 5 0 wires 62 62 4 waits 5 faults 10")
+    rows.row("what is told", house.say("told"), "doors 5 5 0 wires 62 62 3 2 waits 5 faults 10")
     rows.row("the program ends", house.end(), 0)
     few_files(rows, program)
     failing_accepts(rows, program, preloaded)

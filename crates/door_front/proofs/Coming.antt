@@ -30,24 +30,24 @@ nothing_yet : (told : Option (List ℕ)) → IfSome told (λ bytes. bytes ≡ []
 nothing_yet None h = inl refl
 nothing_yet (Some bytes) h = inr (ap Some h)
 
-new_line : (given left taken : Option (List ℕ)) (calls : Option (List WireCall)) (faults : ℕ) (cut closed : Bool)
-    → IsFresh given taken calls faults closed → cut ≡ false → IsNewLine (line_of given left taken (failures_of faults cut) closed)
-new_line given left taken calls faults cut closed f whole = record {
+new_line : (given left taken : Option (List ℕ)) (calls : Option (List WireCall)) (lost cut closed : Bool)
+    → IsFresh given taken calls closed → lost ≡ false → cut ≡ false → IsNewLine (line_of given left taken (failures_of lost cut) closed)
+new_line given left taken calls lost cut closed f unlost uncut = record {
   unread = nothing_yet given f.unread;
   unwritten = nothing_yet taken f.unwritten;
-  faultless = ap₂ failures_of f.faultless whole;
+  faultless = ap₂ failures_of unlost uncut;
   is_open = f.is_open;
 }
 
-pub new_link-at : (IsMade : Line → Type 0) (given left taken : Option (List ℕ)) (calls : Option (List WireCall)) (faults : ℕ) (cut closed : Bool) (link : LinkTold)
-    → IsMade (line_of given left taken (failures_of faults cut) closed) → IsFresh given taken calls faults closed → cut ≡ false → link.owed ≡ None
-    → stage_at link ≡ Stages.Reads → IsTalking (line_of given left taken (failures_of faults cut) closed) link.seen [] [] → IsNewLink IsMade link
-new_link-at IsMade given left taken calls faults cut closed link made f whole owed stage talks = record {
+pub new_link-at : (IsMade : Line → Type 0) (given left taken : Option (List ℕ)) (calls : Option (List WireCall)) (lost cut closed : Bool) (link : LinkTold)
+    → IsMade (line_of given left taken (failures_of lost cut) closed) → IsFresh given taken calls closed → lost ≡ false → cut ≡ false → link.owed ≡ None
+    → stage_at link ≡ Stages.Reads → IsTalking (line_of given left taken (failures_of lost cut) closed) link.seen [] [] → IsNewLink IsMade link
+new_link-at IsMade given left taken calls lost cut closed link made f unlost uncut owed stage talks = record {
   owed = owed;
   stage = inl stage;
-  first = line_of given left taken (failures_of faults cut) closed;
+  first = line_of given left taken (failures_of lost cut) closed;
   made = made;
-  fresh = new_line given left taken calls faults cut closed f whole;
+  fresh = new_line given left taken calls lost cut closed f unlost uncut;
   talks = talks;
   ended = λ e. absurd (reads_not_ended (stage_at link) stage e);
 }

@@ -25,7 +25,7 @@ pub(crate) fn accept_all<D: Door + Drop>(
     links: &mut Vec<Link<D::W>>,
     most: u32,
 ) -> Result<(), AllocError>
-    ensures { IfOk result (λ _. Accepts (λ line. (wire : D.W) × (line ≡ line_of (D.W.given wire) (D.W.left wire) (D.W.taken wire) (failures_of (D.W.faults wire) (D.W.cut wire)) (D.W.closed wire))) most (doorway ports.old links.old.items) (doorway ports.new links.new.items)) }
+    ensures { IfOk result (λ _. Accepts (λ line. (wire : D.W) × (line ≡ line_of (D.W.given wire) (D.W.left wire) (D.W.taken wire) (failures_of (D.W.lost wire) (D.W.cut wire)) (D.W.closed wire))) most (doorway ports.old links.old.items) (doorway ports.new links.new.items)) }
 {
     for port in ports.iter_mut() {
         accept_at(alloc, port, links, most)?;
@@ -40,7 +40,7 @@ fn accept_at<D: Door + Drop>(
     links: &mut Vec<Link<D::W>>,
     most: u32,
 ) -> Result<(), AllocError>
-    ensures { IfOk result (λ _. Accepts (λ line. (wire : D.W) × (line ≡ line_of (D.W.given wire) (D.W.left wire) (D.W.taken wire) (failures_of (D.W.faults wire) (D.W.cut wire)) (D.W.closed wire))) most (doorway (port.old ∷ []) links.old.items) (doorway (port.new ∷ []) links.new.items)) }
+    ensures { IfOk result (λ _. Accepts (λ line. (wire : D.W) × (line ≡ line_of (D.W.given wire) (D.W.left wire) (D.W.taken wire) (failures_of (D.W.lost wire) (D.W.cut wire)) (D.W.closed wire))) most (doorway (port.old ∷ []) links.old.items) (doorway (port.new ∷ []) links.new.items)) }
 {
     while has_room(links, most) {
         match port.knock() {
@@ -85,7 +85,8 @@ impl<D: Door + Drop> Port<D> {
         ensures goes { GoesOn self.old self.new }
         ensures nobody { IfNone result (IsTried self.old self.new) }
         ensures wires { MatchOption result (self.new.door.wires ≡ self.old.door.wires) (λ _. self.new.door.wires ≡ added self.old.door.wires 1) }
-        ensures fresh { IfSome result (λ wire. IsFresh (D.W.given wire) (D.W.taken wire) (D.W.calls wire) (D.W.faults wire) (D.W.closed wire)) }
+        ensures fresh { IfSome result (λ wire. IsFresh (D.W.given wire) (D.W.taken wire) (D.W.calls wire) (D.W.closed wire)) }
+        ensures unlost { IfSome result (λ wire. D.W.lost wire ≡ false) }
         ensures uncut { IfSome result (λ wire. D.W.cut wire ≡ false) }
     {
         if self.ended {
@@ -120,7 +121,7 @@ impl<W: Wire + Drop> Link<W> {
         ensures service { result.service ≡ service }
         ensures owed { result.owed ≡ None }
         ensures stage { stage_of result.seen.kept.next ≡ Stages.Reads }
-        ensures talks { IsTalking (line_of (W.given wire) (W.left wire) (W.taken wire) (failures_of (W.faults wire) (W.cut wire)) (W.closed wire)) result.seen [] [] }
+        ensures talks { IsTalking (line_of (W.given wire) (W.left wire) (W.taken wire) (failures_of (W.lost wire) (W.cut wire)) (W.closed wire)) result.seen [] [] }
     {
         Link {
             service,

@@ -94,8 +94,8 @@ fn bytes_of(text: &Option<Text>) -> Option<&[u8]>
 /// Tells a text to a connection that owes an answer.
 fn tell<W: Wire>(connection: &mut Connection<W>, text: Option<&[u8]>) -> Result<(), AllocError>
     ensures { IfOk result (λ _. TellsText (option_copied text.entry)
-        (seen connection.old.kept (line_of (W.given connection.old.wire) (W.left connection.old.wire) (W.taken connection.old.wire) (failures_of (W.faults connection.old.wire) (W.cut connection.old.wire)) (W.closed connection.old.wire)))
-        (seen connection.new.kept (line_of (W.given connection.new.wire) (W.left connection.new.wire) (W.taken connection.new.wire) (failures_of (W.faults connection.new.wire) (W.cut connection.new.wire)) (W.closed connection.new.wire)))) }
+        (seen connection.old.kept (line_of (W.given connection.old.wire) (W.left connection.old.wire) (W.taken connection.old.wire) (failures_of (W.lost connection.old.wire) (W.cut connection.old.wire)) (W.closed connection.old.wire)))
+        (seen connection.new.kept (line_of (W.given connection.new.wire) (W.left connection.new.wire) (W.taken connection.new.wire) (failures_of (W.lost connection.new.wire) (W.cut connection.new.wire)) (W.closed connection.new.wire)))) }
 {
     match connection.stage() {
         Stage::Owes => connection.answer(text),

@@ -32,7 +32,7 @@ impl<'a, D: Door + Drop, N: Sink> DoorFront<'a, D, N> {
         ensures same_kept { result.kept.ghost_name ≡ kept.entry.ghost_name }
         ensures same_notes { result.notes.ghost_name ≡ notes.entry.ghost_name }
         ensures begun { (parts : ProgramParts) → list_all (λ n. nat_lt n (length parts.services)) (services_of result.kept.now) ≡ true
-            → (d : Dealings) × IsNew d × MayHaveDealt (λ line. (wire : D.W) × (line ≡ line_of (D.W.given wire) (D.W.left wire) (D.W.taken wire) (failures_of (D.W.faults wire) (D.W.cut wire)) (D.W.closed wire))) parts
+            → (d : Dealings) × IsNew d × MayHaveDealt (λ line. (wire : D.W) × (line ≡ line_of (D.W.given wire) (D.W.left wire) (D.W.taken wire) (failures_of (D.W.lost wire) (D.W.cut wire)) (D.W.closed wire))) parts
             (sides_of result.kept.now (taking (N.taken result.notes.now) (N.faults result.notes.now)))
             (sides_of result.kept.now (taking (N.taken result.notes.now) (N.faults result.notes.now)))
             d }
@@ -45,7 +45,7 @@ impl<'a, D: Door + Drop, N: Sink> Front for DoorFront<'a, D, N> {
     ghost dealt = { λ parts first now d.
         (now.kept.ghost_name ≡ first.kept.ghost_name)
         × (now.notes.ghost_name ≡ first.notes.ghost_name)
-        × MayHaveDealt (λ line. (wire : D.W) × (line ≡ line_of (D.W.given wire) (D.W.left wire) (D.W.taken wire) (failures_of (D.W.faults wire) (D.W.cut wire)) (D.W.closed wire))) parts
+        × MayHaveDealt (λ line. (wire : D.W) × (line ≡ line_of (D.W.given wire) (D.W.left wire) (D.W.taken wire) (failures_of (D.W.lost wire) (D.W.cut wire)) (D.W.closed wire))) parts
         (sides_of first.kept.now (taking (N.taken first.notes.now) (N.faults first.notes.now)))
         (sides_of now.kept.now (taking (N.taken now.notes.now) (N.faults now.notes.now)))
         d };

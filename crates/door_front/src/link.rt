@@ -34,7 +34,7 @@ impl<W: Wire + Drop> Model for Link<W> {
 
     ghost view = { λ l. record {
       service = l.service;
-      seen = seen l.connection.kept (line_of (W.given l.connection.wire) (W.left l.connection.wire) (W.taken l.connection.wire) (failures_of (W.faults l.connection.wire) (W.cut l.connection.wire)) (W.closed l.connection.wire));
+      seen = seen l.connection.kept (line_of (W.given l.connection.wire) (W.left l.connection.wire) (W.taken l.connection.wire) (failures_of (W.lost l.connection.wire) (W.cut l.connection.wire)) (W.closed l.connection.wire));
       owed = l.owed;
       ended = W.ended l.connection.wire;
     } };
@@ -43,7 +43,7 @@ impl<W: Wire + Drop> Model for Link<W> {
 impl<W: Wire + Drop> Link<W> {
     /// The wire, the bytes that were read and the bytes that were written.
     pub fn into_parts(self) -> (W, Vec<u8>, Vec<u8>)
-        ensures wire { line_of (W.given result.0) (W.left result.0) (W.taken result.0) (failures_of (W.faults result.0) (W.cut result.0)) (W.closed result.0) ≡ self.seen.line }
+        ensures wire { line_of (W.given result.0) (W.left result.0) (W.taken result.0) (failures_of (W.lost result.0) (W.cut result.0)) (W.closed result.0) ≡ self.seen.line }
         ensures ended { W.ended result.0 ≡ self.ended }
         ensures read { result.1 ≡ self.seen.kept.read }
         ensures written { result.2 ≡ self.seen.kept.written }

@@ -22,7 +22,7 @@ impl<D: Door + Drop> Kept<D> {
     /// The next posting. After want of memory nothing is said of what passed, and no posting comes any more.
     pub(crate) fn next_posting(&mut self, alloc: Global) -> Result<Next, AllocError>
         ensures looks { MatchResult result
-            (λ next. (self.old.spent ≡ false) × (self.new.spent ≡ false) × Looks (λ line. (wire : D.W) × (line ≡ line_of (D.W.given wire) (D.W.left wire) (D.W.taken wire) (failures_of (D.W.faults wire) (D.W.cut wire)) (D.W.closed wire))) self.old.most next (going_of self.old) (going_of self.new))
+            (λ next. (self.old.spent ≡ false) × (self.new.spent ≡ false) × Looks (λ line. (wire : D.W) × (line ≡ line_of (D.W.given wire) (D.W.left wire) (D.W.taken wire) (failures_of (D.W.lost wire) (D.W.cut wire)) (D.W.closed wire))) self.old.most next (going_of self.old) (going_of self.new))
             (λ _. self.new.spent ≡ true) }
         ensures most { self.new.most ≡ self.old.most }
         ensures halted { self.new.halted ≡ self.old.halted }
@@ -51,7 +51,7 @@ fn look<D: Door + Drop>(
     traffics: &mut Vec<u32>,
     most: u32,
 ) -> Result<Next, AllocError>
-    ensures { IfOk result (λ next. Looks (λ line. (wire : D.W) × (line ≡ line_of (D.W.given wire) (D.W.left wire) (D.W.taken wire) (failures_of (D.W.faults wire) (D.W.cut wire)) (D.W.closed wire))) most next (going ports.old links.old.items traffics.old.items) (going ports.new links.new.items traffics.new.items)) }
+    ensures { IfOk result (λ next. Looks (λ line. (wire : D.W) × (line ≡ line_of (D.W.given wire) (D.W.left wire) (D.W.taken wire) (failures_of (D.W.lost wire) (D.W.cut wire)) (D.W.closed wire))) most next (going ports.old links.old.items traffics.old.items) (going ports.new links.new.items traffics.new.items)) }
 {
     if MOST_POSTINGS <= traffics.len() {
         return Ok(Next::End);

@@ -1,64 +1,49 @@
 -- The wires that come back are those of the connections.
-use Rattle.std.proofs.Common.{◌≡◌, ◌≢◌, ◌↔◌, ◌<◌, ◌≤◌, ◌+◌, ◌-◌, ◌^◌, min, ◌||◌, ℕ, Bool, true, false, not, List, [], ◌∷◌, map}
-use Rattle.std.proofs.Common.{refl, sym, ap, ap₂, inl, inr, subst, ◌∙◌, arith, true≢false}
-use Rattle.outside_traits.specs.Causes.{Rose}
+use Rattle.std.proofs.Common.{◌≡◌, ◌≢◌, ◌↔◌, ◌||◌, ℕ, Bool, true, false, not, List, [], ◌∷◌, map}
+use Rattle.std.proofs.Common.{refl, sym, ap, ap₂, subst, ◌∙◌, true≢false}
 use Rattle.connection_runs.specs.Visits.{Visit}
 use Rattle.http_connection.specs.declared.stage.Stage.{Stage}
 use Rattle.http_connection.specs.declared.stage.Stage.TheVariants as Stages
 use Rattle.http_connection.specs.Seen.{Failures, Line, no_failures}
-use Rattle.http_connection.specs.Stages.{stage_of, IsFailed}
-use Rattle.http_connection.specs.Talking.{HasFailed, WireTells}
+use Rattle.http_connection.specs.Stages.{stage_of}
+use Rattle.http_connection.specs.Talking.{WireTells}
 use Rattle.http_connection.proofs.Words.{keeps_word}
 use Rattle.door_front.specs.Keeping.{LinkTold}
 use Rattle.door_front.specs.Dealt.{IsLink, AreLinks}
 use Rattle.door_run.specs.Steps.{traffic_of, wire_of}
 use Rattle.door_run.specs.Used.{IsWireOf, AreWires}
 
--- a call of the wire failed
-abbrev is_failed : Stage → Bool
-is_failed Stages.Reads = false
-is_failed Stages.Owes = false
-is_failed Stages.Ended = false
-is_failed Stages.Closed = false
-is_failed Stages.ReadFailed = true
-is_failed Stages.WriteFailed = true
-is_failed Stages.Spent = false
-
-failed_so : (s : Stage) → IsFailed s → is_failed s ≡ true
-failed_so s (inl read) = ap is_failed read
-failed_so s (inr write) = ap is_failed write
-
-none_failed : (f : Failures) → f ≡ no_failures → f.count ≡ 0
-none_failed f e = ap (λ (g : Failures). g.count) e
+none_lost : (f : Failures) → f ≡ no_failures → f.lost ≡ false
+none_lost f e = ap (λ (g : Failures). g.lost) e
 
 none_cut : (f : Failures) → f ≡ no_failures → f.cut ≡ false
 none_cut f e = ap (λ (g : Failures). g.cut) e
 
+-- a read of the wire failed
+abbrev is_lost : Stage → Bool
+is_lost Stages.Reads = false
+is_lost Stages.Owes = false
+is_lost Stages.Ended = false
+is_lost Stages.Closed = false
+is_lost Stages.ReadFailed = true
+is_lost Stages.WriteFailed = false
+is_lost Stages.Spent = false
+
 -- at such a stage none has failed
-calm_at : (s : Stage) (n : ℕ) → is_failed s ≡ false → n ≡ 0 → IsFailed s ↔ (0 < n)
-calm_at s n calm none =
-    (λ failed. absurd (true≢false (sym (failed_so s failed) ∙ calm)), λ some. absurd (none_less n none some))
-  where
-    none_less : (m : ℕ) → m ≡ 0 → 0 < m → ⊥
-    none_less m e h = omega (arith, e, h)
+unlost_at : (s : Stage) (lost : Bool) → is_lost s ≡ false → lost ≡ false → (s ≡ Stages.ReadFailed) ↔ (lost ≡ true)
+unlost_at s lost calm none =
+    (λ e. absurd (true≢false (sym (ap is_lost e) ∙ calm)), λ some. absurd (true≢false (sym some ∙ none)))
 
-rose_some : (n : ℕ) → Rose 0 n → 0 < n
-rose_some n h = let least : min (0 + 1) (2 ^ 64 - 1) ≤ n = h in omega (arith, least)
-
--- a wire that had not failed has failed since
-failed_since : (first now : Failures) → first ≡ no_failures → HasFailed first now → 0 < now.count
-failed_since first now none failed = rose_some now.count (subst (λ (f : Failures). Rose f.count now.count) none failed.1)
-
--- a wire that had not failed has failed exactly at two stages
-failed_at : (s : Stage) (first line : Line) (read : List ℕ) → first.faults ≡ no_failures → s ≢ Stages.Spent
-    → WireTells s first read line → IsFailed s ↔ (0 < line.faults.count)
-failed_at Stages.Reads first line read none some k = calm_at Stages.Reads line.faults.count refl (none_failed line.faults (k.faults ∙ none))
-failed_at Stages.Owes first line read none some k = calm_at Stages.Owes line.faults.count refl (none_failed line.faults (k.faults ∙ none))
-failed_at Stages.Ended first line read none some k = calm_at Stages.Ended line.faults.count refl (none_failed line.faults (k.1 ∙ none))
-failed_at Stages.Closed first line read none some k = calm_at Stages.Closed line.faults.count refl (none_failed line.faults (k.1 ∙ none))
-failed_at Stages.ReadFailed first line read none some k = (λ e. failed_since first.faults line.faults none k.1, λ h. inl refl)
-failed_at Stages.WriteFailed first line read none some k = (λ e. failed_since first.faults line.faults none k.1, λ h. inr refl)
-failed_at Stages.Spent first line read none some k = absurd (some refl)
+-- of a wire that had not failed a read has failed exactly at one stage
+lost_at : (s : Stage) (first line : Line) (read : List ℕ) → first.faults ≡ no_failures → s ≢ Stages.Spent
+    → WireTells s first read line → (s ≡ Stages.ReadFailed) ↔ (line.faults.lost ≡ true)
+lost_at Stages.Reads first line read none some k = unlost_at Stages.Reads line.faults.lost refl (none_lost line.faults (k.faults ∙ none))
+lost_at Stages.Owes first line read none some k = unlost_at Stages.Owes line.faults.lost refl (none_lost line.faults (k.faults ∙ none))
+lost_at Stages.Ended first line read none some k = unlost_at Stages.Ended line.faults.lost refl (none_lost line.faults (k.1 ∙ none))
+lost_at Stages.Closed first line read none some k = unlost_at Stages.Closed line.faults.lost refl (none_lost line.faults (k.1 ∙ none))
+lost_at Stages.ReadFailed first line read none some k = (λ e. k.1, λ h. refl)
+lost_at Stages.WriteFailed first line read none some k = unlost_at Stages.WriteFailed line.faults.lost refl (k.1 ∙ none_lost first.faults none)
+lost_at Stages.Spent first line read none some k = absurd (some refl)
 
 -- a write of the wire failed
 abbrev is_cut : Stage → Bool
@@ -98,8 +83,8 @@ module _ (IsMade : Line → Type 0) where
         fresh = k.fresh;
         read = word.given;
         written = word.taken;
-        failed = subst (λ s. IsFailed s ↔ (0 < l.seen.line.faults.count)) (sym k.stage)
-            (failed_at (stage_of l.seen.kept.next) k.first l.seen.line l.seen.kept.read.items k.fresh.faultless
+        lost = subst (λ s. (s ≡ Stages.ReadFailed) ↔ (l.seen.line.faults.lost ≡ true)) (sym k.stage)
+            (lost_at (stage_of l.seen.kept.next) k.first l.seen.line l.seen.kept.read.items k.fresh.faultless
             (λ e. k.memory (k.stage ∙ e)) word.wire);
         cut = subst (λ s. (s ≡ Stages.WriteFailed) ↔ (l.seen.line.faults.cut ≡ true)) (sym k.stage)
             (cut_at (stage_of l.seen.kept.next) k.first l.seen.line l.seen.kept.read.items k.fresh.faultless k.fresh.is_open

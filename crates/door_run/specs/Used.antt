@@ -1,5 +1,5 @@
 -- What a run did with doors: where it opened them, and what came back to them.
-use Rattle.std.specs.Prelude.{◌≡◌, ◌↔◌, ℕ, ◌+◌, ◌<◌, ◌≤◌, ◌==◌, Bool, true, not, if◌then◌else◌}
+use Rattle.std.specs.Prelude.{◌≡◌, ◌↔◌, ℕ, ◌+◌, ◌≤◌, ◌==◌, Bool, true, not, if◌then◌else◌}
 use Rattle.std.specs.Prelude.{List, [], ◌∷◌, length, fold, sum_by, count_by, Option, nat_eq}
 use Rattle.std.specs.List.{list_any, items_where_true}
 use Rattle.std.specs.Io.KnownBytes.{Appends}
@@ -10,7 +10,6 @@ use Rattle.run_record.specs.declared.record.Traffic.{Traffic}
 use Rattle.connection_runs.specs.Ports.{DoorAt}
 use Rattle.connection_runs.specs.Visits.{Visit}
 use Rattle.http_connection.specs.declared.stage.Stage.TheVariants as Stages
-use Rattle.http_connection.specs.Stages.{IsFailed}
 use Rattle.http_connection.specs.Seen.{Line}
 use Rattle.door_front.specs.Dealt.{IsNewLine}
 
@@ -75,7 +74,7 @@ with_openings places tally = fold (λ counts place. with_opened counts) tally pl
 
 -- these wires came back
 abbrev pub with_wires : List WireTold → Tally → Tally
-with_wires wires tally = fold (λ counts (wire : WireTold). with_wire wire.faults wire.cut wire.ended counts) tally wires
+with_wires wires tally = fold (λ counts (wire : WireTold). with_wire wire.lost wire.cut wire.ended counts) tally wires
 
 -- these doors came back
 abbrev pub with_doors : List DoorTold → Tally → Tally
@@ -113,16 +112,16 @@ pub record IsUsed (places : List DoorAt) (before now : DoorsTold) (used : Used) 
 -- ---- wires
 
 -- A wire that came back from a connection which has these bytes: it was made so, and nothing was read or written on it
--- then; what it told since is these bytes; it has failed exactly where its connection ended with a failure, and in a
--- write exactly where that was a write's; and its connection stands as ended only where a read told the end of what
--- comes in.
+-- then; what it told since is these bytes; a read of it has failed exactly where its connection stands as failed in a
+-- read, and a write exactly where that stands as failed in a write; and its connection stands as ended only where a read
+-- told the end of what comes in.
 pub record IsWireOf (IsMade : Line → Type 0) (visit : Visit) (traffic : Traffic) (wire : WireTold) : Type 0 where
   pub first : Line
   pub came : IsMade first
   pub fresh : IsNewLine first
   pub read : Appends first.given wire.read traffic.read
   pub written : Appends first.taken wire.written traffic.written
-  pub failed : IsFailed visit.stage ↔ (0 < wire.faults)
+  pub lost : (visit.stage ≡ Stages.ReadFailed) ↔ (wire.lost ≡ true)
   pub cut : (visit.stage ≡ Stages.WriteFailed) ↔ (wire.cut ≡ true)
   pub ended : (visit.stage ≡ Stages.Ended) → (wire.ended ≡ true)
 

@@ -40,7 +40,7 @@ pub fn run_doors<S: Seating, D: Doors, N: Sink, L: Link>(
 ) -> Result<Ended, AllocError>
     requires some { 0 < length (parts_of program).services }
     ensures doored { IfOk result (IsDoored
-        (λ line. (wire : D.D.W) × (line ≡ line_of (D.D.W.given wire) (D.D.W.left wire) (D.D.W.taken wire) (failures_of (D.D.W.faults wire) (D.D.W.cut wire)) (D.D.W.closed wire)))
+        (λ line. (wire : D.D.W) × (line ≡ line_of (D.D.W.given wire) (D.D.W.left wire) (D.D.W.taken wire) (failures_of (D.D.W.lost wire) (D.D.W.cut wire)) (D.D.W.closed wire)))
         (task (parts_of program) text.now budget connections)
         (outside (doors_told (D.faults doors.old) (D.tally doors.old) (D.tries doors.old) (D.returned doors.old) (D.returned_doors doors.old)) (taking (N.taken notes.old) (N.faults notes.old)))
         (outside (doors_told (D.faults doors.new) (D.tally doors.new) (D.tries doors.new) (D.returned doors.new) (D.returned_doors doors.new)) (taking (N.taken notes.new) (N.faults notes.new)))) }

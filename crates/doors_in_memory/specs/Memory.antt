@@ -37,7 +37,6 @@ calm_line bytes room = record {
   tape = record { given = []; left = bytes };
   shelf = record { taken = []; room = room };
   calls = Some [];
-  faults = 0;
   cut = false;
   closed = false;
   ended = false;
@@ -51,6 +50,7 @@ scripted_line failing piece bytes room = record {
   shelf = record { taken = []; room = room };
   calls = Some [];
   piece = piece;
+  lost = false;
   cut = false;
   closed = false;
   ended = false;

@@ -85,7 +85,8 @@ impl Door for CalmDoor {
         ensures answer { self.old.told.closed ≡ false → CalmlyAnswers self.old.coming self.old.quiet result }
         ensures coming { self.old.told.closed ≡ false → self.new.coming ≡ drop 1 self.old.coming }
         ensures quiet { self.old.told.closed ≡ false → self.new.quiet ≡ quiet_after self.old.coming self.old.quiet }
-        ensures fresh { IfCame result (λ wire. IsFresh (Some wire.wire.tape.given) (Some wire.wire.shelf.taken) wire.wire.calls wire.faults wire.wire.closed) }
+        ensures fresh { IfCame result (λ wire. IsFresh (Some wire.wire.tape.given) (Some wire.wire.shelf.taken) wire.wire.calls wire.wire.closed) }
+        ensures unlost { IfCame result (λ wire. wire.lost ≡ false) }
         ensures uncut { IfCame result (λ wire. wire.cut ≡ false) }
         ensures unended { IfCame result (λ wire. wire.ended ≡ false) }
         ensures place { self.new.told.place ≡ self.old.told.place }

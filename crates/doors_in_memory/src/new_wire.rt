@@ -19,21 +19,21 @@ impl<W: Wire + Drop> Model for NewWire<W> {
 
     ghost view = { λ n. n.wire };
 
-    ghost invariant = { λ n. IsFresh (W.given n.wire) (W.taken n.wire) (W.calls n.wire) (W.faults n.wire) (W.closed n.wire) };
+    ghost invariant = { λ n. IsFresh (W.given n.wire) (W.taken n.wire) (W.calls n.wire) (W.closed n.wire) };
 }
 
 impl<W: Wire + Drop> NewWire<W> {
     pub(crate) fn new(wire: W) -> NewWire<W>
-        requires { IsFresh (W.given wire) (W.taken wire) (W.calls wire) (W.faults wire) (W.closed wire) }
+        requires { IsFresh (W.given wire) (W.taken wire) (W.calls wire) (W.closed wire) }
         ensures { result ≡ wire }
     {
         NewWire { wire }
     }
 
-    /// The wire, with a count of its own.
+    /// The wire, as it is counted.
     pub(crate) fn into_counted(self) -> CountedWire<W>
         ensures wire { result ≡ counted self }
-        ensures fresh { IsFresh (W.given result.wire) (W.taken result.wire) (W.calls result.wire) result.faults (W.closed result.wire) }
+        ensures fresh { IsFresh (W.given result.wire) (W.taken result.wire) (W.calls result.wire) (W.closed result.wire) }
     {
         CountedWire::new(self.wire)
     }

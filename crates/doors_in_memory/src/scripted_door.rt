@@ -109,7 +109,8 @@ impl Door for ScriptedDoor {
     fn try_accept(&mut self) -> Result<Knock<CountedWire<ScriptedWire>>, Failed>
         ensures scripted { self.old.told.closed ≡ false → Answers self.old.visits result }
         ensures visits { self.old.told.closed ≡ false → self.new.visits ≡ drop 1 self.old.visits }
-        ensures fresh { IfCame result (λ wire. IsFresh (Some wire.wire.tape.given) (Some wire.wire.shelf.taken) wire.wire.calls wire.faults wire.wire.closed) }
+        ensures fresh { IfCame result (λ wire. IsFresh (Some wire.wire.tape.given) (Some wire.wire.shelf.taken) wire.wire.calls wire.wire.closed) }
+        ensures unlost { IfCame result (λ wire. wire.lost ≡ false) }
         ensures uncut { IfCame result (λ wire. wire.cut ≡ false) }
         ensures unended { IfCame result (λ wire. wire.ended ≡ false) }
         ensures place { self.new.told.place ≡ self.old.told.place }

@@ -19,7 +19,7 @@ use Rattle.http_connection.specs.declared.stage.Standing.{Standing}
 use Rattle.http_connection.specs.declared.stage.Standing.TheVariants as Stands
 use Rattle.http_connection.specs.Stages.{stage_behind, stage_of, is_waiting, MayBeTold, IsOver, IsBehindAsking}
 use Rattle.http_connection.specs.Seen.{Failures, Line, Seen}
-use Rattle.http_connection.specs.Talking.{log, log_of, IsAnswered, HasGiven, due, told_to, Closes, HasWritten, HasAsked, Passed, IsOpen, IsShut, HasFailed, cut_by_one_more, WireTells, IsTalking, handed}
+use Rattle.http_connection.specs.Talking.{log, log_of, IsAnswered, HasGiven, due, told_to, Closes, HasWritten, HasAsked, Passed, IsOpen, IsShut, cut_by_one_more, WireTells, IsTalking, handed}
 use Rattle.http_connection.specs.Steps.{HandsOut, owed_in, is_interim, Takes, Sends, Finishes, IsCarried, IsGoing, IsFed}
 use Rattle.http_connection.proofs.Histories.{LetsGo, answered_all}
 
@@ -268,7 +268,7 @@ sent_failing first was mid now last text bodies texts g s f =
       taken = finished_taken first was mid now (due last text) true Ends.WriteFailed g.carried s f;
       wire = subst (λ n. WireTells (stage_of n) first now.kept.read.items now.line) (sym f.next) (
         finished_shut first was mid now (due last text) true Ends.WriteFailed g.carried s f,
-        subst (HasFailed first.faults) (sym f.faults) (subst (λ n. HasFailed n mid.line.faults) g.carried.wire.faults s.counts.0),
+        ap (λ (n : Failures). n.lost) f.faults ∙ s.counts.0 ∙ ap (λ (n : Failures). n.lost) g.carried.wire.faults,
         ap (λ (n : Failures). n.cut) f.faults ∙ s.counts.1 ∙ same_cut first was.line g.carried.wire.faults g.carried.wire.closed,
       );
       passed = subst (λ n. Passed n now.kept.reader (log_of now bodies_now texts_now)) (sym f.next) (
@@ -390,7 +390,7 @@ pub record FailsRead (was now : Seen) : Type 0 where
   pub given : Keeps was.line.given now.line.given
   pub left : Keeps was.line.left now.line.left
   pub taken : now.line.taken ≡ was.line.taken
-  pub failed : HasFailed was.line.faults now.line.faults
+  pub lost : now.line.faults.lost ≡ true
   pub uncut : now.line.faults.cut ≡ was.line.faults.cut
   pub read : now.kept.read.items ≡ was.kept.read.items
   pub written : now.kept.written.items ≡ was.kept.written.items
@@ -418,7 +418,7 @@ read_failed first was mid now bodies texts f r fin =
           front = subst (λ v. IfSome first.left (λ all. StartsWith all v)) (sym fin.read) (starts_so first.left mid.line.left mid.kept.read.items left);
           closed = fin.closed;
         },
-        subst (HasFailed first.faults) (sym fin.faults) (subst (λ n. HasFailed n mid.line.faults) c.wire.faults r.failed),
+        ap (λ (n : Failures). n.lost) fin.faults ∙ r.lost,
         ap (λ (n : Failures). n.cut) fin.faults ∙ r.uncut ∙ ap (λ (n : Failures). n.cut) c.wire.faults,
       );
       passed = subst (λ n. Passed n now.kept.reader (log_of now bodies texts)) (sym fin.next) (ended_passed mid now Ends.ReadFailed bodies texts passed fin);

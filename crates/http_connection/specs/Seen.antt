@@ -2,18 +2,18 @@
 use Rattle.std.specs.Prelude.{ℕ, Bool, false, List, Option}
 use Rattle.http_connection.specs.declared.kept.Kept.{Kept}
 
--- how often a wire failed, and whether a write of it did before it was closed
+-- whether a read of a wire has failed, and whether a write has before it was closed
 pub record Failures : Type 0 where
-  pub count : ℕ
+  pub lost : Bool
   pub cut : Bool
 
 -- the same by its parts
-abbrev pub failures_of : ℕ → Bool → Failures
-failures_of count cut = record { count = count; cut = cut }
+abbrev pub failures_of : Bool → Bool → Failures
+failures_of lost cut = record { lost = lost; cut = cut }
 
 -- of a wire that has not failed
 abbrev pub no_failures : Failures
-no_failures = failures_of 0 false
+no_failures = failures_of false false
 
 -- The state of a wire: the bytes that were read of it, that are left and that were written, where these are told; its
 -- failures, and whether it is closed.

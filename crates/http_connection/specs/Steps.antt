@@ -14,7 +14,7 @@ use Rattle.http_connection.specs.declared.stage.Ending.{Ending}
 use Rattle.http_connection.specs.declared.stage.Standing.{Standing}
 use Rattle.http_connection.specs.declared.stage.Standing.TheVariants as Stands
 use Rattle.http_connection.specs.Seen.{Line, Seen}
-use Rattle.http_connection.specs.Talking.{Log, log, log_of, IsAnswered, HasGiven, IsOpen, HasFailed, cut_by_one_more}
+use Rattle.http_connection.specs.Talking.{Log, log, log_of, IsAnswered, HasGiven, IsOpen, cut_by_one_more}
 use Rattle.http_connection.specs.Prompt.{IsDone}
 
 -- What is handed out by how the connection stands, and how it stands then: a request that is held; none of a connection
@@ -49,7 +49,7 @@ IsFrontOf true text went = (count : ℕ) × (count < length text) × (went ≡ t
 -- a wire that was so before failed in a write since then where what went out was cut
 abbrev pub Counts : Bool → Line → Line → Type 0
 Counts false before now = now.faults ≡ before.faults
-Counts true before now = HasFailed before.faults now.faults × (now.faults.cut ≡ cut_by_one_more before)
+Counts true before now = (now.faults.lost ≡ before.faults.lost) × (now.faults.cut ≡ cut_by_one_more before)
 
 -- A wire took so many bytes of the text: all, unless a write failed.
 pub record Takes (text : List ℕ) (count : ℕ) (before now : Line) : Type 0 where

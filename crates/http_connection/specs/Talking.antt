@@ -1,10 +1,9 @@
 -- What passed between a connection and its user, as the calls carry it along. What it comes to is said in Law.
-use Rattle.std.specs.Prelude.{◌≡◌, ◌<◌, ◌≤◌, ◌||◌, not, ℕ, Bool, true, false, List, [], ◌∷◌, ◌++◌, length, take}
+use Rattle.std.specs.Prelude.{◌≡◌, ◌<◌, ◌||◌, not, ℕ, Bool, true, false, List, [], ◌∷◌, ◌++◌, length, take}
 use Rattle.std.specs.Prelude.{Option, None, Some, IfSome}
 use Rattle.std.specs.List.{concat}
 use Rattle.std.specs.Io.{StartsWith}
 use Rattle.std.specs.Io.KnownBytes.{Appends, Consumes}
-use Rattle.outside_traits.specs.Causes.{Rose}
 use Rattle.http_port.specs.Feeding.{Place, Open, Feeds}
 use Rattle.http_port.specs.Connections.{Run}
 use Rattle.http_port.specs.Responses.{interim, response}
@@ -18,7 +17,7 @@ use Rattle.http_connection.specs.declared.stage.Ending.TheVariants as Ends
 use Rattle.http_connection.specs.declared.stage.Standing.{Standing}
 use Rattle.http_connection.specs.declared.stage.Standing.TheVariants as Stands
 use Rattle.http_connection.specs.Stages.{stage_of}
-use Rattle.http_connection.specs.Seen.{Failures, Line, Seen}
+use Rattle.http_connection.specs.Seen.{Line, Seen}
 
 -- What passed on a connection: the bytes that were read and written, the bodies that were handed out, and the texts
 -- that were told, each an answer or that there is nothing to say.
@@ -128,10 +127,6 @@ pub record IsShut (first : Line) (read : List ℕ) (line : Line) : Type 0 where
   pub front : IfSome first.left (λ all. StartsWith all read)
   pub closed : line.closed ≡ true
 
--- a wire that had failed so before has failed since
-abbrev pub HasFailed : Failures → Failures → Type 0
-HasFailed before now = (before.count ≤ now.count) × Rose before.count now.count
-
 -- whether a write of a wire has failed before it was closed, where one more fails
 abbrev pub cut_by_one_more : Line → Bool
 cut_by_one_more line = line.faults.cut || not line.closed
@@ -144,9 +139,9 @@ WireTells Stages.Ended first read line =
     IsShut first read line × (line.faults ≡ first.faults) × IfSome first.left (λ all. all ≡ read)
 WireTells Stages.Closed first read line = IsShut first read line × (line.faults ≡ first.faults)
 WireTells Stages.ReadFailed first read line =
-    IsShut first read line × HasFailed first.faults line.faults × (line.faults.cut ≡ first.faults.cut)
+    IsShut first read line × (line.faults.lost ≡ true) × (line.faults.cut ≡ first.faults.cut)
 WireTells Stages.WriteFailed first read line =
-    IsShut first read line × HasFailed first.faults line.faults × (line.faults.cut ≡ cut_by_one_more first)
+    IsShut first read line × (line.faults.lost ≡ first.faults.lost) × (line.faults.cut ≡ cut_by_one_more first)
 WireTells Stages.Spent first read line = IsOpen first read line
 
 -- The connection, made with a wire that was as first, has handed out these bodies in order and was told these texts.

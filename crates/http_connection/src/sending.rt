@@ -13,8 +13,8 @@ use std::alloc::AllocError;
 /// Writes the bytes, as far as the wire takes them, and says how many it took, which are kept: all, unless it failed.
 fn write_all<W: Wire>(wire: &mut W, bytes: &[u8]) -> usize
     ensures takes { Takes bytes.now result
-        (line_of (W.given wire.old) (W.left wire.old) (W.taken wire.old) (failures_of (W.faults wire.old) (W.cut wire.old)) (W.closed wire.old))
-        (line_of (W.given wire.new) (W.left wire.new) (W.taken wire.new) (failures_of (W.faults wire.new) (W.cut wire.new)) (W.closed wire.new)) }
+        (line_of (W.given wire.old) (W.left wire.old) (W.taken wire.old) (failures_of (W.lost wire.old) (W.cut wire.old)) (W.closed wire.old))
+        (line_of (W.given wire.new) (W.left wire.new) (W.taken wire.new) (failures_of (W.lost wire.new) (W.cut wire.new)) (W.closed wire.new)) }
     ensures calls { IsWritten (W.calls wire.old) (W.calls wire.new) (take result bytes.now) false }
 {
     let mut done = 0;
@@ -31,8 +31,8 @@ fn write_all<W: Wire>(wire: &mut W, bytes: &[u8]) -> usize
 pub(crate) fn send<W: Wire>(wire: &mut W, kept: &mut Kept, bytes: &[u8]) -> Result<bool, AllocError>
     ensures sends { MatchResult result
         (λ cut. Sends bytes.now cut
-        (seen kept.old (line_of (W.given wire.old) (W.left wire.old) (W.taken wire.old) (failures_of (W.faults wire.old) (W.cut wire.old)) (W.closed wire.old)))
-        (seen kept.new (line_of (W.given wire.new) (W.left wire.new) (W.taken wire.new) (failures_of (W.faults wire.new) (W.cut wire.new)) (W.closed wire.new))))
+        (seen kept.old (line_of (W.given wire.old) (W.left wire.old) (W.taken wire.old) (failures_of (W.lost wire.old) (W.cut wire.old)) (W.closed wire.old)))
+        (seen kept.new (line_of (W.given wire.new) (W.left wire.new) (W.taken wire.new) (failures_of (W.lost wire.new) (W.cut wire.new)) (W.closed wire.new))))
         (λ _. Rests kept.old kept.new × (wire.new ≡ wire.old)) }
     ensures wrote { OnlyWrites (W.calls wire.old) (W.calls wire.new) kept.old.written.items kept.new.written.items }
 {
@@ -45,8 +45,8 @@ pub(crate) fn send<W: Wire>(wire: &mut W, kept: &mut Kept, bytes: &[u8]) -> Resu
 /// Closes the wire: the connection is over so.
 pub(crate) fn finish<W: Wire>(wire: &mut W, kept: &mut Kept, ending: Ending)
     ensures finishes { Finishes ending
-        (seen kept.old (line_of (W.given wire.old) (W.left wire.old) (W.taken wire.old) (failures_of (W.faults wire.old) (W.cut wire.old)) (W.closed wire.old)))
-        (seen kept.new (line_of (W.given wire.new) (W.left wire.new) (W.taken wire.new) (failures_of (W.faults wire.new) (W.cut wire.new)) (W.closed wire.new))) }
+        (seen kept.old (line_of (W.given wire.old) (W.left wire.old) (W.taken wire.old) (failures_of (W.lost wire.old) (W.cut wire.old)) (W.closed wire.old)))
+        (seen kept.new (line_of (W.given wire.new) (W.left wire.new) (W.taken wire.new) (failures_of (W.lost wire.new) (W.cut wire.new)) (W.closed wire.new))) }
     ensures wrote { OnlyWrites (W.calls wire.old) (W.calls wire.new) kept.old.written.items kept.new.written.items }
     ensures ended { W.ended wire.new ≡ W.ended wire.old }
 {

@@ -26,16 +26,16 @@ const INTERIM: &[u8] = b"HTTP/1.1 100 Continue\r\n\r\n";
 pub(crate) fn settle<W: Wire>(wire: &mut W, kept: &mut Kept) -> Result<(), AllocError>
     requires { kept.old.next ≡ Stands.Waits }
     ensures talks { (first : Line) (bodies : List (List ℕ)) (texts : List (Option (List ℕ)))
-        → IsTalking first (seen kept.old (line_of (W.given wire.old) (W.left wire.old) (W.taken wire.old) (failures_of (W.faults wire.old) (W.cut wire.old)) (W.closed wire.old))) bodies texts
-        → IsTalking first (seen kept.new (line_of (W.given wire.new) (W.left wire.new) (W.taken wire.new) (failures_of (W.faults wire.new) (W.cut wire.new)) (W.closed wire.new))) bodies texts }
+        → IsTalking first (seen kept.old (line_of (W.given wire.old) (W.left wire.old) (W.taken wire.old) (failures_of (W.lost wire.old) (W.cut wire.old)) (W.closed wire.old))) bodies texts
+        → IsTalking first (seen kept.new (line_of (W.given wire.new) (W.left wire.new) (W.taken wire.new) (failures_of (W.lost wire.new) (W.cut wire.new)) (W.closed wire.new))) bodies texts }
     ensures next { OnErr result (kept.new.next ≡ Stands.Spent) }
     ensures called { (first : Line) (bodies : List (List ℕ)) (texts : List (Option (List ℕ)))
-        → IsTalking first (seen kept.old (line_of (W.given wire.old) (W.left wire.old) (W.taken wire.old) (failures_of (W.faults wire.old) (W.cut wire.old)) (W.closed wire.old))) bodies texts
+        → IsTalking first (seen kept.old (line_of (W.given wire.old) (W.left wire.old) (W.taken wire.old) (failures_of (W.lost wire.old) (W.cut wire.old)) (W.closed wire.old))) bodies texts
         → Called (W.calls wire.old) (W.calls wire.new)
         (log kept.old.read.items kept.old.written.items bodies texts)
         (log kept.new.read.items kept.new.written.items bodies texts) }
     ensures ended { (first : Line) (bodies : List (List ℕ)) (texts : List (Option (List ℕ)))
-        → IsTalking first (seen kept.old (line_of (W.given wire.old) (W.left wire.old) (W.taken wire.old) (failures_of (W.faults wire.old) (W.cut wire.old)) (W.closed wire.old))) bodies texts
+        → IsTalking first (seen kept.old (line_of (W.given wire.old) (W.left wire.old) (W.taken wire.old) (failures_of (W.lost wire.old) (W.cut wire.old)) (W.closed wire.old))) bodies texts
         → first.closed ≡ false → stage_of kept.new.next ≡ Stages.Ended → W.ended wire.new ≡ true }
 {
     for _ in 0..u64::MAX {
@@ -52,16 +52,16 @@ pub(crate) fn settle<W: Wire>(wire: &mut W, kept: &mut Kept) -> Result<(), Alloc
 fn read_on<W: Wire>(wire: &mut W, kept: &mut Kept) -> Result<(), AllocError>
     requires { kept.old.next ≡ Stands.Waits }
     ensures talks { (first : Line) (bodies : List (List ℕ)) (texts : List (Option (List ℕ)))
-        → IsTalking first (seen kept.old (line_of (W.given wire.old) (W.left wire.old) (W.taken wire.old) (failures_of (W.faults wire.old) (W.cut wire.old)) (W.closed wire.old))) bodies texts
-        → IsTalking first (seen kept.new (line_of (W.given wire.new) (W.left wire.new) (W.taken wire.new) (failures_of (W.faults wire.new) (W.cut wire.new)) (W.closed wire.new))) bodies texts }
+        → IsTalking first (seen kept.old (line_of (W.given wire.old) (W.left wire.old) (W.taken wire.old) (failures_of (W.lost wire.old) (W.cut wire.old)) (W.closed wire.old))) bodies texts
+        → IsTalking first (seen kept.new (line_of (W.given wire.new) (W.left wire.new) (W.taken wire.new) (failures_of (W.lost wire.new) (W.cut wire.new)) (W.closed wire.new))) bodies texts }
     ensures next { OnErr result (kept.new.next ≡ Stands.Spent) }
     ensures called { (first : Line) (bodies : List (List ℕ)) (texts : List (Option (List ℕ)))
-        → IsTalking first (seen kept.old (line_of (W.given wire.old) (W.left wire.old) (W.taken wire.old) (failures_of (W.faults wire.old) (W.cut wire.old)) (W.closed wire.old))) bodies texts
+        → IsTalking first (seen kept.old (line_of (W.given wire.old) (W.left wire.old) (W.taken wire.old) (failures_of (W.lost wire.old) (W.cut wire.old)) (W.closed wire.old))) bodies texts
         → Called (W.calls wire.old) (W.calls wire.new)
         (log kept.old.read.items kept.old.written.items bodies texts)
         (log kept.new.read.items kept.new.written.items bodies texts) }
     ensures ended { (first : Line) (bodies : List (List ℕ)) (texts : List (Option (List ℕ)))
-        → IsTalking first (seen kept.old (line_of (W.given wire.old) (W.left wire.old) (W.taken wire.old) (failures_of (W.faults wire.old) (W.cut wire.old)) (W.closed wire.old))) bodies texts
+        → IsTalking first (seen kept.old (line_of (W.given wire.old) (W.left wire.old) (W.taken wire.old) (failures_of (W.lost wire.old) (W.cut wire.old)) (W.closed wire.old))) bodies texts
         → first.closed ≡ false → stage_of kept.new.next ≡ Stages.Ended → W.ended wire.new ≡ true }
 {
     kept.stand(Standing::Spent);
@@ -87,8 +87,8 @@ fn read_on<W: Wire>(wire: &mut W, kept: &mut Kept) -> Result<(), AllocError>
 pub(crate) fn go_on<W: Wire>(wire: &mut W, kept: &mut Kept, piece: &[u8]) -> Result<(), AllocError>
     requires { kept.old.next ≡ Stands.Spent }
     ensures talks { (first : Line) (bodies : List (List ℕ)) (texts : List (Option (List ℕ)))
-        → IsGoing first (seen kept.old (line_of (W.given wire.old) (W.left wire.old) (W.taken wire.old) (failures_of (W.faults wire.old) (W.cut wire.old)) (W.closed wire.old))) piece.now bodies texts
-        → IsTalking first (seen kept.new (line_of (W.given wire.new) (W.left wire.new) (W.taken wire.new) (failures_of (W.faults wire.new) (W.cut wire.new)) (W.closed wire.new))) bodies texts }
+        → IsGoing first (seen kept.old (line_of (W.given wire.old) (W.left wire.old) (W.taken wire.old) (failures_of (W.lost wire.old) (W.cut wire.old)) (W.closed wire.old))) piece.now bodies texts
+        → IsTalking first (seen kept.new (line_of (W.given wire.new) (W.left wire.new) (W.taken wire.new) (failures_of (W.lost wire.new) (W.cut wire.new)) (W.closed wire.new))) bodies texts }
     ensures next { MatchResult result (λ _. IsBehindTelling (stage_of kept.new.next)) (λ _. kept.new.next ≡ Stands.Spent) }
     ensures read { kept.new.read.items ≡ kept.old.read.items }
     ensures wrote { OnlyWrites (W.calls wire.old) (W.calls wire.new) kept.old.written.items kept.new.written.items }
@@ -111,8 +111,8 @@ fn is_interim(fed: &Fed) -> bool
 fn invite<W: Wire>(wire: &mut W, kept: &mut Kept) -> Result<(), AllocError>
     requires { kept.old.next ≡ Stands.Spent }
     ensures talks { (first : Line) (bodies : List (List ℕ)) (texts : List (Option (List ℕ)))
-        → IsFed first (seen kept.old (line_of (W.given wire.old) (W.left wire.old) (W.taken wire.old) (failures_of (W.faults wire.old) (W.cut wire.old)) (W.closed wire.old))) Gives.Interim bodies texts
-        → IsTalking first (seen kept.new (line_of (W.given wire.new) (W.left wire.new) (W.taken wire.new) (failures_of (W.faults wire.new) (W.cut wire.new)) (W.closed wire.new))) bodies texts }
+        → IsFed first (seen kept.old (line_of (W.given wire.old) (W.left wire.old) (W.taken wire.old) (failures_of (W.lost wire.old) (W.cut wire.old)) (W.closed wire.old))) Gives.Interim bodies texts
+        → IsTalking first (seen kept.new (line_of (W.given wire.new) (W.left wire.new) (W.taken wire.new) (failures_of (W.lost wire.new) (W.cut wire.new)) (W.closed wire.new))) bodies texts }
     ensures next { MatchResult result (λ _. IsBehindTelling (stage_of kept.new.next)) (λ _. kept.new.next ≡ Stands.Spent) }
     ensures read { kept.new.read.items ≡ kept.old.read.items }
     ensures wrote { OnlyWrites (W.calls wire.old) (W.calls wire.new) kept.old.written.items kept.new.written.items }
@@ -135,8 +135,8 @@ fn take_up<W: Wire>(wire: &mut W, kept: &mut Kept, fed: Fed) -> Result<(), Alloc
     requires next { kept.old.next ≡ Stands.Spent }
     requires fed { is_interim fed ≡ false }
     ensures talks { (first : Line) (bodies : List (List ℕ)) (texts : List (Option (List ℕ)))
-        → IsFed first (seen kept.old (line_of (W.given wire.old) (W.left wire.old) (W.taken wire.old) (failures_of (W.faults wire.old) (W.cut wire.old)) (W.closed wire.old))) fed bodies texts
-        → IsTalking first (seen kept.new (line_of (W.given wire.new) (W.left wire.new) (W.taken wire.new) (failures_of (W.faults wire.new) (W.cut wire.new)) (W.closed wire.new))) bodies texts }
+        → IsFed first (seen kept.old (line_of (W.given wire.old) (W.left wire.old) (W.taken wire.old) (failures_of (W.lost wire.old) (W.cut wire.old)) (W.closed wire.old))) fed bodies texts
+        → IsTalking first (seen kept.new (line_of (W.given wire.new) (W.left wire.new) (W.taken wire.new) (failures_of (W.lost wire.new) (W.cut wire.new)) (W.closed wire.new))) bodies texts }
     ensures next { MatchResult result (λ _. IsBehindTelling (stage_of kept.new.next)) (λ _. kept.new.next ≡ Stands.Spent) }
     ensures read { kept.new.read.items ≡ kept.old.read.items }
     ensures wrote { OnlyWrites (W.calls wire.old) (W.calls wire.new) kept.old.written.items kept.new.written.items }
@@ -159,8 +159,8 @@ fn take_up<W: Wire>(wire: &mut W, kept: &mut Kept, fed: Fed) -> Result<(), Alloc
 fn refuse<W: Wire>(wire: &mut W, kept: &mut Kept, status: u16) -> Result<(), AllocError>
     requires { kept.old.next ≡ Stands.Spent }
     ensures talks { (first : Line) (bodies : List (List ℕ)) (texts : List (Option (List ℕ)))
-        → IsFed first (seen kept.old (line_of (W.given wire.old) (W.left wire.old) (W.taken wire.old) (failures_of (W.faults wire.old) (W.cut wire.old)) (W.closed wire.old))) (Gives.Refused status) bodies texts
-        → IsTalking first (seen kept.new (line_of (W.given wire.new) (W.left wire.new) (W.taken wire.new) (failures_of (W.faults wire.new) (W.cut wire.new)) (W.closed wire.new))) bodies texts }
+        → IsFed first (seen kept.old (line_of (W.given wire.old) (W.left wire.old) (W.taken wire.old) (failures_of (W.lost wire.old) (W.cut wire.old)) (W.closed wire.old))) (Gives.Refused status) bodies texts
+        → IsTalking first (seen kept.new (line_of (W.given wire.new) (W.left wire.new) (W.taken wire.new) (failures_of (W.lost wire.new) (W.cut wire.new)) (W.closed wire.new))) bodies texts }
     ensures next { MatchResult result (λ _. IsBehindTelling (stage_of kept.new.next)) (λ _. kept.new.next ≡ Stands.Spent) }
     ensures read { kept.new.read.items ≡ kept.old.read.items }
     ensures wrote { OnlyWrites (W.calls wire.old) (W.calls wire.new) kept.old.written.items kept.new.written.items }

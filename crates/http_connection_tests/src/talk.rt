@@ -210,10 +210,12 @@ impl Ended {
         listed(alloc, self.wire.calls())
     }
 
-    /// How it ended, where the wire tells the same of what passed.
+    /// How it ended, where the wire tells the same of what passed and of what failed.
     pub(crate) fn end(&self) -> &'static str {
         if self.wire.given() == self.read.as_slice()
             && self.wire.taken() == self.written.as_slice()
+            && self.wire.is_lost() == (self.end == "read failed")
+            && self.wire.is_cut() == (self.end == "write failed")
         {
             self.end
         } else {

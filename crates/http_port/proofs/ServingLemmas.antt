@@ -125,7 +125,8 @@ ends_so : (d : Demand) (fs : List Fed) → CallsFor d fs → (feds : List Fed) (
     → (came : List ℕ) → EndsSo d (service came (feds ++ fed ∷ []) (s ++ said) (w ++ went)) end
 ends_so d fs c feds s w p fed said went Ends.Ended h gs e came = absurd h
 ends_so d fs c feds s w p fed said went Ends.Closed h gs e came = served d fs c feds s w p fed said went Ends.Closed gs e (h gs) came
-ends_so d fs c feds s w p fed said went Ends.Faulted h gs e came = inr (cut d fs c feds s w p fed said went gs e (h gs) came)
+ends_so d fs c feds s w p fed said went Ends.ReadFailed h gs e came = absurd h
+ends_so d fs c feds s w p fed said went Ends.WriteFailed h gs e came = cut d fs c feds s w p fed said went gs e (h gs) came
 ends_so d fs c feds s w p fed said went (Ends.Later close) h gs e came = served d fs c feds s w p fed said went (Ends.Later close) gs e (h gs) came
 
 -- what a last piece leaves to come, from an open place
@@ -184,7 +185,8 @@ serves_turn Spent mid now pieces feds s w piece fed said went end asks run p fee
 abbrev pub IsRead : WireEnd → Type 0
 IsRead Ends.Ended = Unit {0}
 IsRead Ends.Closed = ⊥
-IsRead Ends.Faulted = Unit {0}
+IsRead Ends.ReadFailed = Unit {0}
+IsRead Ends.WriteFailed = ⊥
 IsRead (Ends.Later close) = ⊥
 
 all_read : (d : Demand) (fs : List Fed) → CallsFor d fs → (feds : List Fed) (s : List Said) (w : List ℕ) → Spoke feds s w
@@ -198,13 +200,15 @@ read_so : (d : Demand) (fs : List Fed) → CallsFor d fs → (feds : List Fed) (
     → (came : List ℕ) → EndsSo d (service came (feds ++ NotYet ∷ []) (s ++ said) (w ++ went)) end
 read_so d fs c feds s w p said went e f Ends.Ended at all came = all_read d fs c feds s w p said went e f all came
 read_so d fs c feds s w p said went e f Ends.Closed at all came = absurd at
-read_so d fs c feds s w p said went e f Ends.Faulted at all came = inl (all_read d fs c feds s w p said went e f all came)
+read_so d fs c feds s w p said went e f Ends.ReadFailed at all came = all_read d fs c feds s w p said went e f all came
+read_so d fs c feds s w p said went e f Ends.WriteFailed at all came = absurd at
 read_so d fs c feds s w p said went e f (Ends.Later close) at all came = absurd at
 
-over_ends : (end : WireEnd) → IsRead end → (end ≡ Ends.Ended) ⊎ (end ≡ Ends.Faulted)
+over_ends : (end : WireEnd) → IsRead end → (end ≡ Ends.Ended) ⊎ (end ≡ Ends.ReadFailed)
 over_ends Ends.Ended at = inl refl
 over_ends Ends.Closed at = absurd at
-over_ends Ends.Faulted at = inr refl
+over_ends Ends.ReadFailed at = inr refl
+over_ends Ends.WriteFailed at = absurd at
 over_ends (Ends.Later close) at = absurd at
 
 -- serving that ends where more is to be read
@@ -501,7 +505,8 @@ finish_turn was asks before mid at piece g now turned t end reacts =
 given_nothing : (end : WireEnd) → IsRead end → (fed : Fed) → fed ≡ NotYet → IsLastGiven end fed
 given_nothing Ends.Ended at fed e = e
 given_nothing Ends.Closed at fed e = absurd at
-given_nothing Ends.Faulted at fed e = tt
+given_nothing Ends.ReadFailed at fed e = e
+given_nothing Ends.WriteFailed at fed e = absurd at
 given_nothing (Ends.Later close) at fed e = absurd at
 
 -- serving ends where more is to be read

@@ -14,7 +14,7 @@ use Rattle.http_port.specs.declared.turn.Turn.TheVariants as Turns
 use Rattle.http_port.specs.Connections.{without_waits}
 use Rattle.http_port.specs.Responses.{interim, response}
 use Rattle.http_port.specs.Talk.{answer}
-use Rattle.http_port.specs.Serving.{texts, AllAtOnce, bodies_in, IsLastGiven}
+use Rattle.http_port.specs.Serving.{texts, AllAtOnce, bodies_in, IsLastGiven, lost_behind}
 use Rattle.http_port.specs.Turns.{turn_behind, Writes, Answers, Reacts}
 use Rattle.http_port.proofs.ReadingLemmas.{shown}
 use Rattle.http_port.proofs.TalkLemmas.{spoken, closed_by, ended}
@@ -232,11 +232,12 @@ pub record EndsCut (fed : Fed) (said : List Said) (went : List ℕ) (gs : List F
   -- nothing was said, or to the request that comes first
   pub first : (said ≡ []) ⊎ ((first : Said) × (said ≡ first ∷ []) × (spoken (shown fed ++ gs) [] ≡ []))
 
--- the last turn ends with a fault, or whole
+-- the last turn ends with a write that failed, or whole
 abbrev pub LastTurn : Fed → List Said → List ℕ → WireEnd → Type 0
 LastTurn fed said went Ends.Ended = ⊥
 LastTurn fed said went Ends.Closed = (gs : List Fed) → EndsWhole fed said went Ends.Closed gs
-LastTurn fed said went Ends.Faulted = (gs : List Fed) → EndsCut fed said went gs
+LastTurn fed said went Ends.ReadFailed = ⊥
+LastTurn fed said went Ends.WriteFailed = (gs : List Fed) → EndsCut fed said went gs
 LastTurn fed said went (Ends.Later close) = (gs : List Fed) → EndsWhole fed said went (Ends.Later close) gs
 
 front_of : (text : List ℕ) (count : ℕ) (went rest : List ℕ) → went ≡ take count text → Begins (text ++ rest) went
@@ -270,7 +271,7 @@ answered body true said went end text first at e (inl x) =
     closes Says.Later at gs = absurd at
 answered body false said went end text first at e (inl x) = let f = x.1 in absurd (cc)
 answered body close said went end text first at e (inr y) =
-    subst (LastTurn (Request body close) said went) (sym (same_end end Ends.Faulted y.3))
+    subst (LastTurn (Request body close) said went) (sym (same_end end Ends.WriteFailed y.3))
     (λ gs. record {
       begins = subst (λ l. Begins l went) (sym (is gs)) (front_of (answer text close) y.0 went (cond close [] (spoken gs [])) y.2);
       part = subst (λ l. length went < length l) (sym (is gs)) (shorter (answer text close) y.0 went (cond close [] (spoken gs [])) y.1 y.2);
@@ -286,7 +287,7 @@ pub last_turn : (fed : Fed) (said : List Said) (went : List ℕ) (end : WireEnd)
 last_turn NotYet said went end r = let e = r.2 in absurd (cc)
 last_turn Interim said went end r = elim r.1 [
   | inl x ↦ let e = x.1 in absurd (cc)
-  | inr y ↦ subst (LastTurn Interim said went) (sym (same_end end Ends.Faulted y.3))
+  | inr y ↦ subst (LastTurn Interim said went) (sym (same_end end Ends.WriteFailed y.3))
       (λ gs. record {
         begins = front_of interim y.0 went (spoken gs (texts said)) y.2;
         part = shorter interim y.0 went (spoken gs (texts said)) y.1 y.2;
@@ -314,7 +315,7 @@ last_turn (Refused status) said went end r = elim r.1 [
         ended = ap closed_by r.0;
         count = ap length r.0;
       })
-  | inr y ↦ subst (LastTurn (Refused status) said went) (sym (same_end end Ends.Faulted y.3))
+  | inr y ↦ subst (LastTurn (Refused status) said went) (sym (same_end end Ends.WriteFailed y.3))
       (λ gs. record {
         begins = subst (λ l. Begins l went) (append-nil (response status [] true)) (front_of (response status [] true) y.0 went [] y.2);
         part = subst (λ l. length went < length l) (append-nil (response status [] true)) (shorter (response status [] true) y.0 went [] y.1 y.2);
@@ -324,19 +325,30 @@ last_turn (Refused status) said went end r = elim r.1 [
       })
 ]
 
+-- it ends with no read that failed
+pub turn_unlost : (fed : Fed) (said : List Said) (went : List ℕ) (end : WireEnd) → Reacts fed said went (Turns.Ends end) → (before : Bool) → lost_behind end before ≡ before
+turn_unlost fed said went end r before = by_end end (last_turn fed said went end r)
+  where
+    by_end : (end : WireEnd) → LastTurn fed said went end → lost_behind end before ≡ before
+    by_end Ends.Ended h = refl
+    by_end Ends.Closed h = refl
+    by_end Ends.ReadFailed h = absurd h
+    by_end Ends.WriteFailed h = refl
+    by_end (Ends.Later close) h = refl
+
 -- what the reader gave in the last turn
 pub last_given : (fed : Fed) (said : List Said) (went : List ℕ) (end : WireEnd) → Reacts fed said went (Turns.Ends end) → IsLastGiven end fed
 last_given NotYet said went end r = let e = r.2 in absurd (cc)
 last_given Interim said went end r = elim r.1 [
   | inl x ↦ let e = x.1 in absurd (cc)
-  | inr y ↦ subst (λ e. IsLastGiven e Interim) (sym (same_end end Ends.Faulted y.3)) tt
+  | inr y ↦ subst (λ e. IsLastGiven e Interim) (sym (same_end end Ends.WriteFailed y.3)) tt
 ]
 last_given (Request body close) said went end r = by_said r.0 r.2
   where
     by_writes : (c : Bool) (text : List ℕ) → Writes text (turn_behind c) went (Turns.Ends end) → IsLastGiven end (Request body c)
     by_writes true text (inl x) = subst (λ e. IsLastGiven e (Request body true)) (sym (same_end end Ends.Closed x.1)) (inl (body, refl))
     by_writes false text (inl x) = let e = x.1 in absurd (cc)
-    by_writes c text (inr y) = subst (λ e. IsLastGiven e (Request body c)) (sym (same_end end Ends.Faulted y.3)) tt
+    by_writes c text (inr y) = subst (λ e. IsLastGiven e (Request body c)) (sym (same_end end Ends.WriteFailed y.3)) tt
 
     by_said : (first : Said) → Answers first close went (Turns.Ends end) → IsLastGiven end (Request body close)
     by_said (Says.Text bytes) x = by_writes close (answer (Some bytes) close) x
@@ -344,5 +356,5 @@ last_given (Request body close) said went end r = by_said r.0 r.2
     by_said Says.Later x = subst (λ e. IsLastGiven e (Request body close)) (sym (same_end end (Ends.Later close) x.1)) (body, refl)
 last_given (Refused status) said went end r = elim r.1 [
   | inl x ↦ subst (λ e. IsLastGiven e (Refused status)) (sym (same_end end Ends.Closed x.1)) (inr (status, refl))
-  | inr y ↦ subst (λ e. IsLastGiven e (Refused status)) (sym (same_end end Ends.Faulted y.3)) tt
+  | inr y ↦ subst (λ e. IsLastGiven e (Refused status)) (sym (same_end end Ends.WriteFailed y.3)) tt
 ]

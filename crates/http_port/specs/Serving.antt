@@ -1,9 +1,8 @@
 -- What comes of serving a connection: what is asked, what is written and how it ends, by what the bytes hold.
-use Rattle.std.specs.Prelude.{◌≡◌, ℕ, ◌<◌, ◌≤◌, ◌⊎◌, Bool, true, if◌then◌else◌, Option, None, Some}
+use Rattle.std.specs.Prelude.{◌≡◌, ℕ, ◌<◌, ◌⊎◌, ◌||◌, not, Bool, true, if◌then◌else◌, Option, None, Some}
 use Rattle.std.specs.Prelude.{List, [], ◌∷◌, ◌++◌, length, map, take, drop}
 use Rattle.std.specs.List.{concat}
 use Rattle.std.specs.Io.{StartsWith}
-use Rattle.outside_traits.specs.Causes.{Rose}
 use Rattle.http_port.specs.Feeding.{Place, Open, Over, Spent}
 use Rattle.http_port.specs.Connections.{Reading, RequestRead, End, Unfinished, WithInterim, Closed, RefusedBy}
 use Rattle.http_port.specs.Connections.{requests, end_of, Run}
@@ -92,11 +91,13 @@ pub record IsCutOff (demand : Demand) (did : Service) : Type 0 where
   pub before : (early : List Said) (last : Said) → did.said ≡ early ++ last ∷ []
       → StartsWith did.went (to_write demand early)
 
--- Where the wire failed it did so in a read, behind which all is done as at the end of what comes, or in a write.
+-- How what was done is tied to the end: behind a read that failed all is done as at the end of what comes, and a write
+-- that failed cut it off.
 abbrev pub EndsSo : Demand → Service → WireEnd → Type 0
 EndsSo demand did Ends.Ended = IsServed demand did Ends.Ended
 EndsSo demand did Ends.Closed = IsServed demand did Ends.Closed
-EndsSo demand did Ends.Faulted = IsServed demand did Ends.Ended ⊎ IsCutOff demand did
+EndsSo demand did Ends.ReadFailed = IsServed demand did Ends.Ended
+EndsSo demand did Ends.WriteFailed = IsCutOff demand did
 EndsSo demand did (Ends.Later close) = IsServed demand did (Ends.Later close)
 
 -- what the bytes at hand call for, in a reading of them
@@ -109,7 +110,7 @@ abbrev pub Serves : Place → Service → WireEnd → Type 0
 Serves (Open left asked) did end =
     (reading : Reading (left ++ did.came)) → ∥ EndsSo (demand_of (left ++ did.came) reading asked) did end ∥₁
 Serves Over did end =
-    (did.bodies ≡ []) × (did.said ≡ []) × (did.went ≡ []) × ((end ≡ Ends.Ended) ⊎ (end ≡ Ends.Faulted))
+    (did.bodies ≡ []) × (did.said ≡ []) × (did.went ≡ []) × ((end ≡ Ends.Ended) ⊎ (end ≡ Ends.ReadFailed))
 Serves Spent did end = ⊥
 
 -- the bodies of what a reader gave
@@ -120,12 +121,13 @@ bodies_in (Interim ∷ more) = bodies_in more
 bodies_in (Request body close ∷ more) = body ∷ bodies_in more
 bodies_in (Refused status ∷ more) = bodies_in more
 
--- What a reader gives last, where the serving ends so: nothing yet at the end of input, what closes the connection, or
--- the request whose answer comes later.
+-- What a reader gives last, where the serving ends so: nothing yet at the end of input or where a read fails, what closes
+-- the connection, or the request whose answer comes later.
 abbrev pub IsLastGiven : WireEnd → Fed → Type 0
 IsLastGiven Ends.Ended fed = fed ≡ NotYet
 IsLastGiven Ends.Closed fed = ((body : List ℕ) × (fed ≡ Request body true)) ⊎ ((status : ℕ) × (fed ≡ Refused status))
-IsLastGiven Ends.Faulted fed = Unit {0}
+IsLastGiven Ends.ReadFailed fed = fed ≡ NotYet
+IsLastGiven Ends.WriteFailed fed = Unit {0}
 IsLastGiven (Ends.Later close) fed = (body : List ℕ) × (fed ≡ Request body close)
 
 -- The reader was fed the bytes that came, which brought the bodies that were handed on, and nothing else was done to
@@ -139,9 +141,18 @@ pub record IsFed (was : Place) (did : Service) (end : WireEnd) (now : Place) : T
   pub bodies : bodies_in (before ++ last ∷ []) ≡ did.bodies
   pub ends : IsLastGiven end last
 
--- The count of a wire's faults rises exactly where the serving ends with one.
-abbrev pub CountsFault : WireEnd → ℕ → ℕ → Type 0
-CountsFault Ends.Ended before now = now ≡ before
-CountsFault Ends.Closed before now = now ≡ before
-CountsFault Ends.Faulted before now = (before ≤ now) × Rose before now
-CountsFault (Ends.Later close) before now = now ≡ before
+-- whether a read of a wire has failed behind a serving that ended so, by whether one had before
+abbrev pub lost_behind : WireEnd → Bool → Bool
+lost_behind Ends.Ended before = before
+lost_behind Ends.Closed before = before
+lost_behind Ends.ReadFailed before = true
+lost_behind Ends.WriteFailed before = before
+lost_behind (Ends.Later close) before = before
+
+-- whether a write of it has failed then, before it was closed, by whether it is closed and one had before
+abbrev pub cut_behind : WireEnd → Bool → Bool → Bool
+cut_behind Ends.Ended closed before = before
+cut_behind Ends.Closed closed before = before
+cut_behind Ends.ReadFailed closed before = before
+cut_behind Ends.WriteFailed closed before = before || not closed
+cut_behind (Ends.Later close) closed before = before

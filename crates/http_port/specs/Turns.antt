@@ -3,7 +3,7 @@
 use Rattle.std.specs.Prelude.{◌≡◌, ℕ, ◌<◌, ◌⊎◌, Bool, true, false, if◌then◌else◌, None, Some, List, [], ◌∷◌, length, take}
 use Rattle.http_port.specs.Responses.{interim, response}
 use Rattle.http_port.specs.Talk.{answer}
-use Rattle.http_port.specs.Serving.{CountsFault}
+use Rattle.http_port.specs.Serving.{cut_behind}
 use Rattle.http_port.specs.declared.head_reader.Fed.{Fed}
 use Rattle.http_port.specs.declared.head_reader.Fed.TheVariants.{NotYet, Interim, Request, Refused}
 use Rattle.http_port.specs.declared.serve.Said.{Said}
@@ -20,7 +20,7 @@ turn_behind close = if close then Turns.Ends Ends.Closed else Turns.GoesOn
 abbrev pub Writes : List ℕ → Turn → List ℕ → Turn → Type 0
 Writes text next went turn =
     ((went ≡ text) × (turn ≡ next))
-    ⊎ ((count : ℕ) × (count < length text) × (went ≡ take count text) × (turn ≡ Turns.Ends Ends.Faulted))
+    ⊎ ((count : ℕ) × (count < length text) × (went ≡ take count text) × (turn ≡ Turns.Ends Ends.WriteFailed))
 
 -- what comes of what was said to a request
 abbrev pub Answers : Said → Bool → List ℕ → Turn → Type 0
@@ -36,11 +36,11 @@ Reacts (Request body close) said went turn = (first : Said) × (said ≡ first �
 Reacts (Refused status) said went turn =
     (said ≡ []) × Writes (response status [] true) (Turns.Ends Ends.Closed) went turn
 
--- the count of a wire's faults rises exactly where the turn ends with one
-abbrev pub TurnCounts : Turn → ℕ → ℕ → Type 0
-TurnCounts Turns.GoesOn before now = now ≡ before
-TurnCounts Turns.Waits before now = now ≡ before
-TurnCounts (Turns.Ends end) before now = CountsFault end before now
+-- whether a write of a wire has failed behind a turn, before it was closed, by whether it is closed and one had before
+abbrev pub cut_by : Turn → Bool → Bool → Bool
+cut_by Turns.GoesOn closed before = before
+cut_by Turns.Waits closed before = before
+cut_by (Turns.Ends end) closed before = cut_behind end closed before
 
 -- whether serving goes on behind a turn
 abbrev pub goes : Turn → Bool

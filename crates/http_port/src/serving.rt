@@ -3,7 +3,7 @@ ghost use Rattle.std.specs.Prelude.{◌≡◌, List, IfOk, OnErr, MatchResult};
 ghost use Rattle.std.specs.Io.KnownBytes.{Appends, Consumes, IsAtEnd};
 ghost use Rattle.http_port.specs.Asking.{Grows};
 ghost use Rattle.http_port.specs.Feeding.{Spent};
-ghost use Rattle.http_port.specs.Serving.{Service, IsFed, Serves, CountsFault};
+ghost use Rattle.http_port.specs.Serving.{Service, IsFed, Serves, cut_behind, lost_behind};
 ghost use Rattle.http_port.specs.Prompt.{IsPrompt, StopsAtNothing};
 ghost use Rattle.outside_traits.specs.Told.{Lists};
 ghost use Rattle.outside_traits.specs.declared.calls.WireCall.{WireCall};
@@ -21,8 +21,10 @@ pub enum WireEnd {
     Ended,
     /// A response was written that closes the connection.
     Closed,
-    /// The wire failed.
-    Faulted,
+    /// A read failed.
+    ReadFailed,
+    /// A write failed.
+    WriteFailed,
     /// The answer of the last request comes later; the connection closes with it, or goes on.
     Later { close: bool },
 }
@@ -49,7 +51,8 @@ pub fn serve_wire<W: Wire, S: Serve>(
         × StopsAtNothing calls
         × Serves reader.old did end) }
     ensures ended { result ≡ Ok WireEnd.Ended → IsAtEnd (W.left wire.new) }
-    ensures counts { MatchResult result (λ end. CountsFault end (W.faults wire.old) (W.faults wire.new)) (λ _. W.faults wire.new ≡ W.faults wire.old) }
+    ensures lost { MatchResult result (λ end. W.lost wire.new ≡ lost_behind end (W.lost wire.old)) (λ _. W.lost wire.new ≡ W.lost wire.old) }
+    ensures cut { MatchResult result (λ end. W.cut wire.new ≡ cut_behind end (W.closed wire.old) (W.cut wire.old)) (λ _. W.cut wire.new ≡ W.cut wire.old) }
     ensures closed { W.closed wire.new ≡ W.closed wire.old }
     ensures err { OnErr result (reader.new ≡ Spent) }
 {
@@ -79,7 +82,8 @@ fn serve_each<W: Wire, S: Serve>(
         × StopsAtNothing calls
         × Serves reader.old did end) }
     ensures ended { result ≡ Ok WireEnd.Ended → IsAtEnd (W.left wire.new) }
-    ensures counts { MatchResult result (λ end. CountsFault end (W.faults wire.old) (W.faults wire.new)) (λ _. W.faults wire.new ≡ W.faults wire.old) }
+    ensures lost { MatchResult result (λ end. W.lost wire.new ≡ lost_behind end (W.lost wire.old)) (λ _. W.lost wire.new ≡ W.lost wire.old) }
+    ensures cut { MatchResult result (λ end. W.cut wire.new ≡ cut_behind end (W.closed wire.old) (W.cut wire.old)) (λ _. W.cut wire.new ≡ W.cut wire.old) }
     ensures closed { W.closed wire.new ≡ W.closed wire.old }
 {
     reader.asks_where_given();
@@ -92,7 +96,7 @@ fn serve_each<W: Wire, S: Serve>(
             Turn::Waits => match wire.read(&mut chunk) {
                 Ok(0) => return Ok(WireEnd::Ended),
                 Ok(read) => count = read,
-                Err(Failed) => return Ok(WireEnd::Faulted),
+                Err(Failed) => return Ok(WireEnd::ReadFailed),
             },
         }
     }

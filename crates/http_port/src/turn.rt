@@ -1,12 +1,11 @@
 //! One turn of serving a connection.
-ghost use Rattle.std.specs.Prelude.{◌≡◌, ◌<◌, ℕ, List, [], ◌∷◌, true, false, length, take, IfOk, MatchResult};
+ghost use Rattle.std.specs.Prelude.{◌≡◌, ◌<◌, ◌||◌, not, ℕ, List, [], ◌∷◌, true, false, length, take, IfOk, MatchResult};
 ghost use Rattle.std.specs.Io.KnownBytes.{Appends};
-ghost use Rattle.outside_traits.specs.Causes.{HasCause};
 ghost use Rattle.http_port.specs.Asking.{Grows};
 ghost use Rattle.http_port.specs.Feeding.{Feeds};
 ghost use Rattle.http_port.specs.Responses.{interim, response};
 ghost use Rattle.http_port.specs.Serving.{bodies_in};
-ghost use Rattle.http_port.specs.Turns.{turn_behind, Writes, Answers, Reacts, TurnCounts, goes};
+ghost use Rattle.http_port.specs.Turns.{turn_behind, Writes, Answers, Reacts, cut_by, goes};
 ghost use Rattle.http_port.specs.Writing.{IsWritten};
 ghost use Rattle.http_port.specs.declared.head_reader.Fed.{Fed};
 ghost use Rattle.http_port.specs.declared.serve.Said.{Said};
@@ -49,7 +48,8 @@ pub(crate) fn take_turn<W: Wire, S: Serve>(
         × IsWritten (W.calls wire.old) (W.calls wire.new) went (goes turn)
         × Grows (S.heard serve.old) (S.heard serve.new) (bodies_in (fed ∷ []))
         × Grows (S.said serve.old) (S.said serve.new) said) }
-    ensures counts { MatchResult result (λ turn. TurnCounts turn (W.faults wire.old) (W.faults wire.new)) (λ _. W.faults wire.new ≡ W.faults wire.old) }
+    ensures lost { W.lost wire.new ≡ W.lost wire.old }
+    ensures cut { MatchResult result (λ turn. W.cut wire.new ≡ cut_by turn (W.closed wire.old) (W.cut wire.old)) (λ _. W.cut wire.new ≡ W.cut wire.old) }
     ensures given { W.given wire.new ≡ W.given wire.old }
     ensures left { W.left wire.new ≡ W.left wire.old }
     ensures closed { W.closed wire.new ≡ W.closed wire.old }
@@ -76,7 +76,8 @@ fn answer<W: Wire, S: Serve>(
         × IsWritten (W.calls wire.old) (W.calls wire.new) went (goes turn)
         × Grows (S.heard serve.old) (S.heard serve.new) (body.now ∷ [])
         × Grows (S.said serve.old) (S.said serve.new) (first ∷ [])) }
-    ensures counts { MatchResult result (λ turn. TurnCounts turn (W.faults wire.old) (W.faults wire.new)) (λ _. W.faults wire.new ≡ W.faults wire.old) }
+    ensures lost { W.lost wire.new ≡ W.lost wire.old }
+    ensures cut { MatchResult result (λ turn. W.cut wire.new ≡ cut_by turn (W.closed wire.old) (W.cut wire.old)) (λ _. W.cut wire.new ≡ W.cut wire.old) }
     ensures given { W.given wire.new ≡ W.given wire.old }
     ensures left { W.left wire.new ≡ W.left wire.old }
     ensures closed { W.closed wire.new ≡ W.closed wire.old }
@@ -92,7 +93,8 @@ fn reply<W: Wire>(alloc: Global, wire: &mut W, said: &Said, close: bool) -> Resu
         × Answers said.now close went turn
         × Appends (W.taken wire.old) (W.taken wire.new) went
         × IsWritten (W.calls wire.old) (W.calls wire.new) went (goes turn)) }
-    ensures counts { MatchResult result (λ turn. TurnCounts turn (W.faults wire.old) (W.faults wire.new)) (λ _. W.faults wire.new ≡ W.faults wire.old) }
+    ensures lost { W.lost wire.new ≡ W.lost wire.old }
+    ensures cut { MatchResult result (λ turn. W.cut wire.new ≡ cut_by turn (W.closed wire.old) (W.cut wire.old)) (λ _. W.cut wire.new ≡ W.cut wire.old) }
     ensures given { W.given wire.new ≡ W.given wire.old }
     ensures left { W.left wire.new ≡ W.left wire.old }
     ensures closed { W.closed wire.new ≡ W.closed wire.old }
@@ -116,7 +118,8 @@ fn respond<W: Wire>(
         × Writes (response status body.now close) (turn_behind close) went turn
         × Appends (W.taken wire.old) (W.taken wire.new) went
         × IsWritten (W.calls wire.old) (W.calls wire.new) went (goes turn)) }
-    ensures counts { MatchResult result (λ turn. TurnCounts turn (W.faults wire.old) (W.faults wire.new)) (λ _. W.faults wire.new ≡ W.faults wire.old) }
+    ensures lost { W.lost wire.new ≡ W.lost wire.old }
+    ensures cut { MatchResult result (λ turn. W.cut wire.new ≡ cut_by turn (W.closed wire.old) (W.cut wire.old)) (λ _. W.cut wire.new ≡ W.cut wire.old) }
     ensures given { W.given wire.new ≡ W.given wire.old }
     ensures left { W.left wire.new ≡ W.left wire.old }
     ensures closed { W.closed wire.new ≡ W.closed wire.old }
@@ -143,14 +146,15 @@ fn write<W: Wire>(wire: &mut W, text: &[u8], next: Turn) -> Turn
         × Writes text.now next went result
         × Appends (W.taken wire.old) (W.taken wire.new) went
         × IsWritten (W.calls wire.old) (W.calls wire.new) went (goes result) }
-    ensures counts { TurnCounts next (W.faults wire.old) (W.faults wire.old) → TurnCounts result (W.faults wire.old) (W.faults wire.new) }
+    ensures lost { W.lost wire.new ≡ W.lost wire.old }
+    ensures cut { cut_by next (W.closed wire.old) (W.cut wire.old) ≡ W.cut wire.old → W.cut wire.new ≡ cut_by result (W.closed wire.old) (W.cut wire.old) }
     ensures given { W.given wire.new ≡ W.given wire.old }
     ensures left { W.left wire.new ≡ W.left wire.old }
     ensures closed { W.closed wire.new ≡ W.closed wire.old }
 {
     match write_all(wire, text) {
         Ok(()) => next,
-        Err(Failed) => Turn::Ends(WireEnd::Faulted),
+        Err(Failed) => Turn::Ends(WireEnd::WriteFailed),
     }
 }
 
@@ -160,7 +164,8 @@ pub fn write_all<W: Wire>(wire: &mut W, bytes: &[u8]) -> Result<(), Failed>
     ensures writes { MatchResult result
         (λ _. Appends (W.taken wire.old) (W.taken wire.new) bytes.now × IsWritten (W.calls wire.old) (W.calls wire.new) bytes.now true)
         (λ _. (count : ℕ) × (count < length bytes.now) × Appends (W.taken wire.old) (W.taken wire.new) (take count bytes.now) × IsWritten (W.calls wire.old) (W.calls wire.new) (take count bytes.now) false) }
-    ensures cause { HasCause (W.faults wire.old) (W.faults wire.new) result }
+    ensures lost { W.lost wire.new ≡ W.lost wire.old }
+    ensures cut { MatchResult result (λ _. W.cut wire.new ≡ W.cut wire.old) (λ _. W.cut wire.new ≡ (W.cut wire.old || not (W.closed wire.old))) }
     ensures given { W.given wire.new ≡ W.given wire.old }
     ensures left { W.left wire.new ≡ W.left wire.old }
     ensures closed { W.closed wire.new ≡ W.closed wire.old }

@@ -54,7 +54,8 @@ fn name_of(end: WireEnd) -> &'static str {
     match end {
         WireEnd::Ended => "ended",
         WireEnd::Closed => "closed",
-        WireEnd::Faulted => "faulted",
+        WireEnd::ReadFailed => "read failed",
+        WireEnd::WriteFailed => "write failed",
         WireEnd::Later { close: true } => "later, and closes",
         WireEnd::Later { close: false } => "later",
     }

@@ -169,7 +169,7 @@ fn serve_text<K: Sink, N: Sink, D: Doors, L: Link>(
     links: &mut Vec<L>,
 ) -> Result<Ended, AllocError>
     requires link { 0 < length links.old.items }
-    ensures serves { (file_faults : ℕ) (source : Giving) → IfOk result (λ ended. Serves (λ line. (wire : D.D.W) × (line ≡ line_of (D.D.W.given wire) (D.D.W.left wire) (D.D.W.taken wire) (failures_of (D.D.W.faults wire) (D.D.W.cut wire)) (D.D.W.closed wire))) command.now text.now ended (around
+    ensures serves { (file_faults : ℕ) (source : Giving) → IfOk result (λ ended. Serves (λ line. (wire : D.D.W) × (line ≡ line_of (D.D.W.given wire) (D.D.W.left wire) (D.D.W.taken wire) (failures_of (D.D.W.lost wire) (D.D.W.cut wire)) (D.D.W.closed wire))) command.now text.now ended (around
         (outside file_faults (lines source (taking (K.taken output.old) (K.faults output.old)) (taking (N.taken notes.old) (N.faults notes.old))) (doors_told (D.faults doors.old) (D.tally doors.old) (D.tries doors.old) (D.returned doors.old) (D.returned_doors doors.old)) (map (λ l. trips_told (L.trips l) (L.faults l)) links.old.items))
         (outside file_faults (lines source (taking (K.taken output.new) (K.faults output.new)) (taking (N.taken notes.new) (N.faults notes.new))) (doors_told (D.faults doors.new) (D.tally doors.new) (D.tries doors.new) (D.returned doors.new) (D.returned_doors doors.new)) (map (λ l. trips_told (L.trips l) (L.faults l)) links.new.items)))) }
     ensures others { drop 1 links.new.items ≡ drop 1 links.old.items }
@@ -193,7 +193,7 @@ fn serve_program<N: Sink, D: Doors, L: Link>(
 ) -> Result<Ended, AllocError>
     requires some { 0 < length (parts_of program).services }
     requires link { 0 < length links.old.items }
-    ensures doored { IfOk result (IsDoored (λ line. (wire : D.D.W) × (line ≡ line_of (D.D.W.given wire) (D.D.W.left wire) (D.D.W.taken wire) (failures_of (D.D.W.faults wire) (D.D.W.cut wire)) (D.D.W.closed wire))) (doors_task (parts_of program) text.now command.now.budget command.now.connections)
+    ensures doored { IfOk result (IsDoored (λ line. (wire : D.D.W) × (line ≡ line_of (D.D.W.given wire) (D.D.W.left wire) (D.D.W.taken wire) (failures_of (D.D.W.lost wire) (D.D.W.cut wire)) (D.D.W.closed wire))) (doors_task (parts_of program) text.now command.now.budget command.now.connections)
         (served (doors_told (D.faults doors.old) (D.tally doors.old) (D.tries doors.old) (D.returned doors.old) (D.returned_doors doors.old)) (taking (N.taken notes.old) (N.faults notes.old)))
         (served (doors_told (D.faults doors.new) (D.tally doors.new) (D.tries doors.new) (D.returned doors.new) (D.returned_doors doors.new)) (taking (N.taken notes.new) (N.faults notes.new)))) }
     ensures travelled { IfOk result (λ ended. FirstTravelled (run_of (parts_of program)) ended.report.history.entries.items (map (λ l. trips_told (L.trips l) (L.faults l)) links.old.items) (map (λ l. trips_told (L.trips l) (L.faults l)) links.new.items)) }

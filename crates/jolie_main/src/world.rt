@@ -36,5 +36,5 @@ impl<F: Files, S: Source, K: Sink, N: Sink, D: Doors, L: Link> Telling for World
         (doors_told (D.faults w.doors) (D.tally w.doors) (D.tries w.doors) (D.returned w.doors) (D.returned_doors w.doors))
         (map (λ l. trips_told (L.trips l) (L.faults l)) w.links.items) };
 
-    ghost made = { λ line. (wire : D.D.W) × (line ≡ line_of (D.D.W.given wire) (D.D.W.left wire) (D.D.W.taken wire) (failures_of (D.D.W.faults wire) (D.D.W.cut wire)) (D.D.W.closed wire)) };
+    ghost made = { λ line. (wire : D.D.W) × (line ≡ line_of (D.D.W.given wire) (D.D.W.left wire) (D.D.W.taken wire) (failures_of (D.D.W.lost wire) (D.D.W.cut wire)) (D.D.W.closed wire)) };
 }

@@ -15,11 +15,11 @@ pub fn told(alloc: Global, status: u8, world: &Meeting) -> Result<String, AllocE
     let opened = counts.opened();
     let back = counts.doors_back();
     let wires = counts.wires_back();
-    let failed = counts.wires_failed();
+    let lost = counts.wires_lost();
     let cut = counts.wires_cut();
     let ended = counts.wires_ended();
     let counted = format!(in alloc;
-        "doors {opened} back {back}, wires {wires} failed {failed} cut {cut} ended {ended}"
+        "doors {opened} back {back}, wires {wires} lost {lost} cut {cut} ended {ended}"
     )?;
     said.push_str(counted.as_str())?;
     tell_unopened(world.doors.tries(), &mut said)?;
@@ -46,7 +46,7 @@ fn tell_unopened(tries: &[Try], said: &mut String) -> Result<(), AllocError> {
 
 fn tell_peer(link: &Calling, said: &mut String) -> Result<(), AllocError> {
     match link.dialler().last() {
-        Some(peer) => tell_more(peer.wire().taken(), said),
+        Some(peer) => tell_more(peer.taken(), said),
         None => Ok(()),
     }
 }

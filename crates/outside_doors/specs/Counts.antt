@@ -48,9 +48,9 @@ pub record Tally : Type 0 where
   pub wires_given : ℕ
   -- the wires that came back
   pub wires_back : ℕ
-  -- those of them with a count of faults other than 0
-  pub wires_failed : ℕ
-  -- those of them of which a write had failed
+  -- those of them of which a read had failed
+  pub wires_lost : ℕ
+  -- those of them of which a write had failed before they were closed
   pub wires_cut : ℕ
   -- those of them of which a read had told the end of what comes in
   pub wires_ended : ℕ
@@ -65,7 +65,7 @@ no_tally = record {
   doors_ended = 0;
   wires_given = 0;
   wires_back = 0;
-  wires_failed = 0;
+  wires_lost = 0;
   wires_cut = 0;
   wires_ended = 0;
   waits = 0;
@@ -84,11 +84,11 @@ with_door door tally = record tally {
   waits = added tally.waits door.waits;
 }
 
--- a wire came back with this count of faults; a write of it had failed or not, and it had ended or not
-abbrev pub with_wire : ℕ → Bool → Bool → Tally → Tally
-with_wire faults cut ended tally = record tally {
+-- a wire came back; a read of it had failed or not, a write had or not, and it had ended or not
+abbrev pub with_wire : Bool → Bool → Bool → Tally → Tally
+with_wire lost cut ended tally = record tally {
   wires_back = added tally.wires_back 1;
-  wires_failed = added_if (not (faults == 0)) tally.wires_failed;
+  wires_lost = added_if lost tally.wires_lost;
   wires_cut = added_if cut tally.wires_cut;
   wires_ended = added_if ended tally.wires_ended;
 }

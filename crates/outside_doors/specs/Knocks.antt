@@ -33,12 +33,9 @@ closed_after (Ok NotYet) before = before
 closed_after (Ok Closed) before = true
 closed_after (Err cause) before = before
 
--- A connection as it comes: as far as it tells nothing was read or written on it, nor any call made; none has failed,
--- and it is open.
-pub record IsFresh (given taken : Option (List ℕ)) (calls : Option (List WireCall)) (faults : ℕ)
-    (closed : Bool) : Type 0 where
+-- A connection as it comes: as far as it tells nothing was read or written on it, nor any call made; and it is open.
+pub record IsFresh (given taken : Option (List ℕ)) (calls : Option (List WireCall)) (closed : Bool) : Type 0 where
   pub unread : IfSome given (λ bytes. bytes ≡ [])
   pub unwritten : IfSome taken (λ bytes. bytes ≡ [])
   pub uncalled : IfSome calls (λ made. made ≡ [])
-  pub faultless : faults ≡ 0
   pub is_open : closed ≡ false

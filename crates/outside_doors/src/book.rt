@@ -79,14 +79,14 @@ impl<W: Wire + Drop> Book<W> {
 
     /// A wire came back.
     pub fn wire_back(&mut self, wire: CountedWire<W>)
-        ensures tally { self.new.tally ≡ with_wire wire.faults wire.cut wire.ended self.old.tally }
+        ensures tally { self.new.tally ≡ with_wire wire.lost wire.cut wire.ended self.old.tally }
         ensures faults { self.new.faults ≡ self.old.faults }
         ensures tries { self.new.tries ≡ self.old.tries }
-        ensures wires { Lists self.old.wires self.new.wires (wire_told (W.given wire.wire) (W.taken wire.wire) wire.faults wire.cut wire.ended ∷ []) }
+        ensures wires { Lists self.old.wires self.new.wires (wire_told (W.given wire.wire) (W.taken wire.wire) wire.lost wire.cut wire.ended ∷ []) }
         ensures doors { self.new.doors ≡ self.old.doors }
     {
         self.counts
-            .add_wire(wire.faults(), wire.is_cut(), wire.has_ended());
+            .add_wire(wire.is_lost(), wire.is_cut(), wire.has_ended());
         self.returns.keep(wire);
     }
 

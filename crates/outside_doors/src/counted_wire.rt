@@ -4,11 +4,11 @@ ghost use Rattle.outside_doors.specs.Returns.{counted};
 use outside_traits::{Failed, Wire};
 use std::marker::Model;
 
-/// A wire that keeps what whoever takes it back wants to know: how often it failed, whether a write did, and whether it ended.
+/// A wire that keeps what is counted of it once it is taken back: whether a read failed, whether a write did, and whether it ended.
 #[derive(Drop)]
 pub struct CountedWire<W: Wire> {
     wire: W,
-    faults: u64,
+    lost: bool,
     cut: bool,
     ended: bool,
     closed: bool,
@@ -20,7 +20,7 @@ impl<W: Wire> Model for CountedWire<W> {
 
     ghost Value = { Counted W };
 
-    ghost view = { λ w. record { wire = w.wire; faults = w.faults; cut = w.cut; ended = w.ended } };
+    ghost view = { λ w. record { wire = w.wire; lost = w.lost; cut = w.cut; ended = w.ended } };
 
     ghost invariant = { λ w. W.closed w.wire ≡ w.closed };
 }
@@ -33,7 +33,7 @@ impl<W: Wire> CountedWire<W> {
     {
         CountedWire {
             wire,
-            faults: 0,
+            lost: false,
             cut: false,
             ended: false,
             closed: false,
@@ -47,11 +47,11 @@ impl<W: Wire> CountedWire<W> {
         &self.wire
     }
 
-    /// How often a call has failed.
-    pub fn faults(&self) -> u64
-        ensures { result ≡ self.now.faults }
+    /// Whether a read has failed.
+    pub fn is_lost(&self) -> bool
+        ensures { result ≡ self.now.lost }
     {
-        self.faults
+        self.lost
     }
 
     /// Whether a write has failed before the wire was closed.
@@ -78,7 +78,7 @@ impl<W: Wire> Wire for CountedWire<W> {
 
     ghost calls = { λ w. W.calls w.wire };
 
-    ghost faults = { λ w. w.faults };
+    ghost lost = { λ w. w.lost };
 
     ghost cut = { λ w. w.cut };
 
@@ -91,7 +91,7 @@ impl<W: Wire> Wire for CountedWire<W> {
         let answer = self.wire.read(into);
         match answer {
             Ok(count) => self.ended |= is_asked && count == 0,
-            Err(Failed) => self.faults = self.faults.saturating_add(1),
+            Err(Failed) => self.lost = true,
         }
         answer
     }
@@ -99,7 +99,6 @@ impl<W: Wire> Wire for CountedWire<W> {
     fn write(&mut self, from: &[u8]) -> Result<usize, Failed> {
         let answer = self.wire.write(from);
         if answer.is_err() {
-            self.faults = self.faults.saturating_add(1);
             self.cut |= !self.closed;
         }
         answer

@@ -141,7 +141,7 @@ pub struct Counts {
     doors_ended: u64,
     wires_given: u64,
     wires_back: u64,
-    wires_failed: u64,
+    wires_lost: u64,
     wires_cut: u64,
     wires_ended: u64,
     waits: u64,
@@ -152,7 +152,7 @@ impl Model for Counts {
 
     ghost Value = { Tally };
 
-    ghost view = { λ c. record { opened = c.opened; doors_back = c.doors_back; doors_ended = c.doors_ended; wires_given = c.wires_given; wires_back = c.wires_back; wires_failed = c.wires_failed; wires_cut = c.wires_cut; wires_ended = c.wires_ended; waits = c.waits } };
+    ghost view = { λ c. record { opened = c.opened; doors_back = c.doors_back; doors_ended = c.doors_ended; wires_given = c.wires_given; wires_back = c.wires_back; wires_lost = c.wires_lost; wires_cut = c.wires_cut; wires_ended = c.wires_ended; waits = c.waits } };
 }
 
 impl Counts {
@@ -166,7 +166,7 @@ impl Counts {
             doors_ended: 0,
             wires_given: 0,
             wires_back: 0,
-            wires_failed: 0,
+            wires_lost: 0,
             wires_cut: 0,
             wires_ended: 0,
             waits: 0,
@@ -208,14 +208,14 @@ impl Counts {
         self.wires_back
     }
 
-    /// Those of them that had failed.
-    pub fn wires_failed(&self) -> u64
-        ensures { result ≡ self.now.wires_failed }
+    /// Those of them of which a read had failed.
+    pub fn wires_lost(&self) -> u64
+        ensures { result ≡ self.now.wires_lost }
     {
-        self.wires_failed
+        self.wires_lost
     }
 
-    /// Those of the wires that came back of which a write had failed.
+    /// Those of the wires that came back of which a write had failed before they were closed.
     pub fn wires_cut(&self) -> u64
         ensures { result ≡ self.now.wires_cut }
     {
@@ -255,14 +255,13 @@ impl Counts {
         self.waits = self.waits.saturating_add(door.waits);
     }
 
-    /// Counts a wire that came back with this count of faults, whether a write of it had failed, and whether it had
-    /// ended.
-    pub fn add_wire(&mut self, faults: u64, is_cut: bool, has_ended: bool)
-        ensures { self.new ≡ with_wire faults is_cut has_ended self.old }
+    /// Counts a wire that came back: whether a read of it had failed, whether a write had, and whether it had ended.
+    pub fn add_wire(&mut self, is_lost: bool, is_cut: bool, has_ended: bool)
+        ensures { self.new ≡ with_wire is_lost is_cut has_ended self.old }
     {
         self.wires_back = self.wires_back.saturating_add(1);
-        if faults != 0 {
-            self.wires_failed = self.wires_failed.saturating_add(1);
+        if is_lost {
+            self.wires_lost = self.wires_lost.saturating_add(1);
         }
         if is_cut {
             self.wires_cut = self.wires_cut.saturating_add(1);

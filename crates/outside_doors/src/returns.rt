@@ -115,7 +115,7 @@ impl<W: Wire + Drop> Model for Return<W> {
 
     ghost Value = { WireTold };
 
-    ghost view = { λ r. record { read = W.given r.wire.wire; written = W.taken r.wire.wire; faults = r.wire.faults; cut = r.wire.cut; ended = r.wire.ended } };
+    ghost view = { λ r. record { read = W.given r.wire.wire; written = W.taken r.wire.wire; lost = r.wire.lost; cut = r.wire.cut; ended = r.wire.ended } };
 
     ghost invariant = { λ r. W.closed r.wire.wire ≡ true };
 }
@@ -123,7 +123,7 @@ impl<W: Wire + Drop> Model for Return<W> {
 impl<W: Wire + Drop> Return<W> {
     /// Closes a wire that comes back.
     fn new(wire: CountedWire<W>) -> Return<W>
-        ensures { result ≡ wire_told (W.given wire.wire) (W.taken wire.wire) wire.faults wire.cut wire.ended }
+        ensures { result ≡ wire_told (W.given wire.wire) (W.taken wire.wire) wire.lost wire.cut wire.ended }
     {
         let mut wire = wire;
         wire.close();
@@ -139,11 +139,11 @@ impl<W: Wire + Drop> Return<W> {
         self.wire.wire()
     }
 
-    /// How often a call of it has failed.
-    pub fn faults(&self) -> u64
-        ensures { result ≡ self.now.faults }
+    /// Whether a read had failed.
+    pub fn is_lost(&self) -> bool
+        ensures { result ≡ self.now.lost }
     {
-        self.wire.faults()
+        self.wire.is_lost()
     }
 
     /// Whether a write had failed before the wire was closed.
@@ -196,7 +196,7 @@ impl<W: Wire + Drop> Returns<W> {
 
     /// Keeps one more wire.
     pub(crate) fn keep(&mut self, wire: CountedWire<W>)
-        ensures { Lists self.old self.new (wire_told (W.given wire.wire) (W.taken wire.wire) wire.faults wire.cut wire.ended ∷ []) }
+        ensures { Lists self.old self.new (wire_told (W.given wire.wire) (W.taken wire.wire) wire.lost wire.cut wire.ended ∷ []) }
     {
         if self.kept.push(Return::new(wire)).is_err() {
             self.is_whole = false;

@@ -25,7 +25,8 @@ pub trait Door {
 
     /// The next connection, if one has come.
     fn try_accept(&mut self) -> Result<Knock<Self::W>, Failed>
-        ensures fresh { IfCame result (λ wire. IsFresh (Self.W.given wire) (Self.W.taken wire) (Self.W.calls wire) (Self.W.faults wire) (Self.W.closed wire)) }
+        ensures fresh { IfCame result (λ wire. IsFresh (Self.W.given wire) (Self.W.taken wire) (Self.W.calls wire) (Self.W.closed wire)) }
+        ensures unlost { IfCame result (λ wire. Self.W.lost wire ≡ false) }
         ensures uncut { IfCame result (λ wire. Self.W.cut wire ≡ false) }
         ensures unended { IfCame result (λ wire. Self.W.ended wire ≡ false) }
         ensures place { (told self.new).place ≡ (told self.old).place }
@@ -72,8 +73,8 @@ pub trait Doors {
 
     /// Takes a wire that its user is through with, and closes it.
     fn wire_back(&mut self, wire: <Self::D as Door>::W)
-        ensures tally { tally self.new ≡ with_wire (Self.D.W.faults wire) (Self.D.W.cut wire) (Self.D.W.ended wire) (tally self.old) }
-        ensures listed { Lists (returned self.old) (returned self.new) (wire_told (Self.D.W.given wire) (Self.D.W.taken wire) (Self.D.W.faults wire) (Self.D.W.cut wire) (Self.D.W.ended wire) ∷ []) }
+        ensures tally { tally self.new ≡ with_wire (Self.D.W.lost wire) (Self.D.W.cut wire) (Self.D.W.ended wire) (tally self.old) }
+        ensures listed { Lists (returned self.old) (returned self.new) (wire_told (Self.D.W.given wire) (Self.D.W.taken wire) (Self.D.W.lost wire) (Self.D.W.cut wire) (Self.D.W.ended wire) ∷ []) }
         ensures returned_doors { returned_doors self.new ≡ returned_doors self.old }
         ensures tries { tries self.new ≡ tries self.old }
         ensures faults { faults self.new ≡ faults self.old };

@@ -85,7 +85,8 @@ impl<H: Net + Clock + Copy + Drop> SocketDoor<H> {
         ensures want { IfErr accepted (λ error. obstacle_of error ≡ Obstacles.Want → (result ≡ Ok Knock.NotYet) × (self.new.empty ≡ false)) }
         ensures failed { IfErr accepted (λ error. obstacle_of error ≡ Obstacles.Fault → IsErr result × (self.new.empty ≡ false)) }
         ensures occupied { IsOk accepted → self.new.empty ≡ false }
-        ensures fresh { IfCame result (λ wire. IsFresh None None None wire.faults wire.closed) }
+        ensures fresh { IfCame result (λ wire. IsFresh None None None wire.closed) }
+        ensures unlost { IfCame result (λ wire. wire.lost ≡ false) }
         ensures uncut { IfCame result (λ wire. wire.cut ≡ false) }
         ensures unended { IfCame result (λ wire. wire.ended ≡ false) }
         ensures place { self.new.counts.place ≡ self.old.counts.place }
@@ -113,7 +114,8 @@ impl<H: Net + Clock + Copy + Drop> SocketDoor<H> {
         ensures nobody { obstacle ≡ Obstacles.Nobody → (result ≡ Ok Knock.NotYet) × (self.new.empty ≡ true) }
         ensures want { obstacle ≡ Obstacles.Want → (result ≡ Ok Knock.NotYet) × (self.new.empty ≡ self.old.empty) }
         ensures failed { obstacle ≡ Obstacles.Fault → IsErr result × (self.new.empty ≡ self.old.empty) }
-        ensures fresh { IfCame result (λ wire. IsFresh None None None wire.faults wire.closed) }
+        ensures fresh { IfCame result (λ wire. IsFresh None None None wire.closed) }
+        ensures unlost { IfCame result (λ wire. wire.lost ≡ false) }
         ensures uncut { IfCame result (λ wire. wire.cut ≡ false) }
         ensures unended { IfCame result (λ wire. wire.ended ≡ false) }
         ensures place { self.new.counts.place ≡ self.old.counts.place }
@@ -156,7 +158,7 @@ impl<H: Net + Clock + Copy + Drop> SocketDoor<H> {
 
     /// A connection that has come.
     fn wire(&self, stream: H::Stream) -> SocketWire<PatientStream<H::Stream, H>>
-        ensures faults { result.faults ≡ 0 }
+        ensures lost { result.lost ≡ false }
         ensures cut { result.cut ≡ false }
         ensures closed { result.closed ≡ false }
         ensures ended { result.ended ≡ false }

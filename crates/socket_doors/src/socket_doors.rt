@@ -123,7 +123,7 @@ impl<H: Net + Clock + Copy + Drop> Doors for SocketDoors<H> {
     fn wire_back(&mut self, mut wire: SocketWire<PatientStream<H::Stream, H>>) {
         wire.close();
         self.counts
-            .add_wire(wire.faults(), wire.is_cut(), wire.has_ended());
+            .add_wire(wire.is_lost(), wire.is_cut(), wire.has_ended());
     }
 
     fn door_back(&mut self, door: SocketDoor<H>) {

@@ -51,7 +51,7 @@ fn told_calm(alloc: Global, doors: &CalmDoors, said: &mut String) -> Result<(), 
     tell_counts(alloc, doors.counts(), doors.faults(), said)?;
     tell_tries(doors.tries(), said)?;
     tell_doors(alloc, doors.returned_doors(), said)?;
-    tell_calm(alloc, doors.returned(), said)
+    tell_calm(doors.returned(), said)
 }
 
 fn told_scripted(
@@ -62,7 +62,7 @@ fn told_scripted(
     tell_counts(alloc, doors.counts(), doors.faults(), said)?;
     tell_tries(doors.tries(), said)?;
     tell_doors(alloc, doors.returned_doors(), said)?;
-    tell_scripted(alloc, doors.returned(), said)
+    tell_scripted(doors.returned(), said)
 }
 
 /// Doors of which each word is a connection with these bytes.

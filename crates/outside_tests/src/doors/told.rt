@@ -17,7 +17,7 @@ pub fn tell_counts(
     add_count(alloc, "ended", counts.doors_ended(), said)?;
     add_count(alloc, "given", counts.wires_given(), said)?;
     add_count(alloc, "wires back", counts.wires_back(), said)?;
-    add_count(alloc, "failed", counts.wires_failed(), said)?;
+    add_count(alloc, "lost", counts.wires_lost(), said)?;
     add_count(alloc, "cut", counts.wires_cut(), said)?;
     add_count(alloc, "wires ended", counts.wires_ended(), said)?;
     add_count(alloc, "waits", counts.waits(), said)?;
@@ -77,15 +77,11 @@ fn tell_close(is_closed: bool, said: &mut String) -> Result<(), AllocError> {
 }
 
 /// The wires that came back, a line each.
-pub fn tell_calm(
-    alloc: Global,
-    returned: &[Return<CalmWire>],
-    said: &mut String,
-) -> Result<(), AllocError> {
+pub fn tell_calm(returned: &[Return<CalmWire>], said: &mut String) -> Result<(), AllocError> {
     for back in returned {
         let wire = back.wire();
-        tell_wire(alloc, wire.given(), wire.taken(), back.faults(), said)?;
-        tell_cut(back.is_cut(), said)?;
+        tell_bytes(wire.given(), wire.taken(), said)?;
+        tell_failures(back.is_lost(), back.is_cut(), said)?;
         tell_end(back.has_ended(), said)?;
     }
     Ok(())
@@ -93,38 +89,31 @@ pub fn tell_calm(
 
 /// The same of wires that follow a script.
 pub fn tell_scripted(
-    alloc: Global,
     returned: &[Return<ScriptedWire>],
     said: &mut String,
 ) -> Result<(), AllocError> {
     for back in returned {
         let wire = back.wire();
-        tell_wire(alloc, wire.given(), wire.taken(), back.faults(), said)?;
-        tell_cut(back.is_cut(), said)?;
+        tell_bytes(wire.given(), wire.taken(), said)?;
+        tell_failures(back.is_lost(), back.is_cut(), said)?;
         tell_end(back.has_ended(), said)?;
     }
     Ok(())
 }
 
-/// What was read, what was written, and how often a call failed.
-fn tell_wire(
-    alloc: Global,
-    read: &[u8],
-    written: &[u8],
-    faults: u64,
-    said: &mut String,
-) -> Result<(), AllocError> {
-    let digits = faults.to_string(alloc)?;
+/// What was read and what was written.
+fn tell_bytes(read: &[u8], written: &[u8], said: &mut String) -> Result<(), AllocError> {
     said.push('\n')?;
     add_bytes(said, read)?;
     said.push('>')?;
-    add_bytes(said, written)?;
-    said.push(' ')?;
-    said.push_str(digits.as_str())
+    add_bytes(said, written)
 }
 
-/// Whether a write failed.
-fn tell_cut(is_cut: bool, said: &mut String) -> Result<(), AllocError> {
+/// Whether a read failed, and whether a write did.
+fn tell_failures(is_lost: bool, is_cut: bool, said: &mut String) -> Result<(), AllocError> {
+    if is_lost {
+        said.push_str(" lost")?;
+    }
     if is_cut {
         said.push_str(" cut")?;
     }

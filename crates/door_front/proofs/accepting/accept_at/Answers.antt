@@ -12,8 +12,8 @@ loop-alloc-preserved g c =
     let fits = c.ranges.most in
     takes-next _ c.args.most c.args.port.now c.loop-alloc.port c.knock.new.self c.args.links.now.items c.loop-alloc.links.items c.push.new.self.items
     c.new.result c.loop-alloc.invariant c.knock.ensures.goes c.in-Some.ensures.wires
-    (new_link-at _ (g.D.W.Wire.given w) (g.D.W.Wire.left w) (g.D.W.Wire.taken w) (g.D.W.Wire.calls w) (g.D.W.Wire.faults w) (g.D.W.Wire.cut w) (g.D.W.Wire.closed w)
-    c.new.result (w, refl) c.in-Some.ensures.fresh c.in-Some.ensures.uncut c.new.ensures.owed c.new.ensures.stage c.new.ensures.talks)
+    (new_link-at _ (g.D.W.Wire.given w) (g.D.W.Wire.left w) (g.D.W.Wire.taken w) (g.D.W.Wire.calls w) (g.D.W.Wire.lost w) (g.D.W.Wire.cut w) (g.D.W.Wire.closed w)
+    c.new.result (w, refl) c.in-Some.ensures.fresh c.in-Some.ensures.unlost c.in-Some.ensures.uncut c.new.ensures.owed c.new.ensures.stage c.new.ensures.talks)
     (c.new.ensures.service ∙ c.service.ensures)
     (room-tested c.args.most c.loop-alloc.links.items c.deref.result.now c.has_room.result c.deref.ensures.value c.has_room.ensures c.loop-alloc-test.true)
     (omega arith) c.in_ok-push-in-Some.ensures.items

@@ -34,7 +34,7 @@ returns-clause-doored g c =
     let after = c.in_ok-finished.ensures.ran c.new-front.result begun.0 (refl, refl, begun.2) begun.1 in
     let kept = c.kept-2-1.given.1 (sym (after.1.0 ∙ c.new-front.ensures.same_kept)) in
     doored_by
-    (λ line. (wire : _) × (line ≡ line_of (g.D.D.W.Wire.given wire) (g.D.D.W.Wire.left wire) (g.D.D.W.Wire.taken wire) (failures_of (g.D.D.W.Wire.faults wire) (g.D.D.W.Wire.cut wire)) (g.D.D.W.Wire.closed wire)))
+    (λ line. (wire : _) × (line ≡ line_of (g.D.D.W.Wire.given wire) (g.D.D.W.Wire.left wire) (g.D.D.W.Wire.taken wire) (failures_of (g.D.D.W.Wire.lost wire) (g.D.D.W.Wire.cut wire)) (g.D.D.W.Wire.closed wire)))
     t
     (doors_told (g.D.Doors.faults c.args.doors.now) (g.D.Doors.tally c.args.doors.now) (g.D.Doors.tries c.args.doors.now) (g.D.Doors.returned c.args.doors.now) (g.D.Doors.returned_doors c.args.doors.now))
     (doors_told (g.D.Doors.faults c.open_doors.new.doors) (g.D.Doors.tally c.open_doors.new.doors) (g.D.Doors.tries c.open_doors.new.doors) (g.D.Doors.returned c.open_doors.new.doors) (g.D.Doors.returned_doors c.open_doors.new.doors))

@@ -12,50 +12,50 @@ use Rattle.http_connection.proofs.connection.answer_with.Goals as goal
 pub returns-in_err-bytes-clause-talks : goal.returns-in_err-bytes-clause-talks
 returns-in_err-bytes-clause-talks g c = λ first bodies texts h.
     let wanting = err_from_is_err_and c.from_residual.result c.from_residual.ensures.1 in
-    let was = seen c.args.kept.now (line_of (g.W.Wire.given c.args.wire.now) (g.W.Wire.left c.args.wire.now) (g.W.Wire.taken c.args.wire.now) (failures_of (g.W.Wire.faults c.args.wire.now) (g.W.Wire.cut c.args.wire.now)) (g.W.Wire.closed c.args.wire.now)) in
-    let now = seen c.stand.new.self (line_of (g.W.Wire.given c.args.wire.now) (g.W.Wire.left c.args.wire.now) (g.W.Wire.taken c.args.wire.now) (failures_of (g.W.Wire.faults c.args.wire.now) (g.W.Wire.cut c.args.wire.now)) (g.W.Wire.closed c.args.wire.now)) in
+    let was = seen c.args.kept.now (line_of (g.W.Wire.given c.args.wire.now) (g.W.Wire.left c.args.wire.now) (g.W.Wire.taken c.args.wire.now) (failures_of (g.W.Wire.lost c.args.wire.now) (g.W.Wire.cut c.args.wire.now)) (g.W.Wire.closed c.args.wire.now)) in
+    let now = seen c.stand.new.self (line_of (g.W.Wire.given c.args.wire.now) (g.W.Wire.left c.args.wire.now) (g.W.Wire.taken c.args.wire.now) (failures_of (g.W.Wire.lost c.args.wire.now) (g.W.Wire.cut c.args.wire.now)) (g.W.Wire.closed c.args.wire.now)) in
     at_error c.from_residual.result (λ _. IsTalking first now bodies (texts ++ option_copied c.args.text ∷ [])) (λ _. IsTalking first now bodies texts) wanting.0 wanting.1
     (owing_spent first was now c.args.close bodies texts h c.requires (record { line = refl; read = c.stand.ensures.read; written = c.stand.ensures.written }) c.stand.ensures.next)
 
 pub returns-in_err-cut-clause-talks : goal.returns-in_err-cut-clause-talks
 returns-in_err-cut-clause-talks g c = λ first bodies texts h.
     let wanting = err_from_is_err_and c.from_residual-in_err-cut.result c.from_residual-in_err-cut.ensures.1 in
-    let was = seen c.args.kept.now (line_of (g.W.Wire.given c.args.wire.now) (g.W.Wire.left c.args.wire.now) (g.W.Wire.taken c.args.wire.now) (failures_of (g.W.Wire.faults c.args.wire.now) (g.W.Wire.cut c.args.wire.now)) (g.W.Wire.closed c.args.wire.now)) in
-    let now = seen c.send.new.kept (line_of (g.W.Wire.given c.send.new.wire) (g.W.Wire.left c.send.new.wire) (g.W.Wire.taken c.send.new.wire) (failures_of (g.W.Wire.faults c.send.new.wire) (g.W.Wire.cut c.send.new.wire)) (g.W.Wire.closed c.send.new.wire)) in
+    let was = seen c.args.kept.now (line_of (g.W.Wire.given c.args.wire.now) (g.W.Wire.left c.args.wire.now) (g.W.Wire.taken c.args.wire.now) (failures_of (g.W.Wire.lost c.args.wire.now) (g.W.Wire.cut c.args.wire.now)) (g.W.Wire.closed c.args.wire.now)) in
+    let now = seen c.send.new.kept (line_of (g.W.Wire.given c.send.new.wire) (g.W.Wire.left c.send.new.wire) (g.W.Wire.taken c.send.new.wire) (failures_of (g.W.Wire.lost c.send.new.wire) (g.W.Wire.cut c.send.new.wire)) (g.W.Wire.closed c.send.new.wire)) in
     at_error c.from_residual-in_err-cut.result (λ _. IsTalking first now bodies (texts ++ option_copied c.args.text ∷ [])) (λ _. IsTalking first now bodies texts) wanting.0 wanting.1
     (owing_spent first was now c.args.close bodies texts h c.requires
     (record {
-      line = ap (λ w. line_of (g.W.Wire.given w) (g.W.Wire.left w) (g.W.Wire.taken w) (failures_of (g.W.Wire.faults w) (g.W.Wire.cut w)) (g.W.Wire.closed w)) c.in_err-cut.ensures.sends.1;
+      line = ap (λ w. line_of (g.W.Wire.given w) (g.W.Wire.left w) (g.W.Wire.taken w) (failures_of (g.W.Wire.lost w) (g.W.Wire.cut w)) (g.W.Wire.closed w)) c.in_err-cut.ensures.sends.1;
       read = (c.in_err-cut.ensures.sends.0.read ∙ c.stand.ensures.read);
       written = c.in_err-cut.ensures.sends.0.written ∙ c.stand.ensures.written;
     }) (c.in_err-cut.ensures.sends.0.next ∙ c.stand.ensures.next))
 
 pub returns-then-cut-clause-talks : goal.returns-then-cut-clause-talks
 returns-then-cut-clause-talks g c = λ first bodies texts h.
-    let was = seen c.args.kept.now (line_of (g.W.Wire.given c.args.wire.now) (g.W.Wire.left c.args.wire.now) (g.W.Wire.taken c.args.wire.now) (failures_of (g.W.Wire.faults c.args.wire.now) (g.W.Wire.cut c.args.wire.now)) (g.W.Wire.closed c.args.wire.now)) in
-    let begun = seen c.stand.new.self (line_of (g.W.Wire.given c.args.wire.now) (g.W.Wire.left c.args.wire.now) (g.W.Wire.taken c.args.wire.now) (failures_of (g.W.Wire.faults c.args.wire.now) (g.W.Wire.cut c.args.wire.now)) (g.W.Wire.closed c.args.wire.now)) in
-    let mid = seen c.send.new.kept (line_of (g.W.Wire.given c.send.new.wire) (g.W.Wire.left c.send.new.wire) (g.W.Wire.taken c.send.new.wire) (failures_of (g.W.Wire.faults c.send.new.wire) (g.W.Wire.cut c.send.new.wire)) (g.W.Wire.closed c.send.new.wire)) in
-    let now = seen c.finish.new.kept (line_of (g.W.Wire.given c.finish.new.wire) (g.W.Wire.left c.finish.new.wire) (g.W.Wire.taken c.finish.new.wire) (failures_of (g.W.Wire.faults c.finish.new.wire) (g.W.Wire.cut c.finish.new.wire)) (g.W.Wire.closed c.finish.new.wire)) in
+    let was = seen c.args.kept.now (line_of (g.W.Wire.given c.args.wire.now) (g.W.Wire.left c.args.wire.now) (g.W.Wire.taken c.args.wire.now) (failures_of (g.W.Wire.lost c.args.wire.now) (g.W.Wire.cut c.args.wire.now)) (g.W.Wire.closed c.args.wire.now)) in
+    let begun = seen c.stand.new.self (line_of (g.W.Wire.given c.args.wire.now) (g.W.Wire.left c.args.wire.now) (g.W.Wire.taken c.args.wire.now) (failures_of (g.W.Wire.lost c.args.wire.now) (g.W.Wire.cut c.args.wire.now)) (g.W.Wire.closed c.args.wire.now)) in
+    let mid = seen c.send.new.kept (line_of (g.W.Wire.given c.send.new.wire) (g.W.Wire.left c.send.new.wire) (g.W.Wire.taken c.send.new.wire) (failures_of (g.W.Wire.lost c.send.new.wire) (g.W.Wire.cut c.send.new.wire)) (g.W.Wire.closed c.send.new.wire)) in
+    let now = seen c.finish.new.kept (line_of (g.W.Wire.given c.finish.new.wire) (g.W.Wire.left c.finish.new.wire) (g.W.Wire.taken c.finish.new.wire) (failures_of (g.W.Wire.lost c.finish.new.wire) (g.W.Wire.cut c.finish.new.wire)) (g.W.Wire.closed c.finish.new.wire)) in
     answer_failing first begun mid now c.args.close (option_copied c.args.text) bodies texts
     (owed_on first was begun c.args.close bodies texts h c.requires (record { line = refl; read = c.stand.ensures.read; written = c.stand.ensures.written }) c.stand.ensures.reader)
     (subst (λ l. Sends l true begun mid) (c.as_slice.ensures ∙ c.in_ok-bytes.ensures) (subst (λ cut. Sends c.as_slice.result.now cut begun mid) c.if-cut.true c.in_ok-cut.ensures.sends)) c.finish.ensures.finishes
 
 pub returns-then-close-clause-talks : goal.returns-then-close-clause-talks
 returns-then-close-clause-talks g c = λ first bodies texts h.
-    let was = seen c.args.kept.now (line_of (g.W.Wire.given c.args.wire.now) (g.W.Wire.left c.args.wire.now) (g.W.Wire.taken c.args.wire.now) (failures_of (g.W.Wire.faults c.args.wire.now) (g.W.Wire.cut c.args.wire.now)) (g.W.Wire.closed c.args.wire.now)) in
-    let begun = seen c.stand.new.self (line_of (g.W.Wire.given c.args.wire.now) (g.W.Wire.left c.args.wire.now) (g.W.Wire.taken c.args.wire.now) (failures_of (g.W.Wire.faults c.args.wire.now) (g.W.Wire.cut c.args.wire.now)) (g.W.Wire.closed c.args.wire.now)) in
-    let mid = seen c.send.new.kept (line_of (g.W.Wire.given c.send.new.wire) (g.W.Wire.left c.send.new.wire) (g.W.Wire.taken c.send.new.wire) (failures_of (g.W.Wire.faults c.send.new.wire) (g.W.Wire.cut c.send.new.wire)) (g.W.Wire.closed c.send.new.wire)) in
-    let now = seen c.finish-then-close.new.kept (line_of (g.W.Wire.given c.finish-then-close.new.wire) (g.W.Wire.left c.finish-then-close.new.wire) (g.W.Wire.taken c.finish-then-close.new.wire) (failures_of (g.W.Wire.faults c.finish-then-close.new.wire) (g.W.Wire.cut c.finish-then-close.new.wire)) (g.W.Wire.closed c.finish-then-close.new.wire)) in
+    let was = seen c.args.kept.now (line_of (g.W.Wire.given c.args.wire.now) (g.W.Wire.left c.args.wire.now) (g.W.Wire.taken c.args.wire.now) (failures_of (g.W.Wire.lost c.args.wire.now) (g.W.Wire.cut c.args.wire.now)) (g.W.Wire.closed c.args.wire.now)) in
+    let begun = seen c.stand.new.self (line_of (g.W.Wire.given c.args.wire.now) (g.W.Wire.left c.args.wire.now) (g.W.Wire.taken c.args.wire.now) (failures_of (g.W.Wire.lost c.args.wire.now) (g.W.Wire.cut c.args.wire.now)) (g.W.Wire.closed c.args.wire.now)) in
+    let mid = seen c.send.new.kept (line_of (g.W.Wire.given c.send.new.wire) (g.W.Wire.left c.send.new.wire) (g.W.Wire.taken c.send.new.wire) (failures_of (g.W.Wire.lost c.send.new.wire) (g.W.Wire.cut c.send.new.wire)) (g.W.Wire.closed c.send.new.wire)) in
+    let now = seen c.finish-then-close.new.kept (line_of (g.W.Wire.given c.finish-then-close.new.wire) (g.W.Wire.left c.finish-then-close.new.wire) (g.W.Wire.taken c.finish-then-close.new.wire) (failures_of (g.W.Wire.lost c.finish-then-close.new.wire) (g.W.Wire.cut c.finish-then-close.new.wire)) (g.W.Wire.closed c.finish-then-close.new.wire)) in
     answer_closing first begun mid now c.args.close (option_copied c.args.text) bodies texts
     (owed_on first was begun c.args.close bodies texts h c.requires (record { line = refl; read = c.stand.ensures.read; written = c.stand.ensures.written }) c.stand.ensures.reader)
     c.if-close.true (subst (λ l. Sends l false begun mid) (c.as_slice.ensures ∙ c.in_ok-bytes.ensures) (subst (λ cut. Sends c.as_slice.result.now cut begun mid) c.if-cut.false c.in_ok-cut.ensures.sends)) c.finish-then-close.ensures.finishes
 
 pub returns-clause-talks : goal.returns-clause-talks
 returns-clause-talks g c = λ first bodies texts h.
-    let was = seen c.args.kept.now (line_of (g.W.Wire.given c.args.wire.now) (g.W.Wire.left c.args.wire.now) (g.W.Wire.taken c.args.wire.now) (failures_of (g.W.Wire.faults c.args.wire.now) (g.W.Wire.cut c.args.wire.now)) (g.W.Wire.closed c.args.wire.now)) in
-    let begun = seen c.stand.new.self (line_of (g.W.Wire.given c.args.wire.now) (g.W.Wire.left c.args.wire.now) (g.W.Wire.taken c.args.wire.now) (failures_of (g.W.Wire.faults c.args.wire.now) (g.W.Wire.cut c.args.wire.now)) (g.W.Wire.closed c.args.wire.now)) in
-    let mid = seen c.send.new.kept (line_of (g.W.Wire.given c.send.new.wire) (g.W.Wire.left c.send.new.wire) (g.W.Wire.taken c.send.new.wire) (failures_of (g.W.Wire.faults c.send.new.wire) (g.W.Wire.cut c.send.new.wire)) (g.W.Wire.closed c.send.new.wire)) in
-    let now = seen c.go_on.new.kept (line_of (g.W.Wire.given c.go_on.new.wire) (g.W.Wire.left c.go_on.new.wire) (g.W.Wire.taken c.go_on.new.wire) (failures_of (g.W.Wire.faults c.go_on.new.wire) (g.W.Wire.cut c.go_on.new.wire)) (g.W.Wire.closed c.go_on.new.wire)) in
+    let was = seen c.args.kept.now (line_of (g.W.Wire.given c.args.wire.now) (g.W.Wire.left c.args.wire.now) (g.W.Wire.taken c.args.wire.now) (failures_of (g.W.Wire.lost c.args.wire.now) (g.W.Wire.cut c.args.wire.now)) (g.W.Wire.closed c.args.wire.now)) in
+    let begun = seen c.stand.new.self (line_of (g.W.Wire.given c.args.wire.now) (g.W.Wire.left c.args.wire.now) (g.W.Wire.taken c.args.wire.now) (failures_of (g.W.Wire.lost c.args.wire.now) (g.W.Wire.cut c.args.wire.now)) (g.W.Wire.closed c.args.wire.now)) in
+    let mid = seen c.send.new.kept (line_of (g.W.Wire.given c.send.new.wire) (g.W.Wire.left c.send.new.wire) (g.W.Wire.taken c.send.new.wire) (failures_of (g.W.Wire.lost c.send.new.wire) (g.W.Wire.cut c.send.new.wire)) (g.W.Wire.closed c.send.new.wire)) in
+    let now = seen c.go_on.new.kept (line_of (g.W.Wire.given c.go_on.new.wire) (g.W.Wire.left c.go_on.new.wire) (g.W.Wire.taken c.go_on.new.wire) (failures_of (g.W.Wire.lost c.go_on.new.wire) (g.W.Wire.cut c.go_on.new.wire)) (g.W.Wire.closed c.go_on.new.wire)) in
     told_or_spent c.go_on.result (λ _. IsBehindTelling (stage_of now.kept.next)) first now bodies texts (option_copied c.args.text)
     (c.go_on.ensures.talks first bodies (texts ++ option_copied c.args.text ∷ [])
     (answer_going first begun mid c.args.close (option_copied c.args.text) bodies texts

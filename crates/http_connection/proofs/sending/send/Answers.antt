@@ -7,8 +7,8 @@ use Rattle.http_connection.proofs.sending.send.Goals as goal
 
 pub returns-clause-sends : goal.returns-clause-sends
 returns-clause-sends g c =
-    sends c.args.bytes.now c.write_all-count.result (seen c.args.kept.now (line_of (g.W.Wire.given c.args.wire.now) (g.W.Wire.left c.args.wire.now) (g.W.Wire.taken c.args.wire.now) (failures_of (g.W.Wire.faults c.args.wire.now) (g.W.Wire.cut c.args.wire.now)) (g.W.Wire.closed c.args.wire.now)))
-    (seen (record c.args.kept.now { written = c.extend_from_slice.new.self }) (line_of (g.W.Wire.given c.write_all-count.new.wire) (g.W.Wire.left c.write_all-count.new.wire) (g.W.Wire.taken c.write_all-count.new.wire) (failures_of (g.W.Wire.faults c.write_all-count.new.wire) (g.W.Wire.cut c.write_all-count.new.wire)) (g.W.Wire.closed c.write_all-count.new.wire)))
+    sends c.args.bytes.now c.write_all-count.result (seen c.args.kept.now (line_of (g.W.Wire.given c.args.wire.now) (g.W.Wire.left c.args.wire.now) (g.W.Wire.taken c.args.wire.now) (failures_of (g.W.Wire.lost c.args.wire.now) (g.W.Wire.cut c.args.wire.now)) (g.W.Wire.closed c.args.wire.now)))
+    (seen (record c.args.kept.now { written = c.extend_from_slice.new.self }) (line_of (g.W.Wire.given c.write_all-count.new.wire) (g.W.Wire.left c.write_all-count.new.wire) (g.W.Wire.taken c.write_all-count.new.wire) (failures_of (g.W.Wire.lost c.write_all-count.new.wire) (g.W.Wire.cut c.write_all-count.new.wire)) (g.W.Wire.closed c.write_all-count.new.wire)))
     c.write_all-count.ensures.takes (search rules) refl refl refl
 
 pub returns-in_err-reserve-clause-wrote : goal.returns-in_err-reserve-clause-wrote

@@ -4,7 +4,6 @@ use Rattle.std.proofs.lemmas.List.{length-drop, length-take-le, take_rest}
 use Rattle.std.proofs.Math.Seq.{take-add}
 use Rattle.std.specs.Io.KnownBytes.{Appends}
 use Rattle.std.proofs.KnownBytes.{Appends-nil, Appends-trans, Appends-kept}
-use Rattle.outside_traits.specs.Causes.{Rose}
 use Rattle.http_port.specs.Writing.{IsWritten}
 use Rattle.http_port.proofs.CallLemmas.{nothing_written, written_more, written_so, written_still}
 use Rattle.http_connection.specs.Seen.{failures_of}
@@ -15,7 +14,7 @@ loop-done-init g c = record {
   within = omega arith;
   written = Appends-nil (g.W.Wire.taken c.args.wire.now);
   called = nothing_written (g.W.Wire.calls c.args.wire.now) true;
-  faults = refl;
+  lost = refl;
   cut = refl;
   given = refl;
   left = refl;
@@ -38,7 +37,7 @@ loop-done-preserved g c =
           (Appends-trans (g.W.Wire.taken c.args.wire.now) (g.W.Wire.taken c.loop-done.wire) (g.W.Wire.taken c.write.new.self) (take done bytes) (take count (drop done bytes)) c.loop-done.invariant.written more);
       called = subst (λ l. IsWritten (g.W.Wire.calls c.args.wire.now) (g.W.Wire.calls c.write.new.self) l true) (sym (take-add done count bytes))
           (written_more (g.W.Wire.calls c.args.wire.now) (g.W.Wire.calls c.loop-done.wire) (g.W.Wire.calls c.write.new.self) (take done bytes) (take count (drop done bytes)) count c.loop-done.invariant.called c.in-Ok.ensures.calls taken some);
-      faults = c.in-Ok.ensures.cause.calm ∙ c.loop-done.invariant.faults;
+      lost = c.in-Ok.ensures.lost ∙ c.loop-done.invariant.lost;
       cut = c.in-Ok.ensures.cut ∙ c.loop-done.invariant.cut;
       given = c.in-Ok.ensures.given ∙ c.loop-done.invariant.given;
       left = c.in-Ok.ensures.left ∙ c.loop-done.invariant.left;
@@ -50,18 +49,12 @@ returns-in-Err-clause-takes g c =
     let done = c.loop-done.done in
     let bytes = c.args.bytes.now in
     let lt : done < length bytes = omega arith in
-    let rose = c.in-Err.ensures.cause.failed in
-    let calm = c.loop-done.invariant.faults in
-    let later = c.in-Err.ensures.cause.later in
     record {
       within = omega arith;
       taken = Appends-kept (g.W.Wire.taken c.args.wire.now) (g.W.Wire.taken c.loop-done.wire) (g.W.Wire.taken c.write.new.self) (take done bytes) c.loop-done.invariant.written c.in-Err.ensures.bytes;
       calm = λ e. absurd (omega arith);
       cause = λ _. (
-        (
-          subst (λ n. n ≤ g.W.Wire.faults c.write.new.self) calm later,
-          subst (λ n. Rose n (g.W.Wire.faults c.write.new.self)) calm rose,
-        ),
+        c.in-Err.ensures.lost ∙ c.loop-done.invariant.lost,
         c.in-Err.ensures.cut ∙ ap₂ (λ (cut closed : Bool). cut || not closed) c.loop-done.invariant.cut c.loop-done.invariant.closed,
       );
       given = c.in-Err.ensures.given ∙ c.loop-done.invariant.given;
@@ -83,7 +76,7 @@ returns-clause-takes g c =
     record {
       within = within;
       taken = c.loop-done.invariant.written;
-      calm = λ _. ap₂ failures_of c.loop-done.invariant.faults c.loop-done.invariant.cut;
+      calm = λ _. ap₂ failures_of c.loop-done.invariant.lost c.loop-done.invariant.cut;
       cause = λ lt. absurd (omega arith);
       given = c.loop-done.invariant.given;
       left = c.loop-done.invariant.left;

@@ -8,16 +8,16 @@ use Rattle.http_connection.proofs.turn.go_on.Goals as goal
 
 pub returns-in_err-fed-clause-talks : goal.returns-in_err-fed-clause-talks
 returns-in_err-fed-clause-talks g c = λ first bodies texts h.
-    let was = seen c.args.kept.now (line_of (g.W.Wire.given c.args.wire.now) (g.W.Wire.left c.args.wire.now) (g.W.Wire.taken c.args.wire.now) (failures_of (g.W.Wire.faults c.args.wire.now) (g.W.Wire.cut c.args.wire.now)) (g.W.Wire.closed c.args.wire.now)) in
-    let now = seen c.feed.new.self (line_of (g.W.Wire.given c.args.wire.now) (g.W.Wire.left c.args.wire.now) (g.W.Wire.taken c.args.wire.now) (failures_of (g.W.Wire.faults c.args.wire.now) (g.W.Wire.cut c.args.wire.now)) (g.W.Wire.closed c.args.wire.now)) in
+    let was = seen c.args.kept.now (line_of (g.W.Wire.given c.args.wire.now) (g.W.Wire.left c.args.wire.now) (g.W.Wire.taken c.args.wire.now) (failures_of (g.W.Wire.lost c.args.wire.now) (g.W.Wire.cut c.args.wire.now)) (g.W.Wire.closed c.args.wire.now)) in
+    let now = seen c.feed.new.self (line_of (g.W.Wire.given c.args.wire.now) (g.W.Wire.left c.args.wire.now) (g.W.Wire.taken c.args.wire.now) (failures_of (g.W.Wire.lost c.args.wire.now) (g.W.Wire.cut c.args.wire.now)) (g.W.Wire.closed c.args.wire.now)) in
     spent_talks first now bodies texts
     (carried_on first was now h.carried (record { line = refl; read = c.in_err-fed.ensures.read; written = c.in_err-fed.ensures.written }))
     (c.in_err-fed.ensures.next ∙ c.requires)
 
 pub returns-then-is_interim-clause-talks : goal.returns-then-is_interim-clause-talks
 returns-then-is_interim-clause-talks g c = λ first bodies texts h.
-    let was = seen c.args.kept.now (line_of (g.W.Wire.given c.args.wire.now) (g.W.Wire.left c.args.wire.now) (g.W.Wire.taken c.args.wire.now) (failures_of (g.W.Wire.faults c.args.wire.now) (g.W.Wire.cut c.args.wire.now)) (g.W.Wire.closed c.args.wire.now)) in
-    let now = seen c.feed.new.self (line_of (g.W.Wire.given c.args.wire.now) (g.W.Wire.left c.args.wire.now) (g.W.Wire.taken c.args.wire.now) (failures_of (g.W.Wire.faults c.args.wire.now) (g.W.Wire.cut c.args.wire.now)) (g.W.Wire.closed c.args.wire.now)) in
+    let was = seen c.args.kept.now (line_of (g.W.Wire.given c.args.wire.now) (g.W.Wire.left c.args.wire.now) (g.W.Wire.taken c.args.wire.now) (failures_of (g.W.Wire.lost c.args.wire.now) (g.W.Wire.cut c.args.wire.now)) (g.W.Wire.closed c.args.wire.now)) in
+    let now = seen c.feed.new.self (line_of (g.W.Wire.given c.args.wire.now) (g.W.Wire.left c.args.wire.now) (g.W.Wire.taken c.args.wire.now) (failures_of (g.W.Wire.lost c.args.wire.now) (g.W.Wire.cut c.args.wire.now)) (g.W.Wire.closed c.args.wire.now)) in
     c.invite.ensures.talks first bodies texts
     (subst (λ f. IsFed first now f bodies texts) (interim_fed c.in_ok-fed.fed (sym c.is_interim.ensures ∙ c.if-is_interim.true))
     (fed_now first was now c.args.piece.now c.in_ok-fed.fed bodies texts h
@@ -25,8 +25,8 @@ returns-then-is_interim-clause-talks g c = λ first bodies texts h.
 
 pub returns-clause-talks : goal.returns-clause-talks
 returns-clause-talks g c = λ first bodies texts h.
-    let was = seen c.args.kept.now (line_of (g.W.Wire.given c.args.wire.now) (g.W.Wire.left c.args.wire.now) (g.W.Wire.taken c.args.wire.now) (failures_of (g.W.Wire.faults c.args.wire.now) (g.W.Wire.cut c.args.wire.now)) (g.W.Wire.closed c.args.wire.now)) in
-    let now = seen c.feed.new.self (line_of (g.W.Wire.given c.args.wire.now) (g.W.Wire.left c.args.wire.now) (g.W.Wire.taken c.args.wire.now) (failures_of (g.W.Wire.faults c.args.wire.now) (g.W.Wire.cut c.args.wire.now)) (g.W.Wire.closed c.args.wire.now)) in
+    let was = seen c.args.kept.now (line_of (g.W.Wire.given c.args.wire.now) (g.W.Wire.left c.args.wire.now) (g.W.Wire.taken c.args.wire.now) (failures_of (g.W.Wire.lost c.args.wire.now) (g.W.Wire.cut c.args.wire.now)) (g.W.Wire.closed c.args.wire.now)) in
+    let now = seen c.feed.new.self (line_of (g.W.Wire.given c.args.wire.now) (g.W.Wire.left c.args.wire.now) (g.W.Wire.taken c.args.wire.now) (failures_of (g.W.Wire.lost c.args.wire.now) (g.W.Wire.cut c.args.wire.now)) (g.W.Wire.closed c.args.wire.now)) in
     c.take_up.ensures.talks first bodies texts
     (fed_now first was now c.args.piece.now c.in_ok-fed.fed bodies texts h
     (record { line = refl; read = c.in_ok-fed.ensures.read; written = c.in_ok-fed.ensures.written }) c.in_ok-fed.ensures.gives)

@@ -34,8 +34,8 @@ returns-then-not-waits-clause-talks g c = λ first bodies texts h. c.in_ok-read_
 
 pub returns-clause-talks : goal.returns-clause-talks
 returns-clause-talks g c = λ first bodies texts h.
-    waiting_spent first (seen c.loop.kept (line_of (g.W.Wire.given c.loop.wire) (g.W.Wire.left c.loop.wire) (g.W.Wire.taken c.loop.wire) (failures_of (g.W.Wire.faults c.loop.wire) (g.W.Wire.cut c.loop.wire)) (g.W.Wire.closed c.loop.wire)))
-    (seen c.stand.new.self (line_of (g.W.Wire.given c.loop.wire) (g.W.Wire.left c.loop.wire) (g.W.Wire.taken c.loop.wire) (failures_of (g.W.Wire.faults c.loop.wire) (g.W.Wire.cut c.loop.wire)) (g.W.Wire.closed c.loop.wire))) bodies texts (c.loop.invariant.talks first bodies texts h) c.loop.invariant.next
+    waiting_spent first (seen c.loop.kept (line_of (g.W.Wire.given c.loop.wire) (g.W.Wire.left c.loop.wire) (g.W.Wire.taken c.loop.wire) (failures_of (g.W.Wire.lost c.loop.wire) (g.W.Wire.cut c.loop.wire)) (g.W.Wire.closed c.loop.wire)))
+    (seen c.stand.new.self (line_of (g.W.Wire.given c.loop.wire) (g.W.Wire.left c.loop.wire) (g.W.Wire.taken c.loop.wire) (failures_of (g.W.Wire.lost c.loop.wire) (g.W.Wire.cut c.loop.wire)) (g.W.Wire.closed c.loop.wire))) bodies texts (c.loop.invariant.talks first bodies texts h) c.loop.invariant.next
     (record { line = refl; read = c.stand.ensures.read; written = c.stand.ensures.written }) c.stand.ensures.next
 
 pub returns-in_err-read_on-clause-called : goal.returns-in_err-read_on-clause-called

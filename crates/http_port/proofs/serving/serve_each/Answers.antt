@@ -1,10 +1,12 @@
-use Rattle.std.proofs.Common.{[], ◌∷◌, take, refl, ap, ◌∙◌, subst, arith}
+use Rattle.std.proofs.Common.{Bool, [], ◌∷◌, take, refl, sym, ap, ap₂, ◌∙◌, subst, arith}
 use Rattle.std.specs.Io.KnownBytes.{Appends, Consumes}
 use Rattle.std.proofs.KnownBytes.{Appends-nil, Appends-kept, Consumes-nil, Consumes-kept}
 use Rattle.outside_traits.specs.Told.{Lists}
 use Rattle.outside_traits.specs.declared.calls.WireCall.TheVariants.{Read}
-use Rattle.http_port.specs.Turns.{Reacts, TurnCounts, goes}
+use Rattle.http_port.specs.Turns.{Reacts, cut_by, goes}
 use Rattle.http_port.specs.declared.serving.WireEnd.TheVariants as Ends
+use Rattle.http_port.specs.Serving.{cut_behind}
+use Rattle.http_port.proofs.TurnLemmas.{turn_unlost}
 use Rattle.http_port.proofs.ServingLemmas.{Told, Turned, ReadOn, going_first, go_on, read_on, finish_turn, finish_read}
 use Rattle.http_port.proofs.serving.serve_each.Goals as goal
 use Rattle.http_port.proofs.serving.serve_each.Goals.{in-GoesOn, in-Waits+in-Ok}
@@ -14,7 +16,8 @@ loop-init g c = record {
   asks = c.asks_where_given.ensures;
   within = omega arith;
   going = going_first c.args.reader.now (record { given = g.W.Wire.given c.args.wire.now; left = g.W.Wire.left c.args.wire.now; taken = g.W.Wire.taken c.args.wire.now; calls = g.W.Wire.calls c.args.wire.now; heard = g.S.Serve.heard c.args.serve.now; said = g.S.Serve.said c.args.serve.now });
-  faults = refl;
+  lost = refl;
+  cut = refl;
   closed = refl;
 }
 
@@ -39,6 +42,17 @@ returns-in-Ends-clause-serves g c =
     } in
     finish_turn c.args.reader.now c.loop.invariant.asks before c.loop.reader at (take c.loop.count c.loop.chunk) c.loop.invariant.going c.take_turn.new.reader turned t c.in-Ends.end
     (subst (Reacts turn.0 turn.1 turn.2) c.in-Ends.is turn.4)
+
+pub returns-in-Ends-clause-lost : goal.returns-in-Ends-clause-lost
+returns-in-Ends-clause-lost g c =
+    let turn = c.in_ok-take_turn.ensures.reacts in
+    c.in_ok-take_turn.ensures.lost ∙ c.loop.invariant.lost
+    ∙ sym (turn_unlost turn.0 turn.1 turn.2 c.in-Ends.end (subst (Reacts turn.0 turn.1 turn.2) c.in-Ends.is turn.4) (g.W.Wire.lost c.args.wire.now))
+
+pub returns-in-Ends-clause-cut : goal.returns-in-Ends-clause-cut
+returns-in-Ends-clause-cut g c =
+    c.in_ok-take_turn.ensures.cut ∙ ap (λ e. cut_by e (g.W.Wire.closed c.loop.wire) (g.W.Wire.cut c.loop.wire)) c.in-Ends.is
+    ∙ ap₂ (λ (closed cut : Bool). cut_behind c.in-Ends.end closed cut) c.loop.invariant.closed c.loop.invariant.cut
 
 pub returns-in-Ok-eq0-clause-serves : goal.returns-in-Ok-eq0-clause-serves
 returns-in-Ok-eq0-clause-serves g c =
@@ -99,7 +113,7 @@ returns-in-Err-clause-serves g c =
       told = refl;
     } in
     finish_read c.args.reader.now c.loop.invariant.asks before c.loop.reader at (take c.loop.count c.loop.chunk) c.loop.invariant.going c.take_turn.new.reader turned t
-    (subst (Reacts turn.0 turn.1 turn.2) c.in-Waits.is turn.4) (ap goes c.in-Waits.is) after read c.in-Err.ensures.calls Ends.Faulted tt
+    (subst (Reacts turn.0 turn.1 turn.2) c.in-Waits.is turn.4) (ap goes c.in-Waits.is) after read c.in-Err.ensures.calls Ends.ReadFailed tt
 
 pub loop-preserved : goal.loop-preserved
 loop-preserved g c =
@@ -123,17 +137,18 @@ loop-preserved g c =
     elim c.match-branch-2.branch [
       | in-GoesOn w ↦
           let reacts = subst (Reacts turn.0 turn.1 turn.2) w.in-GoesOn.is turn.4 in
-          let calm = subst (λ e. TurnCounts e (g.W.Wire.faults c.loop.wire) (g.W.Wire.faults c.take_turn.new.wire)) w.in-GoesOn.is c.in_ok-take_turn.ensures.counts in
+          let uncut = c.in_ok-take_turn.ensures.cut ∙ ap (λ e. cut_by e (g.W.Wire.closed c.loop.wire) (g.W.Wire.cut c.loop.wire)) w.in-GoesOn.is in
           rw (w.wire-is, w.count-is) (record {
             asks = c.loop.invariant.asks;
             within = omega arith;
             going = go_on c.args.reader.now before c.loop.reader at (take c.loop.count c.loop.chunk) c.loop.invariant.going c.take_turn.new.reader turned t reacts (ap goes w.in-GoesOn.is);
-            faults = calm ∙ c.loop.invariant.faults;
+            lost = c.in_ok-take_turn.ensures.lost ∙ c.loop.invariant.lost;
+            cut = uncut ∙ c.loop.invariant.cut;
             closed = c.in_ok-take_turn.ensures.closed ∙ c.loop.invariant.closed;
           })
       | in-Waits+in-Ok w ↦
           let reacts = subst (Reacts turn.0 turn.1 turn.2) w.in-Waits.is turn.4 in
-          let calm = subst (λ e. TurnCounts e (g.W.Wire.faults c.loop.wire) (g.W.Wire.faults c.take_turn.new.wire)) w.in-Waits.is c.in_ok-take_turn.ensures.counts in
+          let uncut = c.in_ok-take_turn.ensures.cut ∙ ap (λ e. cut_by e (g.W.Wire.closed c.loop.wire) (g.W.Wire.cut c.loop.wire)) w.in-Waits.is in
           let after : Told = record { given = g.W.Wire.given w.read.new.self; left = g.W.Wire.left w.read.new.self; taken = g.W.Wire.taken w.read.new.self; calls = g.W.Wire.calls w.read.new.self; heard = g.S.Serve.heard c.take_turn.new.serve; said = g.S.Serve.said c.take_turn.new.serve } in
           let read : ReadOn turned after (take w.in-Ok.read w.read.new.into) = record {
             given = w.in-Ok.ensures.given;
@@ -147,7 +162,8 @@ loop-preserved g c =
             within = w.in-Ok.ensures.bound.0;
             going = read_on c.args.reader.now c.loop.invariant.asks before c.loop.reader at (take c.loop.count c.loop.chunk) c.loop.invariant.going c.take_turn.new.reader turned t reacts (ap goes w.in-Waits.is) after (take w.in-Ok.read w.read.new.into) read
                 w.in-Ok.read w.in-Ok.ensures.calls w.in-Ok.ensures.bound.1 (omega (arith, w.in-Ok.read-test));
-            faults = w.in-Ok.ensures.cause.calm ∙ calm ∙ c.loop.invariant.faults;
+            lost = w.in-Ok.ensures.lost ∙ c.in_ok-take_turn.ensures.lost ∙ c.loop.invariant.lost;
+            cut = w.in-Ok.ensures.cut ∙ uncut ∙ c.loop.invariant.cut;
             closed = w.in-Ok.ensures.closed ∙ c.in_ok-take_turn.ensures.closed ∙ c.loop.invariant.closed;
           })
     ]

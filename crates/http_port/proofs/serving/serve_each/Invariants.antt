@@ -12,6 +12,7 @@ invariant-loop g l = record {
       l.reader
       (record { given = g.W.Wire.given l.wire; left = g.W.Wire.left l.wire; taken = g.W.Wire.taken l.wire; calls = g.W.Wire.calls l.wire; heard = g.S.Serve.heard l.serve; said = g.S.Serve.said l.serve })
       (take l.count l.chunk);
-  faults : g.W.Wire.faults l.wire ≡ g.W.Wire.faults l.fn.wire;
+  lost : g.W.Wire.lost l.wire ≡ g.W.Wire.lost l.fn.wire;
+  cut : g.W.Wire.cut l.wire ≡ g.W.Wire.cut l.fn.wire;
   closed : g.W.Wire.closed l.wire ≡ g.W.Wire.closed l.fn.wire;
 }

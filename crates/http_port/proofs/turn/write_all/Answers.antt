@@ -23,7 +23,8 @@ loop-done-preserved g c =
           (Appends-trans (g.W.Wire.taken c.args.wire.now) (g.W.Wire.taken c.loop-done.wire) (g.W.Wire.taken c.write.new.self) (take done bytes) (take count (drop done bytes)) c.loop-done.invariant.written more);
       called = subst (λ l. IsWritten (g.W.Wire.calls c.args.wire.now) (g.W.Wire.calls c.write.new.self) l true) (sym (take-add done count bytes))
           (written_more (g.W.Wire.calls c.args.wire.now) (g.W.Wire.calls c.loop-done.wire) (g.W.Wire.calls c.write.new.self) (take done bytes) (take count (drop done bytes)) count c.loop-done.invariant.called c.in_ok-done.ensures.calls taken some);
-      faults = c.in_ok-done.ensures.cause.calm ∙ c.loop-done.invariant.faults;
+      lost = c.in_ok-done.ensures.lost ∙ c.loop-done.invariant.lost;
+      cut = c.in_ok-done.ensures.cut ∙ c.loop-done.invariant.cut;
       given = c.in_ok-done.ensures.given ∙ c.loop-done.invariant.given;
       left = c.in_ok-done.ensures.left ∙ c.loop-done.invariant.left;
       closed = c.in_ok-done.ensures.closed ∙ c.loop-done.invariant.closed;

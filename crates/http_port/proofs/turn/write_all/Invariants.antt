@@ -8,7 +8,8 @@ invariant-loop-done g l = record {
   within : l.done ≤ length l.bytes;
   written : Appends (g.W.Wire.taken l.fn.wire) (g.W.Wire.taken l.wire) (take l.done l.bytes);
   called : IsWritten (g.W.Wire.calls l.fn.wire) (g.W.Wire.calls l.wire) (take l.done l.bytes) true;
-  faults : g.W.Wire.faults l.wire ≡ g.W.Wire.faults l.fn.wire;
+  lost : g.W.Wire.lost l.wire ≡ g.W.Wire.lost l.fn.wire;
+  cut : g.W.Wire.cut l.wire ≡ g.W.Wire.cut l.fn.wire;
   given : g.W.Wire.given l.wire ≡ g.W.Wire.given l.fn.wire;
   left : g.W.Wire.left l.wire ≡ g.W.Wire.left l.fn.wire;
   closed : g.W.Wire.closed l.wire ≡ g.W.Wire.closed l.fn.wire;

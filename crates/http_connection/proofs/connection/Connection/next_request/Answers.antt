@@ -12,7 +12,7 @@ use Rattle.http_connection.proofs.connection.Connection.next_request.Goals as go
 
 pub returns-then-not-waits-clause-talks : goal.returns-then-not-waits-clause-talks
 returns-then-not-waits-clause-talks g c = λ first bodies texts h.
-    hands_out first (seen c.args.self.now.kept (line_of (g.W.Wire.given c.args.self.now.wire) (g.W.Wire.left c.args.self.now.wire) (g.W.Wire.taken c.args.self.now.wire) (failures_of (g.W.Wire.faults c.args.self.now.wire) (g.W.Wire.cut c.args.self.now.wire)) (g.W.Wire.closed c.args.self.now.wire))) (seen c.hand_out.new.self (line_of (g.W.Wire.given c.args.self.now.wire) (g.W.Wire.left c.args.self.now.wire) (g.W.Wire.taken c.args.self.now.wire) (failures_of (g.W.Wire.faults c.args.self.now.wire) (g.W.Wire.cut c.args.self.now.wire)) (g.W.Wire.closed c.args.self.now.wire))) bodies texts c.hand_out.result h c.hand_out.ensures.handed
+    hands_out first (seen c.args.self.now.kept (line_of (g.W.Wire.given c.args.self.now.wire) (g.W.Wire.left c.args.self.now.wire) (g.W.Wire.taken c.args.self.now.wire) (failures_of (g.W.Wire.lost c.args.self.now.wire) (g.W.Wire.cut c.args.self.now.wire)) (g.W.Wire.closed c.args.self.now.wire))) (seen c.hand_out.new.self (line_of (g.W.Wire.given c.args.self.now.wire) (g.W.Wire.left c.args.self.now.wire) (g.W.Wire.taken c.args.self.now.wire) (failures_of (g.W.Wire.lost c.args.self.now.wire) (g.W.Wire.cut c.args.self.now.wire)) (g.W.Wire.closed c.args.self.now.wire))) bodies texts c.hand_out.result h c.hand_out.ensures.handed
     (record { line = refl; read = c.hand_out.ensures.read; written = c.hand_out.ensures.written }) c.hand_out.ensures.reader
 
 pub returns-then-not-waits-clause-stage : goal.returns-then-not-waits-clause-stage
@@ -24,13 +24,13 @@ settle-requires g c = waits_where c.args.self.now.kept.next (sym c.waits.ensures
 pub returns-in_err-settle-clause-talks : goal.returns-in_err-settle-clause-talks
 returns-in_err-settle-clause-talks g c = λ first bodies texts h.
     let wanting = err_from_is_err_and c.from_residual.result c.from_residual.ensures.1 in
-    let now = seen c.settle.new.kept (line_of (g.W.Wire.given c.settle.new.wire) (g.W.Wire.left c.settle.new.wire) (g.W.Wire.taken c.settle.new.wire) (failures_of (g.W.Wire.faults c.settle.new.wire) (g.W.Wire.cut c.settle.new.wire)) (g.W.Wire.closed c.settle.new.wire)) in
+    let now = seen c.settle.new.kept (line_of (g.W.Wire.given c.settle.new.wire) (g.W.Wire.left c.settle.new.wire) (g.W.Wire.taken c.settle.new.wire) (failures_of (g.W.Wire.lost c.settle.new.wire) (g.W.Wire.cut c.settle.new.wire)) (g.W.Wire.closed c.settle.new.wire)) in
     at_error c.from_residual.result (λ (came : Option (List ℕ)). IsTalking first now (bodies ++ handed came) texts) (λ _. IsTalking first now bodies texts) wanting.0 wanting.1
     (c.in_err-settle.ensures.talks first bodies texts h)
 
 pub returns-clause-talks : goal.returns-clause-talks
 returns-clause-talks g c = λ first bodies texts h.
-    hands_out first (seen c.settle.new.kept (line_of (g.W.Wire.given c.settle.new.wire) (g.W.Wire.left c.settle.new.wire) (g.W.Wire.taken c.settle.new.wire) (failures_of (g.W.Wire.faults c.settle.new.wire) (g.W.Wire.cut c.settle.new.wire)) (g.W.Wire.closed c.settle.new.wire))) (seen c.hand_out-2.new.self (line_of (g.W.Wire.given c.settle.new.wire) (g.W.Wire.left c.settle.new.wire) (g.W.Wire.taken c.settle.new.wire) (failures_of (g.W.Wire.faults c.settle.new.wire) (g.W.Wire.cut c.settle.new.wire)) (g.W.Wire.closed c.settle.new.wire))) bodies texts c.hand_out-2.result
+    hands_out first (seen c.settle.new.kept (line_of (g.W.Wire.given c.settle.new.wire) (g.W.Wire.left c.settle.new.wire) (g.W.Wire.taken c.settle.new.wire) (failures_of (g.W.Wire.lost c.settle.new.wire) (g.W.Wire.cut c.settle.new.wire)) (g.W.Wire.closed c.settle.new.wire))) (seen c.hand_out-2.new.self (line_of (g.W.Wire.given c.settle.new.wire) (g.W.Wire.left c.settle.new.wire) (g.W.Wire.taken c.settle.new.wire) (failures_of (g.W.Wire.lost c.settle.new.wire) (g.W.Wire.cut c.settle.new.wire)) (g.W.Wire.closed c.settle.new.wire))) bodies texts c.hand_out-2.result
     (c.in_ok-settle.ensures.talks first bodies texts h) c.hand_out-2.ensures.handed
     (record { line = refl; read = c.hand_out-2.ensures.read; written = c.hand_out-2.ensures.written }) c.hand_out-2.ensures.reader
 
