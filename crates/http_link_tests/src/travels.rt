@@ -85,7 +85,7 @@ fn dialled(alloc: Global, front: &str, dialler: &CalmDial) -> Result<String, All
         shown.push('\n')?;
     }
     if let Some(wire) = dialler.last() {
-        shown.push_str(String::from_utf8_lossy(alloc, wire.wire().taken())?.as_str())?;
+        shown.push_str(String::from_utf8_lossy(alloc, wire.taken())?.as_str())?;
     }
     Ok(shown)
 }
@@ -174,7 +174,7 @@ fn calls_in(link: &mut HttpLink<ScriptedDial>) -> Result<u64, AllocError> {
     let _ = back_from(link)?;
     match link.dialler().last() {
         None => Ok(0),
-        Some(wire) => Ok(wire.wire().calls().len() as u64),
+        Some(wire) => Ok(wire.calls().len() as u64),
     }
 }
 
@@ -183,14 +183,14 @@ fn fails_at(alloc: Global, sent: &[u8], piece: usize, call: u64) -> Result<bool,
     fails_once(&mut link)
 }
 
-/// Whether the trip of a link fails, and a wire came back of which one call had failed.
+/// Whether the trip of a link fails, and a wire came back of which a read or a write had failed, and not both.
 fn fails_once(link: &mut HttpLink<ScriptedDial>) -> Result<bool, AllocError> {
     if back_from(link)?.is_some() {
         return Ok(false);
     }
     match link.dialler().last() {
         None => Ok(false),
-        Some(wire) => Ok(wire.faults() == 1),
+        Some(wire) => Ok(wire.is_lost() != wire.is_cut()),
     }
 }
 
@@ -204,7 +204,7 @@ fn calls_by(alloc: Global, link: &mut HttpLink<ScriptedDial>) -> Result<String, 
     let back = back_from(link)?;
     let mut text = shown(alloc, &back, false)?;
     if let Some(wire) = link.dialler().last() {
-        add_calls(wire.wire().calls(), &mut text)?;
+        add_calls(wire.calls(), &mut text)?;
     }
     Ok(text)
 }

@@ -34,7 +34,7 @@ pub fn told(alloc: Global, status: u8, world: &Meeting) -> Result<String, AllocE
 
 fn tell_peer(link: &Calling, said: &mut String) -> Result<(), AllocError> {
     match link.dialler().last() {
-        Some(peer) => tell_more(peer.wire().taken(), said),
+        Some(peer) => tell_more(peer.taken(), said),
         None => Ok(()),
     }
 }

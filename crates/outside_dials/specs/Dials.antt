@@ -1,28 +1,34 @@
 -- What is told of a dialler: the locations that it dialled, and what was done with the last wire that came back to it.
-use Rattle.std.specs.Prelude.{◌≡◌, ◌<◌, ◌≤◌, ℕ, false, List, [], ◌∷◌, ◌++◌, Option, None, Some, IfSome}
+use Rattle.std.specs.Prelude.{◌≡◌, ◌≤◌, ℕ, Bool, true, false, List, [], ◌∷◌, ◌++◌, Option, None, Some, IfSome}
 use Rattle.std.specs.Prelude.{Result, Ok, Err}
 use Rattle.outside_traits.specs.Causes.{Rose}
 use Rattle.outside_traits.specs.Wires.{CalmLine, ScriptedLine}
 use Rattle.outside_traits.specs.declared.calls.WireCall.{WireCall}
 
 -- What was done with a wire: the bytes that were read of it, those that were written on it and its calls in order, each
--- where it is told; and its count of faults.
+-- where it is told; whether a read failed, whether a write did before it was closed, and whether a read told the end of
+-- what comes in.
 pub record WireTraffic : Type 0 where
   pub given : Option (List ℕ)
   pub taken : Option (List ℕ)
   pub calls : Option (List WireCall)
-  pub faults : ℕ
+  pub lost : Bool
+  pub cut : Bool
+  pub ended : Bool
 
 -- what a wire tells of itself
-abbrev pub traffic : Option (List ℕ) → Option (List ℕ) → Option (List WireCall) → ℕ → WireTraffic
-traffic given taken calls faults = record { given = given; taken = taken; calls = calls; faults = faults }
+abbrev pub traffic : Option (List ℕ) → Option (List ℕ) → Option (List WireCall) → Bool → Bool → Bool → WireTraffic
+traffic given taken calls lost cut ended =
+    record { given = given; taken = taken; calls = calls; lost = lost; cut = cut; ended = ended }
 
 -- what is told of a wire with which nothing was done yet
 pub record IsNew (t : WireTraffic) : Type 0 where
   pub given : IfSome t.given (λ bytes. bytes ≡ [])
   pub taken : IfSome t.taken (λ bytes. bytes ≡ [])
   pub calls : IfSome t.calls (λ calls. calls ≡ [])
-  pub faults : t.faults ≡ 0
+  pub lost : t.lost ≡ false
+  pub cut : t.cut ≡ false
+  pub ended : t.ended ≡ false
 
 -- What is told grows by a location, as long as it is told. A dialler that tells its locations no more never begins
 -- again.
@@ -36,48 +42,48 @@ Dials (Some before) (Some now) location = now ≡ before ++ location ∷ []
 abbrev pub Tells : Option WireTraffic → WireTraffic → Type 0
 Tells told t = IfSome told (λ last. last ≡ t)
 
--- a dialler's count of faults rises with a wire that comes back exactly where the wire's is not 0
-pub record CountsWire (wire before now : ℕ) : Type 0 where
+-- a dialler's count of faults rises with a wire that comes back exactly where that had failed
+pub record CountsWire (had_failed : Bool) (before now : ℕ) : Type 0 where
   pub later : before ≤ now
-  pub calm : wire ≡ 0 → now ≡ before
-  pub failed : 0 < wire → Rose before now
+  pub calm : had_failed ≡ false → now ≡ before
+  pub failed : had_failed ≡ true → Rose before now
 
 -- ---- in memory
 
 -- what is told of a new wire in memory
 abbrev pub blank_in_memory : WireTraffic
-blank_in_memory = traffic (Some []) (Some []) (Some []) 0
+blank_in_memory = traffic (Some []) (Some []) (Some []) false false false
 
--- a wire, and how often a call of it failed
-pub record Counted (W : Type 0) : Type 0 where
-  pub wire : W
-  pub faults : ℕ
-
--- a wire in memory as it is made: nothing was done with it, and it is open
+-- a wire in memory as it is made: nothing was done with it, no call of it failed or told an end, and it is open
 pub record IsFreshCalm (w : CalmLine) : Type 0 where
   pub given : w.tape.given ≡ []
   pub taken : w.shelf.taken ≡ []
   pub calls : w.calls ≡ Some []
+  pub cut : w.cut ≡ false
   pub closed : w.closed ≡ false
+  pub ended : w.ended ≡ false
 
 -- the same of a scripted one
 pub record IsFreshScripted (w : ScriptedLine) : Type 0 where
   pub given : w.tape.given ≡ []
   pub taken : w.shelf.taken ≡ []
   pub calls : w.calls ≡ Some []
+  pub lost : w.lost ≡ false
+  pub cut : w.cut ≡ false
   pub closed : w.closed ≡ false
+  pub ended : w.ended ≡ false
 
 -- what was done with a wire in memory
-abbrev pub calm_traffic : Counted CalmLine → WireTraffic
-calm_traffic w = traffic (Some w.wire.tape.given) (Some w.wire.shelf.taken) w.wire.calls w.faults
+abbrev pub calm_traffic : CalmLine → WireTraffic
+calm_traffic w = traffic (Some w.tape.given) (Some w.shelf.taken) w.calls false w.cut w.ended
 
 -- the same of a scripted one
-abbrev pub scripted_traffic : Counted ScriptedLine → WireTraffic
-scripted_traffic w = traffic (Some w.wire.tape.given) (Some w.wire.shelf.taken) w.wire.calls w.faults
+abbrev pub scripted_traffic : ScriptedLine → WireTraffic
+scripted_traffic w = traffic (Some w.tape.given) (Some w.shelf.taken) w.calls w.lost w.cut w.ended
 
 -- the wire that a call gave, none where it failed
-abbrev pub wire_given : {W E : Type 0} → Result (Counted W) E → Option W
-wire_given (Ok wire) = Some wire.wire
+abbrev pub wire_given : {W E : Type 0} → Result W E → Option W
+wire_given (Ok wire) = Some wire
 wire_given (Err cause) = None
 
 -- the wire that comes next of these: the first, none behind the last
@@ -95,12 +101,12 @@ next_scripted (first ∷ rest) = first
 pub record CalmSwitch : Type 0 where
   pub coming : List CalmLine
   pub dialled : Option (List (List ℕ))
-  pub last : Option (Counted CalmLine)
+  pub last : Option CalmLine
   pub faults : ℕ
 
 -- the same of scripted wires; where it has none in a place, that call fails
 pub record ScriptedSwitch : Type 0 where
   pub coming : List (Option ScriptedLine)
   pub dialled : Option (List (List ℕ))
-  pub last : Option (Counted ScriptedLine)
+  pub last : Option ScriptedLine
   pub faults : ℕ

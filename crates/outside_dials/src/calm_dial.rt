@@ -3,7 +3,6 @@ ghost use Rattle.outside_traits.specs.Causes.{HasCause};
 ghost use Rattle.outside_dials.specs.Dials.{Dials, IsNew, Tells, CountsWire, IsFreshCalm, blank_in_memory, calm_traffic, next_calm, wire_given};
 
 use crate::coming::Coming;
-use crate::counted_wire::CountedWire;
 use crate::dial::Dial;
 use crate::locations::Locations;
 use outside_traits::{CalmWire, Failed, Wire};
@@ -15,7 +14,7 @@ use std::marker::Model;
 pub struct CalmDial {
     coming: Coming<CalmWire>,
     dialled: Locations,
-    last: Option<CountedWire<CalmWire>>,
+    last: Option<CalmWire>,
     faults: u64,
 }
 
@@ -27,7 +26,7 @@ impl Model for CalmDial {
 
     ghost view = { λ d. record { coming = d.coming; dialled = d.dialled; last = d.last; faults = d.faults } };
 
-    ghost invariant = { λ d. All IsFreshCalm d.coming × IfSome d.last (λ last. last.wire.closed ≡ true) };
+    ghost invariant = { λ d. All IsFreshCalm d.coming × IfSome d.last (λ last. last.closed ≡ true) };
 }
 
 impl CalmDial {
@@ -55,16 +54,16 @@ impl CalmDial {
     }
 
     /// The last wire that came back, which is closed.
-    pub fn last(&self) -> Option<&CountedWire<CalmWire>>
+    pub fn last(&self) -> Option<&CalmWire>
         ensures wire { option_map (λ wire. wire.now) result ≡ self.now.last }
-        ensures closed { IfSome self.now.last (λ last. last.wire.closed ≡ true) }
+        ensures closed { IfSome self.now.last (λ last. last.closed ≡ true) }
     {
         self.last.as_ref()
     }
 }
 
 impl Dial for CalmDial {
-    type W = CountedWire<CalmWire>;
+    type W = CalmWire;
 
     ghost blank = { blank_in_memory };
 
@@ -74,19 +73,19 @@ impl Dial for CalmDial {
 
     ghost faults = { λ d. d.faults };
 
-    fn dial(&mut self, location: &str) -> Result<CountedWire<CalmWire>, Failed>
+    fn dial(&mut self, location: &str) -> Result<CalmWire, Failed>
         ensures answer { wire_given result ≡ next_calm self.old.coming }
         ensures coming { self.new.coming ≡ drop 1 self.old.coming }
         ensures dialled { Dials self.old.dialled self.new.dialled location.now }
         ensures last { option_map calm_traffic self.new.last ≡ option_map calm_traffic self.old.last }
         ensures blank { IsNew blank_in_memory }
         ensures fresh { IfOk result (λ wire. calm_traffic wire ≡ blank_in_memory) }
-        ensures open { IfOk result (λ wire. wire.wire.closed ≡ false) }
+        ensures open { IfOk result (λ wire. wire.closed ≡ false) }
         ensures cause { HasCause self.old.faults self.new.faults result }
     {
         self.dialled.note(location);
         match self.coming.next() {
-            Some(wire) => Ok(CountedWire::new(wire)),
+            Some(wire) => Ok(wire),
             None => {
                 self.faults = self.faults.saturating_add(1);
                 Err(Failed)
@@ -94,14 +93,14 @@ impl Dial for CalmDial {
         }
     }
 
-    fn back(&mut self, mut wire: CountedWire<CalmWire>)
-        ensures closed { IfSome self.new.last (λ last. last.wire.closed ≡ true) }
+    fn back(&mut self, mut wire: CalmWire)
+        ensures closed { IfSome self.new.last (λ last. last.closed ≡ true) }
         ensures dialled { self.new.dialled ≡ self.old.dialled }
         ensures last { Tells (option_map calm_traffic self.new.last) (calm_traffic wire) }
-        ensures counts { CountsWire wire.faults self.old.faults self.new.faults }
+        ensures counts { CountsWire wire.cut self.old.faults self.new.faults }
     {
         wire.close();
-        if wire.faults() > 0 {
+        if wire.is_cut() {
             self.faults = self.faults.saturating_add(1);
         }
         self.last = Some(wire);

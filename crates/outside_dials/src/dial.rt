@@ -1,4 +1,4 @@
-ghost use Rattle.std.specs.Prelude.{◌≡◌, ℕ, List, false, IfOk};
+ghost use Rattle.std.specs.Prelude.{◌≡◌, ◌||◌, ℕ, List, false, IfOk};
 ghost use Rattle.std.specs.declared.option.Option.{Option};
 ghost use Rattle.outside_traits.specs.Causes.{HasCause};
 ghost use Rattle.outside_dials.specs.Dials.{CountsWire, Dials, IsNew, Tells, WireTraffic, traffic};
@@ -26,13 +26,13 @@ pub trait Dial {
         ensures dialled { Dials (dialled self.old) (dialled self.new) location.now }
         ensures last { last self.new ≡ last self.old }
         ensures blank { IsNew blank }
-        ensures fresh { IfOk result (λ wire. traffic (Self.W.given wire) (Self.W.taken wire) (Self.W.calls wire) (Self.W.faults wire) ≡ blank) }
+        ensures fresh { IfOk result (λ wire. traffic (Self.W.given wire) (Self.W.taken wire) (Self.W.calls wire) (Self.W.lost wire) (Self.W.cut wire) (Self.W.ended wire) ≡ blank) }
         ensures open { IfOk result (λ wire. Self.W.closed wire ≡ false) }
         ensures cause { HasCause (faults self.old) (faults self.new) result };
 
     /// Takes a wire back, and closes it.
     fn back(&mut self, wire: Self::W)
         ensures dialled { dialled self.new ≡ dialled self.old }
-        ensures last { Tells (last self.new) (traffic (Self.W.given wire) (Self.W.taken wire) (Self.W.calls wire) (Self.W.faults wire)) }
-        ensures counts { CountsWire (Self.W.faults wire) (faults self.old) (faults self.new) };
+        ensures last { Tells (last self.new) (traffic (Self.W.given wire) (Self.W.taken wire) (Self.W.calls wire) (Self.W.lost wire) (Self.W.cut wire) (Self.W.ended wire)) }
+        ensures counts { CountsWire (Self.W.lost wire || Self.W.cut wire) (faults self.old) (faults self.new) };
 }

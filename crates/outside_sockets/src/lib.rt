@@ -1,4 +1,4 @@
-//! A dialler and connections over the TCP sockets of the system. They count what fails, and tell no bytes.
+//! A dialler and connections over the TCP sockets of the system. They tell what fails, and no bytes.
 #![tactic(auto)]
 
 mod allowance;

@@ -1,5 +1,6 @@
-ghost use Rattle.std.specs.Prelude.{◌≡◌, None};
+ghost use Rattle.std.specs.Prelude.{◌≡◌, None, false, option_map};
 ghost use Rattle.outside_dials.specs.Dials.{traffic};
+ghost use Rattle.outside_sockets.specs.Sockets.{socket_traffic};
 
 use crate::allowance::Allowance;
 use crate::location::address_of;
@@ -12,7 +13,7 @@ use std::net::{Net, TcpStream, ToSocketAddrs};
 use std::rt::Clock;
 use std::time::Duration;
 
-/// A dialler over the TCP sockets of the system, which tells its count of faults and nothing else.
+/// A dialler over the TCP sockets of the system, which tells its count of faults, and of the last wire that came back whether it failed and whether a read told the end.
 ///
 /// A wire has so much time, from the moment at which it is dialled on: connecting, each read and each write fail where
 /// it is over, also where a peer sends its bytes one by one. What the system needs to look up the name of a host counts
@@ -21,25 +22,28 @@ use std::time::Duration;
 pub struct SocketDial<H: Net + Clock + Copy + Drop> {
     host: H,
     most: Duration,
+    last: Option<SocketWire<TimedStream<H::Stream, H>>>,
     faults: u64,
 }
 
 impl<H: Net + Clock + Copy + Drop> Model for SocketDial<H> {
-    ghost use Rattle.std.specs.Prelude.{ℕ};
+    ghost use Rattle.outside_sockets.specs.Sockets.{SocketSwitch};
 
-    ghost Value = { ℕ };
+    ghost Value = { SocketSwitch };
 
-    ghost view = { λ d. d.faults };
+    ghost view = { λ d. record { last = d.last; faults = d.faults } };
 }
 
 impl<H: Net + Clock + Copy + Drop> SocketDial<H> {
     /// A dialler whose wires have so much time each.
     pub fn new(host: H, most: Duration) -> SocketDial<H>
-        ensures { result ≡ 0 }
+        ensures last { result.last ≡ None }
+        ensures faults { result.faults ≡ 0 }
     {
         SocketDial {
             host,
             most,
+            last: None,
             faults: 0,
         }
     }
@@ -48,13 +52,13 @@ impl<H: Net + Clock + Copy + Drop> SocketDial<H> {
 impl<H: Net + Clock + Copy + Drop> Dial for SocketDial<H> {
     type W = SocketWire<TimedStream<H::Stream, H>>;
 
-    ghost blank = { traffic None None None 0 };
+    ghost blank = { traffic None None None false false false };
 
     ghost dialled = { λ _. None };
 
-    ghost last = { λ _. None };
+    ghost last = { λ d. option_map socket_traffic d.last };
 
-    ghost faults = { λ faults. faults };
+    ghost faults = { λ d. d.faults };
 
     fn dial(&mut self, location: &str) -> Result<SocketWire<TimedStream<H::Stream, H>>, Failed> {
         match connected(self.host, location, self.most) {
@@ -68,9 +72,10 @@ impl<H: Net + Clock + Copy + Drop> Dial for SocketDial<H> {
 
     fn back(&mut self, mut wire: SocketWire<TimedStream<H::Stream, H>>) {
         wire.close();
-        if wire.faults() > 0 {
+        if wire.is_lost() || wire.is_cut() {
             self.faults = self.faults.saturating_add(1);
         }
+        self.last = Some(wire);
     }
 }
 

@@ -11,7 +11,7 @@ use std::net::{OpenStream, Shutdown};
 #[derive(Drop)]
 pub struct SocketWire<S: Read + Write + OpenStream + Drop> {
     stream: Option<S>,
-    faults: u64,
+    lost: bool,
     cut: bool,
     ended: bool,
 }
@@ -22,30 +22,30 @@ impl<S: Read + Write + OpenStream + Drop> Model for SocketWire<S> {
 
     ghost Value = { SocketTold };
 
-    ghost view = { λ w. record { faults = w.faults; cut = w.cut; closed = is_none w.stream; ended = w.ended } };
+    ghost view = { λ w. record { lost = w.lost; cut = w.cut; closed = is_none w.stream; ended = w.ended } };
 }
 
 impl<S: Read + Write + OpenStream + Drop> SocketWire<S> {
     /// A connection over a stream, of which no call has failed.
     pub fn new(stream: S) -> SocketWire<S>
-        ensures faults { result.faults ≡ 0 }
+        ensures lost { result.lost ≡ false }
         ensures cut { result.cut ≡ false }
         ensures closed { result.closed ≡ false }
         ensures ended { result.ended ≡ false }
     {
         SocketWire {
             stream: Some(stream),
-            faults: 0,
+            lost: false,
             cut: false,
             ended: false,
         }
     }
 
-    /// How often a call has failed.
-    pub fn faults(&self) -> u64
-        ensures { result ≡ self.now.faults }
+    /// Whether a read has failed.
+    pub fn is_lost(&self) -> bool
+        ensures { result ≡ self.now.lost }
     {
-        self.faults
+        self.lost
     }
 
     /// Whether a write has failed before the wire was closed.
@@ -72,7 +72,7 @@ impl<S: Read + Write + OpenStream + Drop> Wire for SocketWire<S> {
 
     ghost calls = { λ _. None };
 
-    ghost faults = { λ w. w.faults };
+    ghost lost = { λ w. w.lost };
 
     ghost cut = { λ w. w.cut };
 
@@ -88,7 +88,7 @@ impl<S: Read + Write + OpenStream + Drop> Wire for SocketWire<S> {
         let answer = read_uninterrupted(stream, into);
         match answer {
             Ok(count) => self.ended |= has_room && count == 0,
-            Err(Failed) => self.faults = self.faults.saturating_add(1),
+            Err(Failed) => self.lost = true,
         }
         answer
     }
@@ -100,7 +100,6 @@ impl<S: Read + Write + OpenStream + Drop> Wire for SocketWire<S> {
             None => Err(Failed),
         };
         if answer.is_err() {
-            self.faults = self.faults.saturating_add(1);
             self.cut |= !is_closed;
         }
         answer

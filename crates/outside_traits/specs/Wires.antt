@@ -14,18 +14,18 @@ pub record CalmLine : Type 0 where
   pub tape : Taped
   pub shelf : Shelved
   pub calls : Option (List WireCall)
-  pub faults : ℕ
   pub cut : Bool
   pub closed : Bool
   pub ended : Bool
 
--- a wire that follows a script, and gives and takes at most so many bytes a call
+-- a wire that follows a script, and gives and takes at most so many bytes a call; whether a read failed it tells too
 pub record ScriptedLine : Type 0 where
   pub script : Plan
   pub tape : Taped
   pub shelf : Shelved
   pub calls : Option (List WireCall)
   pub piece : ℕ
+  pub lost : Bool
   pub cut : Bool
   pub closed : Bool
   pub ended : Bool

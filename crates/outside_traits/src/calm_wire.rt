@@ -1,10 +1,9 @@
-ghost use Rattle.std.specs.Prelude.{◌≡◌, ◌<◌, ◌≤◌, ◌||◌, ◌↔◌, ◌⊎◌, [], ◌∷◌, true, false, not, Ok, Some, IsTrue, IsErr, IfOk, IfSome, MatchResult, length, min};
+ghost use Rattle.std.specs.Prelude.{◌≡◌, ◌<◌, ◌||◌, ◌↔◌, ◌⊎◌, [], ◌∷◌, true, false, not, Ok, Some, IsTrue, IsErr, IfOk, IfSome, MatchResult, length, min};
 ghost use Rattle.std.specs.Io.{ReadsAtMost, WritesAtMost};
 ghost use Rattle.std.specs.Io.KnownBytes.{ReadConsumes, WriteAppends};
 ghost use Rattle.outside_traits.specs.Calls.{moved, tells_end};
 ghost use Rattle.outside_traits.specs.Told.{Lists};
 ghost use Rattle.outside_traits.specs.declared.calls.WireCall.TheVariants.{Read, Wrote};
-ghost use Rattle.outside_traits.specs.Causes.{Rose, HasCause};
 ghost use Rattle.outside_traits.specs.Memory.{room_left};
 ghost use Rattle.outside_traits.specs.Wires.{readable};
 
@@ -16,13 +15,12 @@ use crate::traits::Wire;
 use std::alloc::{AllocError, Global};
 use std::marker::Model;
 
-/// A wire in memory. It fails only where the room that it was made with is used up or it is closed, which it counts.
+/// A wire in memory. Its reads never fail, and its writes only where the room that it was made with is used up or it is closed.
 #[derive(Drop)]
 pub struct CalmWire {
     tape: Tape,
     shelf: Shelf,
     calls: Calls,
-    faults: u64,
     cut: bool,
     closed: bool,
     ended: bool,
@@ -33,7 +31,7 @@ impl Model for CalmWire {
 
     ghost Value = { CalmLine };
 
-    ghost view = { λ w. record { tape = w.tape; shelf = w.shelf; calls = w.calls; faults = w.faults; cut = w.cut; closed = w.closed; ended = w.ended } };
+    ghost view = { λ w. record { tape = w.tape; shelf = w.shelf; calls = w.calls; cut = w.cut; closed = w.closed; ended = w.ended } };
 }
 
 impl CalmWire {
@@ -44,7 +42,6 @@ impl CalmWire {
         ensures taken { IfOk result (λ wire. wire.shelf.taken ≡ []) }
         ensures room { IfOk result (λ wire. wire.shelf.room ≡ room) }
         ensures calls { IfOk result (λ wire. wire.calls ≡ Some []) }
-        ensures faults { IfOk result (λ wire. wire.faults ≡ 0) }
         ensures cut { IfOk result (λ wire. wire.cut ≡ false) }
         ensures closed { IfOk result (λ wire. wire.closed ≡ false) }
         ensures ended { IfOk result (λ wire. wire.ended ≡ false) }
@@ -55,7 +52,6 @@ impl CalmWire {
             tape,
             shelf,
             calls: Calls::new(alloc),
-            faults: 0,
             cut: false,
             closed: false,
             ended: false,
@@ -83,11 +79,16 @@ impl CalmWire {
         self.calls.noted()
     }
 
-    /// Counts a write that failed.
+    /// Whether a write has failed before the wire was closed.
+    pub fn is_cut(&self) -> bool
+        ensures { result ≡ self.now.cut }
+    {
+        self.cut
+    }
+
+    /// Notes a write that failed.
     fn fail(&mut self) -> Result<usize, Failed>
         ensures failed { IsErr result }
-        ensures rose { Rose self.old.faults self.new.faults }
-        ensures later { self.old.faults ≤ self.new.faults }
         ensures cut { self.new.cut ≡ (self.old.cut || not self.old.closed) }
         ensures tape { self.new.tape ≡ self.old.tape }
         ensures shelf { self.new.shelf ≡ self.old.shelf }
@@ -96,7 +97,6 @@ impl CalmWire {
         ensures ended { self.new.ended ≡ self.old.ended }
     {
         self.calls.note(WireCall::Wrote(0));
-        self.faults = self.faults.saturating_add(1);
         self.cut |= !self.closed;
         Err(Failed)
     }
@@ -111,7 +111,7 @@ impl Wire for CalmWire {
 
     ghost calls = { λ w. w.calls };
 
-    ghost faults = { λ w. w.faults };
+    ghost lost = { λ _. false };
 
     ghost cut = { λ w. w.cut };
 
@@ -131,7 +131,6 @@ impl Wire for CalmWire {
         ensures ended { self.new.ended ≡ (self.old.ended || tells_end self.old.closed (length into.old) result) }
         ensures shut { IsTrue self.old.closed → result ≡ Ok 0 }
         ensures cut { self.new.cut ≡ self.old.cut }
-        ensures cause { HasCause self.old.faults self.new.faults result }
     {
         if self.closed {
             self.calls.note(WireCall::Read(0));
@@ -157,7 +156,6 @@ impl Wire for CalmWire {
         ensures ended { self.new.ended ≡ self.old.ended }
         ensures shut { IsTrue self.old.closed → IsErr result }
         ensures cut { MatchResult result (λ _. self.new.cut ≡ self.old.cut) (λ _. self.new.cut ≡ (self.old.cut || not self.old.closed)) }
-        ensures cause { HasCause self.old.faults self.new.faults result }
     {
         if self.closed {
             return self.fail();

@@ -1,5 +1,5 @@
 //! What a program reaches outside itself, as traits with a written meaning.
-//! Each object has a count of faults, which rises where a call answers `Failed` and stands still else, and may tell the bytes that it holds.
+//! Each object tells of its failures, a wire whether a read or a write has failed, any other by a count of faults, which rises where a call answers `Failed` and stands still else. It may tell the bytes that it holds.
 //! Beside the traits stand objects in memory for tests, scripted to fail or calm, and the adapters to the real world.
 #![tactic(auto)]
 

@@ -4,7 +4,6 @@ ghost use Rattle.std.specs.Io.KnownBytes.{ReadConsumes, WriteAppends};
 ghost use Rattle.outside_traits.specs.Calls.{moved, tells_end};
 ghost use Rattle.outside_traits.specs.Told.{Lists};
 ghost use Rattle.outside_traits.specs.declared.calls.WireCall.TheVariants.{Read, Wrote};
-ghost use Rattle.outside_traits.specs.Causes.{HasCause};
 ghost use Rattle.outside_traits.specs.Memory.{room_left, IsNext};
 ghost use Rattle.outside_traits.specs.Wires.{readable};
 
@@ -17,7 +16,7 @@ use crate::traits::Wire;
 use std::alloc::{AllocError, Global};
 use std::marker::Model;
 
-/// A wire in memory on which bytes come and go in pieces, with the failures of a script. It fails too, which it counts, where the room that it was made with is used up or it is closed.
+/// A wire in memory on which bytes come and go in pieces, with the failures of a script. A write fails too where the room that it was made with is used up or it is closed.
 #[derive(Drop)]
 pub struct ScriptedWire {
     script: Script,
@@ -25,6 +24,7 @@ pub struct ScriptedWire {
     shelf: Shelf,
     calls: Calls,
     piece: usize,
+    lost: bool,
     cut: bool,
     closed: bool,
     ended: bool,
@@ -36,7 +36,7 @@ impl Model for ScriptedWire {
 
     ghost Value = { ScriptedLine };
 
-    ghost view = { λ w. record { script = w.script; tape = w.tape; shelf = w.shelf; calls = w.calls; piece = w.piece; cut = w.cut; closed = w.closed; ended = w.ended } };
+    ghost view = { λ w. record { script = w.script; tape = w.tape; shelf = w.shelf; calls = w.calls; piece = w.piece; lost = w.lost; cut = w.cut; closed = w.closed; ended = w.ended } };
 
     ghost invariant = { λ w. 0 < w.piece };
 }
@@ -58,6 +58,7 @@ impl ScriptedWire {
         ensures room { IfOk result (λ wire. wire.shelf.room ≡ room) }
         ensures calls { IfOk result (λ wire. wire.calls ≡ Some []) }
         ensures piece { IfOk result (λ wire. wire.piece ≡ piece) }
+        ensures lost { IfOk result (λ wire. wire.lost ≡ false) }
         ensures cut { IfOk result (λ wire. wire.cut ≡ false) }
         ensures closed { IfOk result (λ wire. wire.closed ≡ false) }
         ensures ended { IfOk result (λ wire. wire.ended ≡ false) }
@@ -70,6 +71,7 @@ impl ScriptedWire {
             shelf,
             calls: Calls::new(alloc),
             piece,
+            lost: false,
             cut: false,
             closed: false,
             ended: false,
@@ -97,7 +99,21 @@ impl ScriptedWire {
         self.calls.noted()
     }
 
-    /// Notes a write that failed, which was counted.
+    /// Whether a read has failed.
+    pub fn is_lost(&self) -> bool
+        ensures { result ≡ self.now.lost }
+    {
+        self.lost
+    }
+
+    /// Whether a write has failed before the wire was closed.
+    pub fn is_cut(&self) -> bool
+        ensures { result ≡ self.now.cut }
+    {
+        self.cut
+    }
+
+    /// Notes a write that failed.
     fn fail(&mut self) -> Result<usize, Failed>
         ensures failed { IsErr result }
         ensures script { self.new.script ≡ self.old.script }
@@ -105,6 +121,7 @@ impl ScriptedWire {
         ensures shelf { self.new.shelf ≡ self.old.shelf }
         ensures calls { Lists self.old.calls self.new.calls (Wrote 0 ∷ []) }
         ensures piece { self.new.piece ≡ self.old.piece }
+        ensures lost { self.new.lost ≡ self.old.lost }
         ensures cut { self.new.cut ≡ (self.old.cut || not self.old.closed) }
         ensures closed { self.new.closed ≡ self.old.closed }
         ensures ended { self.new.ended ≡ self.old.ended }
@@ -124,7 +141,7 @@ impl Wire for ScriptedWire {
 
     ghost calls = { λ w. w.calls };
 
-    ghost faults = { λ w. w.script.faults };
+    ghost lost = { λ w. w.lost };
 
     ghost cut = { λ w. w.cut };
 
@@ -148,8 +165,8 @@ impl Wire for ScriptedWire {
         ensures closed { self.new.closed ≡ self.old.closed }
         ensures ended { self.new.ended ≡ (self.old.ended || tells_end self.old.closed (length into.old) result) }
         ensures shut { IsTrue self.old.closed → result ≡ Ok 0 }
+        ensures lost { MatchResult result (λ _. self.new.lost ≡ self.old.lost) (λ _. self.new.lost ≡ true) }
         ensures cut { self.new.cut ≡ self.old.cut }
-        ensures cause { HasCause self.old.script.faults self.new.script.faults result }
     {
         if self.closed {
             self.calls.note(WireCall::Read(0));
@@ -157,6 +174,7 @@ impl Wire for ScriptedWire {
         }
         if self.script.fails() {
             self.calls.note(WireCall::Read(0));
+            self.lost = true;
             return Err(Failed);
         }
         let count = self.tape.give(self.piece, into);
@@ -181,19 +199,14 @@ impl Wire for ScriptedWire {
         ensures closed { self.new.closed ≡ self.old.closed }
         ensures ended { self.new.ended ≡ self.old.ended }
         ensures shut { IsTrue self.old.closed → IsErr result }
+        ensures lost { self.new.lost ≡ self.old.lost }
         ensures cut { MatchResult result (λ _. self.new.cut ≡ self.old.cut) (λ _. self.new.cut ≡ (self.old.cut || not self.old.closed)) }
-        ensures cause { HasCause self.old.script.faults self.new.script.faults result }
     {
-        if self.closed {
-            self.script.count_fault();
-            return self.fail();
-        }
-        if self.script.fails() {
+        if self.closed || self.script.fails() {
             return self.fail();
         }
         let count = self.shelf.keep(self.piece, from);
         if count == 0 && !from.is_empty() {
-            self.script.count_fault();
             return self.fail();
         }
         self.calls.note(WireCall::Wrote(count));

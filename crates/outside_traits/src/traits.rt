@@ -61,7 +61,7 @@ pub trait Sink {
         ensures cause { HasCause (faults self.old) (faults self.new) result };
 }
 
-/// A connection: bytes come in and go out on it, until it is closed. A closed wire answers a read as at the end of input, and a write with a failure.
+/// A connection: bytes come in and go out on it, until it is closed. A closed wire answers a read as at the end of input, and a write with a failure, which is none of the wire.
 pub trait Wire {
     /// The bytes that were read, where they are told.
     ghost given: { Self → Option (List ℕ) };
@@ -75,8 +75,8 @@ pub trait Wire {
     /// Its reads and writes in order, where they are told.
     ghost calls: { Self → Option (List WireCall) };
 
-    /// A number that rises with each call that fails, and stands else.
-    ghost faults: { Self → ℕ };
+    /// Whether a read has failed.
+    ghost lost: { Self → Bool };
 
     /// Whether a write has failed before the wire was closed.
     ghost cut: { Self → Bool };
@@ -98,8 +98,8 @@ pub trait Wire {
         ensures closed { closed self.new ≡ closed self.old }
         ensures ended { ended self.new ≡ (ended self.old || tells_end (closed self.old) (length into.old) result) }
         ensures shut { IsTrue (closed self.old) → result ≡ Ok 0 }
-        ensures cut { cut self.new ≡ cut self.old }
-        ensures cause { HasCause (faults self.old) (faults self.new) result };
+        ensures lost { MatchResult result (λ _. lost self.new ≡ lost self.old) (λ _. lost self.new ≡ true) }
+        ensures cut { cut self.new ≡ cut self.old };
 
     /// Takes a front of the bytes.
     fn write(&mut self, from: &[u8]) -> Result<usize, Failed>
@@ -112,8 +112,8 @@ pub trait Wire {
         ensures closed { closed self.new ≡ closed self.old }
         ensures ended { ended self.new ≡ ended self.old }
         ensures shut { IsTrue (closed self.old) → IsErr result }
-        ensures cut { MatchResult result (λ _. cut self.new ≡ cut self.old) (λ _. cut self.new ≡ (cut self.old || not (closed self.old))) }
-        ensures cause { HasCause (faults self.old) (faults self.new) result };
+        ensures lost { lost self.new ≡ lost self.old }
+        ensures cut { MatchResult result (λ _. cut self.new ≡ cut self.old) (λ _. cut self.new ≡ (cut self.old || not (closed self.old))) };
 
     /// Closes the wire, which drops what is left to read.
     fn close(&mut self)
@@ -123,6 +123,6 @@ pub trait Wire {
         ensures taken { taken self.new ≡ taken self.old }
         ensures calls { calls self.new ≡ calls self.old }
         ensures ended { ended self.new ≡ ended self.old }
-        ensures cut { cut self.new ≡ cut self.old }
-        ensures faults { faults self.new ≡ faults self.old };
+        ensures lost { lost self.new ≡ lost self.old }
+        ensures cut { cut self.new ≡ cut self.old };
 }

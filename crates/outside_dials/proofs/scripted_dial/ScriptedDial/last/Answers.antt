@@ -4,4 +4,4 @@ use Rattle.outside_dials.specs.Dials.{ScriptedSwitch}
 use Rattle.outside_dials.proofs.scripted_dial.ScriptedDial.last.Goals as goal
 
 pub returns-clause-closed : goal.returns-clause-closed
-returns-clause-closed c = subst (λ (d : ScriptedSwitch). IfSome d.last (λ w. w.wire.closed ≡ true)) c.self.view_is c.self.invariant.1
+returns-clause-closed c = subst (λ (d : ScriptedSwitch). IfSome d.last (λ w. w.closed ≡ true)) c.self.view_is c.self.invariant.1
