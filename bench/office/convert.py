@@ -426,8 +426,8 @@ def says(name, what, value):
 
 
 def spoilt_sessions(run):
-    """Records that are spoilt: events that are cut or exchanged, a run that stops in the middle, a posting that comes too
-    soon, and the first one behind the start of a single service."""
+    """Records that are spoilt: events that are cut or exchanged, a run that stops in the middle, a posting that
+    comes too soon, and the first one behind the start of a single service."""
     if run.sessions is None:
         return ''
     out = []
@@ -454,9 +454,8 @@ def spoilt_sessions(run):
         first = next((a[1] for _, a in h if a[0] == 'post'), None)
         j = next((j for j in range(i, len(h)) if h[j][1][0] == 'post' and h[j][1][1] != first), None)
         if j is not None:
-            out.append(says('spoilt_posted_too_soon',
-                            f'is_still setting {run.budget} (with_at {i} ({entry(h[j])} ∷ {entry(h[i])} ∷ []) (with_at {j} [] history)) sessions',
-                            'false'))
+            moved = f'with_at {i} ({entry(h[j])} ∷ {entry(h[i])} ∷ []) (with_at {j} [] history)'
+            out.append(says('spoilt_posted_too_soon', f'is_still setting {run.budget} ({moved}) sessions', 'false'))
     if run.workers is None and h[0][1][:2] == ('post', 0) and run.sessions and run.parsed.services[run.service_of(0)]['single']:
         k = next(k for k, (s, a) in enumerate(h) if s == 0 and a[0] == 'adopt')
         out.append(says('spoilt_posted_behind_the_start',

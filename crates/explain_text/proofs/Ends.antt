@@ -11,7 +11,7 @@ use Rattle.jolie_tokens.specs.Outcomes.{UnlessMemory}
 use Rattle.parse_hints.specs.MayStand.{IsNoMemory}
 use Rattle.parse_hints.proofs.Trials.{fits, none_read, same_tokens}
 use Rattle.explain_text.specs.declared.advice.Advice.TheVariants as advice
-use Rattle.explain_text.specs.Advised.{EndInSemicolon, EndsInSemicolon, IsAdvisedAt}
+use Rattle.explain_text.specs.Advised.{LastIsSemicolon, EndsInSemicolon, IsAdvisedAt}
 
 -- what lex says of bytes that have tokens
 abbrev GivesAll : List ℕ → Result (List Token) LexError → Type 0
@@ -19,11 +19,11 @@ GivesAll bytes r = (tokens : List Token) → length bytes ≤ longest → IsRead
 
 -- bytes end as the tokens that lex gives
 pub ends_so : (bytes : List ℕ) (r : Result (List Token) LexError) (tokens : List Token) (b : Bool) → r ≡ Ok tokens → (IsErrOf r lex.TooLong ↔ longest < length bytes)
-    → GivesAll bytes r → IsRead bytes tokens → MatchBool b (EndInSemicolon tokens) (EndInSemicolon tokens → ⊥) → MatchBool b (EndsInSemicolon bytes) (EndsInSemicolon bytes → ⊥)
+    → GivesAll bytes r → IsRead bytes tokens → MatchBool b (LastIsSemicolon tokens) (LastIsSemicolon tokens → ⊥) → MatchBool b (EndsInSemicolon bytes) (EndsInSemicolon bytes → ⊥)
 ends_so bytes r tokens true is fit all read end =
-    record { fits = fits r tokens (length bytes) is fit; tokens = tokens; read = read; end = end }
+    record { fits = fits r tokens (length bytes) is fit; tokens = tokens; read = read; last = end }
 ends_so bytes r tokens false is fit all read not =
-    λ e. not (subst EndInSemicolon (sym (same_tokens bytes r tokens e.tokens is all e.fits e.read)) e.end)
+    λ e. not (subst LastIsSemicolon (sym (same_tokens bytes r tokens e.tokens is all e.fits e.read)) e.last)
 
 -- bytes to which lex gives no tokens end in none
 pub ends_nowhere : (bytes : List ℕ) (r : Result (List Token) LexError) (e f : LexError) → r ≡ Err e → e ≡ f → IsNoMemory f → GivesAll bytes r → EndsInSemicolon bytes → ⊥

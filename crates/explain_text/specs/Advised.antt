@@ -12,8 +12,8 @@ use Rattle.explain_text.specs.declared.advice.Advice.{Advice}
 use Rattle.explain_text.specs.declared.advice.Advice.TheVariants as advice
 
 -- the last of tokens is `;`
-abbrev pub EndInSemicolon : List Token → Type 0
-EndInSemicolon tokens =
+abbrev pub LastIsSemicolon : List Token → Type 0
+LastIsSemicolon tokens =
     option_map (λ (t : Token). t.kind) (slice_get tokens (length tokens - 1)) ≡ Some (kind.Sign sign.Semicolon)
 
 -- the bytes have tokens, of which the last is `;`
@@ -21,7 +21,7 @@ pub record EndsInSemicolon (bytes : List ℕ) : Type 0 where
   pub fits : length bytes ≤ longest
   pub tokens : List Token
   pub read : IsRead bytes tokens
-  pub end : EndInSemicolon tokens
+  pub last : LastIsSemicolon tokens
 
 -- the advice suits a token that may not stand at a place, by the bytes from there on and the tokens before
 abbrev pub Suits : Advice → List ℕ → ℕ → Type 0

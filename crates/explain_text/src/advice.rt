@@ -82,7 +82,7 @@ fn ends_in_semicolon(alloc: Global, bytes: &[u8]) -> Result<bool, AllocError>
     ensures { IfOk result (λ ends. MatchBool ends (spec.EndsInSemicolon bytes.now) (spec.EndsInSemicolon bytes.now → ⊥)) }
 {
     match lex(alloc, bytes) {
-        Ok(tokens) => Ok(end_in_semicolon(tokens.as_slice())),
+        Ok(tokens) => Ok(last_is_semicolon(tokens.as_slice())),
         Err(LexError::TooLong) => Ok(false),
         Err(LexError::BadByte(_)) => Ok(false),
         Err(LexError::OpenString(_)) => Ok(false),
@@ -93,8 +93,8 @@ fn ends_in_semicolon(alloc: Global, bytes: &[u8]) -> Result<bool, AllocError>
 }
 
 /// Whether the last of tokens is `;`.
-fn end_in_semicolon(tokens: &[Token]) -> bool
-    ensures { MatchBool result (spec.EndInSemicolon tokens.now) (spec.EndInSemicolon tokens.now → ⊥) }
+fn last_is_semicolon(tokens: &[Token]) -> bool
+    ensures { MatchBool result (spec.LastIsSemicolon tokens.now) (spec.LastIsSemicolon tokens.now → ⊥) }
 {
     match tokens.last() {
         Some(last) => is_semicolon(&last.kind),

@@ -54,6 +54,7 @@ impl<'a> Model for Ports<'a> {
 }
 
 impl<'a> Ports<'a> {
+    /// No ports.
     pub fn new(alloc: Global) -> Ports<'a>
         ensures { result ≡ [] }
     {

@@ -34,8 +34,7 @@ pub record OnlyAdoptions (old new : List Entry) : Type 0 where
   pub is : new ≡ old ++ adoptions
   pub only : list_all is_adoption adoptions ≡ true
 
--- why a session does nothing: it has ended; or it has not, and used its whole budget; or it has not ended and not used
--- its budget, and none of its events is allowed
+-- why a session does nothing: it has ended; or else it used its whole budget; or else none of its events is allowed
 pub data Rests (s : State) (n : ℕ) (st : Stand) (seen : List Entry) : Type 0 where
   ended : HasEnded st → Rests s n st seen
   spent : HasNotEnded st → s.budget ≤ length st.events → Rests s n st seen

@@ -1,5 +1,5 @@
 -- These definitions serve the proofs alone: no promise speaks of them.
--- What the checker keeps of the ports of a service.
+-- Ports with their directions, the texts of names, and what clauses say of operations and of how sessions are run.
 use Rattle.std.specs.Prelude.{ℕ, List, map, flat_map, unwrap_or}
 use Rattle.std.specs.List.{filter_map}
 use Rattle.jolie_ast.specs.declared.name.Name.{Name}
