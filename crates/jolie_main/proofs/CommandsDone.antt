@@ -24,8 +24,9 @@ use Rattle.file_verdicts.specs.declared.verdict.Verdict.{Verdict}
 use Rattle.file_verdicts.specs.declared.verdict.Verdict.TheVariants as verdict
 use Rattle.file_verdicts.specs.Programs.{IsChecked, IsUncheckedBy}
 use Rattle.file_verdicts.specs.RefusalLines.{IsVerdict, refusal_line}
-use Rattle.jolie_main.specs.Outside.{outside, Around, around, at_doors, program_bytes, IsSaid, IsWritten}
+use Rattle.jolie_main.specs.Outside.{outside, Around, around, at_doors, program_bytes, HasAskedFor, IsSaid, IsWritten}
 use Rattle.outside_traits.specs.Causes.{Rose}
+use Rattle.outside_traits.specs.Told.{FilesTold}
 use Rattle.explain_text.specs.Explained.{unreadable_line, IsExplained}
 use Rattle.explain_text.specs.Noted.{IsNoted}
 use Rattle.jolie_main.specs.Headline.{Says, Checks, Explains, Prints, Runs, Serves, HasTravelled, IsTurnedDown, ShowsAlone, IsEmptyRecord, Obeys, Promises, TellsOfFile}
@@ -122,16 +123,16 @@ ran c text found program (Err e) a right is lined doors travelled = tt
 
 -- and another text is refused
 pub not_run : (c : Command) (text : List ℕ) (found : Result Program Refusal) (refusal : Refusal) (r : Result Ended AllocError)
-    (file_faults : ℕ) (source : Giving) (output output_now notes : Taking) (doors : DoorsTold) (trips : List TripsTold)
+    (files : FilesTold) (source : Giving) (output output_now notes : Taking) (doors : DoorsTold) (trips : List TripsTold)
     → IsFound text found → found ≡ Err refusal → IfOk r (λ ended. ended.status ≡ 3)
     → IfOk r (λ ended. IsWritten (refusal_line refusal) output output_now) → IfOk r (λ ended. IsEmptyRecord ended.report)
     → IfOk r (λ ended. Runs c text ended
-    (around (outside file_faults (lines source output notes) doors trips) (outside file_faults (lines source output_now notes) doors trips)))
-not_run c text found refusal (Ok ended) file_faults source output output_now notes doors trips right is status written empty =
+    (around (outside files (lines source output notes) doors trips) (outside files (lines source output_now notes) doors trips)))
+not_run c text found refusal (Ok ended) files source output output_now notes doors trips right is status written empty =
     headline.refused (turned_down text found refusal ended
-    (around (outside file_faults (lines source output notes) doors trips) (outside file_faults (lines source output_now notes) doors trips))
+    (around (outside files (lines source output notes) doors trips) (outside files (lines source output_now notes) doors trips))
     right is status written (record { empty = empty; input = refl; notes = refl; doors = refl; trips = refl }))
-not_run c text found refusal (Err e) file_faults source output output_now notes doors trips right is status written empty = tt
+not_run c text found refusal (Err e) files source output output_now notes doors trips right is status written empty = tt
 
 -- a program is served
 pub served : (IsMade : Line → Type 0) (c : Command) (text : List ℕ) (found : Result Program Refusal) (program : Program)
@@ -145,16 +146,16 @@ served IsMade c text found program (Err e) a right is doored source output trave
 
 -- and another text is refused
 pub not_served : (IsMade : Line → Type 0) (c : Command) (text : List ℕ) (found : Result Program Refusal) (refusal : Refusal)
-    (r : Result Ended AllocError) (file_faults : ℕ) (source : Giving) (output output_now notes : Taking) (doors : DoorsTold)
+    (r : Result Ended AllocError) (files : FilesTold) (source : Giving) (output output_now notes : Taking) (doors : DoorsTold)
     (trips : List TripsTold) → IsFound text found → found ≡ Err refusal → IfOk r (λ ended. ended.status ≡ 3)
     → IfOk r (λ ended. IsWritten (refusal_line refusal) output output_now) → IfOk r (λ ended. IsEmptyRecord ended.report)
     → IfOk r (λ ended. Serves IsMade c text ended
-    (around (outside file_faults (lines source output notes) doors trips) (outside file_faults (lines source output_now notes) doors trips)))
-not_served IsMade c text found refusal (Ok ended) file_faults source output output_now notes doors trips right is status written empty =
+    (around (outside files (lines source output notes) doors trips) (outside files (lines source output_now notes) doors trips)))
+not_served IsMade c text found refusal (Ok ended) files source output output_now notes doors trips right is status written empty =
     headline.refused (turned_down text found refusal ended
-    (around (outside file_faults (lines source output notes) doors trips) (outside file_faults (lines source output_now notes) doors trips))
+    (around (outside files (lines source output notes) doors trips) (outside files (lines source output_now notes) doors trips))
     right is status written (record { empty = empty; input = refl; notes = refl; doors = refl; trips = refl }))
-not_served IsMade c text found refusal (Err e) file_faults source output output_now notes doors trips right is status written empty = tt
+not_served IsMade c text found refusal (Err e) files source output output_now notes doors trips right is status written empty = tt
 
 -- ---- a command over a file that was read, by the name that it was read by
 
@@ -170,59 +171,61 @@ DoesBy IsMade c text did act = elim act [
 ]
 
 module _ (IsMade : Line → Type 0) (c : Command) (held : List ℕ → Option (List ℕ)) (name text : List ℕ) (named : name ≡ c.file)
-    (read : IfSome (held name) (λ all. text ≡ program_bytes all)) where
-  obeys : (act : Action) (ended : Ended) (a : Around) → c.action ≡ act → a.now.file_faults ≡ a.before.file_faults
-      → DoesBy IsMade c text (ended, a) act → Obeys IsMade c (held c.file) ended a
-  obeys act ended a is calm does =
-      headline.read text (subst (λ n. IfSome (held n) (λ all. text ≡ program_bytes all)) named read) calm
+    (read : IfSome (held name) (λ all. text ≡ program_bytes all)) (files files_now : FilesTold)
+    (asks : HasAskedFor name files files_now) (calm : files_now.faults ≡ files.faults) where
+  obeys : (act : Action) (ended : Ended) (a : Around) → c.action ≡ act → HasAskedFor name a.before.files a.now.files
+      → a.now.files.faults ≡ a.before.files.faults → DoesBy IsMade c text (ended, a) act → Obeys IsMade c (held c.file) ended a
+  obeys act ended a is asked still does =
+      headline.read text (subst (λ n. HasAskedFor n a.before.files a.now.files) named asked)
+      (subst (λ n. IfSome (held n) (λ all. text ≡ program_bytes all)) named read) still
       (subst (λ x. DoesBy IsMade c text (ended, a) x) (sym is) does)
 
-  pub obeys_check : (shown : List ℕ) (faults faults_now : ℕ) (source : Giving) (output output_now notes : Taking)
-      (doors : DoorsTold) (trips : List TripsTold) (r : Result Ended AllocError) → c.action ≡ action.Check → faults_now ≡ faults
-      → shown ≡ text → IfOk r (λ ended. Checks shown ended.status output output_now) → IfOk r (λ ended. IsEmptyRecord ended.report)
+  pub obeys_check : (shown : List ℕ) (source : Giving) (output output_now notes : Taking) (doors : DoorsTold)
+      (trips : List TripsTold) (r : Result Ended AllocError) → c.action ≡ action.Check → shown ≡ text
+      → IfOk r (λ ended. Checks shown ended.status output output_now) → IfOk r (λ ended. IsEmptyRecord ended.report)
       → IfOk r (λ ended. Obeys IsMade c (held c.file) ended
-      (around (outside faults (lines source output notes) doors trips) (outside faults_now (lines source output_now notes) doors trips)))
-  obeys_check shown faults faults_now source output output_now notes doors trips (Ok ended) is calm same shows empty =
-      obeys action.Check ended (around (outside faults (lines source output notes) doors trips)
-      (outside faults_now (lines source output_now notes) doors trips)) is calm (
+      (around (outside files (lines source output notes) doors trips) (outside files_now (lines source output_now notes) doors trips)))
+  obeys_check shown source output output_now notes doors trips (Ok ended) is same shows empty =
+      obeys action.Check ended (around (outside files (lines source output notes) doors trips)
+      (outside files_now (lines source output_now notes) doors trips)) is asks calm (
         subst (λ t. Checks t ended.status output output_now) same shows,
         record { empty = empty; input = refl; notes = refl; doors = refl; trips = refl },
       )
-  obeys_check shown faults faults_now source output output_now notes doors trips (Err e) is calm same shows empty = tt
+  obeys_check shown source output output_now notes doors trips (Err e) is same shows empty = tt
 
-  pub obeys_explain : (shown : List ℕ) (faults faults_now : ℕ) (source : Giving) (output output_now notes : Taking)
-      (doors : DoorsTold) (trips : List TripsTold) (r : Result Ended AllocError) → c.action ≡ action.Explain → faults_now ≡ faults
-      → shown ≡ text → (called : List ℕ) → called ≡ c.file
+  pub obeys_explain : (shown : List ℕ) (source : Giving) (output output_now notes : Taking) (doors : DoorsTold)
+      (trips : List TripsTold) (r : Result Ended AllocError) → c.action ≡ action.Explain → shown ≡ text
+      → (called : List ℕ) → called ≡ c.file
       → IfOk r (λ ended. Explains called shown ended.status output output_now) → IfOk r (λ ended. IsEmptyRecord ended.report)
       → IfOk r (λ ended. Obeys IsMade c (held c.file) ended
-      (around (outside faults (lines source output notes) doors trips) (outside faults_now (lines source output_now notes) doors trips)))
-  obeys_explain shown faults faults_now source output output_now notes doors trips (Ok ended) is calm same called by shows empty =
-      obeys action.Explain ended (around (outside faults (lines source output notes) doors trips)
-      (outside faults_now (lines source output_now notes) doors trips)) is calm (
+      (around (outside files (lines source output notes) doors trips) (outside files_now (lines source output_now notes) doors trips)))
+  obeys_explain shown source output output_now notes doors trips (Ok ended) is same called by shows empty =
+      obeys action.Explain ended (around (outside files (lines source output notes) doors trips)
+      (outside files_now (lines source output_now notes) doors trips)) is asks calm (
         subst (λ n. Explains n text ended.status output output_now) by (subst (λ t. Explains called t ended.status output output_now) same shows),
         record { empty = empty; input = refl; notes = refl; doors = refl; trips = refl },
       )
-  obeys_explain shown faults faults_now source output output_now notes doors trips (Err e) is calm same called by shows empty = tt
+  obeys_explain shown source output output_now notes doors trips (Err e) is same called by shows empty = tt
 
-  pub obeys_print : (shown : List ℕ) (faults faults_now : ℕ) (source : Giving) (output output_now notes : Taking)
-      (doors : DoorsTold) (trips : List TripsTold) (r : Result Ended AllocError) → c.action ≡ action.Print → faults_now ≡ faults
-      → shown ≡ text → IfOk r (λ ended. Prints shown ended.status output output_now) → IfOk r (λ ended. IsEmptyRecord ended.report)
+  pub obeys_print : (shown : List ℕ) (source : Giving) (output output_now notes : Taking) (doors : DoorsTold)
+      (trips : List TripsTold) (r : Result Ended AllocError) → c.action ≡ action.Print → shown ≡ text
+      → IfOk r (λ ended. Prints shown ended.status output output_now) → IfOk r (λ ended. IsEmptyRecord ended.report)
       → IfOk r (λ ended. Obeys IsMade c (held c.file) ended
-      (around (outside faults (lines source output notes) doors trips) (outside faults_now (lines source output_now notes) doors trips)))
-  obeys_print shown faults faults_now source output output_now notes doors trips (Ok ended) is calm same shows empty =
-      obeys action.Print ended (around (outside faults (lines source output notes) doors trips)
-      (outside faults_now (lines source output_now notes) doors trips)) is calm (
+      (around (outside files (lines source output notes) doors trips) (outside files_now (lines source output_now notes) doors trips)))
+  obeys_print shown source output output_now notes doors trips (Ok ended) is same shows empty =
+      obeys action.Print ended (around (outside files (lines source output notes) doors trips)
+      (outside files_now (lines source output_now notes) doors trips)) is asks calm (
         subst (λ t. Prints t ended.status output output_now) same shows,
         record { empty = empty; input = refl; notes = refl; doors = refl; trips = refl },
       )
-  obeys_print shown faults faults_now source output output_now notes doors trips (Err e) is calm same shows empty = tt
+  obeys_print shown source output output_now notes doors trips (Err e) is same shows empty = tt
 
-  -- what is done with a text does not hang on how often the files failed
-  still_down : (text : List ℕ) (ended : Ended) (n faults faults_now : ℕ) (before now : Lines) (doors doors_now : DoorsTold)
+  -- what is done with a text does not hang on what is told of the files
+  still_down : (text : List ℕ) (ended : Ended) (f : FilesTold) (before now : Lines) (doors doors_now : DoorsTold)
       (trips trips_now : List TripsTold)
-      → IsTurnedDown text ended (around (outside n before doors trips) (outside n now doors_now trips_now))
-      → IsTurnedDown text ended (around (outside faults before doors trips) (outside faults_now now doors_now trips_now))
-  still_down text ended n faults faults_now before now doors doors_now trips trips_now down = record {
+      → IsTurnedDown text ended (around (outside f before doors trips) (outside f now doors_now trips_now))
+      → IsTurnedDown text ended (around (outside files before doors trips) (outside files_now now doors_now trips_now))
+  still_down text ended f before now doors doors_now trips trips_now down = record {
     line = down.line;
     why = down.why;
     status = down.status;
@@ -237,55 +240,54 @@ module _ (IsMade : Line → Type 0) (c : Command) (held : List ℕ → Option (L
   }
 
   -- around a run the files are left alone
-  again : (text : List ℕ) (ended : Ended) (n faults faults_now : ℕ) (before now : Lines) (doors doors_now : DoorsTold)
+  again : (text : List ℕ) (ended : Ended) (f : FilesTold) (before now : Lines) (doors doors_now : DoorsTold)
       (trips trips_now : List TripsTold)
-      → Runs c text ended (around (outside n before doors trips) (outside n now doors_now trips_now))
-      → Runs c text ended (around (outside faults before doors trips) (outside faults_now now doors_now trips_now))
-  again text ended n faults faults_now before now doors doors_now trips trips_now (headline.ran parts checked lined same travelled) =
+      → Runs c text ended (around (outside f before doors trips) (outside f now doors_now trips_now))
+      → Runs c text ended (around (outside files before doors trips) (outside files_now now doors_now trips_now))
+  again text ended f before now doors doors_now trips trips_now (headline.ran parts checked lined same travelled) =
       headline.ran parts checked lined same travelled
-  again text ended n faults faults_now before now doors doors_now trips trips_now (headline.refused down) =
-      headline.refused (still_down text ended n faults faults_now before now doors doors_now trips trips_now down)
+  again text ended f before now doors doors_now trips trips_now (headline.refused down) =
+      headline.refused (still_down text ended f before now doors doors_now trips trips_now down)
 
-  pub obeys_run : (shown : List ℕ) (faults faults_now : ℕ) (before now : Lines) (doors : DoorsTold)
-      (trips trips_now : List TripsTold) (r : Result Ended AllocError) → c.action ≡ action.Run → faults_now ≡ faults
-      → shown ≡ text
-      → ((n : ℕ) (doors : DoorsTold) → IfOk r (λ ended. Runs c shown ended
-      (around (outside n before doors trips) (outside n now doors trips_now))))
+  pub obeys_run : (shown : List ℕ) (before now : Lines) (doors : DoorsTold) (trips trips_now : List TripsTold)
+      (r : Result Ended AllocError) → c.action ≡ action.Run → shown ≡ text
+      → ((f : FilesTold) (doors : DoorsTold) → IfOk r (λ ended. Runs c shown ended
+      (around (outside f before doors trips) (outside f now doors trips_now))))
       → IfOk r (λ ended. Obeys IsMade c (held c.file) ended
-      (around (outside faults before doors trips) (outside faults_now now doors trips_now)))
-  obeys_run shown faults faults_now before now doors trips trips_now (Ok ended) is calm same runs =
-      let a = around (outside faults before doors trips) (outside faults_now now doors trips_now) in
-      obeys action.Run ended a is calm
+      (around (outside files before doors trips) (outside files_now now doors trips_now)))
+  obeys_run shown before now doors trips trips_now (Ok ended) is same runs =
+      let a = around (outside files before doors trips) (outside files_now now doors trips_now) in
+      obeys action.Run ended a is asks calm
       (subst (λ t. Runs c t ended a) same
-      (again shown ended faults faults faults_now before now doors doors trips trips_now (runs faults doors)))
-  obeys_run shown faults faults_now before now doors trips trips_now (Err e) is calm same runs = tt
+      (again shown ended files before now doors doors trips trips_now (runs files doors)))
+  obeys_run shown before now doors trips trips_now (Err e) is same runs = tt
 
   -- and so around what is served
-  once_more : (text : List ℕ) (ended : Ended) (n faults faults_now : ℕ) (before now : Lines) (doors doors_now : DoorsTold)
+  once_more : (text : List ℕ) (ended : Ended) (f : FilesTold) (before now : Lines) (doors doors_now : DoorsTold)
       (trips trips_now : List TripsTold)
-      → Serves IsMade c text ended (around (outside n before doors trips) (outside n now doors_now trips_now))
-      → Serves IsMade c text ended (around (outside faults before doors trips) (outside faults_now now doors_now trips_now))
-  once_more text ended n faults faults_now before now doors doors_now trips trips_now (headline.served parts checked doored source output travelled) =
+      → Serves IsMade c text ended (around (outside f before doors trips) (outside f now doors_now trips_now))
+      → Serves IsMade c text ended (around (outside files before doors trips) (outside files_now now doors_now trips_now))
+  once_more text ended f before now doors doors_now trips trips_now (headline.served parts checked doored source output travelled) =
       headline.served parts checked doored source output travelled
-  once_more text ended n faults faults_now before now doors doors_now trips trips_now (headline.refused down) =
-      headline.refused (still_down text ended n faults faults_now before now doors doors_now trips trips_now down)
+  once_more text ended f before now doors doors_now trips trips_now (headline.refused down) =
+      headline.refused (still_down text ended f before now doors doors_now trips trips_now down)
 
-  pub obeys_serve : (shown : List ℕ) (faults faults_now : ℕ) (source : Giving) (output output_now notes notes_now : Taking)
+  pub obeys_serve : (shown : List ℕ) (source : Giving) (output output_now notes notes_now : Taking)
       (doors doors_now : DoorsTold) (trips trips_now : List TripsTold) (r : Result Ended AllocError)
-      → c.action ≡ action.Serve → faults_now ≡ faults → shown ≡ text
-      → ((n : ℕ) (source : Giving) → IfOk r (λ ended. Serves IsMade c shown ended
-      (around (outside n (lines source output notes) doors trips) (outside n (lines source output_now notes_now) doors_now trips_now))))
+      → c.action ≡ action.Serve → shown ≡ text
+      → ((f : FilesTold) (source : Giving) → IfOk r (λ ended. Serves IsMade c shown ended
+      (around (outside f (lines source output notes) doors trips) (outside f (lines source output_now notes_now) doors_now trips_now))))
       → IfOk r (λ ended. Obeys IsMade c (held c.file) ended
-      (around (outside faults (lines source output notes) doors trips)
-      (outside faults_now (lines source output_now notes_now) doors_now trips_now)))
-  obeys_serve shown faults faults_now source output output_now notes notes_now doors doors_now trips trips_now (Ok ended) is calm same serves =
-      let a = around (outside faults (lines source output notes) doors trips)
-      (outside faults_now (lines source output_now notes_now) doors_now trips_now) in
-      obeys action.Serve ended a is calm
+      (around (outside files (lines source output notes) doors trips)
+      (outside files_now (lines source output_now notes_now) doors_now trips_now)))
+  obeys_serve shown source output output_now notes notes_now doors doors_now trips trips_now (Ok ended) is same serves =
+      let a = around (outside files (lines source output notes) doors trips)
+      (outside files_now (lines source output_now notes_now) doors_now trips_now) in
+      obeys action.Serve ended a is asks calm
       (subst (λ t. Serves IsMade c t ended a) same
-      (once_more shown ended faults faults faults_now (lines source output notes) (lines source output_now notes_now) doors doors_now
-      trips trips_now (serves faults source)))
-  obeys_serve shown faults faults_now source output output_now notes notes_now doors doors_now trips trips_now (Err e) is calm same serves = tt
+      (once_more shown ended files (lines source output notes) (lines source output_now notes_now) doors doors_now
+      trips trips_now (serves files source)))
+  obeys_serve shown source output output_now notes notes_now doors doors_now trips trips_now (Err e) is same serves = tt
 
 -- ---- a file that can't be read
 
@@ -311,15 +313,17 @@ tells_line c called (Ok ended) before now is by written =
 tells_line c called (Err e) before now is by written = tt
 
 -- the command is done
-pub obeys_failed : (IsMade : Line → Type 0) (c : Command) (told : Option (List ℕ)) (faults faults_now : ℕ) (source : Giving)
-    (output output_now notes : Taking) (doors : DoorsTold) (trips : List TripsTold) (r : Result Ended AllocError)
-    → Rose faults faults_now → IfOk r (λ ended. ended.status ≡ 2) → IfOk r (λ ended. TellsOfFile c output output_now)
+pub obeys_failed : (IsMade : Line → Type 0) (c : Command) (told : Option (List ℕ)) (name : List ℕ) (files files_now : FilesTold)
+    (source : Giving) (output output_now notes : Taking) (doors : DoorsTold) (trips : List TripsTold) (r : Result Ended AllocError)
+    → name ≡ c.file → HasAskedFor name files files_now → Rose files.faults files_now.faults
+    → IfOk r (λ ended. ended.status ≡ 2) → IfOk r (λ ended. TellsOfFile c output output_now)
     → IfOk r (λ ended. IsEmptyRecord ended.report)
     → IfOk r (λ ended. Obeys IsMade c told ended
-    (around (outside faults (lines source output notes) doors trips) (outside faults_now (lines source output_now notes) doors trips)))
-obeys_failed IsMade c told faults faults_now source output output_now notes doors trips (Ok ended) rose status tells empty =
-    headline.failed status rose tells (record { empty = empty; input = refl; notes = refl; doors = refl; trips = refl })
-obeys_failed IsMade c told faults faults_now source output output_now notes doors trips (Err e) rose status tells empty = tt
+    (around (outside files (lines source output notes) doors trips) (outside files_now (lines source output_now notes) doors trips)))
+obeys_failed IsMade c told name files files_now source output output_now notes doors trips (Ok ended) named asks rose status tells empty =
+    headline.failed status (subst (λ n. HasAskedFor n files files_now) named asks) rose tells
+    (record { empty = empty; input = refl; notes = refl; doors = refl; trips = refl })
+obeys_failed IsMade c told name files files_now source output output_now notes doors trips (Err e) named asks rose status tells empty = tt
 
 -- ---- the words
 
@@ -334,12 +338,12 @@ promised IsMade line said c held a (Err e) right is obeyed = tt
 
 -- words that ask for help
 pub helped : (IsMade : Line → Type 0) (line : List (List ℕ)) (said : Words) (text shown : List ℕ) (held : List ℕ → Option (List ℕ)) (ended : Ended)
-    (faults : ℕ) (source : Giving) (output output_now notes : Taking) (doors : DoorsTold) (trips : List TripsTold)
+    (files : FilesTold) (source : Giving) (output output_now notes : Taking) (doors : DoorsTold) (trips : List TripsTold)
     → IsUnderstood line said → said ≡ words.Help text → shown ≡ text → Says shown ended.status output output_now
     → IsEmptyRecord ended.report
     → (w : Words) × IsUnderstood line w × Promises IsMade w held ended
-    (around (outside faults (lines source output notes) doors trips) (outside faults (lines source output_now notes) doors trips))
-helped IsMade line said text shown held ended faults source output output_now notes doors trips right is same says empty = (
+    (around (outside files (lines source output notes) doors trips) (outside files (lines source output_now notes) doors trips))
+helped IsMade line said text shown held ended files source output output_now notes doors trips right is same says empty = (
   words.Help text,
   subst (λ w. IsUnderstood line w) is right,
   record {
@@ -351,12 +355,12 @@ helped IsMade line said text shown held ended faults source output output_now no
 
 -- words that are wrong
 pub mistaken : (IsMade : Line → Type 0) (line : List (List ℕ)) (said : Words) (text shown : List ℕ) (held : List ℕ → Option (List ℕ)) (ended : Ended)
-    (faults : ℕ) (source : Giving) (output notes notes_now : Taking) (doors : DoorsTold) (trips : List TripsTold)
+    (files : FilesTold) (source : Giving) (output notes notes_now : Taking) (doors : DoorsTold) (trips : List TripsTold)
     → IsUnderstood line said → said ≡ words.UsageError text → shown ≡ text → ended.status ≡ 1
     → IsWritten shown notes notes_now → IsEmptyRecord ended.report
     → (w : Words) × IsUnderstood line w × Promises IsMade w held ended
-    (around (outside faults (lines source output notes) doors trips) (outside faults (lines source output notes_now) doors trips))
-mistaken IsMade line said text shown held ended faults source output notes notes_now doors trips right is same status written empty = (
+    (around (outside files (lines source output notes) doors trips) (outside files (lines source output notes_now) doors trips))
+mistaken IsMade line said text shown held ended files source output notes notes_now doors trips right is same status written empty = (
   words.UsageError text,
   subst (λ w. IsUnderstood line w) is right,
   record {

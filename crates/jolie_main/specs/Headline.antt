@@ -22,7 +22,7 @@ use Rattle.file_verdicts.specs.declared.refusal.Refusal.{Refusal}
 use Rattle.file_verdicts.specs.RefusalLines.{refusal_line}
 use Rattle.explain_text.specs.Explained.{unreadable_line, IsExplained}
 use Rattle.explain_text.specs.Noted.{IsNoted}
-use Rattle.jolie_main.specs.Outside.{Around, at_doors, FirstTravelled, IsReadOf, IsWhole, IsCut, IsWritten}
+use Rattle.jolie_main.specs.Outside.{Around, at_doors, FirstTravelled, HasAskedFor, IsReadOf, IsWhole, IsCut, IsWritten}
 
 -- nothing was recorded
 pub record IsEmptyRecord (run : Record) : Type 0 where
@@ -120,29 +120,32 @@ TellsOfFile c before now = elim c.action [
   | _ ↦ now ≡ before
 ]
 
--- A command over a file: it does so with the text that is read of it, or the file failed, and then the status is 2,
--- nothing is read, noted, sent or recorded, and what is said of the file is all that is written.
+-- A command over a file, which alone is asked for: it does so with the text that is read of it, or the file failed,
+-- and then the status is 2, nothing is read, noted, sent or recorded, and what is said of the file is all that is
+-- written.
 pub data Obeys (IsMade : Line → Type 0) (c : Command) (told : Option (List ℕ)) (ended : Ended) (a : Around)
     : Type 0 where
-  read : (text : List ℕ) → IsReadOf told text → a.now.file_faults ≡ a.before.file_faults → Does IsMade c text ended a
-      → Obeys IsMade c told ended a
-  failed : ended.status ≡ 2 → Rose a.before.file_faults a.now.file_faults
-      → TellsOfFile c a.before.lines.output a.now.lines.output → ShowsAlone ended a → Obeys IsMade c told ended a
+  read : (text : List ℕ) → HasAskedFor c.file a.before.files a.now.files → IsReadOf told text
+      → a.now.files.faults ≡ a.before.files.faults → Does IsMade c text ended a → Obeys IsMade c told ended a
+  failed : ended.status ≡ 2 → HasAskedFor c.file a.before.files a.now.files
+      → Rose a.before.files.faults a.now.files.faults → TellsOfFile c a.before.lines.output a.now.lines.output
+      → ShowsAlone ended a → Obeys IsMade c told ended a
 
 -- ---- the words
 
--- A text of help or of the version goes to the output, and that is all.
+-- A text of help or of the version goes to the output, and that is all: no file is asked for.
 pub record ShowsHelp (text : List ℕ) (ended : Ended) (a : Around) : Type 0 where
   pub said : Says text ended.status a.before.lines.output a.now.lines.output
-  pub files : a.now.file_faults ≡ a.before.file_faults
+  pub files : a.now.files ≡ a.before.files
   pub alone : ShowsAlone ended a
 
--- A usage error has status 1: its text goes to the standard error, which the notes are, and that is all.
+-- A usage error has status 1: its text goes to the standard error, which the notes are, and that is all. No file is
+-- asked for.
 pub record ShowsUsageError (text : List ℕ) (ended : Ended) (a : Around) : Type 0 where
   pub status : ended.status ≡ 1
   pub noted : IsWritten text a.before.lines.notes a.now.lines.notes
   pub empty : IsEmptyRecord ended.report
-  pub files : a.now.file_faults ≡ a.before.file_faults
+  pub files : a.now.files ≡ a.before.files
   pub input : a.now.lines.source ≡ a.before.lines.source
   pub output : a.now.lines.output ≡ a.before.lines.output
   pub doors : a.now.doors ≡ a.before.doors

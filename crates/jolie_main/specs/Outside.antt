@@ -1,7 +1,8 @@
 -- What the outside tells, and what went out.
-use Rattle.std.specs.Prelude.{◌≡◌, ◌⊎◌, ℕ, List, ◌∷◌, take, Option, IfSome, Bool, MatchBool}
+use Rattle.std.specs.Prelude.{◌≡◌, ◌⊎◌, ℕ, List, [], ◌∷◌, take, Option, IfSome, Bool, MatchBool}
 use Rattle.std.specs.Io.KnownBytes.{Appends}
 use Rattle.outside_traits.specs.Causes.{Rose}
+use Rattle.outside_traits.specs.Told.{FilesTold, Lists}
 use Rattle.office_core.specs.declared.history.Entry.{Entry}
 use Rattle.office_core.specs.Limits.{Setting}
 use Rattle.branch_workers.specs.Lines.{IsProperFront}
@@ -12,18 +13,17 @@ use Rattle.door_run.specs.Used.{DoorsTold}
 use Rattle.door_run.specs.Doored.{Outside as Served, outside as served}
 use Rattle.trip_laws.specs.Trips.{TripsTold}
 
--- what the outside tells at a moment: how often the files failed; the input, the output and the notes; the doors; and
--- of each link its trips, where they are told, and how often one has failed
+-- what the outside tells at a moment: the files; the input, the output and the notes; the doors; and of each link its
+-- trips, where they are told, and how often one has failed
 pub record Outside : Type 0 where
-  pub file_faults : ℕ
+  pub files : FilesTold
   pub lines : Lines
   pub doors : DoorsTold
   pub trips : List TripsTold
 
 -- the outside from its parts
-abbrev pub outside : ℕ → Lines → DoorsTold → List TripsTold → Outside
-outside file_faults lines doors trips =
-    record { file_faults = file_faults; lines = lines; doors = doors; trips = trips }
+abbrev pub outside : FilesTold → Lines → DoorsTold → List TripsTold → Outside
+outside files lines doors trips = record { files = files; lines = lines; doors = doors; trips = trips }
 
 -- the outside before a call and after it
 pub record Around : Type 0 where
@@ -47,6 +47,10 @@ program_bytes file = take 1048577 file
 -- the text is what is read of a file, where the outside tells what it holds
 abbrev pub IsReadOf : Option (List ℕ) → List ℕ → Type 0
 IsReadOf told text = IfSome told (λ file. text ≡ program_bytes file)
+
+-- of all files the one of this name was asked for, once, where it is told
+abbrev pub HasAskedFor : List ℕ → FilesTold → FilesTold → Type 0
+HasAskedFor name before now = Lists before.asked now.asked (name ∷ [])
 
 -- ---- outputs
 

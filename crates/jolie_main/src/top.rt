@@ -1,10 +1,11 @@
 //! What the words of the command line ask for is done.
 
-ghost use Rattle.std.specs.Prelude.{◌≡◌, ◌<◌, ℕ, IfOk, drop, length, map};
+ghost use Rattle.std.specs.Prelude.{◌≡◌, ◌<◌, IfOk, drop, length, map};
 ghost use Rattle.command_words.specs.declared.words.Words.{Words as Said};
 ghost use Rattle.command_words.specs.Usage.{IsUnderstood, spelled};
 ghost use Rattle.behaviour_tree.specs.PartsView.{parts_of};
 ghost use Rattle.office_core.specs.Limits.{run_of};
+ghost use Rattle.outside_traits.specs.Told.{FilesTold};
 ghost use Rattle.sink_writing.specs.Sinks.{taking};
 ghost use Rattle.line_run.specs.Lined.{Giving, giving, outside as lines, task, IsLined};
 ghost use Rattle.http_connection.specs.Seen.{Line, failures_of, line_of};
@@ -114,9 +115,9 @@ fn run_text<S: Source, K: Sink, N: Sink, L: Link>(
     links: &mut Vec<L>,
 ) -> Result<Ended, AllocError>
     requires link { 0 < length links.old.items }
-    ensures runs { (file_faults : ℕ) (doors : DoorsTold) → IfOk result (λ ended. Runs command.now text.now ended (around
-        (outside file_faults (lines (giving (S.left input.old) (S.faults input.old)) (taking (K.taken output.old) (K.faults output.old)) (taking (N.taken notes.old) (N.faults notes.old))) doors (map (λ l. trips_told (L.trips l) (L.faults l)) links.old.items))
-        (outside file_faults (lines (giving (S.left input.new) (S.faults input.new)) (taking (K.taken output.new) (K.faults output.new)) (taking (N.taken notes.new) (N.faults notes.new))) doors (map (λ l. trips_told (L.trips l) (L.faults l)) links.new.items)))) }
+    ensures runs { (files : FilesTold) (doors : DoorsTold) → IfOk result (λ ended. Runs command.now text.now ended (around
+        (outside files (lines (giving (S.left input.old) (S.faults input.old)) (taking (K.taken output.old) (K.faults output.old)) (taking (N.taken notes.old) (N.faults notes.old))) doors (map (λ l. trips_told (L.trips l) (L.faults l)) links.old.items))
+        (outside files (lines (giving (S.left input.new) (S.faults input.new)) (taking (K.taken output.new) (K.faults output.new)) (taking (N.taken notes.new) (N.faults notes.new))) doors (map (λ l. trips_told (L.trips l) (L.faults l)) links.new.items)))) }
     ensures others { drop 1 links.new.items ≡ drop 1 links.old.items }
 {
     let program = match program_in(alloc, text)? {
@@ -169,9 +170,9 @@ fn serve_text<K: Sink, N: Sink, D: Doors, L: Link>(
     links: &mut Vec<L>,
 ) -> Result<Ended, AllocError>
     requires link { 0 < length links.old.items }
-    ensures serves { (file_faults : ℕ) (source : Giving) → IfOk result (λ ended. Serves (λ line. (wire : D.D.W) × (line ≡ line_of (D.D.W.given wire) (D.D.W.left wire) (D.D.W.taken wire) (failures_of (D.D.W.lost wire) (D.D.W.cut wire)) (D.D.W.closed wire))) command.now text.now ended (around
-        (outside file_faults (lines source (taking (K.taken output.old) (K.faults output.old)) (taking (N.taken notes.old) (N.faults notes.old))) (doors_told (D.faults doors.old) (D.tally doors.old) (D.locations doors.old) (D.returned doors.old) (D.returned_doors doors.old)) (map (λ l. trips_told (L.trips l) (L.faults l)) links.old.items))
-        (outside file_faults (lines source (taking (K.taken output.new) (K.faults output.new)) (taking (N.taken notes.new) (N.faults notes.new))) (doors_told (D.faults doors.new) (D.tally doors.new) (D.locations doors.new) (D.returned doors.new) (D.returned_doors doors.new)) (map (λ l. trips_told (L.trips l) (L.faults l)) links.new.items)))) }
+    ensures serves { (files : FilesTold) (source : Giving) → IfOk result (λ ended. Serves (λ line. (wire : D.D.W) × (line ≡ line_of (D.D.W.given wire) (D.D.W.left wire) (D.D.W.taken wire) (failures_of (D.D.W.lost wire) (D.D.W.cut wire)) (D.D.W.closed wire))) command.now text.now ended (around
+        (outside files (lines source (taking (K.taken output.old) (K.faults output.old)) (taking (N.taken notes.old) (N.faults notes.old))) (doors_told (D.faults doors.old) (D.tally doors.old) (D.locations doors.old) (D.returned doors.old) (D.returned_doors doors.old)) (map (λ l. trips_told (L.trips l) (L.faults l)) links.old.items))
+        (outside files (lines source (taking (K.taken output.new) (K.faults output.new)) (taking (N.taken notes.new) (N.faults notes.new))) (doors_told (D.faults doors.new) (D.tally doors.new) (D.locations doors.new) (D.returned doors.new) (D.returned_doors doors.new)) (map (λ l. trips_told (L.trips l) (L.faults l)) links.new.items)))) }
     ensures others { drop 1 links.new.items ≡ drop 1 links.old.items }
 {
     let program = match program_in(alloc, text)? {

@@ -1,5 +1,6 @@
 //! What a call of the program meets outside.
 ghost use Rattle.std.specs.Prelude.{◌≡◌, map};
+ghost use Rattle.outside_traits.specs.Told.{files_told};
 ghost use Rattle.sink_writing.specs.Sinks.{taking};
 ghost use Rattle.line_run.specs.Lined.{giving, outside as lines};
 ghost use Rattle.http_connection.specs.Seen.{failures_of, Line, line_of};
@@ -31,7 +32,7 @@ pub trait Telling {
 }
 
 impl<F: Files, S: Source, K: Sink, N: Sink, D: Doors, L: Link> Telling for World<F, S, K, N, D, L> {
-    ghost told = { λ w. outside (F.faults w.files)
+    ghost told = { λ w. outside (files_told (F.asked w.files) (F.faults w.files))
         (lines (giving (S.left w.input) (S.faults w.input)) (taking (K.taken w.output) (K.faults w.output)) (taking (N.taken w.notes) (N.faults w.notes)))
         (doors_told (D.faults w.doors) (D.tally w.doors) (D.locations w.doors) (D.returned w.doors) (D.returned_doors w.doors))
         (map (λ l. trips_told (L.trips l) (L.faults l)) w.links.items) };

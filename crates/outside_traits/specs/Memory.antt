@@ -1,5 +1,5 @@
 -- What a contract sees of the objects in memory.
-use Rattle.std.specs.Prelude.{◌≡◌, ℕ, ◌+◌, ◌-◌, ◌^◌, min, List, length}
+use Rattle.std.specs.Prelude.{◌≡◌, ℕ, ◌+◌, ◌-◌, ◌^◌, min, List, length, Option}
 
 -- a script: the numbers of the calls that fail, the number of the next call, and the count of faults
 pub record Plan : Type 0 where
@@ -42,7 +42,13 @@ pub record ScriptedOutput : Type 0 where
   pub shelf : Shelved
   pub piece : ℕ
 
--- files that follow a script, each of these bytes
+-- files, each of these bytes, and the names that were asked for, which are told while there is memory for them
+pub record CalmStore : Type 0 where
+  pub content : List ℕ
+  pub asked : Option (List (List ℕ))
+
+-- the same, which follow a script
 pub record ScriptedStore : Type 0 where
   pub script : Plan
   pub content : List ℕ
+  pub asked : Option (List (List ℕ))

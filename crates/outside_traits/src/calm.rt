@@ -1,4 +1,4 @@
-ghost use Rattle.std.specs.Prelude.{◌≡◌, ◌<◌, ◌↔◌, [], Ok, IfOk, IsErr, Some, length, take, min};
+ghost use Rattle.std.specs.Prelude.{◌≡◌, ◌<◌, ◌↔◌, [], Ok, IfOk, IfSome, IsErr, Some, length, map, string_bytes, take, min};
 ghost use Rattle.std.specs.Io.{ReadsAtMost, WritesAtMost};
 ghost use Rattle.std.specs.Io.KnownBytes.{ReadConsumes, WriteAppends};
 ghost use Rattle.outside_traits.specs.Causes.{HasCause};
@@ -6,6 +6,7 @@ ghost use Rattle.outside_traits.specs.Memory.{room_left};
 
 use crate::errors::{CallError, Failed};
 use crate::memory::{Shelf, Supply};
+use crate::names::Names;
 use crate::traits::{Files, Sink, Source};
 use std::alloc::{AllocError, Global};
 use std::marker::Model;
@@ -109,31 +110,47 @@ impl Sink for CalmSink {
 pub struct CalmFiles {
     alloc: Global,
     content: Vec<u8>,
+    asked: Names,
 }
 
 impl Model for CalmFiles {
-    ghost use Rattle.std.specs.Prelude.{List, ℕ};
+    ghost use Rattle.outside_traits.specs.Memory.{CalmStore};
 
-    ghost Value = { List ℕ };
+    ghost Value = { CalmStore };
 
-    ghost view = { λ f. f.content.items };
+    ghost view = { λ f. record { content = f.content.items; asked = f.asked } };
 }
 
 impl CalmFiles {
     pub fn new(alloc: Global, content: &[u8]) -> Result<CalmFiles, AllocError>
-        ensures { IfOk result (λ files. files ≡ content.now) }
+        ensures content { IfOk result (λ files. files.content ≡ content.now) }
+        ensures asked { IfOk result (λ files. files.asked ≡ Some []) }
     {
         let content = Vec::from_slice(alloc, content)?;
-        Ok(CalmFiles { alloc, content })
+        Ok(CalmFiles {
+            alloc,
+            content,
+            asked: Names::new(alloc),
+        })
+    }
+
+    /// The names that were asked for in order: all, where they are told.
+    pub fn asked(&self) -> &[String]
+        ensures { IfSome self.now.asked (λ names. map string_bytes result.now ≡ names) }
+    {
+        self.asked.noted()
     }
 }
 
 impl Files for CalmFiles {
-    ghost held = { λ content _. Some content };
+    ghost held = { λ f _. Some f.content };
+
+    ghost asked = { λ f. f.asked };
 
     ghost faults = { λ _. 0 };
 
-    fn read(&mut self, _name: &str, most: u64) -> Result<Vec<u8>, CallError> {
+    fn read(&mut self, name: &str, most: u64) -> Result<Vec<u8>, CallError> {
+        self.asked.note(name)?;
         Ok(front_of(self.alloc, &self.content, most)?)
     }
 }

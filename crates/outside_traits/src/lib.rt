@@ -8,6 +8,7 @@ mod calm;
 mod calm_wire;
 mod errors;
 mod memory;
+mod names;
 mod script;
 mod scripted;
 mod scripted_wire;

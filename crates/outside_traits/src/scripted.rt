@@ -1,12 +1,14 @@
-ghost use Rattle.std.specs.Prelude.{◌≡◌, ◌<◌, ◌≤◌, ◌↔◌, ◌⊎◌, [], Some, IfOk, IsErr, IsErrOf, Contains, length, min, take};
+ghost use Rattle.std.specs.Prelude.{◌≡◌, ◌<◌, ◌≤◌, ◌↔◌, ◌⊎◌, [], ◌∷◌, Some, IfOk, IfSome, IsErr, IsErrOf, Contains, length, map, min, string_bytes, take};
 ghost use Rattle.std.specs.Io.{ReadsAtMost, WritesAtMost};
 ghost use Rattle.std.specs.Io.KnownBytes.{ReadConsumes, WriteAppends};
 ghost use Rattle.outside_traits.specs.Causes.{HasCause, HasCallCause};
 ghost use Rattle.outside_traits.specs.Memory.{room_left, IsNext};
+ghost use Rattle.outside_traits.specs.Told.{Lists};
 
 use crate::calm::front_of;
 use crate::errors::{CallError, Failed};
 use crate::memory::{Shelf, Supply};
+use crate::names::Names;
 use crate::script::Script;
 use crate::traits::{Files, Sink, Source};
 use std::alloc::{AllocError, Global};
@@ -158,6 +160,7 @@ pub struct ScriptedFiles {
     alloc: Global,
     script: Script,
     content: Vec<u8>,
+    asked: Names,
 }
 
 impl Model for ScriptedFiles {
@@ -165,39 +168,53 @@ impl Model for ScriptedFiles {
 
     ghost Value = { ScriptedStore };
 
-    ghost view = { λ f. record { script = f.script; content = f.content.items } };
+    ghost view = { λ f. record { script = f.script; content = f.content.items; asked = f.asked } };
 }
 
 impl ScriptedFiles {
     pub fn new(alloc: Global, content: &[u8], script: Script) -> Result<ScriptedFiles, AllocError>
         ensures script { IfOk result (λ files. files.script ≡ script) }
         ensures content { IfOk result (λ files. files.content ≡ content.now) }
+        ensures asked { IfOk result (λ files. files.asked ≡ Some []) }
     {
         let content = Vec::from_slice(alloc, content)?;
         Ok(ScriptedFiles {
             alloc,
             script,
             content,
+            asked: Names::new(alloc),
         })
+    }
+
+    /// The names that were asked for in order: all, where they are told.
+    pub fn asked(&self) -> &[String]
+        ensures { IfSome self.now.asked (λ names. map string_bytes result.now ≡ names) }
+    {
+        self.asked.noted()
     }
 }
 
 impl Files for ScriptedFiles {
     ghost held = { λ f _. Some f.content };
 
+    ghost asked = { λ f. f.asked };
+
     ghost faults = { λ f. f.script.faults };
 
-    fn read(&mut self, _name: &str, most: u64) -> Result<Vec<u8>, CallError>
+    fn read(&mut self, name: &str, most: u64) -> Result<Vec<u8>, CallError>
         ensures scripted { IsErrOf result CallError.Failed ↔ Contains self.old.script.failing self.old.script.call }
         ensures script { IsNext self.old.script self.new.script }
         ensures most { IfOk result (λ bytes. length bytes.items ≤ most) }
         ensures bytes { IfOk result (λ bytes. bytes.items ≡ take most self.old.content) }
         ensures kept { self.new.content ≡ self.old.content }
+        ensures asked { Lists self.old.asked self.new.asked (name.now ∷ []) }
         ensures cause { HasCallCause self.old.script.faults self.new.script.faults result }
     {
+        let noted = self.asked.note(name);
         if self.script.fails() {
             return Err(CallError::Failed);
         }
+        noted?;
         Ok(front_of(self.alloc, &self.content, most)?)
     }
 }

@@ -1,8 +1,9 @@
-ghost use Rattle.std.specs.Prelude.{◌≡◌, ◌≤◌, ◌<◌, None, IfOk, IfSome, length, take};
+ghost use Rattle.std.specs.Prelude.{◌≡◌, ◌≤◌, ◌<◌, [], None, Some, IfOk, IfSome, length, map, string_bytes, take};
 ghost use Rattle.std.specs.Io.{ReadsAtMost, WritesAtMost};
 ghost use Rattle.std.specs.Io.KnownBytes.{ReadConsumes, WriteAppends};
 
 use crate::errors::{CallError, Failed};
+use crate::names::Names;
 use crate::traits::{Files, Sink, Source};
 use std::alloc::Global;
 use std::io::{ErrorKind, Read, Write};
@@ -126,40 +127,53 @@ fn write_uninterrupted<W: Write>(writer: &mut W, from: &[u8]) -> Result<usize, F
     Err(Failed)
 }
 
-/// The files of the system, which tell nothing.
+/// The files of the system, which tell the names that they were asked for, and no bytes.
 #[derive(Drop)]
 pub struct Storage<H: rt::Files + Drop> {
     alloc: Global,
     host: H,
+    asked: Names,
     faults: u64,
 }
 
 impl<H: rt::Files + Drop> Model for Storage<H> {
-    ghost use Rattle.std.specs.Prelude.{ℕ};
+    ghost use Rattle.outside_traits.specs.Told.{FilesTold};
 
-    ghost Value = { ℕ };
+    ghost Value = { FilesTold };
 
-    ghost view = { λ s. s.faults };
+    ghost view = { λ s. record { asked = s.asked; faults = s.faults } };
 }
 
 impl<H: rt::Files + Drop> Storage<H> {
     pub fn new(alloc: Global, host: H) -> Storage<H>
-        ensures { result ≡ 0 }
+        ensures asked { result.asked ≡ Some [] }
+        ensures faults { result.faults ≡ 0 }
     {
         Storage {
             alloc,
             host,
+            asked: Names::new(alloc),
             faults: 0,
         }
+    }
+
+    /// The names that were asked for in order: all, where they are told.
+    pub fn asked(&self) -> &[String]
+        ensures { IfSome self.now.asked (λ names. map string_bytes result.now ≡ names) }
+    {
+        self.asked.noted()
     }
 }
 
 impl<H: rt::Files + Drop> Files for Storage<H> {
     ghost held = { λ _ _. None };
 
-    ghost faults = { λ faults. faults };
+    ghost asked = { λ s. s.asked };
+
+    ghost faults = { λ s. s.faults };
 
     fn read(&mut self, name: &str, most: u64) -> Result<Vec<u8>, CallError> {
+        self.asked.note(name)?;
         let answer = read_file(self.alloc, &self.host, name, most);
         if let Err(CallError::Failed) = &answer {
             self.faults = self.faults.saturating_add(1);

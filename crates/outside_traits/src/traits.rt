@@ -15,6 +15,9 @@ pub trait Files {
     /// The bytes of the file of a name, where they are told.
     ghost held: { Self → List ℕ → Option (List ℕ) };
 
+    /// The names that were asked for in order, whether or not the read failed, where they are told.
+    ghost asked: { Self → Option (List (List ℕ)) };
+
     /// A number that rises with each call that fails, and stands else.
     ghost faults: { Self → ℕ };
 
@@ -23,6 +26,7 @@ pub trait Files {
         ensures most { IfOk result (λ bytes. length bytes.items ≤ most) }
         ensures bytes { IfOk result (λ bytes. IfSome (held self.old name.now) (λ all. bytes.items ≡ take most all)) }
         ensures kept { held self.new ≡ held self.old }
+        ensures asked { Lists (asked self.old) (asked self.new) (name.now ∷ []) }
         ensures cause { HasCallCause (faults self.old) (faults self.new) result };
 }
 

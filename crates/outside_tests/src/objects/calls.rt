@@ -4,7 +4,7 @@ use outside_traits::WireCall;
 use std::alloc::{AllocError, Global};
 use test_rows::{Row, TableError};
 
-/// The counts that calls gave, the numbers of those that failed, the bytes that came or went, and what a wire tells of its calls.
+/// The counts that calls gave, the numbers of those that failed, the bytes that came or went, and what is told of the calls.
 #[derive(Drop)]
 pub struct Calls {
     alloc: Global,
@@ -61,6 +61,14 @@ impl Calls {
                 WireCall::Read(count) => write!(self.told, "read {count}")?,
                 WireCall::Wrote(count) => write!(self.told, "wrote {count}")?,
             }
+        }
+        Ok(())
+    }
+
+    /// Files told the names that were asked for.
+    pub fn asked(&mut self, names: &[String]) -> Result<(), AllocError> {
+        for name in names {
+            add_word(&mut self.told, name.as_str())?;
         }
         Ok(())
     }

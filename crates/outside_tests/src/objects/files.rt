@@ -26,7 +26,8 @@ pub fn called(rt: &HostRuntime, row: &Row<'_>, calls: &mut Calls) -> Result<(), 
         return in_memory(alloc, row, reads, calls);
     }
     let mut storage = Storage::new(alloc, rt);
-    Ok(read_each(&mut storage, reads, row.has("bytes"), calls)?)
+    read_each(&mut storage, reads, row.has("bytes"), calls)?;
+    Ok(calls.asked(storage.asked())?)
 }
 
 fn in_memory(
@@ -41,7 +42,8 @@ fn in_memory(
         return Ok(scripted(alloc, failing, content.as_slice(), reads, calls)?);
     }
     let mut files = CalmFiles::new(alloc, content.as_slice())?;
-    Ok(read_each(&mut files, reads, true, calls)?)
+    read_each(&mut files, reads, true, calls)?;
+    Ok(calls.asked(files.asked())?)
 }
 
 fn scripted(
@@ -53,7 +55,8 @@ fn scripted(
 ) -> Result<(), AllocError> {
     let script = Script::new(alloc, &[failing])?;
     let mut files = ScriptedFiles::new(alloc, content, script)?;
-    read_each(&mut files, reads, true, calls)
+    read_each(&mut files, reads, true, calls)?;
+    calls.asked(files.asked())
 }
 
 fn read_each<F: Files>(
