@@ -1,17 +1,54 @@
 -- Reads in a row.
-use Rattle.std.proofs.Common.{◌≡◌, ◌<◌, ◌≤◌, ℕ, Bool, true, false, List, [], ◌∷◌, ◌++◌, length, Some, None, sym, refl, ap, ◌∙◌, subst, arith, length-append, append_assoc, append-nil}
+use Rattle.std.proofs.Common.{◌≡◌, ◌<◌, ◌≤◌, ℕ, ◌==◌, Bool, true, false, not, ◌&&◌, ◌||◌, List, [], ◌∷◌, ◌++◌, length, Some, None, sym, refl, ap, ◌∙◌, subst, arith, length-append, append_assoc, append-nil}
+use Rattle.std.proofs.lemmas.Bool.{ne_eqb}
 use Rattle.std.specs.Prelude.{Option}
 use Rattle.std.specs.Io.KnownBytes.{Appends}
 use Rattle.std.proofs.KnownBytes.{Appends-nil, Appends-trans}
 use Rattle.outside_traits.specs.Told.{Lists}
-use Rattle.outside_traits.specs.Causes.{Rose}
 use Rattle.outside_traits.specs.declared.calls.WireCall.{WireCall}
 use Rattle.outside_traits.specs.declared.calls.WireCall.TheVariants.{Read}
 use Rattle.outside_dials.specs.Dials.{WireTraffic}
 use Rattle.http_port.proofs.CallLemmas.{Notes-nil}
 use Rattle.http_link.specs.Responses.{IsUnfinished}
 use Rattle.http_link.specs.Trips.{Reads, no_more, gives, ends, most_read}
-use Rattle.http_link.specs.Steps.{Heard, HeardInPart}
+use Rattle.http_link.specs.Steps.{IsCalm, Heard, HeardInPart}
+
+-- ---- what a wire tells of its failures and its end
+
+or_false : (b : Bool) → b ≡ (b || false)
+or_false true = refl
+or_false false = refl
+
+pub or_true : (b : Bool) → (b || true) ≡ true
+or_true true = refl
+or_true false = refl
+
+-- no call of it failed or told the end
+pub unmoved : (before now : WireTraffic) → now.lost ≡ before.lost → now.cut ≡ before.cut → now.ended ≡ before.ended → IsCalm before now false
+unmoved before now lost cut ended = record { lost = lost; cut = cut; end = ended ∙ or_false before.ended }
+
+-- nothing failed, and then nothing more
+pub calm_on : (first mid now : WireTraffic) (ended : Bool) → IsCalm first mid false → IsCalm mid now ended → IsCalm first now ended
+calm_on first mid now ended before c = record {
+  lost = c.lost ∙ before.lost;
+  cut = c.cut ∙ before.cut;
+  end = c.end ∙ ap (λ b. b || ended) (before.end ∙ sym (or_false first.ended));
+}
+
+-- a read of an open wire, with room for some bytes, tells the end where it gives none
+pub tells_none : (was now closed : Bool) (room count : ℕ) → now ≡ (was || (not closed && (not (room == 0) && (count == 0))))
+    → closed ≡ false → 0 < room → now ≡ (was || (count == 0))
+tells_none was now closed room count told is_open some =
+    let roomy : (room == 0) ≡ false = ne_eqb room 0 (λ e. omega arith) in
+    told
+    ∙ ap (λ b. was || (not b && (not (room == 0) && (count == 0)))) is_open
+    ∙ ap (λ b. was || (not b && (count == 0))) roomy
+
+-- a write of an open wire that failed cut it
+pub cuts : (was now closed : Bool) → now ≡ (was || not closed) → closed ≡ false → now ≡ true
+cuts was now closed told is_open = told ∙ ap (λ b. was || not b) is_open ∙ or_true was
+
+-- ---- reads
 
 -- calls behind calls
 pub Notes-trans : (a b c : Option (List WireCall)) (xs ys : List WireCall) → Lists a b xs → Lists b c ys → Lists a c (xs ++ ys)
@@ -44,7 +81,7 @@ heard_nothing t was bounded = record {
   noted = Notes-nil t.calls;
   reads = no_more was;
   bounded = bounded;
-  faults = refl;
+  calm = unmoved t t refl refl refl;
 }
 
 -- what one read did to what is told of its wire
@@ -52,7 +89,7 @@ pub record Did (before now : WireTraffic) (piece : List ℕ) (count : ℕ) : Typ
   pub given : Appends before.given now.given piece
   pub taken : now.taken ≡ before.taken
   pub noted : Lists before.calls now.calls (Read count ∷ [])
-  pub faults : now.faults ≡ before.faults
+  pub calm : IsCalm before now (count == 0)
 
 -- one more, which gave some bytes
 pub heard_more : (first before now : WireTraffic) (was came next piece : List ℕ) (count : ℕ) → Heard first before was came false → IsUnfinished came
@@ -68,7 +105,7 @@ heard_more first before now was came next piece count h open_ did e long some bo
       (subst (λ n. Reads was (h.calls ++ Read n ∷ []) (came ++ piece) false) long
       (gives was came piece h.calls h.reads open_ (subst (λ (n : ℕ). 0 < n) (sym long) some)));
   bounded = bounded;
-  faults = did.faults ∙ h.faults;
+  calm = calm_on first before now false h.calm (subst (λ e. IsCalm before now e) (ne_eqb count 0 (λ e. omega arith)) did.calm);
 }
 
 -- one more, which found that no more come
@@ -84,15 +121,15 @@ heard_end first before now was came next [] count h open_ did e long none bounde
       (Notes-trans first.calls before.calls now.calls h.calls (Read count ∷ []) h.noted did.noted);
   reads = subst (λ l. Reads was (h.calls ++ Read 0 ∷ []) l true) (sym (e ∙ append-nil came)) (ends was came h.calls h.reads open_);
   bounded = bounded;
-  faults = did.faults ∙ h.faults;
+  calm = calm_on first before now true h.calm (subst (λ n. IsCalm before now (n == 0)) none did.calm);
 }
 heard_end first before now was came next (b ∷ piece) count h open_ did e long none bounded = absurd (omega arith)
 
 -- one more, which failed
 pub heard_cut : (first before now : WireTraffic) (was came next : List ℕ) → Heard first before was came false → IsUnfinished came → next ≡ came
     → Appends before.given now.given [] → now.taken ≡ before.taken → Lists before.calls now.calls (Read 0 ∷ [])
-    → before.faults ≤ now.faults → Rose before.faults now.faults → HeardInPart first now was next
-heard_cut first before now was came next h open_ e given taken noted later rose = record {
+    → now.lost ≡ true → HeardInPart first now was next
+heard_cut first before now was came next h open_ e given taken noted lost = record {
   piece = h.piece;
   grown = e ∙ h.grown;
   given = subst (Appends first.given now.given) (append-nil h.piece) (Appends-trans first.given before.given now.given h.piece [] h.given given);
@@ -102,8 +139,7 @@ heard_cut first before now was came next h open_ e given taken noted later rose 
   reads = subst (λ l. Reads was h.calls l false) (sym e) h.reads;
   unfinished = subst IsUnfinished (sym e) open_;
   bounded = subst (λ l. length l ≤ most_read) (sym e) h.bounded;
-  later = subst (λ n. n ≤ now.faults) h.faults later;
-  rose = subst (λ n. Rose n now.faults) h.faults rose;
+  lost = lost;
 }
 
 -- reads behind reads, with what is told of their wire
@@ -118,7 +154,7 @@ heard_on first mid now was came next ended h k = record {
   noted = Notes-trans first.calls mid.calls now.calls h.calls k.calls h.noted k.noted;
   reads = reads_on was came next h.calls k.calls ended h.reads k.reads;
   bounded = k.bounded;
-  faults = k.faults ∙ h.faults;
+  calm = calm_on first mid now ended h.calm k.calm;
 }
 
 pub heard_on_cut : (first mid now : WireTraffic) (was came next : List ℕ) → Heard first mid was came false → HeardInPart mid now came next
@@ -134,8 +170,7 @@ heard_on_cut first mid now was came next h k = record {
   reads = reads_on was came next h.calls k.calls false h.reads k.reads;
   unfinished = k.unfinished;
   bounded = k.bounded;
-  later = subst (λ n. n ≤ now.faults) h.faults k.later;
-  rose = subst (λ n. Rose n now.faults) h.faults k.rose;
+  lost = k.lost;
 }
 
 -- what was read stays unfinished while it is shorter than this

@@ -1,6 +1,6 @@
 -- What passed on the wire of a trip, and what the dialler tells of it.
-use Rattle.std.proofs.Common.{◌≡◌, ◌<◌, ℕ, min, Bool, true, false, List, [], ◌∷◌, ◌++◌, length, take, Some, None, Ok, Err, sym, refl, ap, ◌∙◌, subst, arith}
-use Rattle.std.specs.Prelude.{Option, Result, MatchResult}
+use Rattle.std.proofs.Common.{◌≡◌, ◌<◌, ℕ, min, Bool, true, false, ◌||◌, List, [], ◌∷◌, ◌++◌, length, take, Some, None, Ok, Err, sym, refl, ap, ◌∙◌, subst, arith}
+use Rattle.std.specs.Prelude.{Option, IfSome, Result, MatchResult}
 use Rattle.httparse.specs.declared.spans.Span.{Span}
 use Rattle.std.specs.Io.{StartsWith}
 use Rattle.std.specs.Io.KnownBytes.{Appends}
@@ -14,9 +14,9 @@ use Rattle.outside_dials.specs.Dials.{WireTraffic, IsNew, Tells, CountsWire}
 use Rattle.http_port.specs.Writing.{IsWritten}
 use Rattle.http_port.proofs.PartLemmas.{take_min}
 use Rattle.http_link.specs.Trips.{Telling, telling, Shows, Exchange, Failing, unsent, unheard, unanswered}
-use Rattle.http_link.specs.Steps.{Heard, HeardInPart, Exchanged, CutOff, in_writing, in_reading, Finds}
+use Rattle.http_link.specs.Steps.{IsCalm, Heard, HeardInPart, Exchanged, CutOff, in_writing, in_reading, Finds}
 use Rattle.http_link.specs.Responses.{IsNoResponse}
-use Rattle.http_link.proofs.Heard.{Notes-trans, heard_on, heard_on_cut}
+use Rattle.http_link.proofs.Heard.{or_true, calm_on, Notes-trans, heard_on, heard_on_cut}
 
 -- ---- on one wire
 
@@ -27,9 +27,9 @@ own_writes before now went whole w = record { calls = w.calls; noted = refl; wri
 
 -- a request that was written, and reads behind it
 pub exchanged : (before mid now : WireTraffic) (sent came : List ℕ) (ended : Bool) → Appends before.taken mid.taken sent
-    → IsWritten before.calls mid.calls sent true → mid.given ≡ before.given → mid.faults ≡ before.faults → Heard mid now [] came ended
+    → IsWritten before.calls mid.calls sent true → mid.given ≡ before.given → IsCalm before mid false → Heard mid now [] came ended
     → Exchanged before now sent came ended
-exchanged before mid now sent came ended taken w given faults h = record {
+exchanged before mid now sent came ended taken w given calm h = record {
   taken = subst (λ t. Appends before.taken t sent) (sym h.taken) taken;
   given = subst (λ g. Appends g now.given came) given (subst (Appends mid.given now.given) (sym h.grown) h.given);
   writes = w.calls;
@@ -38,29 +38,27 @@ exchanged before mid now sent came ended taken w given faults h = record {
   written = own_writes before.calls mid.calls sent true w;
   read = h.reads;
   bounded = h.bounded;
-  faults = h.faults ∙ faults;
+  calm = calm_on before mid now ended calm h.calm;
 }
 
 -- a request that was written, and a read behind it that failed
 pub cut_in_reading : (before mid now : WireTraffic) (sent came : List ℕ) → Appends before.taken mid.taken sent
-    → IsWritten before.calls mid.calls sent true → mid.given ≡ before.given → mid.faults ≡ before.faults → HeardInPart mid now [] came
-    → CutOff before now sent
-cut_in_reading before mid now sent came taken w given faults h =
+    → IsWritten before.calls mid.calls sent true → mid.given ≡ before.given → HeardInPart mid now [] came → CutOff before now sent
+cut_in_reading before mid now sent came taken w given h =
     in_reading came w.calls h.calls
     (subst (λ t. Appends before.taken t sent) (sym h.taken) taken)
     (subst (λ g. Appends g now.given came) given (subst (Appends mid.given now.given) (sym h.grown) h.given))
     (Notes-trans before.calls mid.calls now.calls w.calls (h.calls ++ Read 0 ∷ []) w.noted h.noted)
     (own_writes before.calls mid.calls sent true w)
-    h.reads h.unfinished h.bounded
-    (subst (λ n. Rose n now.faults) faults h.rose)
+    h.reads h.unfinished h.bounded h.lost
 
 -- a write that failed
 pub cut_in_writing : (before now : WireTraffic) (sent : List ℕ) (count : ℕ) → count < length sent
-    → Appends before.taken now.taken (take count sent) → IsWritten before.calls now.calls (take count sent) false → now.given ≡ before.given → Rose before.faults now.faults
+    → Appends before.taken now.taken (take count sent) → IsWritten before.calls now.calls (take count sent) false → now.given ≡ before.given → now.cut ≡ true
     → CutOff before now sent
-cut_in_writing before now sent count short taken w given rose =
+cut_in_writing before now sent count short taken w given cut =
     in_writing count w.calls short taken (subst (λ g. Appends before.given g []) (sym given) (Appends-nil before.given)) w.noted
-    (own_writes before.calls now.calls (take count sent) false w) rose
+    (own_writes before.calls now.calls (take count sent) false w) cut
 
 -- ---- by the dialler
 
@@ -73,16 +71,22 @@ shows blank (Some last) t went came calls e taken given noted =
     subst (λ (x : WireTraffic). Appends blank.taken x.taken went × Appends blank.given x.given came × Lists blank.calls x.calls calls)
     (sym e) (taken, given, noted)
 
+-- what holds of a wire is told of it
+pub told_so : (P : WireTraffic → Type 0) (told : Option WireTraffic) (t : WireTraffic) → Tells told t → P t → IfSome told P
+told_so P None t e holds = tt
+told_so P (Some last) t e holds = subst P (sym e) holds
+
 -- the exchange on a new wire that came back
 pub exchange_told : (blank t : WireTraffic) (dialled : Option (List (List ℕ))) (last : Option WireTraffic) (faults : ℕ) (sent came : List ℕ)
-    (ended : Bool) → Tells last t → Exchanged blank t sent came ended → Exchange (telling blank dialled last faults) sent came ended
-exchange_told blank t dialled last faults sent came ended e x = record {
+    (ended : Bool) → IsNew blank → Tells last t → Exchanged blank t sent came ended → Exchange (telling blank dialled last faults) sent came ended
+exchange_told blank t dialled last faults sent came ended new e x = record {
   writes = x.writes;
   reads = x.reads;
   shown = shows blank last t sent came (x.writes ++ x.reads) e x.taken x.given x.noted;
   written = x.written;
   read = x.read;
   bounded = x.bounded;
+  end = told_so (λ (w : WireTraffic). w.ended ≡ ended) last t e (x.calm.end ∙ ap (λ b. b || ended) new.ended);
 }
 
 starts_with : (count : ℕ) (sent : List ℕ) → StartsWith sent (take count sent)
@@ -96,37 +100,39 @@ shorter count sent short = omega (arith, short, length-take count sent)
 -- a wire that failed and came back
 pub failing_told : (blank t : WireTraffic) (before : Telling) (dialled : Option (List (List ℕ))) (last : Option WireTraffic) (faults : ℕ)
     (sent : List ℕ) → Tells last t → CutOff blank t sent → Rose before.faults faults → Failing sent before (telling blank dialled last faults)
-failing_told blank t before dialled last faults sent e (in_writing count writes short taken given noted written rose) risen =
+failing_told blank t before dialled last faults sent e (in_writing count writes short taken given noted written cut) risen =
     unsent (take count sent) writes (shows blank last t (take count sent) [] writes e taken given noted) (starts_with count sent)
-    (shorter count sent short) written risen
-failing_told blank t before dialled last faults sent e (in_reading came writes reads taken given noted written read open_ bounded rose) risen =
-    unheard came writes reads (shows blank last t sent came (writes ++ (reads ++ Read 0 ∷ [])) e taken given noted) written read open_ bounded risen
+    (shorter count sent short) written (told_so (λ (w : WireTraffic). w.cut ≡ true) last t e cut) risen
+failing_told blank t before dialled last faults sent e (in_reading came writes reads taken given noted written read open_ bounded lost) risen =
+    unheard came writes reads (shows blank last t sent came (writes ++ (reads ++ Read 0 ∷ [])) e taken given noted) written read open_ bounded
+    (told_so (λ (w : WireTraffic). w.lost ≡ true) last t e lost) risen
 
--- a dialler's count stands where the wire's stood
+-- a dialler's count stands where the wire did not fail
 pub count_stands : (blank t : WireTraffic) (sent came : List ℕ) (ended : Bool) (before now : ℕ) → IsNew blank → Exchanged blank t sent came ended
-    → CountsWire t.faults before now → now ≡ before
-count_stands blank t sent came ended before now new x counts = counts.calm (x.faults ∙ new.faults)
+    → CountsWire (t.lost || t.cut) before now → now ≡ before
+count_stands blank t sent came ended before now new x counts =
+    counts.calm (ap (λ b. b || t.cut) (x.calm.lost ∙ new.lost) ∙ x.calm.cut ∙ new.cut)
 
--- and rises where it rose
-pub count_rises : (blank t : WireTraffic) (sent : List ℕ) (before now : ℕ) → IsNew blank → CutOff blank t sent → CountsWire t.faults before now
+-- and rises where it failed
+pub count_rises : (blank t : WireTraffic) (sent : List ℕ) (before now : ℕ) → CutOff blank t sent → CountsWire (t.lost || t.cut) before now
     → Rose before now
-count_rises blank t sent before now new (in_writing count writes short taken given noted written rose) counts =
-    let none = new.faults in counts.failed (omega arith)
-count_rises blank t sent before now new (in_reading came writes reads taken given noted written read open_ bounded rose) counts =
-    let none = new.faults in counts.failed (omega arith)
+count_rises blank t sent before now (in_writing count writes short taken given noted written cut) counts =
+    counts.failed (ap (λ b. t.lost || b) cut ∙ or_true t.lost)
+count_rises blank t sent before now (in_reading came writes reads taken given noted written read open_ bounded lost) counts =
+    counts.failed (ap (λ b. b || t.cut) lost)
 
 -- ---- by what a call answers
 
 -- a request that was written, and what came of the reads behind it
 pub exchanged_or_cut : {E : Type 0} (r : Result (Option Span) E) (before mid now : WireTraffic) (sent was came : List ℕ) → was ≡ []
     → Appends before.taken mid.taken sent → IsWritten before.calls mid.calls sent true → mid.given ≡ before.given
-    → mid.faults ≡ before.faults
+    → IsCalm before mid false
     → MatchResult r (λ found. (ended : Bool) × Finds came ended found × Heard mid now was came ended) (λ _. HeardInPart mid now was came)
     → MatchResult r (λ found. (ended : Bool) × Finds came ended found × Exchanged before now sent came ended) (λ _. CutOff before now sent)
-exchanged_or_cut (Ok found) before mid now sent was came e taken w given faults m =
-    (m.0, m.1, exchanged before mid now sent came m.0 taken w given faults (subst (λ l. Heard mid now l came m.0) e m.2))
-exchanged_or_cut (Err x) before mid now sent was came e taken w given faults m =
-    cut_in_reading before mid now sent came taken w given faults (subst (λ l. HeardInPart mid now l came) e m)
+exchanged_or_cut (Ok found) before mid now sent was came e taken w given calm m =
+    (m.0, m.1, exchanged before mid now sent came m.0 taken w given calm (subst (λ l. Heard mid now l came m.0) e m.2))
+exchanged_or_cut (Err x) before mid now sent was came e taken w given calm m =
+    cut_in_reading before mid now sent came taken w given (subst (λ l. HeardInPart mid now l came) e m)
 
 -- reads of a head, and what came of the reads behind them
 pub found_on : {E : Type 0} (r : Result (Option Span) E) (first mid now : WireTraffic) (was came next : List ℕ) → Heard first mid was came false
@@ -139,15 +145,15 @@ found_on (Err x) first mid now was came next h m = heard_on_cut first mid now wa
 pub visited : {E : Type 0} (r : Result (Option Span) E) (blank new t : WireTraffic) (sent came : List ℕ) (before : Telling)
     (dialled : Option (List (List ℕ))) (last : Option WireTraffic) (mid faults : ℕ) → new ≡ blank → IsNew blank
     → MatchResult r (λ found. (ended : Bool) × Finds came ended found × Exchanged new t sent came ended) (λ _. CutOff new t sent)
-    → Tells last t → CountsWire t.faults mid faults → mid ≡ before.faults
+    → Tells last t → CountsWire (t.lost || t.cut) mid faults → mid ≡ before.faults
     → MatchResult r (λ found. (ended : Bool) × Finds came ended found × Exchange (telling blank dialled last faults) sent came ended
     × (faults ≡ before.faults)) (λ _. Failing sent before (telling blank dialled last faults))
 visited (Ok found) blank new t sent came before dialled last mid faults fresh is m told counts same =
     let x : Exchanged blank t sent came m.0 = subst (λ (n : WireTraffic). Exchanged n t sent came m.0) fresh m.2 in
-    (m.0, m.1, exchange_told blank t dialled last faults sent came m.0 told x, count_stands blank t sent came m.0 mid faults is x counts ∙ same)
+    (m.0, m.1, exchange_told blank t dialled last faults sent came m.0 is told x, count_stands blank t sent came m.0 mid faults is x counts ∙ same)
 visited (Err e) blank new t sent came before dialled last mid faults fresh is m told counts same =
     let x : CutOff blank t sent = subst (λ (n : WireTraffic). CutOff n t sent) fresh m in
-    failing_told blank t before dialled last faults sent told x (subst (λ n. Rose n faults) same (count_rises blank t sent mid faults is x counts))
+    failing_told blank t before dialled last faults sent told x (subst (λ n. Rose n faults) same (count_rises blank t sent mid faults x counts))
 
 -- a trip fails where what was asked brought no response
 pub fails_unanswered : (sent asked came : List ℕ) (ended : Bool) (before now : Telling) → asked ≡ sent → Exchange now asked came ended

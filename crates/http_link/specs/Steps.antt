@@ -1,13 +1,12 @@
 -- These definitions serve the proofs alone: no promise of a public call speaks of them.
 -- What is known while a response is read.
-use Rattle.std.specs.Prelude.{◌≡◌, ◌<◌, ◌≤◌, ℕ, ◌⊎◌, Bool, true, false, List, ◌∷◌, [], ◌++◌, length, take, Option, None}
-use Rattle.std.specs.Prelude.{Some}
+use Rattle.std.specs.Prelude.{◌≡◌, ◌<◌, ◌≤◌, ℕ, ◌⊎◌, Bool, true, false, ◌||◌, List, ◌∷◌, [], ◌++◌, length, take, Option}
+use Rattle.std.specs.Prelude.{None, Some}
 use Rattle.std.specs.Io.KnownBytes.{Appends}
 use Rattle.httparse.specs.Grammar.{ResponseHead, print_response}
 use Rattle.httparse.specs.Spans.{IsWithin, span_bytes}
 use Rattle.httparse.specs.declared.spans.Span.{Span}
 use Rattle.outside_traits.specs.Told.{Lists}
-use Rattle.outside_traits.specs.Causes.{Rose}
 use Rattle.outside_traits.specs.declared.calls.WireCall.{WireCall}
 use Rattle.outside_traits.specs.declared.calls.WireCall.TheVariants.{Read}
 use Rattle.outside_dials.specs.Dials.{WireTraffic}
@@ -51,6 +50,12 @@ abbrev pub Finds : List ℕ → Bool → Option Span → Type 0
 Finds bytes ended None = IsNoResponse bytes ended
 Finds bytes ended (Some span) = IsWithin (length bytes) span × IsResponse bytes ended (span_bytes bytes span)
 
+-- no call of a wire failed meanwhile; ended says whether a read told the end
+pub record IsCalm (before now : WireTraffic) (ended : Bool) : Type 0 where
+  pub lost : now.lost ≡ before.lost
+  pub cut : now.cut ≡ before.cut
+  pub end : now.ended ≡ (before.ended || ended)
+
 -- reads of a wire took what was read from these bytes to those, and nothing else was done with it
 pub record Heard (before now : WireTraffic) (was came : List ℕ) (ended : Bool) : Type 0 where
   pub piece : List ℕ
@@ -61,7 +66,7 @@ pub record Heard (before now : WireTraffic) (was came : List ℕ) (ended : Bool)
   pub noted : Lists before.calls now.calls calls
   pub reads : Reads was calls came ended
   pub bounded : length came ≤ most_read
-  pub faults : now.faults ≡ before.faults
+  pub calm : IsCalm before now ended
 
 -- the same, and then a read failed
 pub record HeardInPart (before now : WireTraffic) (was came : List ℕ) : Type 0 where
@@ -74,8 +79,7 @@ pub record HeardInPart (before now : WireTraffic) (was came : List ℕ) : Type 0
   pub reads : Reads was calls came false
   pub unfinished : IsUnfinished came
   pub bounded : length came ≤ most_read
-  pub later : before.faults ≤ now.faults
-  pub rose : Rose before.faults now.faults
+  pub lost : now.lost ≡ true
 
 -- ---- on one wire
 
@@ -89,15 +93,15 @@ pub record Exchanged (before now : WireTraffic) (sent came : List ℕ) (ended : 
   pub written : IsWritten (Some []) (Some writes) sent true
   pub read : Reads [] reads came ended
   pub bounded : length came ≤ most_read
-  pub faults : now.faults ≡ before.faults
+  pub calm : IsCalm before now ended
 
 -- the wire failed, behind a front of the request that is not all of it, or in a read behind all of it
 pub data CutOff (before now : WireTraffic) (sent : List ℕ) : Type 0 where
   in_writing : (count : ℕ) (writes : List WireCall) → count < length sent
       → Appends before.taken now.taken (take count sent) → Appends before.given now.given []
       → Lists before.calls now.calls writes → IsWritten (Some []) (Some writes) (take count sent) false
-      → Rose before.faults now.faults → CutOff before now sent
+      → now.cut ≡ true → CutOff before now sent
   in_reading : (came : List ℕ) (writes reads : List WireCall) → Appends before.taken now.taken sent
       → Appends before.given now.given came → Lists before.calls now.calls (writes ++ (reads ++ Read 0 ∷ []))
       → IsWritten (Some []) (Some writes) sent true → Reads [] reads came false → IsUnfinished came
-      → length came ≤ most_read → Rose before.faults now.faults → CutOff before now sent
+      → length came ≤ most_read → now.lost ≡ true → CutOff before now sent

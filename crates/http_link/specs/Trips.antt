@@ -51,8 +51,8 @@ pub record Telling : Type 0 where
 abbrev pub telling : WireTraffic → Option (List (List ℕ)) → Option WireTraffic → ℕ → Telling
 telling blank dialled last faults = record { blank = blank; dialled = dialled; last = last; faults = faults }
 
--- On the last wire that came back a request was written whole, and then this was read; ended says that a read found
--- that no more comes.
+-- On the last wire that came back a request was written whole, and then this was read; ended says whether a read of it
+-- told that no more comes.
 pub record Exchange (now : Telling) (sent came : List ℕ) (ended : Bool) : Type 0 where
   pub writes : List WireCall
   pub reads : List WireCall
@@ -60,6 +60,7 @@ pub record Exchange (now : Telling) (sent came : List ℕ) (ended : Bool) : Type
   pub written : IsWritten (Some []) (Some writes) sent true
   pub read : Reads [] reads came ended
   pub bounded : length came ≤ most_read
+  pub end : IfSome now.last (λ t. t.ended ≡ ended)
 
 -- A trip that brings this back: the location was dialled, its request was written on the wire that came back, and what
 -- was read there is a response of this body. The dialler's count of faults stands.
@@ -75,15 +76,16 @@ pub record Answered (location text : List ℕ) (before now : Telling) (body : Li
 pub data Failing (sent : List ℕ) (before now : Telling) : Type 0 where
   -- the dialler failed
   unreached : now.last ≡ before.last → Rose before.faults now.faults → Failing sent before now
-  -- the wire failed behind a front of the request that is not all of it, and came back
+  -- the open wire failed in a write, behind a front of the request that is not all of it, and came back
   unsent : (went : List ℕ) (writes : List WireCall) → Shows now.blank now.last went [] writes → StartsWith sent went
-      → length went < length sent → IsWritten (Some []) (Some writes) went false → Rose before.faults now.faults
-      → Failing sent before now
-  -- the wire failed behind the request, in a read, while what had come was no whole response yet, and came back
+      → length went < length sent → IsWritten (Some []) (Some writes) went false
+      → IfSome now.last (λ t. t.cut ≡ true) → Rose before.faults now.faults → Failing sent before now
+  -- the wire failed in a read, behind the request, while what had come was no whole response yet, and came back
   unheard : (came : List ℕ) (writes reads : List WireCall)
       → Shows now.blank now.last sent came (writes ++ (reads ++ Read 0 ∷ []))
       → IsWritten (Some []) (Some writes) sent true → Reads [] reads came false → IsUnfinished came
-      → length came ≤ most_read → Rose before.faults now.faults → Failing sent before now
+      → length came ≤ most_read → IfSome now.last (λ t. t.lost ≡ true) → Rose before.faults now.faults
+      → Failing sent before now
   -- what was read is no response, and the dialler's count stands
   unanswered : (came : List ℕ) (ended : Bool) → Exchange now sent came ended → IsNoResponse came ended
       → now.faults ≡ before.faults → Failing sent before now

@@ -1,5 +1,5 @@
 //! What passes on a wire in a trip.
-ghost use Rattle.std.specs.Prelude.{◌≡◌, [], Bool, MatchResult};
+ghost use Rattle.std.specs.Prelude.{◌≡◌, [], Bool, MatchResult, false};
 ghost use Rattle.outside_dials.specs.Dials.{Dials, traffic};
 ghost use Rattle.http_link.specs.Steps.{CutOff, Exchanged, Finds};
 ghost use Rattle.http_link.specs.Trips.{Exchange, Failing, telling};
@@ -40,11 +40,12 @@ fn exchange<W: Wire>(
     request: &[u8],
     inbox: &mut Inbox,
 ) -> Result<Option<Span>, Failed>
-    requires { inbox.old ≡ [] }
+    requires empty { inbox.old ≡ [] }
+    requires open { W.closed wire.old ≡ false }
     ensures { MatchResult result
         (λ found. (ended : Bool) × Finds inbox.new ended found
-        × Exchanged (traffic (W.given wire.old) (W.taken wire.old) (W.calls wire.old) (W.faults wire.old)) (traffic (W.given wire.new) (W.taken wire.new) (W.calls wire.new) (W.faults wire.new)) request.now inbox.new ended)
-        (λ _. CutOff (traffic (W.given wire.old) (W.taken wire.old) (W.calls wire.old) (W.faults wire.old)) (traffic (W.given wire.new) (W.taken wire.new) (W.calls wire.new) (W.faults wire.new)) request.now) }
+        × Exchanged (traffic (W.given wire.old) (W.taken wire.old) (W.calls wire.old) (W.lost wire.old) (W.cut wire.old) (W.ended wire.old)) (traffic (W.given wire.new) (W.taken wire.new) (W.calls wire.new) (W.lost wire.new) (W.cut wire.new) (W.ended wire.new)) request.now inbox.new ended)
+        (λ _. CutOff (traffic (W.given wire.old) (W.taken wire.old) (W.calls wire.old) (W.lost wire.old) (W.cut wire.old) (W.ended wire.old)) (traffic (W.given wire.new) (W.taken wire.new) (W.calls wire.new) (W.lost wire.new) (W.cut wire.new) (W.ended wire.new)) request.now) }
 {
     match write_all(wire, request) {
         Ok(()) => read_response(wire, inbox),

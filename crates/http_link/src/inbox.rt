@@ -1,10 +1,11 @@
 //! The bytes that were read in a trip.
-ghost use Rattle.std.specs.Prelude.{◌≡◌, ◌<◌, ◌≤◌, ◌+◌, ◌++◌, [], ◌∷◌, ℕ, List, MatchResult, IfOk, length};
+ghost use Rattle.std.specs.Prelude.{◌≡◌, ◌<◌, ◌≤◌, ◌+◌, ◌==◌, ◌++◌, [], ◌∷◌, ℕ, List, MatchResult, IfOk, false, true, length};
 ghost use Rattle.std.specs.Io.KnownBytes.{Appends};
 ghost use Rattle.httparse.specs.Spans.{IsWithin, span_bytes};
 ghost use Rattle.outside_traits.specs.Told.{Lists};
 ghost use Rattle.outside_traits.specs.declared.calls.WireCall.TheVariants.{Read};
-ghost use Rattle.outside_traits.specs.Causes.{HasCause};
+ghost use Rattle.outside_dials.specs.Dials.{traffic};
+ghost use Rattle.http_link.specs.Steps.{IsCalm};
 ghost use Rattle.http_link.specs.Trips.{most_read};
 
 use http_port::{LONGEST_BODY, LONGEST_HEAD};
@@ -59,7 +60,8 @@ impl Inbox {
 
     /// Reads once, and says how many bytes came.
     pub(crate) fn fill<W: Wire>(&mut self, wire: &mut W) -> Result<usize, Failed>
-        requires { length self.old < most_read }
+        requires room { length self.old < most_read }
+        requires open { W.closed wire.old ≡ false }
         ensures read { MatchResult result
             (λ count. (piece : List ℕ) × (length piece ≡ count) × (self.new ≡ self.old ++ piece)
             × Appends (W.given wire.old) (W.given wire.new) piece
@@ -68,7 +70,10 @@ impl Inbox {
             × Lists (W.calls wire.old) (W.calls wire.new) (Read 0 ∷ [])) }
         ensures bounded { length self.new ≤ most_read }
         ensures taken { W.taken wire.new ≡ W.taken wire.old }
-        ensures cause { HasCause (W.faults wire.old) (W.faults wire.new) result }
+        ensures open { W.closed wire.new ≡ false }
+        ensures told { MatchResult result
+            (λ count. IsCalm (traffic (W.given wire.old) (W.taken wire.old) (W.calls wire.old) (W.lost wire.old) (W.cut wire.old) (W.ended wire.old)) (traffic (W.given wire.new) (W.taken wire.new) (W.calls wire.new) (W.lost wire.new) (W.cut wire.new) (W.ended wire.new)) (count == 0))
+            (λ _. W.lost wire.new ≡ true) }
     {
         let mut chunk = [0; CHUNK];
         let room = (MOST_READ - self.bytes.len()).min(CHUNK);

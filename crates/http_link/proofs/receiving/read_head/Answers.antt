@@ -9,8 +9,9 @@ use Rattle.http_link.proofs.receiving.read_head.Goals as goal
 
 pub loop-announced-init : goal.loop-announced-init
 loop-announced-init g c = record {
-  heard = heard_nothing _ c.args.inbox.now (subst (λ l. length l ≤ most_read) (sym c.requires) (omega arith));
+  heard = heard_nothing _ c.args.inbox.now (subst (λ l. length l ≤ most_read) (sym c.requires.empty) (omega arith));
   scan = scan_start (take longest_head c.args.inbox.now);
+  unclosed = c.requires.open;
 }
 
 pub returns-in-Some-clause-heard : goal.returns-in-Some-clause-heard
@@ -26,22 +27,22 @@ returns-in-Ok-eq0-clause-heard g c =
     let none : length read.0 ≡ 0 = read.1 ∙ c.in-Ok-eq0.field-0-test in (
       true,
       knows_end c.as_slice.result.now c.loop-announced.inbox c.fill.new.self read.0 _ c.as_slice.ensures c.in_default.ensures.none.0 read.2 none refl,
-      heard_end (traffic (g.W.Wire.given c.args.wire.now) (g.W.Wire.taken c.args.wire.now) (g.W.Wire.calls c.args.wire.now) (g.W.Wire.faults c.args.wire.now)) (traffic (g.W.Wire.given c.loop-announced.wire) (g.W.Wire.taken c.loop-announced.wire) (g.W.Wire.calls c.loop-announced.wire) (g.W.Wire.faults c.loop-announced.wire)) (traffic (g.W.Wire.given c.fill.new.wire) (g.W.Wire.taken c.fill.new.wire) (g.W.Wire.calls c.fill.new.wire) (g.W.Wire.faults c.fill.new.wire))
+      heard_end (traffic (g.W.Wire.given c.args.wire.now) (g.W.Wire.taken c.args.wire.now) (g.W.Wire.calls c.args.wire.now) (g.W.Wire.lost c.args.wire.now) (g.W.Wire.cut c.args.wire.now) (g.W.Wire.ended c.args.wire.now)) (traffic (g.W.Wire.given c.loop-announced.wire) (g.W.Wire.taken c.loop-announced.wire) (g.W.Wire.calls c.loop-announced.wire) (g.W.Wire.lost c.loop-announced.wire) (g.W.Wire.cut c.loop-announced.wire) (g.W.Wire.ended c.loop-announced.wire)) (traffic (g.W.Wire.given c.fill.new.wire) (g.W.Wire.taken c.fill.new.wire) (g.W.Wire.calls c.fill.new.wire) (g.W.Wire.lost c.fill.new.wire) (g.W.Wire.cut c.fill.new.wire) (g.W.Wire.ended c.fill.new.wire))
           c.args.inbox.now c.loop-announced.inbox c.fill.new.self read.0 c.in-Ok-eq0.field-0
           c.loop-announced.invariant.heard
           (unfinished_front c.as_slice.result.now c.loop-announced.inbox c.as_slice.ensures c.in_default.ensures.none.0)
-          (record { given = read.3; taken = c.in-Ok-eq0.ensures.taken; noted = read.4; faults = c.in-Ok-eq0.ensures.cause.calm })
+          (record { given = read.3; taken = c.in-Ok-eq0.ensures.taken; noted = read.4; calm = c.in-Ok-eq0.ensures.told })
           read.2 read.1 c.in-Ok-eq0.field-0-test c.in-Ok-eq0.ensures.bounded,
     )
 
 pub returns-in-Err-clause-heard : goal.returns-in-Err-clause-heard
 returns-in-Err-clause-heard g c =
     let read = c.in-Err.ensures.read in
-    heard_cut (traffic (g.W.Wire.given c.args.wire.now) (g.W.Wire.taken c.args.wire.now) (g.W.Wire.calls c.args.wire.now) (g.W.Wire.faults c.args.wire.now)) (traffic (g.W.Wire.given c.loop-announced.wire) (g.W.Wire.taken c.loop-announced.wire) (g.W.Wire.calls c.loop-announced.wire) (g.W.Wire.faults c.loop-announced.wire)) (traffic (g.W.Wire.given c.fill.new.wire) (g.W.Wire.taken c.fill.new.wire) (g.W.Wire.calls c.fill.new.wire) (g.W.Wire.faults c.fill.new.wire))
+    heard_cut (traffic (g.W.Wire.given c.args.wire.now) (g.W.Wire.taken c.args.wire.now) (g.W.Wire.calls c.args.wire.now) (g.W.Wire.lost c.args.wire.now) (g.W.Wire.cut c.args.wire.now) (g.W.Wire.ended c.args.wire.now)) (traffic (g.W.Wire.given c.loop-announced.wire) (g.W.Wire.taken c.loop-announced.wire) (g.W.Wire.calls c.loop-announced.wire) (g.W.Wire.lost c.loop-announced.wire) (g.W.Wire.cut c.loop-announced.wire) (g.W.Wire.ended c.loop-announced.wire)) (traffic (g.W.Wire.given c.fill.new.wire) (g.W.Wire.taken c.fill.new.wire) (g.W.Wire.calls c.fill.new.wire) (g.W.Wire.lost c.fill.new.wire) (g.W.Wire.cut c.fill.new.wire) (g.W.Wire.ended c.fill.new.wire))
     c.args.inbox.now c.loop-announced.inbox c.fill.new.self
     c.loop-announced.invariant.heard
     (unfinished_front c.as_slice.result.now c.loop-announced.inbox c.as_slice.ensures c.in_default.ensures.none.0)
-    read.0 read.1 c.in-Err.ensures.taken read.2 c.in-Err.ensures.cause.later c.in-Err.ensures.cause.failed
+    read.0 read.1 c.in-Err.ensures.taken read.2 c.in-Err.ensures.told
 
 pub loop-announced-preserved : goal.loop-announced-preserved
 loop-announced-preserved g c =
@@ -49,12 +50,13 @@ loop-announced-preserved g c =
     let scanned : HoldsScan (take longest_head c.loop-announced.inbox) c.announced_in.new.scan =
     subst (λ l. HoldsScan (take longest_head l) c.announced_in.new.scan) c.as_slice.ensures c.in_default.ensures.scan in
     record {
-      heard = heard_more (traffic (g.W.Wire.given c.args.wire.now) (g.W.Wire.taken c.args.wire.now) (g.W.Wire.calls c.args.wire.now) (g.W.Wire.faults c.args.wire.now)) (traffic (g.W.Wire.given c.loop-announced.wire) (g.W.Wire.taken c.loop-announced.wire) (g.W.Wire.calls c.loop-announced.wire) (g.W.Wire.faults c.loop-announced.wire)) (traffic (g.W.Wire.given c.fill.new.wire) (g.W.Wire.taken c.fill.new.wire) (g.W.Wire.calls c.fill.new.wire) (g.W.Wire.faults c.fill.new.wire))
+      heard = heard_more (traffic (g.W.Wire.given c.args.wire.now) (g.W.Wire.taken c.args.wire.now) (g.W.Wire.calls c.args.wire.now) (g.W.Wire.lost c.args.wire.now) (g.W.Wire.cut c.args.wire.now) (g.W.Wire.ended c.args.wire.now)) (traffic (g.W.Wire.given c.loop-announced.wire) (g.W.Wire.taken c.loop-announced.wire) (g.W.Wire.calls c.loop-announced.wire) (g.W.Wire.lost c.loop-announced.wire) (g.W.Wire.cut c.loop-announced.wire) (g.W.Wire.ended c.loop-announced.wire)) (traffic (g.W.Wire.given c.fill.new.wire) (g.W.Wire.taken c.fill.new.wire) (g.W.Wire.calls c.fill.new.wire) (g.W.Wire.lost c.fill.new.wire) (g.W.Wire.cut c.fill.new.wire) (g.W.Wire.ended c.fill.new.wire))
           c.args.inbox.now c.loop-announced.inbox c.fill.new.self read.0 c.in-Ok.field-0
           c.loop-announced.invariant.heard
           (unfinished_front c.as_slice.result.now c.loop-announced.inbox c.as_slice.ensures c.in_default.ensures.none.0)
-          (record { given = read.3; taken = c.in-Ok.ensures.taken; noted = read.4; faults = c.in-Ok.ensures.cause.calm })
+          (record { given = read.3; taken = c.in-Ok.ensures.taken; noted = read.4; calm = c.in-Ok.ensures.told })
           read.2 read.1 (omega arith) c.in-Ok.ensures.bounded;
       scan = subst (λ l. HoldsScan (take longest_head l) c.announced_in.new.scan) (sym read.2)
           (scan_grows c.loop-announced.inbox read.0 c.announced_in.new.scan scanned);
+      unclosed = c.in-Ok.ensures.open;
     }
