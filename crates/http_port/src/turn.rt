@@ -166,6 +166,7 @@ pub fn write_all<W: Wire>(wire: &mut W, bytes: &[u8]) -> Result<(), Failed>
         (λ _. (count : ℕ) × (count < length bytes.now) × Appends (W.taken wire.old) (W.taken wire.new) (take count bytes.now) × IsWritten (W.calls wire.old) (W.calls wire.new) (take count bytes.now) false) }
     ensures lost { W.lost wire.new ≡ W.lost wire.old }
     ensures cut { MatchResult result (λ _. W.cut wire.new ≡ W.cut wire.old) (λ _. W.cut wire.new ≡ (W.cut wire.old || not (W.closed wire.old))) }
+    ensures ended { W.ended wire.new ≡ W.ended wire.old }
     ensures given { W.given wire.new ≡ W.given wire.old }
     ensures left { W.left wire.new ≡ W.left wire.old }
     ensures closed { W.closed wire.new ≡ W.closed wire.old }

@@ -25,6 +25,7 @@ loop-done-preserved g c =
           (written_more (g.W.Wire.calls c.args.wire.now) (g.W.Wire.calls c.loop-done.wire) (g.W.Wire.calls c.write.new.self) (take done bytes) (take count (drop done bytes)) count c.loop-done.invariant.called c.in_ok-done.ensures.calls taken some);
       lost = c.in_ok-done.ensures.lost ∙ c.loop-done.invariant.lost;
       cut = c.in_ok-done.ensures.cut ∙ c.loop-done.invariant.cut;
+      ended = c.in_ok-done.ensures.ended ∙ c.loop-done.invariant.ended;
       given = c.in_ok-done.ensures.given ∙ c.loop-done.invariant.given;
       left = c.in_ok-done.ensures.left ∙ c.loop-done.invariant.left;
       closed = c.in_ok-done.ensures.closed ∙ c.loop-done.invariant.closed;

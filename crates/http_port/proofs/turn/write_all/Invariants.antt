@@ -10,6 +10,7 @@ invariant-loop-done g l = record {
   called : IsWritten (g.W.Wire.calls l.fn.wire) (g.W.Wire.calls l.wire) (take l.done l.bytes) true;
   lost : g.W.Wire.lost l.wire ≡ g.W.Wire.lost l.fn.wire;
   cut : g.W.Wire.cut l.wire ≡ g.W.Wire.cut l.fn.wire;
+  ended : g.W.Wire.ended l.wire ≡ g.W.Wire.ended l.fn.wire;
   given : g.W.Wire.given l.wire ≡ g.W.Wire.given l.fn.wire;
   left : g.W.Wire.left l.wire ≡ g.W.Wire.left l.fn.wire;
   closed : g.W.Wire.closed l.wire ≡ g.W.Wire.closed l.fn.wire;
