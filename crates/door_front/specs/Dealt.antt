@@ -41,7 +41,7 @@ sides_of kept notes = record { kept = kept; notes = notes }
 pub record IsNewLine (line : Line) : Type 0 where
   pub unread : line.given ≡ None ⊎ line.given ≡ Some []
   pub unwritten : line.taken ≡ None ⊎ line.taken ≡ Some []
-  pub faultless : line.faults ≡ no_failures
+  pub faultless : line.failures ≡ no_failures
   pub is_open : line.closed ≡ false
 
 -- a connection owes an answer at this stage exactly where a request of it has none yet

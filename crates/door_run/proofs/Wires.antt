@@ -35,14 +35,14 @@ unlost_at s lost calm none =
     (λ e. absurd (true≢false (sym (ap is_lost e) ∙ calm)), λ some. absurd (true≢false (sym some ∙ none)))
 
 -- of a wire that had not failed a read has failed exactly at one stage
-lost_at : (s : Stage) (first line : Line) (read : List ℕ) → first.faults ≡ no_failures → s ≢ Stages.Spent
-    → WireTells s first read line → (s ≡ Stages.ReadFailed) ↔ (line.faults.lost ≡ true)
-lost_at Stages.Reads first line read none some k = unlost_at Stages.Reads line.faults.lost refl (none_lost line.faults (k.faults ∙ none))
-lost_at Stages.Owes first line read none some k = unlost_at Stages.Owes line.faults.lost refl (none_lost line.faults (k.faults ∙ none))
-lost_at Stages.Ended first line read none some k = unlost_at Stages.Ended line.faults.lost refl (none_lost line.faults (k.1 ∙ none))
-lost_at Stages.Closed first line read none some k = unlost_at Stages.Closed line.faults.lost refl (none_lost line.faults (k.1 ∙ none))
+lost_at : (s : Stage) (first line : Line) (read : List ℕ) → first.failures ≡ no_failures → s ≢ Stages.Spent
+    → WireTells s first read line → (s ≡ Stages.ReadFailed) ↔ (line.failures.lost ≡ true)
+lost_at Stages.Reads first line read none some k = unlost_at Stages.Reads line.failures.lost refl (none_lost line.failures (k.failures ∙ none))
+lost_at Stages.Owes first line read none some k = unlost_at Stages.Owes line.failures.lost refl (none_lost line.failures (k.failures ∙ none))
+lost_at Stages.Ended first line read none some k = unlost_at Stages.Ended line.failures.lost refl (none_lost line.failures (k.1 ∙ none))
+lost_at Stages.Closed first line read none some k = unlost_at Stages.Closed line.failures.lost refl (none_lost line.failures (k.1 ∙ none))
 lost_at Stages.ReadFailed first line read none some k = (λ e. k.1, λ h. refl)
-lost_at Stages.WriteFailed first line read none some k = unlost_at Stages.WriteFailed line.faults.lost refl (k.1 ∙ none_lost first.faults none)
+lost_at Stages.WriteFailed first line read none some k = unlost_at Stages.WriteFailed line.failures.lost refl (k.1 ∙ none_lost first.failures none)
 lost_at Stages.Spent first line read none some k = absurd (some refl)
 
 -- a write of the wire failed
@@ -61,13 +61,13 @@ uncut_at s cut calm none =
     (λ e. absurd (true≢false (sym (ap is_cut e) ∙ calm)), λ some. absurd (true≢false (sym some ∙ none)))
 
 -- of an open wire that had not failed a write has failed exactly at one stage
-cut_at : (s : Stage) (first line : Line) (read : List ℕ) → first.faults ≡ no_failures → first.closed ≡ false → s ≢ Stages.Spent
-    → WireTells s first read line → (s ≡ Stages.WriteFailed) ↔ (line.faults.cut ≡ true)
-cut_at Stages.Reads first line read none is_open some k = uncut_at Stages.Reads line.faults.cut refl (none_cut line.faults (k.faults ∙ none))
-cut_at Stages.Owes first line read none is_open some k = uncut_at Stages.Owes line.faults.cut refl (none_cut line.faults (k.faults ∙ none))
-cut_at Stages.Ended first line read none is_open some k = uncut_at Stages.Ended line.faults.cut refl (none_cut line.faults (k.1 ∙ none))
-cut_at Stages.Closed first line read none is_open some k = uncut_at Stages.Closed line.faults.cut refl (none_cut line.faults (k.1 ∙ none))
-cut_at Stages.ReadFailed first line read none is_open some k = uncut_at Stages.ReadFailed line.faults.cut refl (k.2 ∙ none_cut first.faults none)
+cut_at : (s : Stage) (first line : Line) (read : List ℕ) → first.failures ≡ no_failures → first.closed ≡ false → s ≢ Stages.Spent
+    → WireTells s first read line → (s ≡ Stages.WriteFailed) ↔ (line.failures.cut ≡ true)
+cut_at Stages.Reads first line read none is_open some k = uncut_at Stages.Reads line.failures.cut refl (none_cut line.failures (k.failures ∙ none))
+cut_at Stages.Owes first line read none is_open some k = uncut_at Stages.Owes line.failures.cut refl (none_cut line.failures (k.failures ∙ none))
+cut_at Stages.Ended first line read none is_open some k = uncut_at Stages.Ended line.failures.cut refl (none_cut line.failures (k.1 ∙ none))
+cut_at Stages.Closed first line read none is_open some k = uncut_at Stages.Closed line.failures.cut refl (none_cut line.failures (k.1 ∙ none))
+cut_at Stages.ReadFailed first line read none is_open some k = uncut_at Stages.ReadFailed line.failures.cut refl (k.2 ∙ none_cut first.failures none)
 cut_at Stages.WriteFailed first line read none is_open some k =
     (λ e. k.2 ∙ ap₂ (λ (f : Failures) c. f.cut || not c) none is_open, λ h. refl)
 cut_at Stages.Spent first line read none is_open some k = absurd (some refl)
@@ -83,10 +83,10 @@ module _ (IsMade : Line → Type 0) where
         fresh = k.fresh;
         read = word.given;
         written = word.taken;
-        lost = subst (λ s. (s ≡ Stages.ReadFailed) ↔ (l.seen.line.faults.lost ≡ true)) (sym k.stage)
+        lost = subst (λ s. (s ≡ Stages.ReadFailed) ↔ (l.seen.line.failures.lost ≡ true)) (sym k.stage)
             (lost_at (stage_of l.seen.kept.next) k.first l.seen.line l.seen.kept.read.items k.fresh.faultless
             (λ e. k.memory (k.stage ∙ e)) word.wire);
-        cut = subst (λ s. (s ≡ Stages.WriteFailed) ↔ (l.seen.line.faults.cut ≡ true)) (sym k.stage)
+        cut = subst (λ s. (s ≡ Stages.WriteFailed) ↔ (l.seen.line.failures.cut ≡ true)) (sym k.stage)
             (cut_at (stage_of l.seen.kept.next) k.first l.seen.line l.seen.kept.read.items k.fresh.faultless k.fresh.is_open
             (λ e. k.memory (k.stage ∙ e)) word.wire);
         ended = k.ended;

@@ -89,7 +89,7 @@ traffic_of link = record { read = link.seen.kept.read.items; written = link.seen
 -- what its wire tells
 abbrev pub wire_of : LinkTold → WireTold
 wire_of link =
-    wire_told link.seen.line.given link.seen.line.taken link.seen.line.faults.lost link.seen.line.faults.cut link.ended
+    wire_told link.seen.line.given link.seen.line.taken link.seen.line.failures.lost link.seen.line.failures.cut link.ended
 
 -- what a door tells
 abbrev pub door_of : PortTold → DoorTold

@@ -19,7 +19,7 @@ use Rattle.http_connection.specs.declared.stage.Standing.{Standing}
 use Rattle.http_connection.specs.declared.stage.Standing.TheVariants as Stands
 use Rattle.http_connection.specs.Stages.{stage_behind, stage_of, is_waiting, MayBeTold, IsOver, IsBehindAsking}
 use Rattle.http_connection.specs.Seen.{Failures, Line, Seen}
-use Rattle.http_connection.specs.Talking.{log, log_of, IsAnswered, HasGiven, due, told_to, Closes, HasWritten, HasAsked, Passed, IsOpen, IsShut, cut_by_one_more, WireTells, IsTalking, handed}
+use Rattle.http_connection.specs.Talking.{log, log_of, IsAnswered, HasGiven, due, told_to, Closes, HasWritten, HasAsked, Passed, IsOpen, IsShut, cut_behind_failed_write, WireTells, IsTalking, handed}
 use Rattle.http_connection.specs.Steps.{HandsOut, owed_in, is_interim, Takes, Sends, Finishes, IsCarried, IsGoing, IsFed}
 use Rattle.http_connection.proofs.Histories.{LetsGo, answered_all}
 
@@ -172,7 +172,7 @@ pub sent_carried : (first : Line) (was now : Seen) (text : List ℕ) → IsCarri
 sent_carried first was now text c s = record {
   given = sent_given first was now text false c s;
   taken = sent_taken first was now text false c s;
-  wire = record { left = sent_left first was now text false c s; faults = s.counts ∙ c.wire.faults; closed = s.closed ∙ c.wire.closed };
+  wire = record { left = sent_left first was now text false c s; failures = s.failures ∙ c.wire.failures; closed = s.closed ∙ c.wire.closed };
 }
 
 -- what the reader gave last was answered, and the connection goes on
@@ -242,7 +242,7 @@ sent_closing first was mid now last text bodies texts g c s f =
       given = finished_given first was mid now (due last text) false Ends.Closed g.carried s f;
       taken = finished_taken first was mid now (due last text) false Ends.Closed g.carried s f;
       wire = subst (λ n. WireTells (stage_of n) first now.kept.read.items now.line) (sym f.next)
-          (finished_shut first was mid now (due last text) false Ends.Closed g.carried s f, f.faults ∙ s.counts ∙ g.carried.wire.faults);
+          (finished_shut first was mid now (due last text) false Ends.Closed g.carried s f, f.failures ∙ s.failures ∙ g.carried.wire.failures);
       passed = subst (λ n. Passed n now.kept.reader (log_of now bodies_now texts_now)) (sym f.next) (
         last,
         text,
@@ -253,8 +253,8 @@ sent_closing first was mid now last text bodies texts g c s f =
     }
 
 -- what a write that fails tells is the same of a wire as of one before it that was as open and had failed as much
-same_cut : (before now : Line) → now.faults ≡ before.faults → now.closed ≡ before.closed → cut_by_one_more now ≡ cut_by_one_more before
-same_cut before now faults closed = ap₂ (λ (f : Failures) c. f.cut || not c) faults closed
+same_cut : (before now : Line) → now.failures ≡ before.failures → now.closed ≡ before.closed → cut_behind_failed_write now ≡ cut_behind_failed_write before
+same_cut before now failures closed = ap₂ (λ (f : Failures) c. f.cut || not c) failures closed
 
 -- a write failed
 pub sent_failing : (first : Line) (was mid now : Seen) (last : Fed) (text : Option (List ℕ)) (bodies : List (List ℕ)) (texts : List (Option (List ℕ)))
@@ -268,8 +268,8 @@ sent_failing first was mid now last text bodies texts g s f =
       taken = finished_taken first was mid now (due last text) true Ends.WriteFailed g.carried s f;
       wire = subst (λ n. WireTells (stage_of n) first now.kept.read.items now.line) (sym f.next) (
         finished_shut first was mid now (due last text) true Ends.WriteFailed g.carried s f,
-        ap (λ (n : Failures). n.lost) f.faults ∙ s.counts.0 ∙ ap (λ (n : Failures). n.lost) g.carried.wire.faults,
-        ap (λ (n : Failures). n.cut) f.faults ∙ s.counts.1 ∙ same_cut first was.line g.carried.wire.faults g.carried.wire.closed,
+        ap (λ (n : Failures). n.lost) f.failures ∙ s.failures.0 ∙ ap (λ (n : Failures). n.lost) g.carried.wire.failures,
+        ap (λ (n : Failures). n.cut) f.failures ∙ s.failures.1 ∙ same_cut first was.line g.carried.wire.failures g.carried.wire.closed,
       );
       passed = subst (λ n. Passed n now.kept.reader (log_of now bodies_now texts_now)) (sym f.next) (
         last,
@@ -295,7 +295,7 @@ pub record Reads (was now : Seen) (piece : List ℕ) : Type 0 where
   pub given : Appends was.line.given now.line.given piece
   pub left : Consumes was.line.left now.line.left piece
   pub taken : now.line.taken ≡ was.line.taken
-  pub faults : now.line.faults ≡ was.line.faults
+  pub failures : now.line.failures ≡ was.line.failures
   pub closed : now.line.closed ≡ was.line.closed
   pub read : now.kept.read.items ≡ was.kept.read.items ++ piece
   pub written : now.kept.written.items ≡ was.kept.written.items
@@ -309,7 +309,7 @@ read_carried first was now piece c r = record {
   wire = record {
     left = subst (Consumes first.left now.line.left) (sym r.read)
         (Consumes-trans first.left was.line.left now.line.left was.kept.read.items piece c.wire.left r.left);
-    faults = r.faults ∙ c.wire.faults;
+    failures = r.failures ∙ c.wire.failures;
     closed = r.closed ∙ c.wire.closed;
   };
 }
@@ -371,7 +371,7 @@ read_ended first was mid now bodies texts f r end fin =
               (starts_so first.left mid.line.left mid.kept.read.items c.wire.left);
           closed = fin.closed;
         },
-        fin.faults ∙ c.wire.faults,
+        fin.failures ∙ c.wire.failures,
         subst (λ v. IfSome first.left (λ all. all ≡ v)) (sym fin.read) (at_end first.left mid.line.left mid.kept.read.items c.wire.left end),
       );
       passed = subst (λ n. Passed n now.kept.reader (log_of now bodies texts)) (sym fin.next)
@@ -390,8 +390,8 @@ pub record FailsRead (was now : Seen) : Type 0 where
   pub given : Keeps was.line.given now.line.given
   pub left : Keeps was.line.left now.line.left
   pub taken : now.line.taken ≡ was.line.taken
-  pub lost : now.line.faults.lost ≡ true
-  pub uncut : now.line.faults.cut ≡ was.line.faults.cut
+  pub lost : now.line.failures.lost ≡ true
+  pub uncut : now.line.failures.cut ≡ was.line.failures.cut
   pub read : now.kept.read.items ≡ was.kept.read.items
   pub written : now.kept.written.items ≡ was.kept.written.items
   pub reader : now.kept.reader ≡ was.kept.reader
@@ -418,8 +418,8 @@ read_failed first was mid now bodies texts f r fin =
           front = subst (λ v. IfSome first.left (λ all. StartsWith all v)) (sym fin.read) (starts_so first.left mid.line.left mid.kept.read.items left);
           closed = fin.closed;
         },
-        ap (λ (n : Failures). n.lost) fin.faults ∙ r.lost,
-        ap (λ (n : Failures). n.cut) fin.faults ∙ r.uncut ∙ ap (λ (n : Failures). n.cut) c.wire.faults,
+        ap (λ (n : Failures). n.lost) fin.failures ∙ r.lost,
+        ap (λ (n : Failures). n.cut) fin.failures ∙ r.uncut ∙ ap (λ (n : Failures). n.cut) c.wire.failures,
       );
       passed = subst (λ n. Passed n now.kept.reader (log_of now bodies texts)) (sym fin.next) (ended_passed mid now Ends.ReadFailed bodies texts passed fin);
     }
@@ -432,7 +432,7 @@ talks_first first now line read written reader next = record {
   given = subst (λ (l : Line). Appends first.given l.given now.kept.read.items) (sym line) (subst (Appends first.given first.given) (sym read) (Appends-nil first.given));
   taken = subst (λ (l : Line). Appends first.taken l.taken now.kept.written.items) (sym line) (subst (Appends first.taken first.taken) (sym written) (Appends-nil first.taken));
   wire = subst (λ n. WireTells (stage_of n) first now.kept.read.items now.line) (sym next)
-      (subst (IsOpen first now.kept.read.items) (sym line) (subst (λ l. IsOpen first l first) (sym read) (record { left = Consumes-nil first.left; faults = refl; closed = refl })));
+      (subst (IsOpen first now.kept.read.items) (sym line) (subst (λ l. IsOpen first l first) (sym read) (record { left = Consumes-nil first.left; failures = refl; closed = refl })));
   passed = subst (λ n. Passed n now.kept.reader (log_of now [] [])) (sym next)
       (subst (λ p. HasGiven NotYet p (log_of now [] [])) (sym reader)
       (subst (λ r. HasGiven NotYet (Open [] false) (log r now.kept.written.items [] [])) (sym read)
@@ -460,7 +460,7 @@ sends text count was now t written read reader next = elim (cases_lt count (leng
     front = (count, short, refl);
     written = written;
     taken = t.taken;
-    counts = t.cause short;
+    failures = t.cause short;
     given = t.given;
     left = t.left;
     closed = t.closed;
@@ -473,7 +473,7 @@ sends text count was now t written read reader next = elim (cases_lt count (leng
     front = take_all count text full;
     written = written;
     taken = t.taken;
-    counts = let within = t.within in t.calm (omega arith);
+    failures = let within = t.within in t.calm (omega arith);
     given = t.given;
     left = t.left;
     closed = t.closed;

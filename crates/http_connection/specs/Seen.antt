@@ -21,13 +21,13 @@ pub record Line : Type 0 where
   pub given : Option (List ℕ)
   pub left : Option (List ℕ)
   pub taken : Option (List ℕ)
-  pub faults : Failures
+  pub failures : Failures
   pub closed : Bool
 
 -- the same by its parts
 abbrev pub line_of : Option (List ℕ) → Option (List ℕ) → Option (List ℕ) → Failures → Bool → Line
-line_of given left taken faults closed =
-    record { given = given; left = left; taken = taken; faults = faults; closed = closed }
+line_of given left taken failures closed =
+    record { given = given; left = left; taken = taken; failures = failures; closed = closed }
 
 -- a connection: what it keeps, and the state of its wire
 pub record Seen : Type 0 where

@@ -1,7 +1,8 @@
 -- How a connection stands, and what may be asked of it then.
 use Rattle.std.specs.Prelude.{◌≡◌, ◌⊎◌, Bool, true, false, Option, None, Some, List, ℕ}
 use Rattle.http_connection.specs.declared.stage.Stage.{Stage}
-use Rattle.http_connection.specs.declared.stage.Stage.TheVariants.{Reads, Owes, Ended, Closed, ReadFailed, WriteFailed, Spent}
+use Rattle.http_connection.specs.declared.stage.Stage.TheVariants.{Reads, Owes, Ended, Closed, Spent}
+use Rattle.http_connection.specs.declared.stage.Stage.TheVariants.{ReadFailed, WriteFailed}
 use Rattle.http_connection.specs.declared.stage.Ending.{Ending}
 use Rattle.http_connection.specs.declared.stage.Ending.TheVariants as Ends
 use Rattle.http_connection.specs.declared.stage.Standing.{Standing}

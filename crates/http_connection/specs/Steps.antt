@@ -14,7 +14,7 @@ use Rattle.http_connection.specs.declared.stage.Ending.{Ending}
 use Rattle.http_connection.specs.declared.stage.Standing.{Standing}
 use Rattle.http_connection.specs.declared.stage.Standing.TheVariants as Stands
 use Rattle.http_connection.specs.Seen.{Line, Seen}
-use Rattle.http_connection.specs.Talking.{Log, log, log_of, IsAnswered, HasGiven, IsOpen, cut_by_one_more}
+use Rattle.http_connection.specs.Talking.{Log, log, log_of, IsAnswered, HasGiven, IsOpen, cut_behind_failed_write}
 use Rattle.http_connection.specs.Prompt.{IsDone}
 
 -- What is handed out by how the connection stands, and how it stands then: a request that is held; none of a connection
@@ -46,17 +46,18 @@ abbrev pub IsFrontOf : Bool → List ℕ → List ℕ → Type 0
 IsFrontOf false text went = went ≡ text
 IsFrontOf true text went = (count : ℕ) × (count < length text) × (went ≡ take count text)
 
--- a wire that was so before failed in a write since then where what went out was cut
-abbrev pub Counts : Bool → Line → Line → Type 0
-Counts false before now = now.faults ≡ before.faults
-Counts true before now = (now.faults.lost ≡ before.faults.lost) × (now.faults.cut ≡ cut_by_one_more before)
+-- what a wire tells of its failures behind a text: as before, or, where the text was cut, that a write failed
+abbrev pub FailedWhereCut : Bool → Line → Line → Type 0
+FailedWhereCut false before now = now.failures ≡ before.failures
+FailedWhereCut true before now =
+    (now.failures.lost ≡ before.failures.lost) × (now.failures.cut ≡ cut_behind_failed_write before)
 
 -- A wire took so many bytes of the text: all, unless a write failed.
 pub record Takes (text : List ℕ) (count : ℕ) (before now : Line) : Type 0 where
   pub within : count ≤ length text
   pub taken : Appends before.taken now.taken (take count text)
-  pub calm : count ≡ length text → Counts false before now
-  pub cause : count < length text → Counts true before now
+  pub calm : count ≡ length text → now.failures ≡ before.failures
+  pub cause : count < length text → FailedWhereCut true before now
   pub given : now.given ≡ before.given
   pub left : now.left ≡ before.left
   pub closed : now.closed ≡ before.closed
@@ -67,7 +68,7 @@ pub record Sends (text : List ℕ) (cut : Bool) (was now : Seen) : Type 0 where
   pub front : IsFrontOf cut text went
   pub written : now.kept.written.items ≡ was.kept.written.items ++ went
   pub taken : Appends was.line.taken now.line.taken went
-  pub counts : Counts cut was.line now.line
+  pub failures : FailedWhereCut cut was.line now.line
   pub given : now.line.given ≡ was.line.given
   pub left : now.line.left ≡ was.line.left
   pub closed : now.line.closed ≡ was.line.closed
@@ -88,7 +89,7 @@ pub record Finishes (ending : Ending) (was now : Seen) : Type 0 where
   pub closed : now.line.closed ≡ true
   pub given : now.line.given ≡ was.line.given
   pub taken : now.line.taken ≡ was.line.taken
-  pub faults : now.line.faults ≡ was.line.faults
+  pub failures : now.line.failures ≡ was.line.failures
   pub read : now.kept.read.items ≡ was.kept.read.items
   pub written : now.kept.written.items ≡ was.kept.written.items
   pub reader : now.kept.reader ≡ was.kept.reader

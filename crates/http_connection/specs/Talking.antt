@@ -119,7 +119,7 @@ Passed Stands.Spent place l = Unit {0}
 -- the wire is open, and did not fail since it was as first
 pub record IsOpen (first : Line) (read : List ℕ) (line : Line) : Type 0 where
   pub left : Consumes first.left line.left read
-  pub faults : line.faults ≡ first.faults
+  pub failures : line.failures ≡ first.failures
   pub closed : line.closed ≡ first.closed
 
 -- it is closed; what was read is a front of what it had
@@ -127,21 +127,21 @@ pub record IsShut (first : Line) (read : List ℕ) (line : Line) : Type 0 where
   pub front : IfSome first.left (λ all. StartsWith all read)
   pub closed : line.closed ≡ true
 
--- whether a write of a wire has failed before it was closed, where one more fails
-abbrev pub cut_by_one_more : Line → Bool
-cut_by_one_more line = line.faults.cut || not line.closed
+-- whether a write of a wire has failed before it was closed, behind one more that fails
+abbrev pub cut_behind_failed_write : Line → Bool
+cut_behind_failed_write line = line.failures.cut || not line.closed
 
 -- what the wire tells at a stage, where this was read of it since it was as first
 abbrev pub WireTells : Stage → Line → List ℕ → Line → Type 0
 WireTells Stages.Reads first read line = IsOpen first read line
 WireTells Stages.Owes first read line = IsOpen first read line
 WireTells Stages.Ended first read line =
-    IsShut first read line × (line.faults ≡ first.faults) × IfSome first.left (λ all. all ≡ read)
-WireTells Stages.Closed first read line = IsShut first read line × (line.faults ≡ first.faults)
+    IsShut first read line × (line.failures ≡ first.failures) × IfSome first.left (λ all. all ≡ read)
+WireTells Stages.Closed first read line = IsShut first read line × (line.failures ≡ first.failures)
 WireTells Stages.ReadFailed first read line =
-    IsShut first read line × (line.faults.lost ≡ true) × (line.faults.cut ≡ first.faults.cut)
+    IsShut first read line × (line.failures.lost ≡ true) × (line.failures.cut ≡ first.failures.cut)
 WireTells Stages.WriteFailed first read line =
-    IsShut first read line × (line.faults.lost ≡ first.faults.lost) × (line.faults.cut ≡ cut_by_one_more first)
+    IsShut first read line × (line.failures.lost ≡ first.failures.lost) × (line.failures.cut ≡ cut_behind_failed_write first)
 WireTells Stages.Spent first read line = IsOpen first read line
 
 -- The connection, made with a wire that was as first, has handed out these bodies in order and was told these texts.

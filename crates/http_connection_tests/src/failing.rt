@@ -4,7 +4,8 @@ use crate::talk::{Ended, finished};
 use std::alloc::{AllocError, Global};
 use test_rows::{Row, TableError};
 
-/// How many calls the wire has without a failure, and whether the connection ends so, with a front of what is asked and written, where any one of them fails.
+/// How many calls the wire has without a failure, and at how many of them a failure comes to something else than that
+/// the connection has failed there, with a front of what is asked and written.
 pub(crate) fn given(alloc: Global, row: &Row<'_>) -> Result<String, TableError> {
     let stream = row.bytes(alloc, "bytes")?;
     let says = row.text(alloc, "says")?;
@@ -16,7 +17,7 @@ fn told(alloc: Global, stream: &[u8], says: &str, piece: usize) -> Result<String
     let whole = finished(alloc, stream, says, piece, &[])?;
     let wrong = count_wrong(alloc, stream, says, piece, &whole)?;
     let calls = whole.call_count();
-    format!(in alloc; "{calls} calls, {wrong} with another outcome than a front")
+    format!(in alloc; "{calls} calls, {wrong} with another end or no front")
 }
 
 /// At how many calls a failure comes to something else.

@@ -1,6 +1,7 @@
 -- These definitions serve the proofs alone: no promise of a public call speaks of them.
 -- What serving does turn by turn.
-use Rattle.std.specs.Prelude.{◌≡◌, ℕ, ◌<◌, ◌⊎◌, Bool, true, false, if◌then◌else◌, None, Some, List, [], ◌∷◌, length, take}
+use Rattle.std.specs.Prelude.{◌≡◌, ℕ, ◌<◌, ◌⊎◌, Bool, true, false, if◌then◌else◌, None, Some, List, [], ◌∷◌}
+use Rattle.std.specs.Prelude.{length, take}
 use Rattle.http_port.specs.Responses.{interim, response}
 use Rattle.http_port.specs.Talk.{answer}
 use Rattle.http_port.specs.Serving.{cut_behind}

@@ -12,7 +12,8 @@ use outside_traits::Wire;
 use std::alloc::{AllocError, Global};
 use std::marker::Model;
 
-/// What doors tell: their counts, how often a call has failed, the tries to open a door, and the wires and doors that came back.
+/// What doors tell: their counts, how often a call has failed, the tries to open a door, and the wires and doors that
+/// came back.
 #[derive(Drop)]
 pub struct Book<W: Wire + Drop> {
     counts: Counts,

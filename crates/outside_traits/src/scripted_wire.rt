@@ -114,7 +114,7 @@ impl ScriptedWire {
     }
 
     /// Notes a write that failed.
-    fn fail(&mut self) -> Result<usize, Failed>
+    fn note_failed_write(&mut self) -> Result<usize, Failed>
         ensures failed { IsErr result }
         ensures script { self.new.script ≡ self.old.script }
         ensures tape { self.new.tape ≡ self.old.tape }
@@ -203,11 +203,11 @@ impl Wire for ScriptedWire {
         ensures cut { MatchResult result (λ _. self.new.cut ≡ self.old.cut) (λ _. self.new.cut ≡ (self.old.cut || not self.old.closed)) }
     {
         if self.closed || self.script.fails() {
-            return self.fail();
+            return self.note_failed_write();
         }
         let count = self.shelf.keep(self.piece, from);
         if count == 0 && !from.is_empty() {
-            return self.fail();
+            return self.note_failed_write();
         }
         self.calls.note(WireCall::Wrote(count));
         Ok(count)

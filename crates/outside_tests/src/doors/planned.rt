@@ -112,7 +112,7 @@ fn scripted_door(alloc: Global, line: &str) -> Result<ScriptedDoor, AllocError> 
     Ok(door)
 }
 
-/// `.` is nobody, `!` a failure, and each other word a connection with these bytes, of which the second call fails where a `!` stands at its end, and each write where a `|` does.
+/// `.` is nobody, `!` a failure, and each other word a connection.
 fn expect_visit(door: &mut ScriptedDoor, word: &str) -> Result<(), AllocError> {
     match word {
         "." => door.expect_nobody(),
@@ -121,6 +121,8 @@ fn expect_visit(door: &mut ScriptedDoor, word: &str) -> Result<(), AllocError> {
     }
 }
 
+/// A connection with the bytes of a word, whose second call fails where a `!` stands behind them, and each write where
+/// a `|` does.
 fn expect_connection(door: &mut ScriptedDoor, word: &str) -> Result<(), AllocError> {
     if let Some(bytes) = word.strip_suffix("!") {
         return door.expect(bytes.as_bytes(), ROOM, 2, &[1]);
