@@ -105,6 +105,7 @@ module _ (IsMade : Line → Type 0) (parts : ProgramParts) (first : Sides) (note
     written = h.said.written;
     noted = h.said.noted;
     halted = h.said.halted ∙ sym halted;
+    muted = h.said.muted;
     faults = h.said.faults;
   }
 

@@ -121,6 +121,7 @@ pub record NotesSo (first now : Sides) (s : Said) (text : List ℕ) : Type 0 whe
   pub said : HasSaid first now after
   pub told : after.told ≡ s.told
   pub noted : after.noted ≡ s.noted ++ text
+  pub muted : after.muted ≡ after.halted
   pub halts : Halts s after
   pub stays : after.halted ≡ false → s.halted ≡ false
 
@@ -133,6 +134,7 @@ module _ (first before : Sides) (s : Said) (h : HasSaid first before s) where
     written = h.written;
     noted = noted_told first.notes before.notes s (record s { told = s.told ++ t ∷ [] }) h.notes refl refl h.noted;
     halted = h.halted ∙ sym same;
+    muted = h.muted;
     faults = h.faults;
   }
 
@@ -147,10 +149,12 @@ module _ (first before : Sides) (s : Said) (h : HasSaid first before s) where
           written = h.written;
           noted = noted_cut first.notes before.notes s after h.notes text (h.halted ∙ cut) (h.halted ∙ cut) refl h.noted;
           halted = h.halted;
+          muted = h.muted;
           faults = h.faults;
         };
         told = refl;
         noted = refl;
+        muted = h.muted;
         halts = halts_still s after refl refl;
         stays = λ e. e;
       }
@@ -160,7 +164,7 @@ module _ (first before : Sides) (s : Said) (h : HasSaid first before s) where
       → halted ≡ nat_lt count (length text) → Takes text count before.notes notes
       → NotesSo first (sides_of (record before.kept { halted = halted }) notes) s text
   said_noted halted notes text count running cut takes =
-      let after : Said = record { told = s.told; noted = s.noted ++ text; halted = halted; faults = notes.faults } in
+      let after : Said = record { told = s.told; noted = s.noted ++ text; halted = halted; muted = halted; faults = notes.faults } in
       record {
         after = after;
         said = record {
@@ -169,10 +173,12 @@ module _ (first before : Sides) (s : Said) (h : HasSaid first before s) where
           noted = noted_more first.notes before.notes notes s after h.notes text count halted (sym cut) refl refl takes
               (whole_so first.notes before.notes s h.notes (h.halted ∙ running) h.noted);
           halted = refl;
+          muted = refl;
           faults = refl;
         };
         told = refl;
         noted = refl;
+        muted = refl;
         halts = halts_so s after text count before.notes notes (h.halted ∙ running) cut h.faults refl takes;
         stays = λ e. h.halted ∙ running;
       }

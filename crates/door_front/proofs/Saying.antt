@@ -518,7 +518,7 @@ module _ (IsMade : Line → Type 0) (parts : ProgramParts) (A B : Type 0) (a : A
       let t : Told = told_of place outcomes in (
         record { brought = d.brought; said = record d.said { told = d.said.told ++ t ∷ [] } },
         (a, b, inr (dealt_cut IsMade parts first (sides_of old was) d t (dealt_yet lasts) cut)),
-        record { told = refl; noted = refl; halts = halts_still d.said (record d.said { told = d.said.told ++ t ∷ [] }) refl refl; brought = refl },
+        record { told = refl; noted = refl; muted = refl; halts = halts_still d.said (record d.said { told = d.said.told ++ t ∷ [] }) refl refl; brought = refl },
       )
 
   -- it is told of a place, or memory ran out
@@ -529,38 +529,39 @@ module _ (IsMade : Line → Type 0) (parts : ProgramParts) (A B : Type 0) (a : A
       let t : Told = told_of place outcomes in (
         record { brought = d.brought; said = record d.said { told = d.said.told ++ t ∷ [] } },
         (a, b, inr (dealt_now IsMade parts first old new was d place outcomes (dealt_yet lasts) due answered running)),
-        record { told = refl; noted = refl; halts = halts_still d.said (record d.said { told = d.said.told ++ t ∷ [] }) refl refl; brought = refl },
+        record { told = refl; noted = refl; muted = refl; halts = halts_still d.said (record d.said { told = d.said.told ++ t ∷ [] }) refl refl; brought = refl },
       )
   told-so (Err e) new place outcomes lasts running due answered out halted =
       (a, b, inl (out, halted_is IsMade parts first (sides_of old was) d h ∙ sym halted))
 
-  -- a text is noted to a front that halted
-  pub noted_cut-so : (text : List ℕ) → old.halted ≡ true → After (Same (sides_of old was)) (Notes text d)
-  noted_cut-so text cut = by h
+  -- a text is noted to a front that halted, by no answer
+  pub noted_cut-so : (text : List ℕ) → old.halted ≡ true → d.said.muted ≡ d.said.halted
+      → After (Same (sides_of old was)) (Notes text d)
+  noted_cut-so text cut muted = by h
     where
       by : MayHaveDealt IsMade parts first (sides_of old was) d → After (Same (sides_of old was)) (Notes text d)
       by (inl out) =
           let after : Said = record d.said { noted = d.said.noted ++ text } in (
             record { brought = d.brought; said = after },
             (a, b, inl out),
-            record { told = refl; noted = refl; halts = halts_still d.said after refl refl; brought = refl },
+            record { told = refl; noted = refl; muted = muted; halts = halts_still d.said after refl refl; brought = refl },
           )
       by (inr k) =
           let n : NotesSo first (sides_of old was) d.said text = said_cut first (sides_of old was) d.said k.said text cut in (
             record { brought = d.brought; said = n.after },
             (a, b, inr (dealt_noted IsMade parts first old was was old.halted text d k n)),
-            record { told = n.told; noted = n.noted; halts = n.halts; brought = refl },
+            record { told = n.told; noted = n.noted; muted = n.muted; halts = n.halts; brought = refl },
           )
 
   -- what is known where memory had run out
   out_noted : (halted : Bool) (text : List ℕ) → old.halted ≡ false → HasRunOut old d → (after : Said) × (after.halted ≡ halted)
-      × (after.told ≡ d.said.told) × (after.noted ≡ d.said.noted ++ text) × Halts d.said after
+      × (after.told ≡ d.said.told) × (after.noted ≡ d.said.noted ++ text) × (after.muted ≡ after.halted) × Halts d.said after
   out_noted true text running out =
-      let after : Said = record { told = d.said.told; noted = d.said.noted ++ text; halted = true; faults = d.said.faults + 1 } in
-      (after, refl, refl, refl, halts_unknown d.said after refl refl)
+      let after : Said = record { told = d.said.told; noted = d.said.noted ++ text; halted = true; muted = true; faults = d.said.faults + 1 } in
+      (after, refl, refl, refl, refl, halts_unknown d.said after refl refl)
   out_noted false text running out =
-      let after : Said = record { told = d.said.told; noted = d.said.noted ++ text; halted = false; faults = d.said.faults } in
-      (after, refl, refl, refl, halts_still d.said after (sym (out.1 ∙ running)) refl)
+      let after : Said = record { told = d.said.told; noted = d.said.noted ++ text; halted = false; muted = false; faults = d.said.faults } in
+      (after, refl, refl, refl, refl, halts_still d.said after (sym (out.1 ∙ running)) refl)
 
   -- a text is noted, as far as the sink takes it
   noted-so : (halted : Bool) (notes : Taking) (text : List ℕ) (count : ℕ) → old.halted ≡ false → halted ≡ nat_lt count (length text) → Takes text count was notes
@@ -572,14 +573,14 @@ module _ (IsMade : Line → Type 0) (parts : ProgramParts) (A B : Type 0) (a : A
           let n = out_noted halted text running out in (
             record { brought = d.brought; said = n.0 },
             (a, b, inl (out.0, n.1)),
-            record { told = n.2; noted = n.3; halts = n.4; brought = refl },
+            record { told = n.2; noted = n.3; muted = n.4; halts = n.5; brought = refl },
           )
       by (inr k) =
           let n : NotesSo first (sides_of (record old { halted = halted }) notes) d.said text =
           said_noted first (sides_of old was) d.said k.said halted notes text count running cut takes in (
             record { brought = d.brought; said = n.after },
             (a, b, inr (dealt_noted IsMade parts first old was notes halted text d k n)),
-            record { told = n.told; noted = n.noted; halts = n.halts; brought = refl },
+            record { told = n.told; noted = n.noted; muted = n.muted; halts = n.halts; brought = refl },
           )
 
   -- the sink took all of it
@@ -620,7 +621,7 @@ nothing_dealt IsMade parts kept notes empty within = (
       seen = 0;
       seens = [];
     };
-    said = record { told = []; noted = []; halted = false; faults = notes.faults };
+    said = record { told = []; noted = []; halted = false; muted = false; faults = notes.faults };
   },
   record {
     given = refl;
@@ -632,6 +633,7 @@ nothing_dealt IsMade parts kept notes empty within = (
     told = refl;
     noted = refl;
     writes = refl;
+    unmuted = refl;
   },
   inr (record {
     services = refl;
@@ -662,6 +664,7 @@ nothing_dealt IsMade parts kept notes empty within = (
       written = Appends-nil notes.taken;
       noted = entire refl refl refl;
       halted = sym empty.halted;
+      muted = refl;
       faults = refl;
     };
     left = refl;

@@ -111,12 +111,13 @@ pub data HasNoted (first now : Taking) (s : Said) (notes : List ℕ) : Type 0 wh
   entire : s.halted ≡ false → now.faults ≡ first.faults → notes ≡ s.noted → HasNoted first now s notes
   in_part : s.halted ≡ true → Rose first.faults now.faults → IsProperFront notes s.noted → HasNoted first now s notes
 
--- What was said to a front, since its sides were the first.
+-- What was said to a front, since its sides were the first; it is its notes alone that halt it.
 pub record HasSaid (first now : Sides) (s : Said) : Type 0 where
   pub notes : List ℕ
   pub written : Appends first.notes.taken now.notes.taken notes
   pub noted : HasNoted first.notes now.notes s notes
   pub halted : s.halted ≡ now.kept.halted
+  pub muted : s.muted ≡ s.halted
   pub faults : s.faults ≡ now.notes.faults
 
 -- ---- when there is no posting

@@ -9,11 +9,12 @@ use Rattle.office_core.specs.Limits.{Setting, run_of}
 use Rattle.office_core.specs.declared.history.Entry.{Entry}
 use Rattle.run_record.specs.declared.record.Record.{Record}
 use Rattle.run_record.specs.declared.record.Traffic.{Traffic}
+use Rattle.run_record.specs.Outside.{notes}
 use Rattle.run_record.specs.Run.{Hands, alone, IsRun, IsSpent}
 use Rattle.branch_workers.specs.Statuses.{HasStatus}
 use Rattle.office_front.specs.Dealings.{Dealings}
 use Rattle.run_alone.specs.declared.worker.Finished.{Finished}
-use Rattle.run_alone.specs.Ran.{Ran}
+use Rattle.run_alone.specs.Ran.{AreNotes, Ran}
 use Rattle.run_alone.specs.Picks.{TookPicks}
 use Rattle.connection_runs.specs.Ports.{DoorAt, doors_of, has_door}
 use Rattle.connection_runs.specs.Visits.{Visit}
@@ -38,8 +39,8 @@ use Rattle.order_laws.proofs.Lists.{all_weaker}
 
 module _ (w : Setting) (budget : ℕ) (run : Record) (t : List Traffic) where
   -- what a run is does not speak of its traffic
-  run_with : (hands : Hands) (halted : Bool) → IsRun w budget hands halted run → IsRun w budget hands halted (with_traffic run t)
-  run_with hands halted k = record {
+  run_with : (hands : Hands) (muted : Bool) → IsRun w budget hands muted run → IsRun w budget hands muted (with_traffic run t)
+  run_with hands muted k = record {
     legal = k.legal;
     stopped = k.stopped;
     closed = k.closed;
@@ -184,7 +185,9 @@ module _ (IsMade : Line → Type 0) (t : Task) (before mid after : DoorsTold) (p
   is = outside after now.notes
 
   noted : AreNoted (run_of t.parts) h d.said.halted first.notes now.notes
-  noted = noted_so (run_of t.parts) h first.notes now.notes d.said f.said.notes f.said.written f.said.noted ran.dealt.noted
+  noted =
+      noted_so (run_of t.parts) h first.notes now.notes d.said f.said.notes f.said.written f.said.noted
+      (subst (λ m. AreNotes m d.said.noted (notes (run_of t.parts) h)) f.said.muted ran.dealt.noted)
 
   -- the end
   abbrev pub ended : Ended
@@ -212,7 +215,8 @@ module _ (IsMade : Line → Type 0) (t : Task) (before mid after : DoorsTold) (p
   pub doored_so : IsDoored IsMade t was is ended
   doored_so = record {
     halted = d.said.halted;
-    run = run_with (run_of t.parts) t.budget finished.report (map traffic_of now.kept.links) alone d.said.halted ran.run;
+    run = run_with (run_of t.parts) t.budget finished.report (map traffic_of now.kept.links) alone d.said.halted
+        (subst (λ m. IsRun (run_of t.parts) t.budget alone m finished.report) f.said.muted ran.run);
     program = ran.program;
     posters = ran.dealt.posters;
     served = served_so IsMade t.parts h first now d f ran.dealt doors_so;

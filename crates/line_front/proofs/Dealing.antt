@@ -22,7 +22,7 @@ use Rattle.branch_workers.specs.Texts.{Came as Incoming, posting_of}
 use Rattle.line_front.specs.Passing.{nothing_read}
 use Rattle.line_front.specs.Reading.{Input, input_of, came_by, came_in, some, HasBrought}
 use Rattle.sink_writing.specs.Sinks.{Taking}
-use Rattle.line_front.specs.Writing.{Output, output_of, faults_of, HasWritten, entire, in_part, HasSaid}
+use Rattle.line_front.specs.Writing.{Output, output_of, faults_of, HasWritten, entire, in_lines, in_notes, HasSaid}
 use Rattle.line_front.specs.Told.{line_to, line_told, lines_told}
 use Rattle.line_front.specs.Dealt.{Sides, sides_of, WroteByThen, HasDealt}
 
@@ -52,7 +52,13 @@ nothing_dealt parts left faults to_lines to_notes = (
       seen = 0;
       seens = [];
     };
-    said = record { told = []; noted = []; halted = false; faults = faults_of (output_of to_lines to_notes [] false) };
+    said = record {
+      told = [];
+      noted = [];
+      halted = false;
+      muted = false;
+      faults = faults_of (output_of to_lines to_notes [] false);
+    };
   },
   record {
     given = refl;
@@ -64,6 +70,7 @@ nothing_dealt parts left faults to_lines to_notes = (
     told = refl;
     noted = refl;
     writes = refl;
+    unmuted = refl;
   },
   record {
     brought = record {
@@ -80,7 +87,7 @@ nothing_dealt parts left faults to_lines to_notes = (
       notes = [];
       noted = Appends-nil to_notes.taken;
       halted = refl;
-      wrote = entire refl refl refl refl refl;
+      wrote = entire refl refl refl refl refl refl;
       faults = refl;
     };
     places = refl;
@@ -132,7 +139,7 @@ said_longer parts came later first now s same h = record {
   notes = h.notes;
   noted = h.noted;
   halted = h.halted;
-  wrote = subst (λ l. HasWritten first now h.notes (record { lines = l; notes = s.noted })) (sym same) h.wrote;
+  wrote = subst (λ l. HasWritten first now s.muted h.notes (record { lines = l; notes = s.noted })) (sym same) h.wrote;
   faults = h.faults;
 }
 
@@ -223,10 +230,11 @@ wrote_all : (parts : ProgramParts) (came : List Incoming) (first now : Output) (
     → HasSaid parts came first now s → now.written ≡ lines_told parts came s.told
 wrote_all parts came first now s running h = by h.wrote
   where
-    by : HasWritten first now h.notes (record { lines = lines_told parts came s.told; notes = s.noted })
+    by : HasWritten first now s.muted h.notes (record { lines = lines_told parts came s.told; notes = s.noted })
         → now.written ≡ lines_told parts came s.told
-    by (entire e a b written c) = written
-    by (in_part e rose f g part) = absurd (true≢false (sym e ∙ sym h.halted ∙ running))
+    by (entire e u a b written c) = written
+    by (in_lines e u rose calm all part) = absurd (true≢false (sym e ∙ sym h.halted ∙ running))
+    by (in_notes e m rose calm front part) = absurd (true≢false (sym e ∙ sym h.halted ∙ running))
 
 -- of what is told so many were told by then, and their lines were written
 abbrev WroteOf : ProgramParts → Sides → List Told → ℕ → Type 0
@@ -363,28 +371,28 @@ module _ (parts : ProgramParts) (A B C E F : Type 0) (a : A) (b : B) (c : C) (e 
 
     -- it is told of a place
     pub told-so : (place : ℕ) (outcomes : List Outcome) → IsDue place outcomes d
-        → ((s : Said) × HasSaid parts (came_in before.input) first.output now.output s × (s.told ≡ d.said.told ++ record { place = place; outcomes = outcomes } ∷ []) × (s.noted ≡ d.said.noted) × Halts d.said s
-        × IsFront before.output.written now.output.written)
+        → ((s : Said) × HasSaid parts (came_in before.input) first.output now.output s × (s.told ≡ d.said.told ++ record { place = place; outcomes = outcomes } ∷ []) × (s.noted ≡ d.said.noted)
+        × (s.muted ≡ d.said.muted) × Halts d.said s × IsFront before.output.written now.output.written)
         → After (Same now) (Tells place outcomes d)
     told-so place outcomes due went =
         let s = went.0 in
         let placed = subst (λ l. list_all (is_given (length before.input.reads)) l ≡ true) (sym went.2) (placed_more (record { place = place; outcomes = outcomes }) (due_given place outcomes due)) in (
           record { brought = d.brought; said = s },
-          (a, b, c, e, f, with_said s went.1 placed (record { place = place; outcomes = outcomes } ∷ []) went.2 went.5),
-          record { told = went.2; noted = went.3; halts = went.4; brought = refl },
+          (a, b, c, e, f, with_said s went.1 placed (record { place = place; outcomes = outcomes } ∷ []) went.2 went.6),
+          record { told = went.2; noted = went.3; muted = went.4; halts = went.5; brought = refl },
         )
 
     -- a text is noted
     pub noted-so : (text : List ℕ)
-        → ((s : Said) × HasSaid parts (came_in before.input) first.output now.output s × (s.told ≡ d.said.told) × (s.noted ≡ d.said.noted ++ text) × Halts d.said s
-        × IsFront before.output.written now.output.written)
+        → ((s : Said) × HasSaid parts (came_in before.input) first.output now.output s × (s.told ≡ d.said.told) × (s.noted ≡ d.said.noted ++ text)
+        × (s.muted ≡ s.halted) × Halts d.said s × IsFront before.output.written now.output.written)
         → After (Same now) (Notes text d)
     noted-so text went =
         let s = went.0 in
         let placed = subst (λ l. list_all (is_given (length before.input.reads)) l ≡ true) (sym went.2) h.places in (
           record { brought = d.brought; said = s },
-          (a, b, c, e, f, with_said s went.1 placed [] (went.2 ∙ sym (append-nil d.said.told)) went.5),
-          record { told = went.2; noted = went.3; halts = went.4; brought = refl },
+          (a, b, c, e, f, with_said s went.1 placed [] (went.2 ∙ sym (append-nil d.said.told)) went.6),
+          record { told = went.2; noted = went.3; muted = went.4; halts = went.5; brought = refl },
         )
 
   -- want of memory before anything is said

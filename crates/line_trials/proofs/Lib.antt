@@ -1,4 +1,6 @@
 mod Statuses
+mod Endings
+mod Cuts
 mod HaltedBeside
 mod LeftInTheBox
 mod Stopped

@@ -28,12 +28,13 @@ pub record Told : Type 0 where
   pub place : ℕ
   pub outcomes : List Outcome
 
--- What a front was told, in order, and what was noted to it; whether it halted: then nothing more is written; and how
--- often what it writes failed.
+-- What a front was told, in order, and what was noted to it; whether it halted: then nothing more is written; whether
+-- it was a note that failed; and how often what it writes failed.
 pub record Said : Type 0 where
   pub told : List Told
   pub noted : List ℕ
   pub halted : Bool
+  pub muted : Bool
   pub faults : ℕ
 
 -- what a front brought, and what was said to it
@@ -52,3 +53,4 @@ pub record IsNew (d : Dealings) : Type 0 where
   pub told : d.said.told ≡ []
   pub noted : d.said.noted ≡ []
   pub writes : d.said.halted ≡ false
+  pub unmuted : d.said.muted ≡ false

@@ -20,8 +20,9 @@ module _ {s : State} {xs : List Wait} {n : ℕ} {before now : Dealings} (b : Pas
   seens_next asks = asks.came.seens ∙ ap (λ (k : ℕ). before.brought.seens ++ k ∷ []) asks.seen
 
   -- a posting
-  pub brings_next : {parts : ProgramParts} {p : Posting} → Asks parts (next.Posting p) before now → Brings s xs n p now
-  brings_next asks = record {
+  pub brings_next : {parts : ProgramParts} {p : Posting} → before.said.halted ≡ false → Asks parts (next.Posting p) before now
+      → Brings s xs n p now
+  brings_next running asks = record {
     all = before.brought.given;
     given = asks.came.given;
     opens = subst (λ (x : Said). IsOpen s.setting s.history before.brought.given x.told xs) (sym asks.silent) b.opens;
@@ -32,6 +33,7 @@ module _ {s : State} {xs : List Wait} {n : ℕ} {before now : Dealings} (b : Pas
     earlier = told_as s n before now (before.brought.seens ++ length before.said.told ∷ []) asks.silent (seens_next asks)
         (told_next s n xs before.said.told b.order before.brought.seens b.asked b.earlier);
     noted = subst (λ (x : Said). NotedSoFar s.setting s.history x.noted) (sym asks.silent) b.noted;
+    mutes = subst (λ (x : Said). x.muted ≡ x.halted) (sym asks.silent) (b.mutes running ∙ sym running);
   }
 
   none_given : GivesNone before.brought now.brought → now.said ≡ before.said → Passed s xs n now
@@ -42,6 +44,8 @@ module _ {s : State} {xs : List Wait} {n : ℕ} {before now : Dealings} (b : Pas
     asked = ap (λ (ks : List ℕ). length ks) none.seens ∙ b.asked;
     earlier = told_as s n before now before.brought.seens said none.seens b.earlier;
     noted = subst (λ (x : Said). NotedSoFar s.setting s.history x.noted) (sym said) b.noted;
+    some = λ e. b.some (ap (λ (x : Said). x.halted) (sym said) ∙ e);
+    mutes = λ e. ap (λ (x : Said). x.muted) said ∙ b.mutes (ap (λ (x : Said). x.halted) (sym said) ∙ e);
   }
 
   -- none yet

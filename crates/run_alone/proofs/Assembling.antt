@@ -82,7 +82,7 @@ module _ {h now : List Entry} (x : Ended h now) where
 
 -- What one worker has at the end of a run, of a history h before its end.
 pub record HasEnded (r : Rules) (h : List Entry) (xs : List Wait) (d : Dealings) (finished : Finished) : Type 0 where
-  pub came : CameThrough r.setting r.budget d.said.halted h finished.report.sessions
+  pub came : CameThrough r.setting r.budget d.said.muted h finished.report.sessions
   pub end : Ended h finished.report.history.entries.items
   pub legal : IsLegal r.setting finished.report.history.entries.items
   pub opens : IsOpen r.setting finished.report.history.entries.items d.brought.given d.said.told xs
@@ -99,7 +99,7 @@ pub record HasEnded (r : Rules) (h : List Entry) (xs : List Wait) (d : Dealings)
 
 notes_of : (r : Rules) (h : List Entry) (xs : List Wait) (d : Dealings) (finished : Finished)
     → HasEnded r h xs d finished
-    → AreNotes d.said.halted d.said.noted (notes r.setting finished.report.history.entries.items)
+    → AreNotes d.said.muted d.said.noted (notes r.setting finished.report.history.entries.items)
 notes_of r h xs d finished x = (
   (
     flat_map note_of (outgoing r.setting (past_of r.setting finished.report.history.entries.items) kind.Console),

@@ -237,7 +237,7 @@ module _ {s0 s1 s2 s3 s4 : State} {xs0 xs1 : List Wait} {n : ℕ} (f : Finishes 
   pub has_ended : (before mid now : Dealings) (finished : Finished) → Passed s0 xs0 n before → IsOver before
       → (GaveNone before → before.brought.seen ≡ length before.said.told)
       → SaidAll s1 xs1 before mid now → Leaves s2 s4 finished → (0 < n → f.swept ≡ [])
-      → (mid.said.halted ≡ false → IsQuietAt s2) → IsStillAt s2
+      → (mid.said.muted ≡ false → IsQuietAt s2) → IsStillAt s2
       → HasEnded (record { setting = s2.setting; budget = s2.budget }) s2.history (filter is_open xs1) now finished
   has_ended before mid now finished passed over saw said left calm quiet still =
       let brought : now.brought ≡ before.brought = said.tells.brought ∙ said.brought_mid in
@@ -250,9 +250,9 @@ module _ {s0 s1 s2 s3 s4 : State} {xs0 xs1 : List Wait} {n : ℕ} (f : Finishes 
       let setting : s4.setting ≡ s2.setting = f.collect.setting ∙ f.stop.setting in
       record {
         came =
-            subst (λ (ss : List (List Event)). CameThrough s2.setting s2.budget now.said.halted s2.history ss) (sym left.sessions)
+            subst (λ (ss : List (List Event)). CameThrough s2.setting s2.budget now.said.muted s2.history ss) (sym left.sessions)
             (came_through s2 team2 (subst (λ (l : Limits). l.sessions ≤ first_worker) (sym team2.limits) (le_refl first_worker))
-            f.adopt.born (λ e. quiet (said.tells.halts.calm e).0) still);
+            f.adopt.born (λ e. quiet (sym said.tells.muted ∙ e)) still);
         end = subst (λ (l : List Entry). Ended s2.history l) (sym left.history) (ended f team0 team2 legal);
         legal = coe 1 0 (i. IsLegal (sym setting i) (left.history i)) legal;
         opens =

@@ -1,5 +1,6 @@
 -- Before the first posting.
-use Rattle.std.proofs.Common.{◌≡◌, ℕ, true, List, [], length, map, Option, refl, sym, ap, subst}
+use Rattle.std.proofs.Common.{◌≡◌, ℕ, true, List, [], length, map, Option, refl, sym, ap, subst, ◌∙◌}
+use Rattle.std.proofs.lemmas.Bool.{false≢true}
 use Rattle.behaviour_tree.specs.Data.{ProgramParts}
 use Rattle.office_core.specs.declared.front.Posting.{Posting}
 use Rattle.office_core.specs.declared.history.Entry.{Entry}
@@ -47,6 +48,8 @@ module _ (s : State) (xs : List Wait) (empty : s.history ≡ []) (none : xs ≡ 
     asked = ap (λ (ks : List ℕ). length ks) new.unasked;
     earlier = λ j k at. absurd (none_asked d.brought.seens j k new.unasked at);
     noted = coe 1 0 (i. NotedSoFar s.setting (empty i) (new.noted i)) (noted_first s.setting);
+    some = λ e. absurd (false≢true (sym new.writes ∙ e));
+    mutes = λ e. new.unmuted;
   }
 
 -- with the postings of a run that begins

@@ -60,6 +60,9 @@ nothing_more (x ∷ xs) ys e = nothing_more xs ys (tail e)
 not_below : 0 < 0 → ⊥
 not_below less = omega (arith, less)
 
+some_below : (n : ℕ) → 0 < suc n
+some_below n = omega arith
+
 -- where there was a posting before, a run that is calm has nothing left to do
 pub calm_quiet : (s : State) (n : ℕ) → 0 < n → IsCalm n s → IsQuietAt s
 calm_quiet s zero some empty = absurd (not_below some)
@@ -321,6 +324,8 @@ module _ {s0 s1 s2 s3 : State} {xs0 xs1 xs2 xs3 : List Wait} {n : ℕ} {p : Post
               (noted_collected mid.said.noted
               (coe 0 1 (i. NotedSoFar (sym took.sweep.setting i) s2.history mid.said.noted)
               (notes.1 (noted_posted before.said.noted b.noted legal))));
+          some = λ e. some_below n;
+          mutes = λ e. tells.muted ∙ (notes.0).notes.muted ∙ (tells.halts.calm e).0;
         },
         record { brought = brought; halted = λ e. ((notes.0).notes.halts.calm (tells.halts.calm e).0).0 },
       )
@@ -390,7 +395,7 @@ brought_then s0 s1 xs n cs stays legal b =
 
 -- ---- put together for one call
 
--- a front that halted halted still
+-- what is so only where something else is
 pub still_halted : (before now : Bool) → (now ≡ false → before ≡ false) → before ≡ true → now ≡ true
 still_halted before true calm e = refl
 still_halted before false calm e = absurd (false≢true (sym (calm refl) ∙ e))
@@ -435,8 +440,6 @@ module _ {s0 s1 s2 s3 : State} {xs0 xs1 xs2 xs3 : List Wait} {n : ℕ} (p : Post
         record {
           passed = subst (λ (k : ℕ). Passed s3 xs3 k told.0) (sym e) all.0;
           said = all.1;
-          halted = λ stopped.
-              still_halted mid.said.halted (told.0).said.halted (λ e. ((told.2).halts.calm e).0)
-              (halted stopped mid noted.1);
+          muted = λ stopped. (told.2).muted ∙ (noted.2.0).notes.muted ∙ halted stopped mid noted.1;
         },
       )

@@ -29,9 +29,9 @@ abbrev pub IsTold : Setting → Past → List Posting → Told → Type 0
 IsTold w past given t =
     (p : Posting) × (slice_get given t.place ≡ Some p) × (told w past first_worker t.place p ≡ Some t.outcomes)
 
--- What was noted is what the history notes; after a halt it is the front of that.
+-- What was noted is what the history notes; where a note failed it is the front of that.
 abbrev pub AreNotes : Bool → List ℕ → List ℕ → Type 0
-AreNotes halted noted all = IsFront noted all × (halted ≡ false → noted ≡ all)
+AreNotes muted noted all = IsFront noted all × (muted ≡ false → noted ≡ all)
 
 -- the postings, among so many, that are finished before the end, in the order in which they are answered
 abbrev pub finished_early : Setting → List Entry → ℕ → List ℕ
@@ -57,7 +57,7 @@ pub record Dealt (w : Setting) (h : List Entry) (d : Dealings) : Type 0 where
   pub posters : list_all is_by_first h ≡ true
   pub order : map (λ (t : Told). t.place) d.said.told ≡ order_alone w h first_worker (length d.brought.given)
   pub told : (t : Told) → Contains d.said.told t → IsTold w (past_of w h) d.brought.given t
-  pub noted : AreNotes d.said.halted d.said.noted (notes w h)
+  pub noted : AreNotes d.said.muted d.said.noted (notes w h)
   pub over : IsOver d
   pub asked : length d.brought.seens ≡ length d.brought.given
   pub told_before : ToldBefore w h d
@@ -69,7 +69,7 @@ pub record Dealt (w : Setting) (h : List Entry) (d : Dealings) : Type 0 where
 -- history says, its console calls came to void; and it tells whether a session used its whole budget and could act all
 -- the same.
 pub record Ran (r : Rules) (text : List ℕ) (d : Dealings) (finished : Finished) : Type 0 where
-  pub run : IsRun r.setting r.budget alone d.said.halted finished.report
+  pub run : IsRun r.setting r.budget alone d.said.muted finished.report
   pub program : finished.report.program ≡ text
   pub traffic : finished.report.traffic ≡ []
   pub dealt : Dealt r.setting finished.report.history.entries.items d
