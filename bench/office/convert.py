@@ -617,7 +617,7 @@ LINES = [
     ('run_record.specs.Run', 'alone'),
     ('branch_workers.specs.Split', 'split all_lines said_lines'),
     ('run_record.specs.declared.record.Record', 'Record'),
-    ('branch_workers.specs.Lines', 'come_in finished_before lines_in IsFront IsAnswered in_lines'),
+    ('branch_workers.specs.Lines', 'come_in finished_before noted_before lines_in IsFront IsAnswered in_lines'),
     ('branch_workers.specs.Headline', 'IsCutShort'),
     ('std.specs.Prelude', '◌≢◌ length ◌-◌'),
     ('std.proofs.Common', 'true≢false ap subst sym'),
@@ -664,6 +664,9 @@ def cut_short(run, written):
             f'      subst (λ (h : List Entry). IsFront (lines_in setting h ({came}) (finished_before setting h\n'
             f'      (length ({came})) (length ({came}) - 1))) cut)\n'
             '      (sym has) (_, refl);\n'
+            '  early_notes = λ one.\n'
+            f'      subst (λ (h : List Entry). IsFront (noted_before setting h (length ({came}) - 1)) [])\n'
+            '      (sym has) ([], refl);\n'
             '}\n')
 
 

@@ -10,8 +10,8 @@ use Rattle.run_record.specs.declared.record.Traffic.{Traffic}
 use Rattle.run_record.specs.Run.{Hands, alone, IsRun, IsSpent}
 use Rattle.branch_workers.specs.Split.{whole_lines, all_lines, said_lines}
 use Rattle.branch_workers.specs.Texts.{Came}
-use Rattle.branch_workers.specs.Lines.{most_postings, come_in, is_by_first, lines_in, finished_before, IsFront}
-use Rattle.branch_workers.specs.Lines.{Output, IsAnswered, WasCut}
+use Rattle.branch_workers.specs.Lines.{most_postings, come_in, is_by_first, lines_in, finished_before, noted_before}
+use Rattle.branch_workers.specs.Lines.{IsFront, Output, IsAnswered, WasCut}
 use Rattle.branch_workers.specs.Statuses.{Faults, IsCalm, HasStatus}
 
 -- what a run over lines left behind: its record and status, how often the outside failed before and after it, what the
@@ -45,7 +45,8 @@ abbrev pub IsExhausted : Traffic → Ending → Type 0
 IsExhausted traffic e = IsAtEnd e.left ⊎ (most_postings ≤ length (said_lines (all_lines traffic.read)))
 
 -- After a write that failed what was posted is the front of what came in, and what answers that was cut. One worker had
--- written by then the answers of all that was finished before the last posting.
+-- written by then the answers of all that was finished before the last posting, and noted what the history notes before
+-- that was asked for.
 pub record IsCutShort (hands : Hands) (w : Setting) (traffic : Traffic) (e : Ending) (all : List Came) : Type 0 where
   pub came : List Came
   pub front : IsFront came all
@@ -55,6 +56,7 @@ pub record IsCutShort (hands : Hands) (w : Setting) (traffic : Traffic) (e : End
   pub early : hands ≡ alone
       → IsFront (lines_in w (history_of e) came (finished_before w (history_of e) (length came) (length came - 1)))
       traffic.written
+  pub early_notes : hands ≡ alone → IsFront (noted_before w (history_of e) (length came - 1)) e.noted
 
 -- The lines that were read are answered: all of them, where nothing failed and the source was exhausted; those that
 -- have their end, where the source failed; and where a write failed, the answer is cut short, of those that have their

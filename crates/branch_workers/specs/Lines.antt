@@ -1,5 +1,5 @@
 -- What a run over lines posts and writes.
-use Rattle.std.specs.Prelude.{◌≡◌, ◌≢◌, ℕ, Bool, true, List, [], ◌∷◌, ◌++◌, length}
+use Rattle.std.specs.Prelude.{◌≡◌, ◌≢◌, ℕ, zero, suc, Bool, true, List, [], ◌∷◌, ◌++◌, length}
 use Rattle.std.specs.Prelude.{map, take, flat_map, nat_eq, Option, None, Some, slice_get}
 use Rattle.std.specs.Option.{option_map_or}
 use Rattle.outside_traits.specs.Causes.{Rose}
@@ -10,7 +10,7 @@ use Rattle.office_core.specs.Limits.{Setting, first_worker}
 use Rattle.office_core.specs.Past.{Past}
 use Rattle.office_core.specs.Accepted.{past_of}
 use Rattle.run_record.specs.Postings.{posts_by, posts_of}
-use Rattle.run_record.specs.Order.{numbers_from, finished_there, order_alone, IsOrder}
+use Rattle.run_record.specs.Order.{numbers_from, until_posting, finished_there, order_alone, IsOrder}
 use Rattle.run_record.specs.Outside.{notes}
 use Rattle.run_record.specs.Run.{Hands, alone, workers}
 use Rattle.branch_workers.specs.Texts.{Came, posting_of, response}
@@ -53,6 +53,11 @@ lines_in w h all order = flat_map (line_of w (past_of w h) all) order
 -- the postings, among so many, that are finished at one before posting j, in the order in which one worker answers them
 abbrev pub finished_before : Setting → List Entry → ℕ → ℕ → List ℕ
 finished_before w h count j = flat_map (finished_there w (past_of w h) first_worker count) (numbers_from 0 j)
+
+-- what the history notes before posting j is asked for: nothing before the first
+abbrev pub noted_before : Setting → List Entry → ℕ → List ℕ
+noted_before w h zero = []
+noted_before w h (suc j) = notes w (until_posting (past_of w h) first_worker j).entries
 
 -- the order is one in which those who work may answer so many postings
 abbrev pub IsOrderOf : Hands → Setting → List Entry → ℕ → List ℕ → Type 0

@@ -1,13 +1,13 @@
 -- What a front over doors noted, as more is said to it.
 use Rattle.std.proofs.Common.{◌≡◌, ◌≢◌, refl, sym, ap, subst, ◌∙◌, ℕ, ◌+◌, ◌-◌, ◌<◌, ◌≤◌, nat_lt, Bool, true, false, arith, List, [], ◌∷◌, ◌++◌, length, take, drop}
-use Rattle.std.proofs.Common.{append_assoc, inl, inr, true≢false}
+use Rattle.std.proofs.Common.{append_assoc, append-nil, inl, inr, true≢false}
 use Rattle.std.proofs.KnownBytes.{Appends-trans}
 use Rattle.std.proofs.lemmas.Bool.{ltb-true, ltb-false}
 use Rattle.std.proofs.lemmas.List.{take_all, take-append-drop, length-drop}
 use Rattle.outside_traits.specs.Causes.{Rose}
 use Rattle.office_front.specs.Dealings.{Told, Said}
 use Rattle.office_front.specs.Calls.{Halts}
-use Rattle.branch_workers.specs.Lines.{IsProperFront}
+use Rattle.branch_workers.specs.Lines.{IsFront, IsProperFront}
 use Rattle.door_front.specs.Keeping.{Keeping}
 use Rattle.sink_writing.specs.Sinks.{Taking, Takes}
 use Rattle.door_front.specs.Dealt.{Sides, sides_of, HasNoted, entire, in_part, HasSaid}
@@ -63,6 +63,11 @@ whole_so : (first now : Taking) (s : Said) (notes : List ℕ) → s.halted ≡ f
 whole_so first now s notes running (entire is calm same) = record { calm = calm; noted = same }
 whole_so first now s notes running (in_part cut rose part) = absurd (true≢false (sym cut ∙ running))
 
+-- so the sink took all of it
+pub noted_all : (first now : Taking) (s : Said) (notes : List ℕ) → s.halted ≡ false → HasNoted first now s notes
+    → IsFront s.noted notes
+noted_all first now s notes running k = ([], append-nil s.noted ∙ sym (whole_so first now s notes running k).noted)
+
 -- a text is noted, as far as the sink takes it
 noted_more : (first before now : Taking) (s after : Said) (notes text : List ℕ) (count : ℕ) (short : Bool) → nat_lt count (length text) ≡ short
     → after.halted ≡ short → after.noted ≡ s.noted ++ text → Takes text count before now → IsWhole first before s notes
@@ -115,10 +120,11 @@ halts_unknown before now more cut = record {
 
 -- ---- what is said
 
--- A text was noted.
-pub record NotesSo (first now : Sides) (s : Said) (text : List ℕ) : Type 0 where
+-- A text was noted, behind what the sink had taken.
+pub record NotesSo (first now : Sides) (s : Said) (taken text : List ℕ) : Type 0 where
   pub after : Said
   pub said : HasSaid first now after
+  pub grew : IsFront taken said.notes
   pub told : after.told ≡ s.told
   pub noted : after.noted ≡ s.noted ++ text
   pub muted : after.muted ≡ after.halted
@@ -127,7 +133,7 @@ pub record NotesSo (first now : Sides) (s : Said) (text : List ℕ) : Type 0 whe
 
 module _ (first before : Sides) (s : Said) (h : HasSaid first before s) where
   -- a front is told of a place
-  pub said_told : (kept : Keeping) (t : Told) → kept.halted ≡ before.kept.halted
+  abbrev pub said_told : (kept : Keeping) (t : Told) → kept.halted ≡ before.kept.halted
       → HasSaid first (sides_of kept before.notes) (record s { told = s.told ++ t ∷ [] })
   said_told kept t same = record {
     notes = h.notes;
@@ -139,7 +145,7 @@ module _ (first before : Sides) (s : Said) (h : HasSaid first before s) where
   }
 
   -- a text is noted to a front that halted
-  pub said_cut : (text : List ℕ) → before.kept.halted ≡ true → NotesSo first before s text
+  pub said_cut : (text : List ℕ) → before.kept.halted ≡ true → NotesSo first before s h.notes text
   said_cut text cut =
       let after : Said = record s { noted = s.noted ++ text } in
       record {
@@ -152,6 +158,7 @@ module _ (first before : Sides) (s : Said) (h : HasSaid first before s) where
           muted = h.muted;
           faults = h.faults;
         };
+        grew = ([], append-nil h.notes);
         told = refl;
         noted = refl;
         muted = h.muted;
@@ -162,7 +169,7 @@ module _ (first before : Sides) (s : Said) (h : HasSaid first before s) where
   -- a text is noted, as far as the sink takes it
   pub said_noted : (halted : Bool) (notes : Taking) (text : List ℕ) (count : ℕ) → before.kept.halted ≡ false
       → halted ≡ nat_lt count (length text) → Takes text count before.notes notes
-      → NotesSo first (sides_of (record before.kept { halted = halted }) notes) s text
+      → NotesSo first (sides_of (record before.kept { halted = halted }) notes) s h.notes text
   said_noted halted notes text count running cut takes =
       let after : Said = record { told = s.told; noted = s.noted ++ text; halted = halted; muted = halted; faults = notes.faults } in
       record {
@@ -176,6 +183,7 @@ module _ (first before : Sides) (s : Said) (h : HasSaid first before s) where
           muted = refl;
           faults = refl;
         };
+        grew = (take count text, refl);
         told = refl;
         noted = refl;
         muted = refl;

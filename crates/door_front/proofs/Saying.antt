@@ -382,6 +382,7 @@ module _ (IsMade : Line → Type 0) (parts : ProgramParts) (first : Sides) (old 
         answers = all_heard;
         one_by_one = one_by_one-longer d now_dealt.said (told_of place outcomes ∷ []) refl h.one_by_one;
         said = said_told first (sides_of old notes) d.said h.said new (told_of place outcomes) a.halted;
+        noted_by_then = h.noted_by_then;
         left = h.left;
         faults = h.faults;
         seen = omega arith;
@@ -425,6 +426,7 @@ module _ (IsMade : Line → Type 0) (parts : ProgramParts) (first before : Sides
         answers = h.answers;
         one_by_one = one_by_one-longer d (record d.said { told = d.said.told ++ t ∷ [] }) (t ∷ []) refl h.one_by_one;
         said = said_told first before d.said h.said before.kept t refl;
+        noted_by_then = h.noted_by_then;
         left = h.left;
         faults = h.faults;
         seen = omega arith;
@@ -433,8 +435,13 @@ module _ (IsMade : Line → Type 0) (parts : ProgramParts) (first before : Sides
 
 -- ---- a text is noted
 
+-- a front of a front
+longer_front : (xs ys zs : List ℕ) → IsFront xs ys → IsFront ys zs → IsFront xs zs
+longer_front xs ys zs f g = (f.0 ++ g.0, sym (append_assoc xs f.0 g.0) ∙ ap (λ l. l ++ g.0) f.1 ∙ g.1)
+
 module _ (IsMade : Line → Type 0) (parts : ProgramParts) (first : Sides) (old : Keeping) (was notes : Taking) (halted : Bool) (text : List ℕ) (d : Dealings)
-    (h : HasDealt IsMade parts first (sides_of old was) d) (n : NotesSo first (sides_of (record old { halted = halted }) notes) d.said text) where
+    (h : HasDealt IsMade parts first (sides_of old was) d)
+    (n : NotesSo first (sides_of (record old { halted = halted }) notes) d.said h.said.notes text) where
   abbrev noted_dealt : Dealings
   noted_dealt = record { brought = d.brought; said = n.after }
 
@@ -477,6 +484,7 @@ module _ (IsMade : Line → Type 0) (parts : ProgramParts) (first : Sides) (old 
     answers = h.answers;
     one_by_one = one_by_one-longer d n.after [] (n.told ∙ sym (append-nil d.said.told)) h.one_by_one;
     said = n.said;
+    noted_by_then = longer_front d.brought.noted h.said.notes n.said.notes h.noted_by_then n.grew;
     left = h.left;
     faults = h.faults;
     seen = subst (λ l. d.brought.seen ≤ length l) (sym n.told) h.seen;
@@ -547,7 +555,7 @@ module _ (IsMade : Line → Type 0) (parts : ProgramParts) (A B : Type 0) (a : A
             record { told = refl; noted = refl; muted = muted; halts = halts_still d.said after refl refl; brought = refl },
           )
       by (inr k) =
-          let n : NotesSo first (sides_of old was) d.said text = said_cut first (sides_of old was) d.said k.said text cut in (
+          let n : NotesSo first (sides_of old was) d.said k.said.notes text = said_cut first (sides_of old was) d.said k.said text cut in (
             record { brought = d.brought; said = n.after },
             (a, b, inr (dealt_noted IsMade parts first old was was old.halted text d k n)),
             record { told = n.told; noted = n.noted; muted = n.muted; halts = n.halts; brought = refl },
@@ -576,7 +584,7 @@ module _ (IsMade : Line → Type 0) (parts : ProgramParts) (A B : Type 0) (a : A
             record { told = n.2; noted = n.3; muted = n.4; halts = n.5; brought = refl },
           )
       by (inr k) =
-          let n : NotesSo first (sides_of (record old { halted = halted }) notes) d.said text =
+          let n : NotesSo first (sides_of (record old { halted = halted }) notes) d.said k.said.notes text =
           said_noted first (sides_of old was) d.said k.said halted notes text count running cut takes in (
             record { brought = d.brought; said = n.after },
             (a, b, inr (dealt_noted IsMade parts first old was notes halted text d k n)),
@@ -619,6 +627,7 @@ nothing_dealt IsMade parts kept notes empty within = (
       ended = false;
       faults = 0;
       seen = 0;
+      noted = [];
       seens = [];
     };
     said = record { told = []; noted = []; halted = false; muted = false; faults = notes.faults };
@@ -629,6 +638,7 @@ nothing_dealt IsMade parts kept notes empty within = (
     waits = refl;
     open_yet = refl;
     unseen = refl;
+    unnoted = refl;
     unasked = refl;
     told = refl;
     noted = refl;
@@ -667,6 +677,7 @@ nothing_dealt IsMade parts kept notes empty within = (
       muted = refl;
       faults = refl;
     };
+    noted_by_then = ([], refl);
     left = refl;
     faults = refl;
     seen = omega arith;

@@ -170,9 +170,10 @@ GaveNone d = (d.brought.ended ≡ true) ⊎ (0 < d.brought.waits)
 
 -- ---- all of it
 
--- What a front over doors brought and what was said to it, since its sides were the first; its wires were made so. A
--- door that failed counts as one at which nobody comes any more, and a wire that failed ends its own connection alone,
--- so that no failure of what is read is counted here.
+-- What a front over doors brought and what was said to it, since its sides were the first; its wires were made so. What
+-- had been noted when it was asked last was taken by the sink of its notes. A door that failed counts as one at which
+-- nobody comes any more, and a wire that failed ends its own connection alone, so that no failure of what is read is
+-- counted here.
 pub record HasDealt (IsMade : Line → Type 0) (parts : ProgramParts) (first now : Sides) (d : Dealings) : Type 0 where
   pub services : services_of now.kept ≡ services_of first.kept
   pub in_place : places_of now.kept ≡ places_of first.kept
@@ -198,6 +199,7 @@ pub record HasDealt (IsMade : Line → Type 0) (parts : ProgramParts) (first now
   pub answers : AreHeard parts now.kept visits all heard
   pub one_by_one : CameOneByOne d
   pub said : HasSaid first now d.said
+  pub noted_by_then : IsFront d.brought.noted said.notes
   pub left : d.brought.left ≡ None
   pub faults : d.brought.faults ≡ 0
   pub seen : d.brought.seen ≤ length d.said.told

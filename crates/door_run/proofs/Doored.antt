@@ -1,5 +1,5 @@
 -- A run over doors by what its front and its worker say, and by what was opened and came back.
-use Rattle.std.proofs.Common.{◌≡◌, ◌≤◌, ◌+◌, refl, sym, ap, subst, ◌∙◌, ℕ, Bool, true, false, not, ◌||◌, List, [], ◌∷◌, length, map, arith}
+use Rattle.std.proofs.Common.{◌≡◌, ◌≤◌, ◌+◌, ◌-◌, refl, sym, ap, subst, ◌∙◌, ℕ, Bool, true, false, not, ◌||◌, List, [], ◌∷◌, length, map, arith}
 use Rattle.std.proofs.Common.{inl, inr, nat_eq, nat_lt, sum_by, count_by, true≢false}
 use Rattle.std.specs.List.{list_all, list_any, items_where_true}
 use Rattle.std.proofs.lemmas.List.Sums.{sum_by-cons}
@@ -11,11 +11,13 @@ use Rattle.run_record.specs.declared.record.Record.{Record}
 use Rattle.run_record.specs.declared.record.Traffic.{Traffic}
 use Rattle.run_record.specs.Outside.{notes}
 use Rattle.run_record.specs.Run.{Hands, alone, IsRun, IsSpent}
+use Rattle.branch_workers.specs.Lines.{noted_before, IsFront}
 use Rattle.branch_workers.specs.Statuses.{HasStatus}
 use Rattle.office_front.specs.Dealings.{Dealings}
 use Rattle.run_alone.specs.declared.worker.Finished.{Finished}
 use Rattle.run_alone.specs.Ran.{AreNotes, Ran}
 use Rattle.run_alone.specs.Picks.{TookPicks}
+use Rattle.run_alone.proofs.Noting.{front_longer}
 use Rattle.connection_runs.specs.Ports.{DoorAt, doors_of, has_door}
 use Rattle.connection_runs.specs.Visits.{Visit}
 use Rattle.http_connection.specs.Seen.{Line}
@@ -27,7 +29,7 @@ use Rattle.door_run.specs.Doored.{Task, Outside, outside, faults_of, rules_of, A
 use Rattle.door_run.specs.Steps.{Opens, opened_by, ports_at, GivesBack, traffic_of, wire_of, door_of, some_failed, with_traffic, status_of}
 use Rattle.door_run.proofs.Lists.{length_map, any_map, all_map}
 use Rattle.door_run.proofs.Leading.{service_at, service_in, place_in, wires_at, leads_as, same_first, same_rest}
-use Rattle.door_run.proofs.Serving.{served_so, as_many}
+use Rattle.door_run.proofs.Serving.{served_so, as_many, given_long}
 use Rattle.door_run.proofs.Wires.{wires_are}
 use Rattle.door_run.proofs.Ending.{noted_so, through_so}
 use Rattle.door_run.proofs.Statuses.{status_so}
@@ -184,10 +186,18 @@ module _ (IsMade : Line → Type 0) (t : Task) (before mid after : DoorsTold) (p
   abbrev is : Outside
   is = outside after now.notes
 
-  noted : AreNoted (run_of t.parts) h d.said.halted first.notes now.notes
+  abbrev noted : AreNoted (run_of t.parts) h d.said.halted first.notes now.notes
   noted =
       noted_so (run_of t.parts) h first.notes now.notes d.said f.said.notes f.said.written f.said.noted
       (subst (λ m. AreNotes m d.said.noted (notes (run_of t.parts) h)) f.said.muted ran.dealt.noted)
+
+  -- what is noted before the last posting was noted
+  early_notes : IsFront (noted_before (run_of t.parts) h (length f.all.asked - 1)) f.said.notes
+  early_notes =
+      front_longer (noted_before (run_of t.parts) h (length f.all.asked - 1)) d.brought.noted f.said.notes
+      (subst (λ (k : ℕ). IsFront (noted_before (run_of t.parts) h (k - 1)) d.brought.noted)
+      (given_long IsMade t.parts h first now d f ran.dealt) ran.dealt.noted_then)
+      f.noted_by_then
 
   -- the end
   abbrev pub ended : Ended
@@ -222,6 +232,7 @@ module _ (IsMade : Line → Type 0) (t : Task) (before mid after : DoorsTold) (p
     served = served_so IsMade t.parts h first now d f ran.dealt doors_so;
     accepted = accepted;
     noted = noted;
+    early_notes = early_notes;
     picks = picked;
     consoles = ran.consoles;
     used = used;

@@ -163,8 +163,8 @@ halts_so before now text count old new running halted takes calm rose later = re
 module _ (parts : ProgramParts) (came : List Came) (first before : Output) (s : Said) (h : HasSaid parts came first before s) where
   -- a front that halted is told of a place
   pub told-halted : (t : Told) → before.halted ≡ true
-      → (after : Said) × HasSaid parts came first before after × (after.told ≡ s.told ++ t ∷ []) × (after.noted ≡ s.noted)
-      × (after.muted ≡ s.muted) × Halts s after × IsFront before.written before.written
+      → (after : Said) × (it : HasSaid parts came first before after) × (after.told ≡ s.told ++ t ∷ []) × (after.noted ≡ s.noted)
+      × (after.muted ≡ s.muted) × Halts s after × IsFront before.written before.written × IsFront h.notes it.notes
   told-halted t halted =
       let after : Said = record { told = s.told ++ t ∷ []; noted = s.noted; halted = s.halted; muted = s.muted; faults = s.faults } in (
         after,
@@ -183,12 +183,13 @@ module _ (parts : ProgramParts) (came : List Came) (first before : Output) (s : 
         refl,
         halts_still s after refl refl,
         front_of_all before.written before.written refl,
+        front_of_all h.notes h.notes refl,
       )
 
   -- a text is noted to a front that halted, by no answer
   pub noted-halted : (text : List ℕ) → before.halted ≡ true → s.muted ≡ s.halted
-      → (after : Said) × HasSaid parts came first before after × (after.told ≡ s.told) × (after.noted ≡ s.noted ++ text)
-      × (after.muted ≡ after.halted) × Halts s after × IsFront before.written before.written
+      → (after : Said) × (it : HasSaid parts came first before after) × (after.told ≡ s.told) × (after.noted ≡ s.noted ++ text)
+      × (after.muted ≡ after.halted) × Halts s after × IsFront before.written before.written × IsFront h.notes it.notes
   noted-halted text halted mutes =
       let after : Said = record { told = s.told; noted = s.noted ++ text; halted = s.halted; muted = s.muted; faults = s.faults } in (
         after,
@@ -207,6 +208,7 @@ module _ (parts : ProgramParts) (came : List Came) (first before : Output) (s : 
         mutes,
         halts_still s after refl refl,
         front_of_all before.written before.written refl,
+        front_of_all h.notes h.notes refl,
       )
 
   -- what is due so far was written whole
@@ -216,8 +218,8 @@ module _ (parts : ProgramParts) (came : List Came) (first before : Output) (s : 
   -- a front is told of a place, and its line is written as far as the output takes it
   pub told-written : (t : Told) (now : Output) (text : List ℕ) (count : ℕ) → before.halted ≡ false → text ≡ line_told parts came t
       → Takes text count before.lines now.lines → now.notes ≡ before.notes → now.written ≡ before.written ++ take count text → now.halted ≡ nat_lt count (length text)
-      → (after : Said) × HasSaid parts came first now after × (after.told ≡ s.told ++ t ∷ []) × (after.noted ≡ s.noted)
-      × (after.muted ≡ s.muted) × Halts s after × IsFront before.written now.written
+      → (after : Said) × (it : HasSaid parts came first now after) × (after.told ≡ s.told ++ t ∷ []) × (after.noted ≡ s.noted)
+      × (after.muted ≡ s.muted) × Halts s after × IsFront before.written now.written × IsFront h.notes it.notes
   told-written t now text count running is takes same written halted =
       let after : Said = record { told = s.told ++ t ∷ []; noted = s.noted; halted = now.halted; muted = s.muted; faults = faults_of now } in
       let other : now.notes.faults ≡ before.notes.faults = ap (λ (x : Taking). x.faults) same in
@@ -243,13 +245,14 @@ module _ (parts : ProgramParts) (came : List Came) (first before : Output) (s : 
             (λ rose. subst (λ k. Rose k (faults_of now)) (ap (λ k. min (before.lines.faults + k) (2 ^ 64 - 1)) other ∙ sym h.faults) (rose_left before.lines.faults now.lines.faults now.notes.faults rose))
             (omega arith),
         (take count text, sym written),
+        front_of_all h.notes h.notes refl,
       )
 
   -- a text is noted, as far as the notes' sink takes it
   pub noted-written : (now : Output) (text : List ℕ) (count : ℕ) → before.halted ≡ false
       → Takes text count before.notes now.notes → now.lines ≡ before.lines → now.written ≡ before.written → now.halted ≡ nat_lt count (length text)
-      → (after : Said) × HasSaid parts came first now after × (after.told ≡ s.told) × (after.noted ≡ s.noted ++ text)
-      × (after.muted ≡ after.halted) × Halts s after × IsFront before.written now.written
+      → (after : Said) × (it : HasSaid parts came first now after) × (after.told ≡ s.told) × (after.noted ≡ s.noted ++ text)
+      × (after.muted ≡ after.halted) × Halts s after × IsFront before.written now.written × IsFront h.notes it.notes
   noted-written now text count running takes same written halted =
       let after : Said = record { told = s.told; noted = s.noted ++ text; halted = now.halted; muted = now.halted; faults = faults_of now } in
       let other : now.lines.faults ≡ before.lines.faults = ap (λ (x : Taking). x.faults) same in
@@ -274,4 +277,5 @@ module _ (parts : ProgramParts) (came : List Came) (first before : Output) (s : 
             (λ rose. subst (λ k. Rose k (faults_of now)) (ap (λ k. min (k + before.notes.faults) (2 ^ 64 - 1)) other ∙ sym h.faults) (rose_right before.notes.faults now.notes.faults now.lines.faults rose))
             (omega arith),
         front_of_all before.written now.written (sym written),
+        (take count text, refl),
       )

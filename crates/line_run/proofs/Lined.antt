@@ -18,7 +18,7 @@ use Rattle.run_record.specs.Outside.{notes}
 use Rattle.run_record.specs.Run.{Hands, alone, IsRun, IsSpent}
 use Rattle.branch_workers.specs.Split.{whole_lines, all_lines, said_lines}
 use Rattle.branch_workers.specs.Texts.{Came, posting_of}
-use Rattle.branch_workers.specs.Lines.{come_in, finished_before, lines_in, most_postings, IsFront, IsProperFront, Output, IsAnswered}
+use Rattle.branch_workers.specs.Lines.{come_in, finished_before, noted_before, lines_in, most_postings, IsFront, IsProperFront, Output, IsAnswered}
 use Rattle.branch_workers.specs.Lines.{WasCut, in_lines as cut_in_lines, in_notes as cut_in_notes}
 use Rattle.branch_workers.specs.Statuses.{Faults, Halted, IsCalm, HasStatus}
 use Rattle.branch_workers.specs.Headline.{Ending, AnswersLines, IsCutShort, IsMuted, IsLineRun}
@@ -37,7 +37,7 @@ use Rattle.line_run.specs.declared.run.Ended.{Ended}
 use Rattle.line_run.specs.Lined.{giving, outside, Outside, faults_of, ending, Task, rules_of, IsLined}
 use Rattle.line_run.specs.Steps.{with_traffic, status_of}
 use Rattle.line_run.proofs.Answers.{lines_told-of}
-use Rattle.line_run.proofs.Fronts.{IsFront-all, IsProperFront-trans, whole_front, all_full, all_most}
+use Rattle.line_run.proofs.Fronts.{IsFront-all, IsFront-trans, IsProperFront-trans, whole_front, all_full, all_most}
 
 -- ---- statuses
 
@@ -204,6 +204,13 @@ module _ (t : Task) (first now : Sides) (d : Dealings) (finished : Finished)
           subst (λ (k : ℕ). IsFront (answers_before k) now.output.written) (one_before (length came) j e)
           (before_last j e)
 
+  -- what is noted before the last posting was noted
+  early_notes_so : IsFront (noted_before (run_of t.parts) h (length came - 1)) f.said.notes
+  early_notes_so =
+      IsFront-trans (noted_before (run_of t.parts) h (length came - 1)) d.brought.noted f.said.notes
+      (subst (λ (k : ℕ). IsFront (noted_before (run_of t.parts) h (k - 1)) d.brought.noted) given_long ran.dealt.noted_then)
+      f.noted_by_then
+
   -- nothing failed: all was answered
   answered_so : d.said.muted ≡ false → now.output.written ≡ lines_told t.parts came d.said.told → f.said.notes ≡ d.said.noted
       → IsAnswered alone (run_of t.parts) h came out
@@ -294,6 +301,7 @@ module _ (t : Task) (first now : Sides) (d : Dealings) (finished : Finished)
         answers = due_so;
         cut = was_cut;
         early = λ one. early_so;
+        early_notes = λ one. early_notes_so;
       }
 
       -- of the lines that have their end, by what was passed

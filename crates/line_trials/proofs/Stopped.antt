@@ -47,7 +47,7 @@ use Rattle.jsonrpc_text.specs.Posted.{posted}
 use Rattle.jsonrpc_text.specs.Responses.{answer, batch, early_answer}
 use Rattle.run_record.specs.Run.{alone}
 use Rattle.branch_workers.specs.Split.{split, all_lines, said_lines}
-use Rattle.branch_workers.specs.Lines.{come_in, finished_before, lines_in, IsFront, IsAnswered, in_lines}
+use Rattle.branch_workers.specs.Lines.{come_in, finished_before, noted_before, lines_in, IsFront, IsAnswered, in_lines}
 use Rattle.branch_workers.specs.Headline.{IsCutShort}
 use Rattle.std.specs.Prelude.{◌≢◌, length, ◌-◌}
 use Rattle.std.proofs.Common.{true≢false, ap, subst, sym}
@@ -115,4 +115,7 @@ cut_short r has = record {
       subst (λ (h : List Entry). IsFront (lines_in setting h (come_in (said_lines (all_lines read))) (finished_before setting h
       (length (come_in (said_lines (all_lines read)))) (length (come_in (said_lines (all_lines read))) - 1))) cut)
       (sym has) (_, refl);
+  early_notes = λ one.
+      subst (λ (h : List Entry). IsFront (noted_before setting h (length (come_in (said_lines (all_lines read))) - 1)) [])
+      (sym has) ([], refl);
 }

@@ -97,6 +97,7 @@ pub record Asks (parts : ProgramParts) (which : Next) (before now : Dealings) : 
   pub came : Came parts which before.brought now.brought
   pub silent : now.said ≡ before.said
   pub seen : now.brought.seen ≡ length before.said.told
+  pub noted : now.brought.noted ≡ before.said.noted
 
 -- ---- something is said
 

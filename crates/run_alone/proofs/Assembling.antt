@@ -25,7 +25,7 @@ use Rattle.trip_laws.proofs.Touring.{void_is}
 use Rattle.run_posts.specs.Fates.{Wait}
 use Rattle.run_posts.proofs.Ending.{told_each}
 use Rattle.run_posts.proofs.Opening.{IsOpen}
-use Rattle.run_alone.specs.Ran.{AreNotes, IsOver, GaveNone, SawFinished, ToldBefore, Ran, Rules}
+use Rattle.run_alone.specs.Ran.{AreNotes, IsOver, GaveNone, NotedBefore, SawFinished, ToldBefore, Ran, Rules}
 use Rattle.run_alone.specs.declared.worker.Finished.{Finished}
 use Rattle.run_alone.proofs.Stepping.{all_append, all_weaker}
 
@@ -94,6 +94,7 @@ pub record HasEnded (r : Rules) (h : List Entry) (xs : List Wait) (d : Dealings)
   pub asked : length d.brought.seens ≡ length d.brought.given
   pub told_before : ToldBefore r.setting finished.report.history.entries.items d
   pub seen : GaveNone d → SawFinished r.setting finished.report.history.entries.items d
+  pub noted_then : NotedBefore r.setting finished.report.history.entries.items d
   pub looked : Looked r.setting r.budget h finished.report.sessions finished.spent
   pub traffic : finished.report.traffic ≡ []
 
@@ -132,6 +133,7 @@ ran r text h xs d finished program x = record {
     asked = x.asked;
     told_before = x.told_before;
     seen = x.seen;
+    noted_then = x.noted_then;
   };
   consoles =
       void_is r.setting finished.report.history.entries.items x.legal (settled_end x.end r.setting x.legal x.settled);

@@ -1,6 +1,6 @@
 -- These definitions serve the proofs alone: no promise speaks of them.
 -- Where a run stands between two postings.
-use Rattle.std.specs.Prelude.{◌≡◌, ◌≤◌, ◌<◌, ℕ, suc, Bool, true, false, List, []}
+use Rattle.std.specs.Prelude.{◌≡◌, ◌≤◌, ◌<◌, ℕ, suc, ◌-◌, Bool, true, false, List, []}
 use Rattle.std.specs.Prelude.{◌∷◌, ◌++◌, length, take, Some, slice_get}
 use Rattle.std.specs.List.{list_all}
 use Rattle.office_core.specs.declared.front.Posting.{Posting}
@@ -16,7 +16,7 @@ use Rattle.run_posts.specs.Open.{IsOpen, StandsInOrder, told_places}
 use Rattle.run_sweep.specs.Swept.{StaysQuiet, is_swept}
 use Rattle.trip_laws.specs.Going.{AreSettled, NotedSoFar}
 use Rattle.run_alone.specs.Overs.{IsOver, GaveNone}
-use Rattle.branch_workers.specs.Lines.{finished_before}
+use Rattle.branch_workers.specs.Lines.{finished_before, noted_before, IsFront}
 
 -- posting n may begin
 abbrev pub IsCalm : ℕ → State → Type 0
@@ -43,7 +43,8 @@ pub record WasTold (s : State) (n : ℕ) (told : List Told) (j k : ℕ) : Type 0
 abbrev pub WereTold : State → ℕ → Dealings → Type 0
 WereTold s n d = (j k : ℕ) → slice_get d.brought.seens j ≡ Some k → WasTold s n d.said.told j k
 
--- What passed with a front until then: it halted only where a posting was taken in, and no note failed unless it halted.
+-- What passed with a front until then: what is noted before the last posting had been noted when it was asked last; it
+-- halted only where a posting was taken in, and no note failed unless it halted.
 pub record Passed (s : State) (xs : List Wait) (n : ℕ) (d : Dealings) : Type 0 where
   pub opens : IsOpen s.setting s.history d.brought.given d.said.told xs
   pub order : StandsInOrder s.setting s.history n d.said.told xs
@@ -51,6 +52,8 @@ pub record Passed (s : State) (xs : List Wait) (n : ℕ) (d : Dealings) : Type 0
   pub asked : length d.brought.seens ≡ n
   pub earlier : WereTold s n d
   pub noted : NotedSoFar s.setting s.history d.said.noted
+  pub noted_then : IsFront (noted_before s.setting s.history (n - 1)) d.brought.noted
+  pub noted_since : IsFront d.brought.noted d.said.noted
   pub some : d.said.halted ≡ true → 0 < n
   pub mutes : d.said.halted ≡ false → d.said.muted ≡ false
 
@@ -64,6 +67,7 @@ pub record Brings (s : State) (xs : List Wait) (n : ℕ) (p : Posting) (d : Deal
   pub asked : length d.brought.seens ≡ suc n
   pub earlier : WereTold s n d
   pub noted : NotedSoFar s.setting s.history d.said.noted
+  pub noted_now : d.brought.noted ≡ d.said.noted
   pub mutes : d.said.muted ≡ d.said.halted
 
 -- Something more passed with a front: nothing was brought, and it halted no less.
