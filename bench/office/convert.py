@@ -615,10 +615,13 @@ LINES = [
     ('jsonrpc_text.specs.Responses', 'answer batch early_answer'),
     ('run_record.specs.Run', 'alone'),
     ('branch_workers.specs.Split', 'split all_lines said_lines'),
-    ('branch_workers.specs.Lines', 'come_in IsAnswered IsCutShort'),
-    ('std.specs.Prelude', '◌≢◌'),
-    ('std.proofs.Common', 'true≢false ap'),
-    ('mathlib.Core.Logic', 'inl inr'),
+    ('run_record.specs.declared.record.Record', 'Record'),
+    ('branch_workers.specs.Lines', 'come_in finished_before noted_before lines_in IsFront IsAnswered in_lines'),
+    ('branch_workers.specs.Headline', 'IsCutShort'),
+    ('std.specs.Prelude', '◌≢◌ length ◌-◌'),
+    ('std.proofs.Common', 'true≢false ap subst sym'),
+    ('line_trials.proofs.Statuses', 'rose'),
+    ('line_trials.proofs.Endings', 'ending'),
 ]
 COMPUTED = ('digits escape_byte is_utf8 chars encode scan_numeral value punctuate lex content word after_number number_of root_name '
             'posted answer batch early_answer split')
@@ -639,18 +642,31 @@ def of_lines(run, path, title):
 
 
 def cut_short(run, written):
-    """The same where the output took a part alone: the rest of it is what was not written."""
+    """The same where the output failed in the midst of its first line, and nothing is noted."""
     line = written[:written.index('\n') + 1] if '\n' in written else ''
     front, rest = line[:len(line) // 2], written[len(line) // 2:]
-    return (f'\npub cut_short : IsCutShort alone setting history (come_in (said_lines (all_lines read)))\n'
-            f'    (record {{ written = {text(front)}; noted = {text(run.notes)} }})\n'
+    came = 'come_in (said_lines (all_lines read))'
+    return (f'\n-- what was not written of it\nabbrev rest : List ℕ\nrest = {text(rest)}\n'
+            '\nrest_is_some : rest ≢ []\nrest_is_some h = true≢false (ap (λ l. elim l [ [] ↦ false | b ∷ bs ↦ true ]) h)\n'
+            f'\n-- what was written of it\nabbrev cut : List ℕ\ncut = {text(front)}\n'
+            '\npub cut_short : (r : Record) → r.history.entries.items ≡ history\n'
+            f'    → IsCutShort alone setting (record {{ read = read; written = cut }}) (ending r) ({came})\n'
             f'unfolding {COMPUTED}\n'
-            f'cut_short = record {{ came = come_in (said_lines (all_lines read)); front = ([], refl); posted = refl; '
-            f'order = {listed(run.order)}; in_order = refl; written = (rest, refl); noted = ([], refl); '
-            f'cut = inl (rest, rest_is_some, refl) }}\n').replace('cut_short = record', f'cut_short = record', 1).replace(
-                '\npub cut_short', f'\n-- what was not written of it\nabbrev rest : List ℕ\nrest = {text(rest)}\n'
-                '\nrest_is_some : rest ≢ []\nrest_is_some h = true≢false (ap (λ l. elim l [ [] ↦ false | b ∷ bs ↦ true ]) h)\n'
-                '\npub cut_short', 1)
+            'cut_short r has = record {\n'
+            f'  came = {came};\n'
+            '  front = ([], refl);\n'
+            '  due = record { written = written; noted = [] };\n'
+            f'  answers = subst (λ (h : List Entry). IsAnswered alone setting h ({came}) (record {{ written = written; noted = [] }}))\n'
+            '      (sym has) answered;\n'
+            '  cut = in_lines rose refl (rest, rest_is_some, refl) refl;\n'
+            '  early = λ one.\n'
+            f'      subst (λ (h : List Entry). IsFront (lines_in setting h ({came}) (finished_before setting h\n'
+            f'      (length ({came})) (length ({came}) - 1))) cut)\n'
+            '      (sym has) (_, refl);\n'
+            '  early_notes = λ one.\n'
+            f'      subst (λ (h : List Entry). IsFront (noted_before setting h (length ({came}) - 1)) [])\n'
+            '      (sym has) ([], refl);\n'
+            '}\n')
 
 
 def module(run, title, kinds):

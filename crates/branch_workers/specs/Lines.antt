@@ -1,7 +1,8 @@
 -- What a run over lines posts and writes.
-use Rattle.std.specs.Prelude.{◌≡◌, ◌≢◌, ◌⊎◌, ℕ, ◌-◌, Bool, true, List, [], ◌∷◌, ◌++◌, length}
+use Rattle.std.specs.Prelude.{◌≡◌, ◌≢◌, ℕ, zero, suc, Bool, true, List, [], ◌∷◌, ◌++◌, length}
 use Rattle.std.specs.Prelude.{map, take, flat_map, nat_eq, Option, None, Some, slice_get}
 use Rattle.std.specs.Option.{option_map_or}
+use Rattle.outside_traits.specs.Causes.{Rose}
 use Rattle.jsonrpc_text.specs.Posted.{posted}
 use Rattle.office_core.specs.declared.history.Act.TheVariants as act
 use Rattle.office_core.specs.declared.history.Entry.{Entry}
@@ -9,10 +10,11 @@ use Rattle.office_core.specs.Limits.{Setting, first_worker}
 use Rattle.office_core.specs.Past.{Past}
 use Rattle.office_core.specs.Accepted.{past_of}
 use Rattle.run_record.specs.Postings.{posts_by, posts_of}
-use Rattle.run_record.specs.Order.{numbers_from, finished_there, order_alone, IsOrder}
+use Rattle.run_record.specs.Order.{numbers_from, until_posting, finished_there, order_alone, IsOrder}
 use Rattle.run_record.specs.Outside.{notes}
 use Rattle.run_record.specs.Run.{Hands, alone, workers}
 use Rattle.branch_workers.specs.Texts.{Came, posting_of, response}
+use Rattle.branch_workers.specs.Statuses.{Faults}
 
 -- the most postings of a front: what comes behind them is passed over
 abbrev pub most_postings : ℕ
@@ -52,6 +54,11 @@ lines_in w h all order = flat_map (line_of w (past_of w h) all) order
 abbrev pub finished_before : Setting → List Entry → ℕ → ℕ → List ℕ
 finished_before w h count j = flat_map (finished_there w (past_of w h) first_worker count) (numbers_from 0 j)
 
+-- what the history notes before posting j is asked for: nothing before the first
+abbrev pub noted_before : Setting → List Entry → ℕ → List ℕ
+noted_before w h zero = []
+noted_before w h (suc j) = notes w (until_posting (past_of w h) first_worker j).entries
+
 -- the order is one in which those who work may answer so many postings
 abbrev pub IsOrderOf : Hands → Setting → List Entry → ℕ → List ℕ → Type 0
 IsOrderOf alone w h count order = order ≡ order_alone w h first_worker count
@@ -78,17 +85,10 @@ pub record IsAnswered (hands : Hands) (w : Setting) (h : List Entry) (all : List
   pub written : out.written ≡ lines_in w h all order
   pub noted : out.noted ≡ notes w h
 
--- After a halt what was posted is the front of what came in; what was written and what was noted end inside the answers
--- of what was posted and inside its notes, one of the two before their end. One worker had written by then the answers
--- of all that was finished before the last posting.
-pub record IsCutShort (hands : Hands) (w : Setting) (h : List Entry) (all : List Came) (out : Output) : Type 0 where
-  pub came : List Came
-  pub front : IsFront came all
-  pub posted : posts_by first_worker h ≡ posts_of 0 (map posting_of came)
-  pub order : List ℕ
-  pub in_order : IsOrderOf hands w h (length came) order
-  pub written : IsFront out.written (lines_in w h came order)
-  pub early : hands ≡ alone
-      → IsFront (lines_in w h came (finished_before w h (length came) (length came - 1))) out.written
-  pub noted : IsFront out.noted (notes w h)
-  pub cut : IsProperFront out.written (lines_in w h came order) ⊎ IsProperFront out.noted (notes w h)
+-- Of what was due one of the two was cut, since its sink failed: the lines, and then all was noted; or the notes, and
+-- then the lines were not cut by a failure.
+pub data WasCut (before now : Faults) (due out : Output) : Type 0 where
+  in_lines : Rose before.output now.output → now.notes ≡ before.notes → IsProperFront out.written due.written
+      → out.noted ≡ due.noted → WasCut before now due out
+  in_notes : Rose before.notes now.notes → now.output ≡ before.output → IsFront out.written due.written
+      → IsProperFront out.noted due.noted → WasCut before now due out

@@ -15,6 +15,7 @@ use Rattle.office_front.specs.Dealings.{Asked, Brought, Told, Dealings}
 use Rattle.office_front.specs.declared.front.Next.{Next}
 use Rattle.office_front.specs.declared.front.Next.TheVariants as nexts
 use Rattle.office_front.specs.Calls.{After, most_postings, names_service, is_of, Leaves, Gives, GivesNone, none_left, Ends, IsQuiet, Asks}
+use Rattle.branch_workers.specs.Lines.{IsFront}
 use Rattle.branch_workers.specs.Texts.{Came as Incoming, call_in, posting_of}
 use Rattle.connection_runs.specs.Visits.{Visit, came_with}
 use Rattle.http_connection.specs.Seen.{Line}
@@ -30,6 +31,7 @@ use Rattle.door_front.proofs.Requests.{Serves, serves-on, came_length}
 use Rattle.door_front.proofs.OneMore.{one_more, next_of, serves-more, service_there}
 use Rattle.door_front.proofs.OneByOne.{told_all, one_count_more, told_first-more, heard_by-more, heard-where_reads}
 use Rattle.door_front.proofs.InTurn.{asked_within, over_on, in_turn-on, in_turn-asked}
+use Rattle.door_front.proofs.Notes.{noted_all}
 use Rattle.door_front.proofs.Waiting.{once_more, waited-none, waited-more, owes, opened_owe, owes-grow, busy-few, busy-all, busy-count}
 
 -- ---- calls
@@ -107,14 +109,19 @@ module _ (IsMade : Line → Type 0) (parts : ProgramParts) (first : Sides) (note
       ap length h.given ∙ length-map h.all.came posting_of ∙ sym (came_length h.visits h.all.asked h.all.came h.came)
       ∙ sym (length-map h.all.asked (λ (a : Asked). a.traffic)) ∙ ap length h.traffics
 
-  said_still : HasSaid first (sides_of now notes) d.said
+  abbrev said_still : HasSaid first (sides_of now notes) d.said
   said_still = record {
     notes = h.said.notes;
     written = h.said.written;
     noted = h.said.noted;
     halted = h.said.halted ∙ sym halted;
+    muted = h.said.muted;
     faults = h.said.faults;
   }
+
+  -- the sink took all that was noted
+  all_taken : d.said.halted ≡ false → IsFront d.said.noted h.said.notes
+  all_taken running = noted_all first.notes notes d.said h.said.notes running h.said.noted
 
   -- what was brought where there is no posting
   abbrev without : ℕ → Bool → Brought
@@ -126,6 +133,7 @@ module _ (IsMade : Line → Type 0) (parts : ProgramParts) (first : Sides) (note
     ended = ended;
     faults = d.brought.faults;
     seen = length d.said.told;
+    noted = d.said.noted;
     seens = d.brought.seens;
   }
 
@@ -142,10 +150,10 @@ module _ (IsMade : Line → Type 0) (parts : ProgramParts) (first : Sides) (note
     still_serves : Serves IsMade parts (services_of before) now.links h.all h.heard
     still_serves = serves-on IsMade (services_of before) parts before.links now.links h.all h.heard g.links serves
 
-    none-so : (waits : ℕ) (ended : Bool)
+    none-so : d.said.halted ≡ false → (waits : ℕ) (ended : Bool)
         → (d.said.halted ≡ false → HadNone now (record { brought = without waits ended; said = d.said }) ⊎ (most_postings ≤ length d.brought.given))
         → HasDealt IsMade parts first (sides_of now notes) (record { brought = without waits ended; said = d.said })
-    none-so waits ended none = record {
+    none-so running waits ended none = record {
       services = same_services ∙ h.services;
       in_place = places-same before.ports now.ports g.ports ∙ h.in_place;
       most = most ∙ h.most;
@@ -171,6 +179,7 @@ module _ (IsMade : Line → Type 0) (parts : ProgramParts) (first : Sides) (note
       one_by_one = record { counts = h.one_by_one.counts; each = h.one_by_one.each };
       in_turn = in_turn-goes now.links g.links;
       said = said_still;
+      noted_by_then = all_taken running;
       left = refl;
       faults = h.faults;
       seen = omega arith;
@@ -186,13 +195,13 @@ module _ (IsMade : Line → Type 0) (parts : ProgramParts) (first : Sides) (note
   }
 
   -- there were the most postings
-  most-so : going_of now ≡ going_of before → most_postings ≤ length before.traffics
+  most-so : d.said.halted ≡ false → going_of now ≡ going_of before → most_postings ≤ length before.traffics
       → After (HasDealt IsMade parts first (sides_of now notes)) (Asks parts nexts.End d)
-  most-so same many =
+  most-so running same many =
       let g = subst (λ x. Goes IsMade before.most (going_of before) x) (sym same) (goes-none IsMade before.most (going_of before)) in (
         record { brought = without 0 true; said = d.said },
-        none-so g 0 true (λ calm. inr (subst (λ n. most_postings ≤ n) (sym given_count) many)),
-        record { came = ends; silent = refl; seen = refl },
+        none-so g running 0 true (λ calm. inr (subst (λ n. most_postings ≤ n) (sym given_count) many)),
+        record { came = ends; silent = refl; seen = refl; noted = refl },
       )
 
   module _ (r : Rests IsMade before.most (going_of before) (going_of now)) where
@@ -207,10 +216,11 @@ module _ (IsMade : Line → Type 0) (parts : ProgramParts) (first : Sides) (note
     over_same = ap (λ n. closed_off n now.ports now.links) most
 
     -- no connection can come any more
-    over-so : closed_off before.most now.ports now.links ≡ true → After (HasDealt IsMade parts first (sides_of now notes)) (Asks parts nexts.End d)
-    over-so over = (
+    over-so : d.said.halted ≡ false → closed_off before.most now.ports now.links ≡ true
+        → After (HasDealt IsMade parts first (sides_of now notes)) (Asks parts nexts.End d)
+    over-so running over = (
       record { brought = without 0 true; said = d.said },
-      none-so r.goes 0 true (λ calm. inl (record {
+      none-so r.goes running 0 true (λ calm. inl (record {
         busy = map owes now.links;
         each = busy-all IsMade parts (services_of before) now.links h.all h.heard (record { brought = without 0 true; said = d.said }) at_rest h.asked
             (told_then 0 true calm) r.silent;
@@ -219,7 +229,7 @@ module _ (IsMade : Line → Type 0) (parts : ProgramParts) (first : Sides) (note
         waited = λ e. absurd (true≢false e);
         rested = λ e. absurd (true≢false e);
       })),
-      record { came = ends; silent = refl; seen = refl },
+      record { came = ends; silent = refl; seen = refl; noted = refl },
     )
 
     -- more may come
@@ -313,14 +323,15 @@ module _ (IsMade : Line → Type 0) (parts : ProgramParts) (first : Sides) (note
         | inr many ↦ inr many
       ]
 
-      yet-so : After (HasDealt IsMade parts first (sides_of now notes)) (Asks parts nexts.NotYet d)
-      yet-so = (
+      yet-so : d.said.halted ≡ false → After (HasDealt IsMade parts first (sides_of now notes)) (Asks parts nexts.NotYet d)
+      yet-so running = (
         waits_now,
-        none-so r.goes (suc d.brought.waits) false none_yet,
+        none-so r.goes running (suc d.brought.waits) false none_yet,
         record {
           came = record { none = gives_none (suc d.brought.waits) false; waits = refl; ended = refl };
           silent = refl;
           seen = refl;
+          noted = refl;
         },
       )
 
@@ -357,6 +368,7 @@ module _ (IsMade : Line → Type 0) (parts : ProgramParts) (first : Sides) (note
       ended = false;
       faults = d.brought.faults;
       seen = length d.said.told;
+      noted = d.said.noted;
       seens = d.brought.seens ++ length d.said.told ∷ [];
     }
 
@@ -426,6 +438,7 @@ module _ (IsMade : Line → Type 0) (parts : ProgramParts) (first : Sides) (note
       };
       in_turn = in_turn_now;
       said = said_still;
+      noted_by_then = all_taken running;
       left = refl;
       faults = h.faults;
       seen = omega arith;
@@ -455,7 +468,7 @@ module _ (IsMade : Line → Type 0) (parts : ProgramParts) (first : Sides) (note
     }
 
     post-so : After (HasDealt IsMade parts first (sides_of now notes)) (Asks parts (nexts.Posting p) d)
-    post-so = (record { brought = brought_now; said = d.said }, dealt_now, record { came = gives_now; silent = refl; seen = refl })
+    post-so = (record { brought = brought_now; said = d.said }, dealt_now, record { came = gives_now; silent = refl; seen = refl; noted = refl })
 
   -- ---- all of it
 
@@ -463,8 +476,9 @@ module _ (IsMade : Line → Type 0) (parts : ProgramParts) (first : Sides) (note
   pub asked-so : (which : Next) → d.brought.ended ≡ false → d.said.halted ≡ false → IsQuiet d → Looks IsMade before.most which (going_of before) (going_of now)
       → After (HasDealt IsMade parts first (sides_of now notes)) (Asks parts which d)
   asked-so (nexts.Posting p) yet running quiet l = post-so p running l
-  asked-so nexts.NotYet yet running quiet l = yet-so l.0 yet quiet l.1 l.2
-  asked-so nexts.End yet running quiet l = elim l [ inl many ↦ most-so many.1 many.0 | inr rest ↦ over-so rest.0 rest.1 ]
+  asked-so nexts.NotYet yet running quiet l = yet-so l.0 yet quiet l.1 l.2 running
+  asked-so nexts.End yet running quiet l =
+      elim l [ inl many ↦ most-so running many.1 many.0 | inr rest ↦ over-so rest.0 running rest.1 ]
 
 -- ---- and where memory ran out
 

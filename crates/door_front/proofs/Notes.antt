@@ -1,13 +1,13 @@
 -- What a front over doors noted, as more is said to it.
 use Rattle.std.proofs.Common.{◌≡◌, ◌≢◌, refl, sym, ap, subst, ◌∙◌, ℕ, ◌+◌, ◌-◌, ◌<◌, ◌≤◌, nat_lt, Bool, true, false, arith, List, [], ◌∷◌, ◌++◌, length, take, drop}
-use Rattle.std.proofs.Common.{append_assoc, inl, inr, true≢false}
+use Rattle.std.proofs.Common.{append_assoc, append-nil, inl, inr, true≢false}
 use Rattle.std.proofs.KnownBytes.{Appends-trans}
 use Rattle.std.proofs.lemmas.Bool.{ltb-true, ltb-false}
 use Rattle.std.proofs.lemmas.List.{take_all, take-append-drop, length-drop}
 use Rattle.outside_traits.specs.Causes.{Rose}
 use Rattle.office_front.specs.Dealings.{Told, Said}
 use Rattle.office_front.specs.Calls.{Halts}
-use Rattle.branch_workers.specs.Lines.{IsProperFront}
+use Rattle.branch_workers.specs.Lines.{IsFront, IsProperFront}
 use Rattle.door_front.specs.Keeping.{Keeping}
 use Rattle.sink_writing.specs.Sinks.{Taking, Takes}
 use Rattle.door_front.specs.Dealt.{Sides, sides_of, HasNoted, entire, in_part, HasSaid}
@@ -63,6 +63,11 @@ whole_so : (first now : Taking) (s : Said) (notes : List ℕ) → s.halted ≡ f
 whole_so first now s notes running (entire is calm same) = record { calm = calm; noted = same }
 whole_so first now s notes running (in_part cut rose part) = absurd (true≢false (sym cut ∙ running))
 
+-- so the sink took all of it
+pub noted_all : (first now : Taking) (s : Said) (notes : List ℕ) → s.halted ≡ false → HasNoted first now s notes
+    → IsFront s.noted notes
+noted_all first now s notes running k = ([], append-nil s.noted ∙ sym (whole_so first now s notes running k).noted)
+
 -- a text is noted, as far as the sink takes it
 noted_more : (first before now : Taking) (s after : Said) (notes text : List ℕ) (count : ℕ) (short : Bool) → nat_lt count (length text) ≡ short
     → after.halted ≡ short → after.noted ≡ s.noted ++ text → Takes text count before now → IsWhole first before s notes
@@ -115,29 +120,32 @@ halts_unknown before now more cut = record {
 
 -- ---- what is said
 
--- A text was noted.
-pub record NotesSo (first now : Sides) (s : Said) (text : List ℕ) : Type 0 where
+-- A text was noted, behind what the sink had taken.
+pub record NotesSo (first now : Sides) (s : Said) (taken text : List ℕ) : Type 0 where
   pub after : Said
   pub said : HasSaid first now after
+  pub grew : IsFront taken said.notes
   pub told : after.told ≡ s.told
   pub noted : after.noted ≡ s.noted ++ text
+  pub muted : after.muted ≡ after.halted
   pub halts : Halts s after
   pub stays : after.halted ≡ false → s.halted ≡ false
 
 module _ (first before : Sides) (s : Said) (h : HasSaid first before s) where
   -- a front is told of a place
-  pub said_told : (kept : Keeping) (t : Told) → kept.halted ≡ before.kept.halted
+  abbrev pub said_told : (kept : Keeping) (t : Told) → kept.halted ≡ before.kept.halted
       → HasSaid first (sides_of kept before.notes) (record s { told = s.told ++ t ∷ [] })
   said_told kept t same = record {
     notes = h.notes;
     written = h.written;
     noted = noted_told first.notes before.notes s (record s { told = s.told ++ t ∷ [] }) h.notes refl refl h.noted;
     halted = h.halted ∙ sym same;
+    muted = h.muted;
     faults = h.faults;
   }
 
   -- a text is noted to a front that halted
-  pub said_cut : (text : List ℕ) → before.kept.halted ≡ true → NotesSo first before s text
+  pub said_cut : (text : List ℕ) → before.kept.halted ≡ true → NotesSo first before s h.notes text
   said_cut text cut =
       let after : Said = record s { noted = s.noted ++ text } in
       record {
@@ -147,10 +155,13 @@ module _ (first before : Sides) (s : Said) (h : HasSaid first before s) where
           written = h.written;
           noted = noted_cut first.notes before.notes s after h.notes text (h.halted ∙ cut) (h.halted ∙ cut) refl h.noted;
           halted = h.halted;
+          muted = h.muted;
           faults = h.faults;
         };
+        grew = ([], append-nil h.notes);
         told = refl;
         noted = refl;
+        muted = h.muted;
         halts = halts_still s after refl refl;
         stays = λ e. e;
       }
@@ -158,9 +169,9 @@ module _ (first before : Sides) (s : Said) (h : HasSaid first before s) where
   -- a text is noted, as far as the sink takes it
   pub said_noted : (halted : Bool) (notes : Taking) (text : List ℕ) (count : ℕ) → before.kept.halted ≡ false
       → halted ≡ nat_lt count (length text) → Takes text count before.notes notes
-      → NotesSo first (sides_of (record before.kept { halted = halted }) notes) s text
+      → NotesSo first (sides_of (record before.kept { halted = halted }) notes) s h.notes text
   said_noted halted notes text count running cut takes =
-      let after : Said = record { told = s.told; noted = s.noted ++ text; halted = halted; faults = notes.faults } in
+      let after : Said = record { told = s.told; noted = s.noted ++ text; halted = halted; muted = halted; faults = notes.faults } in
       record {
         after = after;
         said = record {
@@ -169,10 +180,13 @@ module _ (first before : Sides) (s : Said) (h : HasSaid first before s) where
           noted = noted_more first.notes before.notes notes s after h.notes text count halted (sym cut) refl refl takes
               (whole_so first.notes before.notes s h.notes (h.halted ∙ running) h.noted);
           halted = refl;
+          muted = refl;
           faults = refl;
         };
+        grew = (take count text, refl);
         told = refl;
         noted = refl;
+        muted = refl;
         halts = halts_so s after text count before.notes notes (h.halted ∙ running) cut h.faults refl takes;
         stays = λ e. h.halted ∙ running;
       }

@@ -393,6 +393,7 @@ module _ (IsMade : Line → Type 0) (parts : ProgramParts) (first : Sides) (old 
         one_by_one = one_by_one-longer d now_dealt.said (told_of place outcomes ∷ []) refl h.one_by_one;
         in_turn = subst (CameInTurn now_dealt) (sym a.links) in_turn_now;
         said = said_told first (sides_of old notes) d.said h.said new (told_of place outcomes) a.halted;
+        noted_by_then = h.noted_by_then;
         left = h.left;
         faults = h.faults;
         seen = omega arith;
@@ -438,6 +439,7 @@ module _ (IsMade : Line → Type 0) (parts : ProgramParts) (first before : Sides
         in_turn = in_turn-told d (record d.said { told = d.said.told ++ t ∷ [] }) (t ∷ []) before.kept.links refl
             (seen_within d.brought.seens h.heard d.said.told h.heard_by h.told) h.in_turn;
         said = said_told first before d.said h.said before.kept t refl;
+        noted_by_then = h.noted_by_then;
         left = h.left;
         faults = h.faults;
         seen = omega arith;
@@ -446,8 +448,13 @@ module _ (IsMade : Line → Type 0) (parts : ProgramParts) (first before : Sides
 
 -- ---- a text is noted
 
+-- a front of a front
+longer_front : (xs ys zs : List ℕ) → IsFront xs ys → IsFront ys zs → IsFront xs zs
+longer_front xs ys zs f g = (f.0 ++ g.0, sym (append_assoc xs f.0 g.0) ∙ ap (λ l. l ++ g.0) f.1 ∙ g.1)
+
 module _ (IsMade : Line → Type 0) (parts : ProgramParts) (first : Sides) (old : Keeping) (was notes : Taking) (halted : Bool) (text : List ℕ) (d : Dealings)
-    (h : HasDealt IsMade parts first (sides_of old was) d) (n : NotesSo first (sides_of (record old { halted = halted }) notes) d.said text) where
+    (h : HasDealt IsMade parts first (sides_of old was) d)
+    (n : NotesSo first (sides_of (record old { halted = halted }) notes) d.said h.said.notes text) where
   abbrev noted_dealt : Dealings
   noted_dealt = record { brought = d.brought; said = n.after }
 
@@ -492,6 +499,7 @@ module _ (IsMade : Line → Type 0) (parts : ProgramParts) (first : Sides) (old 
     in_turn = in_turn-told d n.after [] old.links (n.told ∙ sym (append-nil d.said.told))
         (seen_within d.brought.seens h.heard d.said.told h.heard_by h.told) h.in_turn;
     said = n.said;
+    noted_by_then = longer_front d.brought.noted h.said.notes n.said.notes h.noted_by_then n.grew;
     left = h.left;
     faults = h.faults;
     seen = subst (λ l. d.brought.seen ≤ length l) (sym n.told) h.seen;
@@ -533,7 +541,7 @@ module _ (IsMade : Line → Type 0) (parts : ProgramParts) (A B : Type 0) (a : A
       let t : Told = told_of place outcomes in (
         record { brought = d.brought; said = record d.said { told = d.said.told ++ t ∷ [] } },
         (a, b, inr (dealt_cut IsMade parts first (sides_of old was) d t (dealt_yet lasts) cut)),
-        record { told = refl; noted = refl; halts = halts_still d.said (record d.said { told = d.said.told ++ t ∷ [] }) refl refl; brought = refl },
+        record { told = refl; noted = refl; muted = refl; halts = halts_still d.said (record d.said { told = d.said.told ++ t ∷ [] }) refl refl; brought = refl },
       )
 
   -- it is told of a place, or memory ran out
@@ -544,38 +552,39 @@ module _ (IsMade : Line → Type 0) (parts : ProgramParts) (A B : Type 0) (a : A
       let t : Told = told_of place outcomes in (
         record { brought = d.brought; said = record d.said { told = d.said.told ++ t ∷ [] } },
         (a, b, inr (dealt_now IsMade parts first old new was d place outcomes (dealt_yet lasts) due answered running)),
-        record { told = refl; noted = refl; halts = halts_still d.said (record d.said { told = d.said.told ++ t ∷ [] }) refl refl; brought = refl },
+        record { told = refl; noted = refl; muted = refl; halts = halts_still d.said (record d.said { told = d.said.told ++ t ∷ [] }) refl refl; brought = refl },
       )
   told-so (Err e) new place outcomes lasts running due answered out halted =
       (a, b, inl (out, halted_is IsMade parts first (sides_of old was) d h ∙ sym halted))
 
-  -- a text is noted to a front that halted
-  pub noted_cut-so : (text : List ℕ) → old.halted ≡ true → After (Same (sides_of old was)) (Notes text d)
-  noted_cut-so text cut = by h
+  -- a text is noted to a front that halted, by no answer
+  pub noted_cut-so : (text : List ℕ) → old.halted ≡ true → d.said.muted ≡ d.said.halted
+      → After (Same (sides_of old was)) (Notes text d)
+  noted_cut-so text cut muted = by h
     where
       by : MayHaveDealt IsMade parts first (sides_of old was) d → After (Same (sides_of old was)) (Notes text d)
       by (inl out) =
           let after : Said = record d.said { noted = d.said.noted ++ text } in (
             record { brought = d.brought; said = after },
             (a, b, inl out),
-            record { told = refl; noted = refl; halts = halts_still d.said after refl refl; brought = refl },
+            record { told = refl; noted = refl; muted = muted; halts = halts_still d.said after refl refl; brought = refl },
           )
       by (inr k) =
-          let n : NotesSo first (sides_of old was) d.said text = said_cut first (sides_of old was) d.said k.said text cut in (
+          let n : NotesSo first (sides_of old was) d.said k.said.notes text = said_cut first (sides_of old was) d.said k.said text cut in (
             record { brought = d.brought; said = n.after },
             (a, b, inr (dealt_noted IsMade parts first old was was old.halted text d k n)),
-            record { told = n.told; noted = n.noted; halts = n.halts; brought = refl },
+            record { told = n.told; noted = n.noted; muted = n.muted; halts = n.halts; brought = refl },
           )
 
   -- what is known where memory had run out
   out_noted : (halted : Bool) (text : List ℕ) → old.halted ≡ false → HasRunOut old d → (after : Said) × (after.halted ≡ halted)
-      × (after.told ≡ d.said.told) × (after.noted ≡ d.said.noted ++ text) × Halts d.said after
+      × (after.told ≡ d.said.told) × (after.noted ≡ d.said.noted ++ text) × (after.muted ≡ after.halted) × Halts d.said after
   out_noted true text running out =
-      let after : Said = record { told = d.said.told; noted = d.said.noted ++ text; halted = true; faults = d.said.faults + 1 } in
-      (after, refl, refl, refl, halts_unknown d.said after refl refl)
+      let after : Said = record { told = d.said.told; noted = d.said.noted ++ text; halted = true; muted = true; faults = d.said.faults + 1 } in
+      (after, refl, refl, refl, refl, halts_unknown d.said after refl refl)
   out_noted false text running out =
-      let after : Said = record { told = d.said.told; noted = d.said.noted ++ text; halted = false; faults = d.said.faults } in
-      (after, refl, refl, refl, halts_still d.said after (sym (out.1 ∙ running)) refl)
+      let after : Said = record { told = d.said.told; noted = d.said.noted ++ text; halted = false; muted = false; faults = d.said.faults } in
+      (after, refl, refl, refl, refl, halts_still d.said after (sym (out.1 ∙ running)) refl)
 
   -- a text is noted, as far as the sink takes it
   noted-so : (halted : Bool) (notes : Taking) (text : List ℕ) (count : ℕ) → old.halted ≡ false → halted ≡ nat_lt count (length text) → Takes text count was notes
@@ -587,14 +596,14 @@ module _ (IsMade : Line → Type 0) (parts : ProgramParts) (A B : Type 0) (a : A
           let n = out_noted halted text running out in (
             record { brought = d.brought; said = n.0 },
             (a, b, inl (out.0, n.1)),
-            record { told = n.2; noted = n.3; halts = n.4; brought = refl },
+            record { told = n.2; noted = n.3; muted = n.4; halts = n.5; brought = refl },
           )
       by (inr k) =
-          let n : NotesSo first (sides_of (record old { halted = halted }) notes) d.said text =
+          let n : NotesSo first (sides_of (record old { halted = halted }) notes) d.said k.said.notes text =
           said_noted first (sides_of old was) d.said k.said halted notes text count running cut takes in (
             record { brought = d.brought; said = n.after },
             (a, b, inr (dealt_noted IsMade parts first old was notes halted text d k n)),
-            record { told = n.told; noted = n.noted; halts = n.halts; brought = refl },
+            record { told = n.told; noted = n.noted; muted = n.muted; halts = n.halts; brought = refl },
           )
 
   -- the sink took all of it
@@ -633,9 +642,10 @@ nothing_dealt IsMade parts kept notes empty within = (
       ended = false;
       faults = 0;
       seen = 0;
+      noted = [];
       seens = [];
     };
-    said = record { told = []; noted = []; halted = false; faults = notes.faults };
+    said = record { told = []; noted = []; halted = false; muted = false; faults = notes.faults };
   },
   record {
     given = refl;
@@ -643,10 +653,12 @@ nothing_dealt IsMade parts kept notes empty within = (
     waits = refl;
     open_yet = refl;
     unseen = refl;
+    unnoted = refl;
     unasked = refl;
     told = refl;
     noted = refl;
     writes = refl;
+    unmuted = refl;
   },
   inr (record {
     services = refl;
@@ -678,8 +690,10 @@ nothing_dealt IsMade parts kept notes empty within = (
       written = Appends-nil notes.taken;
       noted = entire refl refl refl;
       halted = sym empty.halted;
+      muted = refl;
       faults = refl;
     };
+    noted_by_then = ([], refl);
     left = refl;
     faults = refl;
     seen = omega arith;

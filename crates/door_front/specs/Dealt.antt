@@ -127,12 +127,13 @@ pub data HasNoted (first now : Taking) (s : Said) (notes : List ℕ) : Type 0 wh
   entire : s.halted ≡ false → now.faults ≡ first.faults → notes ≡ s.noted → HasNoted first now s notes
   in_part : s.halted ≡ true → Rose first.faults now.faults → IsProperFront notes s.noted → HasNoted first now s notes
 
--- What was said to a front, since its sides were the first.
+-- What was said to a front, since its sides were the first; it is its notes alone that halt it.
 pub record HasSaid (first now : Sides) (s : Said) : Type 0 where
   pub notes : List ℕ
   pub written : Appends first.notes.taken now.notes.taken notes
   pub noted : HasNoted first.notes now.notes s notes
   pub halted : s.halted ≡ now.kept.halted
+  pub muted : s.muted ≡ s.halted
   pub faults : s.faults ≡ now.notes.faults
 
 -- ---- when there is no posting
@@ -185,9 +186,10 @@ GaveNone d = (d.brought.ended ≡ true) ⊎ (0 < d.brought.waits)
 
 -- ---- all of it
 
--- What a front over doors brought and what was said to it, since its sides were the first; its wires were made so. A
--- door that failed counts as one at which nobody comes any more, and a wire that failed ends its own connection alone,
--- so that no failure of what is read is counted here.
+-- What a front over doors brought and what was said to it, since its sides were the first; its wires were made so. What
+-- had been noted when it was asked last was taken by the sink of its notes. A door that failed counts as one at which
+-- nobody comes any more, and a wire that failed ends its own connection alone, so that no failure of what is read is
+-- counted here.
 pub record HasDealt (IsMade : Line → Type 0) (parts : ProgramParts) (first now : Sides) (d : Dealings) : Type 0 where
   pub services : services_of now.kept ≡ services_of first.kept
   pub in_place : places_of now.kept ≡ places_of first.kept
@@ -214,6 +216,7 @@ pub record HasDealt (IsMade : Line → Type 0) (parts : ProgramParts) (first now
   pub one_by_one : CameOneByOne d
   pub in_turn : CameInTurn d now.kept.links
   pub said : HasSaid first now d.said
+  pub noted_by_then : IsFront d.brought.noted said.notes
   pub left : d.brought.left ≡ None
   pub faults : d.brought.faults ≡ 0
   pub seen : d.brought.seen ≤ length d.said.told

@@ -1,5 +1,5 @@
 -- A run over doors by what its front and its worker say, and by what was opened and came back.
-use Rattle.std.proofs.Common.{◌≡◌, ◌≤◌, ◌+◌, refl, sym, ap, subst, ◌∙◌, ℕ, Bool, true, false, not, ◌||◌, List, [], ◌∷◌, length, map, arith}
+use Rattle.std.proofs.Common.{◌≡◌, ◌≤◌, ◌+◌, ◌-◌, refl, sym, ap, subst, ◌∙◌, ℕ, Bool, true, false, not, ◌||◌, List, [], ◌∷◌, length, map, arith}
 use Rattle.std.proofs.Common.{inl, inr, nat_eq, nat_lt, sum_by, count_by, true≢false}
 use Rattle.std.specs.List.{list_all, list_any, items_where_true}
 use Rattle.std.proofs.lemmas.List.Sums.{sum_by-cons}
@@ -9,12 +9,15 @@ use Rattle.office_core.specs.Limits.{Setting, run_of}
 use Rattle.office_core.specs.declared.history.Entry.{Entry}
 use Rattle.run_record.specs.declared.record.Record.{Record}
 use Rattle.run_record.specs.declared.record.Traffic.{Traffic}
+use Rattle.run_record.specs.Outside.{notes}
 use Rattle.run_record.specs.Run.{Hands, alone, IsRun, IsSpent}
+use Rattle.branch_workers.specs.Lines.{noted_before, IsFront}
 use Rattle.branch_workers.specs.Statuses.{HasStatus}
 use Rattle.office_front.specs.Dealings.{Dealings}
 use Rattle.run_alone.specs.declared.worker.Finished.{Finished}
-use Rattle.run_alone.specs.Ran.{Ran}
+use Rattle.run_alone.specs.Ran.{AreNotes, Ran}
 use Rattle.run_alone.specs.Picks.{TookPicks}
+use Rattle.run_alone.proofs.Noting.{front_longer}
 use Rattle.connection_runs.specs.Ports.{DoorAt, doors_of, has_door}
 use Rattle.connection_runs.specs.Visits.{Visit}
 use Rattle.http_connection.specs.Seen.{Line}
@@ -26,7 +29,7 @@ use Rattle.door_run.specs.Doored.{Task, Outside, outside, faults_of, rules_of, A
 use Rattle.door_run.specs.Steps.{Opens, opened_by, ports_at, GivesBack, traffic_of, wire_of, door_of, some_failed, with_traffic, status_of}
 use Rattle.door_run.proofs.Lists.{length_map, any_map, all_map}
 use Rattle.door_run.proofs.Leading.{service_at, service_in, place_in, wires_at, leads_as, same_first, same_rest}
-use Rattle.door_run.proofs.Serving.{served_so, as_many}
+use Rattle.door_run.proofs.Serving.{served_so, as_many, given_long}
 use Rattle.door_run.proofs.Wires.{wires_are}
 use Rattle.door_run.proofs.Ending.{noted_so, through_so}
 use Rattle.door_run.proofs.Statuses.{status_so}
@@ -38,8 +41,8 @@ use Rattle.order_laws.proofs.Lists.{all_weaker}
 
 module _ (w : Setting) (budget : ℕ) (run : Record) (t : List Traffic) where
   -- what a run is does not speak of its traffic
-  run_with : (hands : Hands) (halted : Bool) → IsRun w budget hands halted run → IsRun w budget hands halted (with_traffic run t)
-  run_with hands halted k = record {
+  run_with : (hands : Hands) (muted : Bool) → IsRun w budget hands muted run → IsRun w budget hands muted (with_traffic run t)
+  run_with hands muted k = record {
     legal = k.legal;
     stopped = k.stopped;
     closed = k.closed;
@@ -183,8 +186,18 @@ module _ (IsMade : Line → Type 0) (t : Task) (before mid after : DoorsTold) (p
   abbrev is : Outside
   is = outside after now.notes
 
-  noted : AreNoted (run_of t.parts) h d.said.halted first.notes now.notes
-  noted = noted_so (run_of t.parts) h first.notes now.notes d.said f.said.notes f.said.written f.said.noted ran.dealt.noted
+  abbrev noted : AreNoted (run_of t.parts) h d.said.halted first.notes now.notes
+  noted =
+      noted_so (run_of t.parts) h first.notes now.notes d.said f.said.notes f.said.written f.said.noted
+      (subst (λ m. AreNotes m d.said.noted (notes (run_of t.parts) h)) f.said.muted ran.dealt.noted)
+
+  -- what is noted before the last posting was noted
+  early_notes : IsFront (noted_before (run_of t.parts) h (length f.all.asked - 1)) f.said.notes
+  early_notes =
+      front_longer (noted_before (run_of t.parts) h (length f.all.asked - 1)) d.brought.noted f.said.notes
+      (subst (λ (k : ℕ). IsFront (noted_before (run_of t.parts) h (k - 1)) d.brought.noted)
+      (given_long IsMade t.parts h first now d f ran.dealt) ran.dealt.noted_then)
+      f.noted_by_then
 
   -- the end
   abbrev pub ended : Ended
@@ -212,12 +225,14 @@ module _ (IsMade : Line → Type 0) (t : Task) (before mid after : DoorsTold) (p
   pub doored_so : IsDoored IsMade t was is ended
   doored_so = record {
     halted = d.said.halted;
-    run = run_with (run_of t.parts) t.budget finished.report (map traffic_of now.kept.links) alone d.said.halted ran.run;
+    run = run_with (run_of t.parts) t.budget finished.report (map traffic_of now.kept.links) alone d.said.halted
+        (subst (λ m. IsRun (run_of t.parts) t.budget alone m finished.report) f.said.muted ran.run);
     program = ran.program;
     posters = ran.dealt.posters;
     served = served_so IsMade t.parts h first now d f ran.dealt doors_so;
     accepted = accepted;
     noted = noted;
+    early_notes = early_notes;
     picks = picked;
     consoles = ran.consoles;
     used = used;

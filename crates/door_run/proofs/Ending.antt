@@ -43,7 +43,7 @@ module _ (w : Setting) (h : List Entry) (first now : Taking) (s : Said) (written
   part_so (entire running same is) all stopped = absurd (true≢false (sym stopped ∙ running))
   part_so (in_part halted rose part) all stopped = (proper_front written s.noted (notes w h) part all.0, rose)
 
-  pub noted_so : Appends first.taken now.taken written → HasNoted first now s written
+  abbrev pub noted_so : Appends first.taken now.taken written → HasNoted first now s written
       → AreNotes s.halted s.noted (notes w h) → AreNoted w h s.halted first now
   noted_so appends k all = record {
     noted = written;

@@ -1,5 +1,5 @@
 -- What a run of a program over doors leaves, by what its doors and its notes tell.
-use Rattle.std.specs.Prelude.{◌≡◌, ℕ, ◌<◌, ◌≤◌, Bool, true, false, List, [], length, count_by}
+use Rattle.std.specs.Prelude.{◌≡◌, ℕ, ◌-◌, ◌<◌, ◌≤◌, Bool, true, false, List, [], length, count_by}
 use Rattle.std.specs.List.{list_all, items_where_true}
 use Rattle.std.specs.Io.KnownBytes.{Appends}
 use Rattle.outside_traits.specs.Causes.{Rose}
@@ -9,7 +9,7 @@ use Rattle.office_core.specs.Limits.{Setting, run_of}
 use Rattle.office_core.specs.Accepted.{past_of}
 use Rattle.run_record.specs.Outside.{notes}
 use Rattle.run_record.specs.Run.{alone, IsRun, IsSpent}
-use Rattle.branch_workers.specs.Lines.{is_by_first, most_postings, IsProperFront}
+use Rattle.branch_workers.specs.Lines.{is_by_first, most_postings, noted_before, IsFront, IsProperFront}
 use Rattle.branch_workers.specs.Statuses.{Faults, HasStatus}
 use Rattle.run_alone.specs.Ran.{AreVoid, Rules}
 use Rattle.run_alone.specs.Picks.{TookPicks}
@@ -63,8 +63,8 @@ pub record AreNoted (w : Setting) (h : List Entry) (halted : Bool) (before now :
   pub in_part : halted ≡ true → IsProperFront noted (notes w h) × Rose before.faults now.faults
 
 -- A task was run over doors by one worker: its record is that of such a run and of this text, with the bytes of each
--- connection that was accepted as its traffic; what came on these was served; its notes were written; each turn took
--- the pick 0; and its calls to the console came to void. Doors were opened where the program has them, and all that was
+-- connection that was accepted as its traffic; what came on these was served; its notes were written, and in each case
+-- those before the last posting; each turn took the pick 0; and its calls to the console came to void. Doors were opened where the program has them, and all that was
 -- opened and accepted came back; to each service lead as many connections as its doors gave. Unless the front halted or
 -- there were the most postings, it went on until none could come any more, or none came for too long.
 pub record IsDoored (IsMade : Line → Type 0) (t : Task) (before now : Outside) (ended : Ended) : Type 0 where
@@ -75,6 +75,7 @@ pub record IsDoored (IsMade : Line → Type 0) (t : Task) (before now : Outside)
   pub served : IsServed (run_of t.parts) (history_of ended) halted ended.report.traffic
   pub accepted : length served.visits ≤ t.connections
   pub noted : AreNoted (run_of t.parts) (history_of ended) halted before.notes now.notes
+  pub early_notes : IsFront (noted_before (run_of t.parts) (history_of ended) (length served.all.asked - 1)) noted.noted
   pub picks : TookPicks (rules_of t) [] ended.report
   pub consoles : AreVoid (run_of t.parts) (past_of (run_of t.parts) (history_of ended))
   pub used : Used

@@ -22,7 +22,7 @@ use Rattle.branch_workers.specs.Texts.{Came as Incoming, posting_of}
 use Rattle.line_front.specs.Passing.{nothing_read}
 use Rattle.line_front.specs.Reading.{Input, input_of, came_by, came_in, some, HasBrought}
 use Rattle.sink_writing.specs.Sinks.{Taking}
-use Rattle.line_front.specs.Writing.{Output, output_of, faults_of, HasWritten, entire, in_part, HasSaid}
+use Rattle.line_front.specs.Writing.{Output, output_of, faults_of, HasWritten, entire, in_lines, in_notes, HasSaid}
 use Rattle.line_front.specs.Told.{line_to, line_told, lines_told}
 use Rattle.line_front.specs.Dealt.{Sides, sides_of, WroteByThen, HasDealt}
 
@@ -50,9 +50,16 @@ nothing_dealt parts left faults to_lines to_notes = (
       ended = false;
       faults = faults;
       seen = 0;
+      noted = [];
       seens = [];
     };
-    said = record { told = []; noted = []; halted = false; faults = faults_of (output_of to_lines to_notes [] false) };
+    said = record {
+      told = [];
+      noted = [];
+      halted = false;
+      muted = false;
+      faults = faults_of (output_of to_lines to_notes [] false);
+    };
   },
   record {
     given = refl;
@@ -60,10 +67,12 @@ nothing_dealt parts left faults to_lines to_notes = (
     waits = refl;
     open_yet = refl;
     unseen = refl;
+    unnoted = refl;
     unasked = refl;
     told = refl;
     noted = refl;
     writes = refl;
+    unmuted = refl;
   },
   record {
     brought = record {
@@ -80,11 +89,12 @@ nothing_dealt parts left faults to_lines to_notes = (
       notes = [];
       noted = Appends-nil to_notes.taken;
       halted = refl;
-      wrote = entire refl refl refl refl refl;
+      wrote = entire refl refl refl refl refl refl;
       faults = refl;
     };
     places = refl;
     by_then = λ j n at. absurd (none-some n at);
+    noted_by_then = ([], refl);
   },
 )
 
@@ -125,27 +135,28 @@ given_longer m n le (t ∷ told) h =
     and_from (is_given n t) (list_all (is_given n) told) (lt-ltb t.place n (omega arith)) (given_longer m n le told both.1)
 
 -- what was said stays so where more came in
-said_longer : (parts : ProgramParts) (came later : List Incoming) (first now : Output) (s : Said) → lines_told parts later s.told ≡ lines_told parts came s.told
+abbrev said_longer : (parts : ProgramParts) (came later : List Incoming) (first now : Output) (s : Said) → lines_told parts later s.told ≡ lines_told parts came s.told
     → HasSaid parts came first now s → HasSaid parts later first now s
 said_longer parts came later first now s same h = record {
   written = h.written;
   notes = h.notes;
   noted = h.noted;
   halted = h.halted;
-  wrote = subst (λ l. HasWritten first now h.notes (record { lines = l; notes = s.noted })) (sym same) h.wrote;
+  wrote = subst (λ l. HasWritten first now s.muted h.notes (record { lines = l; notes = s.noted })) (sym same) h.wrote;
   faults = h.faults;
 }
 
--- ---- how many it had been told of
+-- ---- what it had been told of and noted
 
--- the same, with how many it had been told of when it was asked, and when each posting was asked for
-abbrev pub with_seen : ℕ → List ℕ → Brought → Brought
-with_seen count counts b = record b { seen = count; seens = counts }
+-- the same, with how many it had been told of when it was asked, and when each posting was asked for, and with what had
+-- been noted
+abbrev pub with_seen : ℕ → List ℕ → List ℕ → Brought → Brought
+with_seen count counts noted b = record b { seen = count; noted = noted; seens = counts }
 
 -- what was brought does not speak of that
-brought_seen : (first now : Input) (count : ℕ) (counts : List ℕ) (b : Brought) → HasBrought first now b
-    → HasBrought first now (with_seen count counts b)
-brought_seen first now count counts b h = record {
+brought_seen : (first now : Input) (count : ℕ) (counts noted : List ℕ) (b : Brought) → HasBrought first now b
+    → HasBrought first now (with_seen count counts noted b)
+brought_seen first now count counts noted b h = record {
   read = h.read;
   passed = h.passed;
   given = h.given;
@@ -162,40 +173,41 @@ seens_by nexts.NotYet count counts = counts
 seens_by nexts.End count counts = counts
 
 -- what came speaks of that alone
-leaves_seen : (p : Posting) (left : Option (List Posting)) (before now : Brought) (count : ℕ) (counts : List ℕ)
-    → Leaves p left before now → Leaves p left before (with_seen count counts now)
-leaves_seen p None before now count counts h = h
-leaves_seen p (Some ps) before now count counts h = h
+leaves_seen : (p : Posting) (left : Option (List Posting)) (before now : Brought) (count : ℕ) (counts noted : List ℕ)
+    → Leaves p left before now → Leaves p left before (with_seen count counts noted now)
+leaves_seen p None before now count counts noted h = h
+leaves_seen p (Some ps) before now count counts noted h = h
 
-none_seen : (before now : Brought) (count : ℕ) → GivesNone before now
-    → GivesNone before (with_seen count before.seens now)
-none_seen before now count g = record { given = g.given; asked = g.asked; left = g.left; faults = g.faults; seens = refl }
+none_seen : (before now : Brought) (count : ℕ) (noted : List ℕ) → GivesNone before now
+    → GivesNone before (with_seen count before.seens noted now)
+none_seen before now count noted g = record { given = g.given; asked = g.asked; left = g.left; faults = g.faults; seens = refl }
 
-over_seen : (before now : Brought) (count : ℕ) → IsOver before now → IsOver before (with_seen count before.seens now)
-over_seen before now count (none_left h) = none_left h
-over_seen before now count (failed h) = failed h
-over_seen before now count (most h) = most h
+over_seen : (before now : Brought) (count : ℕ) (noted : List ℕ) → IsOver before now
+    → IsOver before (with_seen count before.seens noted now)
+over_seen before now count noted (none_left h) = none_left h
+over_seen before now count noted (failed h) = failed h
+over_seen before now count noted (most h) = most h
 
-came_seen : (parts : ProgramParts) (which : Next) (before now : Brought) (count : ℕ) → Came parts which before now
-    → Came parts which before (with_seen count (seens_by which count before.seens) now)
-came_seen parts (nexts.Posting p) before now count g = record {
+came_seen : (parts : ProgramParts) (which : Next) (before now : Brought) (count : ℕ) (noted : List ℕ) → Came parts which before now
+    → Came parts which before (with_seen count (seens_by which count before.seens) noted now)
+came_seen parts (nexts.Posting p) before now count noted g = record {
   given = g.given;
   within = g.within;
   whose = g.whose;
   asked = g.asked;
   request = g.request;
   services = g.services;
-  left = leaves_seen p before.left before now count (before.seens ++ count ∷ []) g.left;
+  left = leaves_seen p before.left before now count (before.seens ++ count ∷ []) noted g.left;
   waits = g.waits;
   ended = g.ended;
   faults = g.faults;
   seens = refl;
 }
-came_seen parts nexts.NotYet before now count g =
-    record { none = none_seen before now count g.none; waits = g.waits; ended = g.ended }
-came_seen parts nexts.End before now count g = record {
-  none = none_seen before now count g.none;
-  over = over_seen before now count g.over;
+came_seen parts nexts.NotYet before now count noted g =
+    record { none = none_seen before now count noted g.none; waits = g.waits; ended = g.ended }
+came_seen parts nexts.End before now count noted g = record {
+  none = none_seen before now count noted g.none;
+  over = over_seen before now count noted g.over;
   waits = g.waits;
   ended = g.ended;
 }
@@ -223,10 +235,22 @@ wrote_all : (parts : ProgramParts) (came : List Incoming) (first now : Output) (
     → HasSaid parts came first now s → now.written ≡ lines_told parts came s.told
 wrote_all parts came first now s running h = by h.wrote
   where
-    by : HasWritten first now h.notes (record { lines = lines_told parts came s.told; notes = s.noted })
+    by : HasWritten first now s.muted h.notes (record { lines = lines_told parts came s.told; notes = s.noted })
         → now.written ≡ lines_told parts came s.told
-    by (entire e a b written c) = written
-    by (in_part e rose f g part) = absurd (true≢false (sym e ∙ sym h.halted ∙ running))
+    by (entire e u a b written c) = written
+    by (in_lines e u rose calm all part) = absurd (true≢false (sym e ∙ sym h.halted ∙ running))
+    by (in_notes e m rose calm front part) = absurd (true≢false (sym e ∙ sym h.halted ∙ running))
+
+-- and all that was noted
+noted_all : (parts : ProgramParts) (came : List Incoming) (first now : Output) (s : Said) → s.halted ≡ false
+    → (h : HasSaid parts came first now s) → IsFront s.noted h.notes
+noted_all parts came first now s running h = ([], append-nil s.noted ∙ sym (by h.wrote))
+  where
+    by : HasWritten first now s.muted h.notes (record { lines = lines_told parts came s.told; notes = s.noted })
+        → h.notes ≡ s.noted
+    by (entire e u a b written noted) = noted
+    by (in_lines e u rose calm all part) = all
+    by (in_notes e m rose calm front part) = absurd (true≢false (sym e ∙ sym h.halted ∙ running))
 
 -- of what is told so many were told by then, and their lines were written
 abbrev WroteOf : ProgramParts → Sides → List Told → ℕ → Type 0
@@ -240,14 +264,14 @@ longer_front : (xs ys zs : List ℕ) → IsFront xs ys → IsFront ys zs → IsF
 longer_front xs ys zs f g = (f.0 ++ g.0, sym (append_assoc xs f.0 g.0) ∙ ap (λ l. l ++ g.0) f.1 ∙ g.1)
 
 -- it stays so where more is told, and more is written
-wrote_longer : (parts : ProgramParts) (before now : Sides) (ts more : List Told) (n : ℕ) → now.input ≡ before.input
-    → IsFront before.output.written now.output.written → WroteOf parts before ts n → WroteOf parts now (ts ++ more) n
-wrote_longer parts before now ts more n same grew w = (
+wrote_longer : (parts : ProgramParts) (before : Sides) (output : Output) (ts more : List Told) (n : ℕ)
+    → IsFront before.output.written output.written → WroteOf parts before ts n
+    → WroteOf parts (sides_of before.input output) (ts ++ more) n
+wrote_longer parts before output ts more n grew w = (
   longer_told n ts more w.0,
-  subst (λ (l : List Told). IsFront (lines_told parts (came_in now.input) l) now.output.written)
+  subst (λ (l : List Told). IsFront (lines_told parts (came_in before.input) l) output.written)
       (sym (take-append-le n ts more w.0))
-      (subst (λ (i : Input). IsFront (lines_told parts (came_in i) (take n ts)) now.output.written) (sym same)
-      (longer_front (lines_told parts (came_in before.input) (take n ts)) before.output.written now.output.written w.1 grew)),
+      (longer_front (lines_told parts (came_in before.input) (take n ts)) before.output.written output.written w.1 grew),
 )
 
 -- ---- calls
@@ -258,92 +282,108 @@ module _ (parts : ProgramParts) (A B C E F : Type 0) (a : A) (b : B) (c : C) (e 
   Same now x = A × B × C × E × F × HasDealt parts first now x
 
   -- a posting is asked for
-  module _ (now : Sides) (unsaid : now.output ≡ before.output) (more : List Read) (longer : now.input.reads ≡ before.input.reads ++ more) where
-    -- what was said stays
-    still_said : HasSaid parts (came_in now.input) first.output now.output d.said
-    still_said =
-        let came : came_in now.input ≡ came_in before.input ++ map came_by more = ap (map came_by) longer ∙ map-append came_by before.input.reads more in
+  module _ (input : Input) (more : List Read) (longer : input.reads ≡ before.input.reads ++ more) where
+    -- the front then
+    abbrev asked_now : Sides
+    asked_now = sides_of input before.output
+
+    -- the lines that were told are the same
+    still_lines : lines_told parts (came_in input) d.said.told ≡ lines_told parts (came_in before.input) d.said.told
+    still_lines =
+        let came : came_in input ≡ came_in before.input ++ map came_by more = ap (map came_by) longer ∙ map-append came_by before.input.reads more in
         let count : length (came_in before.input) ≡ length before.input.reads = length-map before.input.reads came_by in
         let placed : list_all (is_given (length (came_in before.input))) d.said.told ≡ true = subst (λ n. list_all (is_given n) d.said.told ≡ true) (sym count) h.places in
-        let same : lines_told parts (came_in now.input) d.said.told ≡ lines_told parts (came_in before.input) d.said.told =
-        ap (λ l. lines_told parts l d.said.told) came ∙ lines_told-longer parts (came_in before.input) (map came_by more) d.said.told placed in
-        subst (λ o. HasSaid parts (came_in now.input) first.output o d.said) (sym unsaid)
-        (said_longer parts (came_in before.input) (came_in now.input) first.output before.output d.said same h.said)
+        ap (λ l. lines_told parts l d.said.told) came ∙ lines_told-longer parts (came_in before.input) (map came_by more) d.said.told placed
+
+    -- what was said stays
+    abbrev still_said : HasSaid parts (came_in input) first.output before.output d.said
+    still_said = said_longer parts (came_in before.input) (came_in input) first.output before.output d.said still_lines h.said
 
     -- places stay given
-    still_given : list_all (is_given (length now.input.reads)) d.said.told ≡ true
+    still_given : list_all (is_given (length input.reads)) d.said.told ≡ true
     still_given =
-        let long : length now.input.reads ≡ length before.input.reads + length more = ap length longer ∙ length-append before.input.reads more in
-        given_longer (length before.input.reads) (length now.input.reads) (omega arith) d.said.told h.places
+        let long : length input.reads ≡ length before.input.reads + length more = ap length longer ∙ length-append before.input.reads more in
+        given_longer (length before.input.reads) (length input.reads) (omega arith) d.said.told h.places
 
     -- what was written by then stays so
-    still_wrote : (n : ℕ) → WroteOf parts before d.said.told n → WroteOf parts now d.said.told n
+    still_wrote : (n : ℕ) → WroteOf parts before d.said.told n → WroteOf parts asked_now d.said.told n
     still_wrote n w =
-        let came : came_in now.input ≡ came_in before.input ++ map came_by more = ap (map came_by) longer ∙ map-append came_by before.input.reads more in
+        let came : came_in input ≡ came_in before.input ++ map came_by more = ap (map came_by) longer ∙ map-append came_by before.input.reads more in
         let count : length (came_in before.input) ≡ length before.input.reads = length-map before.input.reads came_by in
         let placed : list_all (is_given (length (came_in before.input))) (take n d.said.told) ≡ true =
         first_given (is_given (length (came_in before.input))) n d.said.told (subst (λ m. list_all (is_given m) d.said.told ≡ true) (sym count) h.places) in
-        let same : lines_told parts (came_in now.input) (take n d.said.told) ≡ lines_told parts (came_in before.input) (take n d.said.told) =
-        ap (λ l. lines_told parts l (take n d.said.told)) came ∙ lines_told-longer parts (came_in before.input) (map came_by more) (take n d.said.told) placed in (
-          w.0,
-          subst (λ (o : Output). IsFront (lines_told parts (came_in now.input) (take n d.said.told)) o.written) (sym unsaid)
-              (subst (λ l. IsFront l before.output.written) (sym same) w.1),
-        )
+        let same : lines_told parts (came_in input) (take n d.said.told) ≡ lines_told parts (came_in before.input) (take n d.said.told) =
+        ap (λ l. lines_told parts l (take n d.said.told)) came ∙ lines_told-longer parts (came_in before.input) (map came_by more) (take n d.said.told) placed in
+        (w.0, subst (λ l. IsFront l before.output.written) (sym same) w.1)
 
     -- all that it was told is written now
-    wrote_now : d.said.halted ≡ false → WroteOf parts now d.said.told (length d.said.told)
+    wrote_now : d.said.halted ≡ false → WroteOf parts asked_now d.said.told (length d.said.told)
     wrote_now running =
         let all : take (length d.said.told) d.said.told ≡ d.said.told = take_all (length d.said.told) d.said.told (le_refl (length d.said.told)) in (
           le_refl (length d.said.told),
           (
             [],
-            append-nil (lines_told parts (came_in now.input) (take (length d.said.told) d.said.told))
-                ∙ ap (lines_told parts (came_in now.input)) all
-                ∙ sym (wrote_all parts (came_in now.input) first.output now.output d.said running still_said),
+            append-nil (lines_told parts (came_in input) (take (length d.said.told) d.said.told))
+                ∙ ap (lines_told parts (came_in input)) all
+                ∙ sym (wrote_all parts (came_in input) first.output before.output d.said running still_said),
           ),
         )
 
     -- so the same is true with what was asked for now
     wrote_asked : d.said.halted ≡ false → (which : Next) (j n : ℕ)
-        → slice_get (seens_by which (length d.said.told) d.brought.seens) j ≡ Some n → WroteOf parts now d.said.told n
+        → slice_get (seens_by which (length d.said.told) d.brought.seens) j ≡ Some n → WroteOf parts asked_now d.said.told n
     wrote_asked running (nexts.Posting p) j n at =
         ⊎_elim
         (λ (old : slice_get d.brought.seens j ≡ Some n). still_wrote n (h.by_then j n old))
-        (λ (last : length d.said.told ≡ n). subst (WroteOf parts now d.said.told) last (wrote_now running))
+        (λ (last : length d.said.told ≡ n). subst (WroteOf parts asked_now d.said.told) last (wrote_now running))
         (one_of_more d.brought.seens (length d.said.told) j n at)
     wrote_asked running nexts.NotYet j n at = still_wrote n (h.by_then j n at)
     wrote_asked running nexts.End j n at = still_wrote n (h.by_then j n at)
 
     -- with what came
-    with_brought : (x : Brought) → HasBrought first.input now.input x → WroteByThen parts now (record { brought = x; said = d.said })
-        → HasDealt parts first now (record { brought = x; said = d.said })
-    with_brought x k wrote = record { brought = k; said = still_said; places = still_given; by_then = wrote }
+    with_brought : (x : Brought) → HasBrought first.input input x → WroteByThen parts asked_now (record { brought = x; said = d.said })
+        → IsFront x.noted h.said.notes → HasDealt parts first asked_now (record { brought = x; said = d.said })
+    with_brought x k wrote noted =
+        record { brought = k; said = still_said; places = still_given; by_then = wrote; noted_by_then = noted }
 
     pub asked-so : d.said.halted ≡ false → (result : Result Next AllocError)
-        → MatchResult result (λ next. (x : Brought) × HasBrought first.input now.input x × Came parts next d.brought x) (λ _. HasBrought first.input now.input d.brought)
-        → MatchResult result (λ next. After (Same now) (Asks parts next d)) (λ _. Same now d)
+        → MatchResult result (λ next. (x : Brought) × HasBrought first.input input x × Came parts next d.brought x) (λ _. HasBrought first.input input d.brought)
+        → MatchResult result (λ next. After (Same asked_now) (Asks parts next d)) (λ _. Same asked_now d)
     asked-so running (Ok which) came =
         let count = length d.said.told in
         let counts = seens_by which count d.brought.seens in
-        let x : Brought = with_seen count counts came.0 in (
+        let x : Brought = with_seen count counts d.said.noted came.0 in (
           record { brought = x; said = d.said },
-          (a, b, c, e, f, with_brought x (brought_seen first.input now.input count counts came.0 came.1) (wrote_asked running which)),
-          record { came = came_seen parts which d.brought came.0 count came.2; silent = refl; seen = refl },
+          (
+            a,
+            b,
+            c,
+            e,
+            f,
+            with_brought x (brought_seen first.input input count counts d.said.noted came.0 came.1) (wrote_asked running which)
+                (noted_all parts (came_in before.input) first.output before.output d.said running h.said),
+          ),
+          record { came = came_seen parts which d.brought came.0 count d.said.noted came.2; silent = refl; seen = refl; noted = refl },
         )
-    asked-so running (Err error) kept = (a, b, c, e, f, with_brought d.brought kept (wrote_asked running nexts.End))
+    asked-so running (Err error) kept = (a, b, c, e, f, with_brought d.brought kept (wrote_asked running nexts.End) h.noted_by_then)
 
   -- something is said
-  module _ (now : Sides) (unasked : now.input ≡ before.input) where
+  module _ (output : Output) where
+    -- the front then
+    abbrev said_now : Sides
+    said_now = sides_of before.input output
+
     -- what was brought stays, and what is said is given
-    with_said : (s : Said) → HasSaid parts (came_in before.input) first.output now.output s → list_all (is_given (length before.input.reads)) s.told ≡ true
-        → (more : List Told) → s.told ≡ d.said.told ++ more → IsFront before.output.written now.output.written
-        → HasDealt parts first now (record { brought = d.brought; said = s })
-    with_said s k placed more told grew = record {
-      brought = subst (λ i. HasBrought first.input i d.brought) (sym unasked) h.brought;
-      said = subst (λ i. HasSaid parts (came_in i) first.output now.output s) (sym unasked) k;
-      places = subst (λ (i : Input). list_all (is_given (length i.reads)) s.told ≡ true) (sym unasked) placed;
-      by_then = λ j n at. subst (λ (ts : List Told). WroteOf parts now ts n) (sym told)
-          (wrote_longer parts before now d.said.told more n unasked grew (h.by_then j n at));
+    with_said : (s : Said) (k : HasSaid parts (came_in before.input) first.output output s) → list_all (is_given (length before.input.reads)) s.told ≡ true
+        → (more : List Told) → s.told ≡ d.said.told ++ more → IsFront before.output.written output.written
+        → IsFront h.said.notes k.notes → HasDealt parts first said_now (record { brought = d.brought; said = s })
+    with_said s k placed more told grew taken = record {
+      brought = h.brought;
+      said = k;
+      places = placed;
+      by_then = λ j n at. subst (λ (ts : List Told). WroteOf parts said_now ts n) (sym told)
+          (wrote_longer parts before output d.said.told more n grew (h.by_then j n at));
+      noted_by_then = longer_front d.brought.noted h.said.notes k.notes h.noted_by_then taken;
     }
 
     -- one place more was given
@@ -363,28 +403,28 @@ module _ (parts : ProgramParts) (A B C E F : Type 0) (a : A) (b : B) (c : C) (e 
 
     -- it is told of a place
     pub told-so : (place : ℕ) (outcomes : List Outcome) → IsDue place outcomes d
-        → ((s : Said) × HasSaid parts (came_in before.input) first.output now.output s × (s.told ≡ d.said.told ++ record { place = place; outcomes = outcomes } ∷ []) × (s.noted ≡ d.said.noted) × Halts d.said s
-        × IsFront before.output.written now.output.written)
-        → After (Same now) (Tells place outcomes d)
+        → ((s : Said) × (k : HasSaid parts (came_in before.input) first.output output s) × (s.told ≡ d.said.told ++ record { place = place; outcomes = outcomes } ∷ []) × (s.noted ≡ d.said.noted)
+        × (s.muted ≡ d.said.muted) × Halts d.said s × IsFront before.output.written output.written × IsFront h.said.notes k.notes)
+        → After (Same said_now) (Tells place outcomes d)
     told-so place outcomes due went =
         let s = went.0 in
         let placed = subst (λ l. list_all (is_given (length before.input.reads)) l ≡ true) (sym went.2) (placed_more (record { place = place; outcomes = outcomes }) (due_given place outcomes due)) in (
           record { brought = d.brought; said = s },
-          (a, b, c, e, f, with_said s went.1 placed (record { place = place; outcomes = outcomes } ∷ []) went.2 went.5),
-          record { told = went.2; noted = went.3; halts = went.4; brought = refl },
+          (a, b, c, e, f, with_said s went.1 placed (record { place = place; outcomes = outcomes } ∷ []) went.2 went.6 went.7),
+          record { told = went.2; noted = went.3; muted = went.4; halts = went.5; brought = refl },
         )
 
     -- a text is noted
     pub noted-so : (text : List ℕ)
-        → ((s : Said) × HasSaid parts (came_in before.input) first.output now.output s × (s.told ≡ d.said.told) × (s.noted ≡ d.said.noted ++ text) × Halts d.said s
-        × IsFront before.output.written now.output.written)
-        → After (Same now) (Notes text d)
+        → ((s : Said) × (k : HasSaid parts (came_in before.input) first.output output s) × (s.told ≡ d.said.told) × (s.noted ≡ d.said.noted ++ text)
+        × (s.muted ≡ s.halted) × Halts d.said s × IsFront before.output.written output.written × IsFront h.said.notes k.notes)
+        → After (Same said_now) (Notes text d)
     noted-so text went =
         let s = went.0 in
         let placed = subst (λ l. list_all (is_given (length before.input.reads)) l ≡ true) (sym went.2) h.places in (
           record { brought = d.brought; said = s },
-          (a, b, c, e, f, with_said s went.1 placed [] (went.2 ∙ sym (append-nil d.said.told)) went.5),
-          record { told = went.2; noted = went.3; halts = went.4; brought = refl },
+          (a, b, c, e, f, with_said s went.1 placed [] (went.2 ∙ sym (append-nil d.said.told)) went.6 went.7),
+          record { told = went.2; noted = went.3; muted = went.4; halts = went.5; brought = refl },
         )
 
   -- want of memory before anything is said

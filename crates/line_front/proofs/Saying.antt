@@ -1,6 +1,6 @@
 -- What a front over lines wrote, as more is said to it.
 use Rattle.std.proofs.Common.{◌≡◌, ◌≢◌, refl, sym, ap, subst, ◌∙◌, ℕ, ◌+◌, ◌-◌, ◌^◌, ◌<◌, ◌≤◌, min, nat_lt, Bool, true, false, arith, List, [], ◌∷◌, ◌++◌, length, take, drop}
-use Rattle.std.proofs.Common.{append_assoc, append-nil, inl, inr, ⊎_elim}
+use Rattle.std.proofs.Common.{append_assoc, append-nil, inl, inr}
 use Rattle.std.specs.Io.KnownBytes.{Appends}
 use Rattle.std.proofs.KnownBytes.{Appends-trans}
 use Rattle.std.proofs.lemmas.Bool.{ltb-true, ltb-false, true≢false}
@@ -14,7 +14,7 @@ use Rattle.branch_workers.specs.Texts.{Came}
 use Rattle.branch_workers.specs.Lines.{IsFront, IsProperFront}
 use Rattle.line_front.specs.Told.{line_told, lines_told}
 use Rattle.sink_writing.specs.Sinks.{Taking, Takes}
-use Rattle.line_front.specs.Writing.{Output, faults_of, Due, HasWritten, entire, in_part, HasSaid}
+use Rattle.line_front.specs.Writing.{Output, faults_of, Due, HasWritten, entire, in_lines, in_notes, HasSaid}
 
 -- ---- fronts of longer lists
 
@@ -44,10 +44,6 @@ part_is_proper xs text n lt = (
   append_assoc xs (take n text) (drop n text) ∙ ap (λ l. xs ++ l) (take-append-drop n text),
 )
 
--- a front that is not all of it is a front
-front_of : (xs ys : List ℕ) → IsProperFront xs ys → IsFront xs ys
-front_of xs ys f = (f.0, f.2)
-
 -- all stands at its front
 front_of_all : (xs ys : List ℕ) → xs ≡ ys → IsFront xs ys
 front_of_all xs ys e = ([], append-nil xs ∙ e)
@@ -71,62 +67,74 @@ lines_told-more parts came told t =
 
 -- ---- what is due grows
 
--- a front that halted writes nothing more
-still_cut : (first now : Output) (notes : List ℕ) (old new : Due) (lines noted : List ℕ) → now.halted ≡ true
-    → new.lines ≡ old.lines ++ lines → new.notes ≡ old.notes ++ noted → HasWritten first now notes old → HasWritten first now notes new
-still_cut first now notes old new lines noted halted l n (entire running a b c d) = absurd (true≢false (sym halted ∙ running))
-still_cut first now notes old new lines noted halted l n (in_part e rose f g part) =
-    in_part e rose (subst (IsFront now.written) (sym l) (IsFront-longer now.written old.lines lines f))
-    (subst (IsFront notes) (sym n) (IsFront-longer notes old.notes noted g))
-    (⊎_elim (λ p. inl (subst (IsProperFront now.written) (sym l) (IsProperFront-longer now.written old.lines lines p)))
-    (λ p. inr (subst (IsProperFront notes) (sym n) (IsProperFront-longer notes old.notes noted p))) part)
+-- a front that halted writes nothing more where it is told more
+lines_cut : (first now : Output) (muted : Bool) (noted : List ℕ) (old new : Due) (text : List ℕ) → now.halted ≡ true
+    → new.lines ≡ old.lines ++ text → new.notes ≡ old.notes → HasWritten first now muted noted old → HasWritten first now muted noted new
+lines_cut first now muted noted old new text halted l n (entire running u a b c d) = absurd (true≢false (sym halted ∙ running))
+lines_cut first now muted noted old new text halted l n (in_lines e u rose calm all part) =
+    in_lines e u rose calm (all ∙ sym n) (subst (IsProperFront now.written) (sym l) (IsProperFront-longer now.written old.lines text part))
+lines_cut first now muted noted old new text halted l n (in_notes e m rose calm front part) =
+    in_notes e m rose calm (subst (IsFront now.written) (sym l) (IsFront-longer now.written old.lines text front))
+    (subst (IsProperFront noted) (sym n) part)
+
+-- nor where a text is noted behind a note that failed
+notes_cut : (first now : Output) (muted : Bool) (noted : List ℕ) (old new : Due) (text : List ℕ) → muted ≡ true
+    → new.lines ≡ old.lines → new.notes ≡ old.notes ++ text → HasWritten first now muted noted old → HasWritten first now muted noted new
+notes_cut first now muted noted old new text is l n (entire running u a b c d) = absurd (true≢false (sym is ∙ u))
+notes_cut first now muted noted old new text is l n (in_lines e u rose calm all part) = absurd (true≢false (sym is ∙ u))
+notes_cut first now muted noted old new text is l n (in_notes e m rose calm front part) =
+    in_notes e m rose calm (subst (IsFront now.written) (sym l) front)
+    (subst (IsProperFront noted) (sym n) (IsProperFront-longer noted old.notes text part))
 
 -- what is known of a front that did not halt
-record IsWhole (first now : Output) (notes : List ℕ) (due : Due) : Type 0 where
+record IsWhole (first now : Output) (muted : Bool) (noted : List ℕ) (due : Due) : Type 0 where
+  unmuted : muted ≡ false
   lines_calm : now.lines.faults ≡ first.lines.faults
   notes_calm : now.notes.faults ≡ first.notes.faults
   written : now.written ≡ due.lines
-  noted : notes ≡ due.notes
+  all_noted : noted ≡ due.notes
 
-whole_so : (first now : Output) (noted : List ℕ) (due : Due) → now.halted ≡ false → HasWritten first now noted due → IsWhole first now noted due
-whole_so first now noted due running (entire e a b c d) = record { lines_calm = a; notes_calm = b; written = c; noted = d }
-whole_so first now noted due running (in_part e rose f g part) = absurd (true≢false (sym e ∙ running))
+whole_so : (first now : Output) (muted : Bool) (noted : List ℕ) (due : Due) → now.halted ≡ false → HasWritten first now muted noted due
+    → IsWhole first now muted noted due
+whole_so first now muted noted due running (entire e u a b c d) =
+    record { unmuted = u; lines_calm = a; notes_calm = b; written = c; all_noted = d }
+whole_so first now muted noted due running (in_lines e u rose calm all part) = absurd (true≢false (sym e ∙ running))
+whole_so first now muted noted due running (in_notes e m rose calm front part) = absurd (true≢false (sym e ∙ running))
 
 -- a text behind the lines that were written
-lines_go : (first before now : Output) (notes text : List ℕ) (old new : Due) (count : ℕ) (short : Bool) → nat_lt count (length text) ≡ short → now.halted ≡ short
+lines_go : (first before now : Output) (muted : Bool) (noted text : List ℕ) (old new : Due) (count : ℕ) (short : Bool) → nat_lt count (length text) ≡ short → now.halted ≡ short
     → Takes text count before.lines now.lines → now.notes ≡ before.notes → now.written ≡ before.written ++ take count text
-    → new.lines ≡ old.lines ++ text → new.notes ≡ old.notes → IsWhole first before notes old → HasWritten first now notes new
-lines_go first before now notes text old new count true test halted takes same written l n w =
+    → new.lines ≡ old.lines ++ text → new.notes ≡ old.notes → IsWhole first before muted noted old → HasWritten first now muted noted new
+lines_go first before now muted noted text old new count true test halted takes same written l n w =
     let lt : count < length text = ltb-true count (length text) test in
     let is : now.written ≡ old.lines ++ take count text = written ∙ ap (λ b. b ++ take count text) w.written in
-    let part : IsProperFront now.written new.lines =
-    subst (λ b. IsProperFront b new.lines) (sym is) (subst (IsProperFront (old.lines ++ take count text)) (sym l) (part_is_proper old.lines text count lt)) in
-    in_part halted (inl (subst (λ k. Rose k now.lines.faults) w.lines_calm (takes.cause lt))) (front_of now.written new.lines part)
-    (front_of_all notes new.notes (w.noted ∙ sym n)) (inl part)
-lines_go first before now notes text old new count false test halted takes same written l n w =
+    in_lines halted w.unmuted (subst (λ k. Rose k now.lines.faults) w.lines_calm (takes.cause lt))
+    (ap (λ (t : Taking). t.faults) same ∙ w.notes_calm) (w.all_noted ∙ sym n)
+    (subst (λ b. IsProperFront b new.lines) (sym is) (subst (IsProperFront (old.lines ++ take count text)) (sym l) (part_is_proper old.lines text count lt)))
+lines_go first before now muted noted text old new count false test halted takes same written l n w =
     let le : length text ≤ count = ltb-false count (length text) test in
     let within = takes.within in
     let full : take count text ≡ text = take_all count text le in
-    entire halted (takes.calm (omega arith) ∙ w.lines_calm) (ap (λ (t : Taking). t.faults) same ∙ w.notes_calm)
-    (written ∙ ap (λ b. b ++ take count text) w.written ∙ ap (λ t. old.lines ++ t) full ∙ sym l) (w.noted ∙ sym n)
+    entire halted w.unmuted (takes.calm (omega arith) ∙ w.lines_calm) (ap (λ (t : Taking). t.faults) same ∙ w.notes_calm)
+    (written ∙ ap (λ b. b ++ take count text) w.written ∙ ap (λ t. old.lines ++ t) full ∙ sym l) (w.all_noted ∙ sym n)
 
 -- a text behind the notes that were written
-notes_go : (first before now : Output) (notes text : List ℕ) (old new : Due) (count : ℕ) (short : Bool) → nat_lt count (length text) ≡ short → now.halted ≡ short
+notes_go : (first before now : Output) (muted : Bool) (noted text : List ℕ) (old new : Due) (count : ℕ) (short : Bool) → nat_lt count (length text) ≡ short → now.halted ≡ short
     → Takes text count before.notes now.notes → now.lines ≡ before.lines → now.written ≡ before.written
-    → new.lines ≡ old.lines → new.notes ≡ old.notes ++ text → IsWhole first before notes old → HasWritten first now (notes ++ take count text) new
-notes_go first before now notes text old new count true test halted takes same written l n w =
+    → new.lines ≡ old.lines → new.notes ≡ old.notes ++ text → IsWhole first before muted noted old
+    → HasWritten first now short (noted ++ take count text) new
+notes_go first before now muted noted text old new count true test halted takes same written l n w =
     let lt : count < length text = ltb-true count (length text) test in
-    let is : notes ++ take count text ≡ old.notes ++ take count text = ap (λ b. b ++ take count text) w.noted in
-    let part : IsProperFront (notes ++ take count text) new.notes =
-    subst (λ b. IsProperFront b new.notes) (sym is) (subst (IsProperFront (old.notes ++ take count text)) (sym n) (part_is_proper old.notes text count lt)) in
-    in_part halted (inr (subst (λ k. Rose k now.notes.faults) w.notes_calm (takes.cause lt)))
-    (front_of_all now.written new.lines (written ∙ w.written ∙ sym l)) (front_of (notes ++ take count text) new.notes part) (inr part)
-notes_go first before now notes text old new count false test halted takes same written l n w =
+    let is : noted ++ take count text ≡ old.notes ++ take count text = ap (λ b. b ++ take count text) w.all_noted in
+    in_notes halted refl (subst (λ k. Rose k now.notes.faults) w.notes_calm (takes.cause lt))
+    (ap (λ (t : Taking). t.faults) same ∙ w.lines_calm) (front_of_all now.written new.lines (written ∙ w.written ∙ sym l))
+    (subst (λ b. IsProperFront b new.notes) (sym is) (subst (IsProperFront (old.notes ++ take count text)) (sym n) (part_is_proper old.notes text count lt)))
+notes_go first before now muted noted text old new count false test halted takes same written l n w =
     let le : length text ≤ count = ltb-false count (length text) test in
     let within = takes.within in
     let full : take count text ≡ text = take_all count text le in
-    entire halted (ap (λ (t : Taking). t.faults) same ∙ w.lines_calm) (takes.calm (omega arith) ∙ w.notes_calm)
-    (written ∙ w.written ∙ sym l) (ap (λ b. b ++ take count text) w.noted ∙ ap (λ t. old.notes ++ t) full ∙ sym n)
+    entire halted refl (ap (λ (t : Taking). t.faults) same ∙ w.lines_calm) (takes.calm (omega arith) ∙ w.notes_calm)
+    (written ∙ w.written ∙ sym l) (ap (λ b. b ++ take count text) w.all_noted ∙ ap (λ t. old.notes ++ t) full ∙ sym n)
 
 -- ---- halts
 
@@ -155,61 +163,65 @@ halts_so before now text count old new running halted takes calm rose later = re
 module _ (parts : ProgramParts) (came : List Came) (first before : Output) (s : Said) (h : HasSaid parts came first before s) where
   -- a front that halted is told of a place
   pub told-halted : (t : Told) → before.halted ≡ true
-      → (after : Said) × HasSaid parts came first before after × (after.told ≡ s.told ++ t ∷ []) × (after.noted ≡ s.noted) × Halts s after
-      × IsFront before.written before.written
+      → (after : Said) × (it : HasSaid parts came first before after) × (after.told ≡ s.told ++ t ∷ []) × (after.noted ≡ s.noted)
+      × (after.muted ≡ s.muted) × Halts s after × IsFront before.written before.written × IsFront h.notes it.notes
   told-halted t halted =
-      let after : Said = record { told = s.told ++ t ∷ []; noted = s.noted; halted = s.halted; faults = s.faults } in (
+      let after : Said = record { told = s.told ++ t ∷ []; noted = s.noted; halted = s.halted; muted = s.muted; faults = s.faults } in (
         after,
         record {
           written = h.written;
           notes = h.notes;
           noted = h.noted;
           halted = h.halted;
-          wrote = still_cut first before h.notes (record { lines = lines_told parts came s.told; notes = s.noted })
-              (record { lines = lines_told parts came (s.told ++ t ∷ []); notes = s.noted }) (line_told parts came t) [] halted
-              (lines_told-more parts came s.told t) (sym (append-nil s.noted)) h.wrote;
+          wrote = lines_cut first before s.muted h.notes (record { lines = lines_told parts came s.told; notes = s.noted })
+              (record { lines = lines_told parts came (s.told ++ t ∷ []); notes = s.noted }) (line_told parts came t) halted
+              (lines_told-more parts came s.told t) refl h.wrote;
           faults = h.faults;
         },
         refl,
         refl,
+        refl,
         halts_still s after refl refl,
         front_of_all before.written before.written refl,
+        front_of_all h.notes h.notes refl,
       )
 
-  -- a text is noted to a front that halted
-  pub noted-halted : (text : List ℕ) → before.halted ≡ true
-      → (after : Said) × HasSaid parts came first before after × (after.told ≡ s.told) × (after.noted ≡ s.noted ++ text) × Halts s after
-      × IsFront before.written before.written
-  noted-halted text halted =
-      let after : Said = record { told = s.told; noted = s.noted ++ text; halted = s.halted; faults = s.faults } in (
+  -- a text is noted to a front that halted, by no answer
+  pub noted-halted : (text : List ℕ) → before.halted ≡ true → s.muted ≡ s.halted
+      → (after : Said) × (it : HasSaid parts came first before after) × (after.told ≡ s.told) × (after.noted ≡ s.noted ++ text)
+      × (after.muted ≡ after.halted) × Halts s after × IsFront before.written before.written × IsFront h.notes it.notes
+  noted-halted text halted mutes =
+      let after : Said = record { told = s.told; noted = s.noted ++ text; halted = s.halted; muted = s.muted; faults = s.faults } in (
         after,
         record {
           written = h.written;
           notes = h.notes;
           noted = h.noted;
           halted = h.halted;
-          wrote = still_cut first before h.notes (record { lines = lines_told parts came s.told; notes = s.noted })
-              (record { lines = lines_told parts came s.told; notes = s.noted ++ text }) [] text halted
-              (sym (append-nil (lines_told parts came s.told))) refl h.wrote;
+          wrote = notes_cut first before s.muted h.notes (record { lines = lines_told parts came s.told; notes = s.noted })
+              (record { lines = lines_told parts came s.told; notes = s.noted ++ text }) text (mutes ∙ h.halted ∙ halted)
+              refl refl h.wrote;
           faults = h.faults;
         },
         refl,
         refl,
+        mutes,
         halts_still s after refl refl,
         front_of_all before.written before.written refl,
+        front_of_all h.notes h.notes refl,
       )
 
   -- what is due so far was written whole
-  whole_now : before.halted ≡ false → IsWhole first before h.notes (record { lines = lines_told parts came s.told; notes = s.noted })
-  whole_now running = whole_so first before h.notes (record { lines = lines_told parts came s.told; notes = s.noted }) running h.wrote
+  whole_now : before.halted ≡ false → IsWhole first before s.muted h.notes (record { lines = lines_told parts came s.told; notes = s.noted })
+  whole_now running = whole_so first before s.muted h.notes (record { lines = lines_told parts came s.told; notes = s.noted }) running h.wrote
 
   -- a front is told of a place, and its line is written as far as the output takes it
   pub told-written : (t : Told) (now : Output) (text : List ℕ) (count : ℕ) → before.halted ≡ false → text ≡ line_told parts came t
       → Takes text count before.lines now.lines → now.notes ≡ before.notes → now.written ≡ before.written ++ take count text → now.halted ≡ nat_lt count (length text)
-      → (after : Said) × HasSaid parts came first now after × (after.told ≡ s.told ++ t ∷ []) × (after.noted ≡ s.noted) × Halts s after
-      × IsFront before.written now.written
+      → (after : Said) × (it : HasSaid parts came first now after) × (after.told ≡ s.told ++ t ∷ []) × (after.noted ≡ s.noted)
+      × (after.muted ≡ s.muted) × Halts s after × IsFront before.written now.written × IsFront h.notes it.notes
   told-written t now text count running is takes same written halted =
-      let after : Said = record { told = s.told ++ t ∷ []; noted = s.noted; halted = now.halted; faults = faults_of now } in
+      let after : Said = record { told = s.told ++ t ∷ []; noted = s.noted; halted = now.halted; muted = s.muted; faults = faults_of now } in
       let other : now.notes.faults ≡ before.notes.faults = ap (λ (x : Taking). x.faults) same in
       let later = takes.later in
       let count_is : s.faults ≡ min (before.lines.faults + before.notes.faults) (2 ^ 64 - 1) = h.faults in (
@@ -220,11 +232,12 @@ module _ (parts : ProgramParts) (came : List Came) (first before : Output) (s : 
           notes = h.notes;
           noted = subst (λ x. Appends first.notes.taken x h.notes) (sym (ap (λ (x : Taking). x.taken) same)) h.noted;
           halted = refl;
-          wrote = lines_go first before now h.notes text (record { lines = lines_told parts came s.told; notes = s.noted })
+          wrote = lines_go first before now s.muted h.notes text (record { lines = lines_told parts came s.told; notes = s.noted })
               (record { lines = lines_told parts came (s.told ++ t ∷ []); notes = s.noted }) count now.halted (sym halted) refl takes same written
               (lines_told-more parts came s.told t ∙ ap (λ l. lines_told parts came s.told ++ l) (sym is)) refl (whole_now running);
           faults = refl;
         },
+        refl,
         refl,
         refl,
         halts_so s after text count before.lines now.lines (h.halted ∙ running) halted takes
@@ -232,15 +245,16 @@ module _ (parts : ProgramParts) (came : List Came) (first before : Output) (s : 
             (λ rose. subst (λ k. Rose k (faults_of now)) (ap (λ k. min (before.lines.faults + k) (2 ^ 64 - 1)) other ∙ sym h.faults) (rose_left before.lines.faults now.lines.faults now.notes.faults rose))
             (omega arith),
         (take count text, sym written),
+        front_of_all h.notes h.notes refl,
       )
 
   -- a text is noted, as far as the notes' sink takes it
   pub noted-written : (now : Output) (text : List ℕ) (count : ℕ) → before.halted ≡ false
       → Takes text count before.notes now.notes → now.lines ≡ before.lines → now.written ≡ before.written → now.halted ≡ nat_lt count (length text)
-      → (after : Said) × HasSaid parts came first now after × (after.told ≡ s.told) × (after.noted ≡ s.noted ++ text) × Halts s after
-      × IsFront before.written now.written
+      → (after : Said) × (it : HasSaid parts came first now after) × (after.told ≡ s.told) × (after.noted ≡ s.noted ++ text)
+      × (after.muted ≡ after.halted) × Halts s after × IsFront before.written now.written × IsFront h.notes it.notes
   noted-written now text count running takes same written halted =
-      let after : Said = record { told = s.told; noted = s.noted ++ text; halted = now.halted; faults = faults_of now } in
+      let after : Said = record { told = s.told; noted = s.noted ++ text; halted = now.halted; muted = now.halted; faults = faults_of now } in
       let other : now.lines.faults ≡ before.lines.faults = ap (λ (x : Taking). x.faults) same in
       let later = takes.later in
       let count_is : s.faults ≡ min (before.lines.faults + before.notes.faults) (2 ^ 64 - 1) = h.faults in (
@@ -250,11 +264,12 @@ module _ (parts : ProgramParts) (came : List Came) (first before : Output) (s : 
           notes = h.notes ++ take count text;
           noted = Appends-trans first.notes.taken before.notes.taken now.notes.taken h.notes (take count text) h.noted takes.taken;
           halted = refl;
-          wrote = notes_go first before now h.notes text (record { lines = lines_told parts came s.told; notes = s.noted })
+          wrote = notes_go first before now s.muted h.notes text (record { lines = lines_told parts came s.told; notes = s.noted })
               (record { lines = lines_told parts came s.told; notes = s.noted ++ text }) count now.halted (sym halted) refl takes same written
               refl refl (whole_now running);
           faults = refl;
         },
+        refl,
         refl,
         refl,
         halts_so s after text count before.notes now.notes (h.halted ∙ running) halted takes
@@ -262,4 +277,5 @@ module _ (parts : ProgramParts) (came : List Came) (first before : Output) (s : 
             (λ rose. subst (λ k. Rose k (faults_of now)) (ap (λ k. min (k + before.notes.faults) (2 ^ 64 - 1)) other ∙ sym h.faults) (rose_right before.notes.faults now.notes.faults now.lines.faults rose))
             (omega arith),
         front_of_all before.written now.written (sym written),
+        (take count text, refl),
       )

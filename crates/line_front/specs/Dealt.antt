@@ -23,9 +23,11 @@ WroteByThen parts now d = (j n : ℕ) → slice_get d.brought.seens j ≡ Some n
     × IsFront (lines_told parts (came_in now.input) (take n d.said.told)) now.output.written
 
 -- What a front over lines brought and what was said to it, since its sides were the first: each place that it was told
--- of was given, and what it had been told of when a posting was asked for was written.
+-- of was given; what it had been told of when a posting was asked for was written, and what had been noted when it was
+-- asked last was taken by the sink of the notes.
 pub record HasDealt (parts : ProgramParts) (first now : Sides) (d : Dealings) : Type 0 where
   pub brought : HasBrought first.input now.input d.brought
   pub said : HasSaid parts (came_in now.input) first.output now.output d.said
   pub places : list_all (λ (t : Told). nat_lt t.place (length now.input.reads)) d.said.told ≡ true
   pub by_then : WroteByThen parts now d
+  pub noted_by_then : IsFront d.brought.noted said.notes

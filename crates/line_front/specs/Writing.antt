@@ -1,5 +1,5 @@
 -- What a front over lines wrote, by what it was told and what was noted.
-use Rattle.std.specs.Prelude.{◌≡◌, ◌⊎◌, ℕ, ◌+◌, ◌-◌, ◌^◌, min, Bool, true, false, List}
+use Rattle.std.specs.Prelude.{◌≡◌, ℕ, ◌+◌, ◌-◌, ◌^◌, min, Bool, true, false, List}
 use Rattle.std.specs.Io.KnownBytes.{Appends}
 use Rattle.outside_traits.specs.Causes.{Rose}
 use Rattle.sink_writing.specs.Sinks.{Taking}
@@ -29,14 +29,19 @@ pub record Due : Type 0 where
   pub lines : List ℕ
   pub notes : List ℕ
 
--- Of what was due all was written; or, where it halted, what was written are fronts of it, one of the two not all of
--- it, since one of the two sinks failed.
-pub data HasWritten (first now : Output) (noted : List ℕ) (due : Due) : Type 0 where
-  entire : now.halted ≡ false → now.lines.faults ≡ first.lines.faults → now.notes.faults ≡ first.notes.faults
-      → now.written ≡ due.lines → noted ≡ due.notes → HasWritten first now noted due
-  in_part : now.halted ≡ true → Rose first.lines.faults now.lines.faults ⊎ Rose first.notes.faults now.notes.faults
-      → IsFront now.written due.lines → IsFront noted due.notes
-      → IsProperFront now.written due.lines ⊎ IsProperFront noted due.notes → HasWritten first now noted due
+-- Of what was due all was written, and neither of the two sinks failed. Or it halted since one of them did: where it was
+-- that of the lines they were cut, and all was noted; where a note failed the notes were cut, and the other sink did not
+-- fail.
+pub data HasWritten (first now : Output) (muted : Bool) (noted : List ℕ) (due : Due) : Type 0 where
+  entire : now.halted ≡ false → muted ≡ false → now.lines.faults ≡ first.lines.faults
+      → now.notes.faults ≡ first.notes.faults → now.written ≡ due.lines → noted ≡ due.notes
+      → HasWritten first now muted noted due
+  in_lines : now.halted ≡ true → muted ≡ false → Rose first.lines.faults now.lines.faults
+      → now.notes.faults ≡ first.notes.faults → noted ≡ due.notes → IsProperFront now.written due.lines
+      → HasWritten first now muted noted due
+  in_notes : now.halted ≡ true → muted ≡ true → Rose first.notes.faults now.notes.faults
+      → now.lines.faults ≡ first.lines.faults → IsFront now.written due.lines → IsProperFront noted due.notes
+      → HasWritten first now muted noted due
 
 -- What was said to a front, since its output was the first: the lines of what it was told, in the order in which it
 -- was, and the notes are what its sinks took, unless it halted.
@@ -45,5 +50,5 @@ pub record HasSaid (parts : ProgramParts) (came : List Came) (first now : Output
   pub notes : List ℕ
   pub noted : Appends first.notes.taken now.notes.taken notes
   pub halted : s.halted ≡ now.halted
-  pub wrote : HasWritten first now notes (record { lines = lines_told parts came s.told; notes = s.noted })
+  pub wrote : HasWritten first now s.muted notes (record { lines = lines_told parts came s.told; notes = s.noted })
   pub faults : s.faults ≡ faults_of now

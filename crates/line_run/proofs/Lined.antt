@@ -1,6 +1,6 @@
 -- A run over lines by what its front and its worker say.
 use Rattle.std.proofs.Common.{◌≡◌, ◌≢◌, refl, sym, ap, subst, ◌∙◌, ℕ, zero, suc, ◌+◌, ◌-◌, ◌<◌, ◌≤◌, Bool, true, false, arith, List, [], ◌∷◌, length, map, take, drop}
-use Rattle.std.proofs.Common.{◌⊎◌, inl, inr, ⊎_elim, true≢false, Contains, get_or, Option, Some, slice_get}
+use Rattle.std.proofs.Common.{inl, inr, true≢false, Contains, get_or, Option, Some, slice_get}
 use Rattle.std.proofs.lemmas.List.{length-map, take-append-drop}
 use Rattle.std.proofs.lemmas.List.Elements.{Contains-append_left}
 use Rattle.std.proofs.lemmas.Option.{slice_get-get_or}
@@ -18,15 +18,16 @@ use Rattle.run_record.specs.Outside.{notes}
 use Rattle.run_record.specs.Run.{Hands, alone, IsRun, IsSpent}
 use Rattle.branch_workers.specs.Split.{whole_lines, all_lines, said_lines}
 use Rattle.branch_workers.specs.Texts.{Came, posting_of}
-use Rattle.branch_workers.specs.Lines.{come_in, finished_before, lines_in, most_postings, IsFront, IsProperFront, Output, IsAnswered, IsCutShort}
+use Rattle.branch_workers.specs.Lines.{come_in, finished_before, noted_before, lines_in, most_postings, IsFront, IsProperFront, Output, IsAnswered}
+use Rattle.branch_workers.specs.Lines.{WasCut, in_lines as cut_in_lines, in_notes as cut_in_notes}
 use Rattle.branch_workers.specs.Statuses.{Faults, Halted, IsCalm, HasStatus}
-use Rattle.branch_workers.specs.Headline.{Ending, AnswersLines, IsHalted, IsLineRun}
+use Rattle.branch_workers.specs.Headline.{Ending, AnswersLines, IsCutShort, IsMuted, IsLineRun}
 use Rattle.branch_workers.specs.Headline.{whole as all_answered, cut as ended_answered, halted as cut_short, halted_at_end as all_cut_short}
 use Rattle.office_front.specs.Dealings.{Told, Dealings}
 use Rattle.line_front.specs.Passing.{read_in}
 use Rattle.line_front.specs.Reading.{Input, came_by, came_in, Fails, HasPassed, some, last, whole, full, cut}
 use Rattle.sink_writing.specs.Sinks.{taking}
-use Rattle.line_front.specs.Writing.{Output as Written, Due, HasWritten, entire, in_part}
+use Rattle.line_front.specs.Writing.{Output as Written, Due, HasWritten, entire, in_lines, in_notes}
 use Rattle.line_front.specs.Told.{lines_told}
 use Rattle.line_front.specs.Dealt.{Sides, HasDealt}
 use Rattle.run_alone.specs.declared.worker.Finished.{Finished}
@@ -93,8 +94,8 @@ status_so false false false before now IsMore fails halts calm doors more less =
 
 module _ (w : Setting) (budget : ℕ) (run : Record) (t : Traffic) where
   -- what a run is does not speak of its traffic
-  run_with : (hands : Hands) (halted : Bool) → IsRun w budget hands halted run → IsRun w budget hands halted (with_traffic run t)
-  run_with hands halted k = record {
+  run_with : (hands : Hands) (muted : Bool) → IsRun w budget hands muted run → IsRun w budget hands muted (with_traffic run t)
+  run_with hands muted k = record {
     legal = k.legal;
     stopped = k.stopped;
     closed = k.closed;
@@ -203,34 +204,47 @@ module _ (t : Task) (first now : Sides) (d : Dealings) (finished : Finished)
           subst (λ (k : ℕ). IsFront (answers_before k) now.output.written) (one_before (length came) j e)
           (before_last j e)
 
+  -- what is noted before the last posting was noted
+  early_notes_so : IsFront (noted_before (run_of t.parts) h (length came - 1)) f.said.notes
+  early_notes_so =
+      IsFront-trans (noted_before (run_of t.parts) h (length came - 1)) d.brought.noted f.said.notes
+      (subst (λ (k : ℕ). IsFront (noted_before (run_of t.parts) h (k - 1)) d.brought.noted) given_long ran.dealt.noted_then)
+      f.noted_by_then
+
   -- nothing failed: all was answered
-  answered_so : d.said.halted ≡ false → now.output.written ≡ lines_told t.parts came d.said.told → f.said.notes ≡ d.said.noted
+  answered_so : d.said.muted ≡ false → now.output.written ≡ lines_told t.parts came d.said.told → f.said.notes ≡ d.said.noted
       → IsAnswered alone (run_of t.parts) h came out
-  answered_so running written noted = record {
+  answered_so unmuted written noted = record {
     posted = posted_so;
     order = order;
     in_order = refl;
     written = written ∙ answers;
-    noted = noted ∙ ran.dealt.noted.1 running;
+    noted = noted ∙ ran.dealt.noted.1 unmuted;
   }
 
-  -- it halted: the answers are cut short, of all that begins with what came in
-  module _ (all : List Came) (front : IsFront came all) where
-    cut_so : IsFront now.output.written (lines_told t.parts came d.said.told) → IsFront f.said.notes d.said.noted
-        → IsProperFront now.output.written (lines_told t.parts came d.said.told) ⊎ IsProperFront f.said.notes d.said.noted
-        → IsCutShort alone (run_of t.parts) h all out
-    cut_so written noted part = record {
-      came = came;
-      front = front;
-      posted = posted_so;
-      order = order;
-      in_order = refl;
-      written = subst (IsFront now.output.written) answers written;
-      early = λ one. early_so;
-      noted = IsFront-trans f.said.notes d.said.noted (notes (run_of t.parts) h) noted ran.dealt.noted.0;
-      cut = ⊎_elim (λ p. inl (subst (IsProperFront now.output.written) answers p))
-          (λ p. inr (IsProperFront-trans f.said.notes d.said.noted (notes (run_of t.parts) h) p ran.dealt.noted.0)) part;
-    }
+  -- what is due of what came in
+  abbrev due : Output
+  due = record { written = lines_in (run_of t.parts) h came order; noted = notes (run_of t.parts) h }
+
+  due_so : IsAnswered alone (run_of t.parts) h came due
+  due_so = record { posted = posted_so; order = order; in_order = refl; written = refl; noted = refl }
+
+  -- it was cut in its lines,
+  lines_cut : d.said.muted ≡ false → Rose first.output.lines.faults now.output.lines.faults
+      → now.output.notes.faults ≡ first.output.notes.faults → f.said.notes ≡ d.said.noted
+      → IsProperFront now.output.written (lines_told t.parts came d.said.told)
+      → WasCut (faults_of (outside_of first)) (faults_of (outside_of now)) due out
+  lines_cut unmuted rose calm noted part =
+      cut_in_lines rose calm (subst (IsProperFront now.output.written) answers part) (noted ∙ ran.dealt.noted.1 unmuted)
+
+  -- or in its notes
+  notes_cut : Rose first.output.notes.faults now.output.notes.faults
+      → now.output.lines.faults ≡ first.output.lines.faults
+      → IsFront now.output.written (lines_told t.parts came d.said.told) → IsProperFront f.said.notes d.said.noted
+      → WasCut (faults_of (outside_of first)) (faults_of (outside_of now)) due out
+  notes_cut rose calm written part =
+      cut_in_notes rose calm (subst (IsFront now.output.written) answers written)
+      (IsProperFront-trans f.said.notes d.said.noted (notes (run_of t.parts) h) part ran.dealt.noted.0)
 
   -- ---- which lines were answered
 
@@ -277,43 +291,68 @@ module _ (t : Task) (first now : Sides) (d : Dealings) (finished : Finished)
       whole_so (full over same many is) = full_so same (subst (λ n. most_postings ≤ n) (sym (length-map now.input.reads came_by)) many) is
       whole_so (cut over rose is) = ended_answered rose calm (all_so (come_in (said_lines (whole_lines (read_in now.input.passing)))) is)
 
-    module _ (cause : Halted (faults_of (outside_of first)) (faults_of (outside_of now)))
-        (short : (all : List Came) → IsFront came all → IsCutShort alone (run_of t.parts) h all out) where
+    module _ (was_cut : WasCut (faults_of (outside_of first)) (faults_of (outside_of now)) due out) where
+      -- the answers are cut short, of all that begins with what came in
+      short : (all : List Came) → IsFront came all → IsCutShort alone (run_of t.parts) traffic e all
+      short all front = record {
+        came = came;
+        front = front;
+        due = due;
+        answers = due_so;
+        cut = was_cut;
+        early = λ one. early_so;
+        early_notes = λ one. early_notes_so;
+      }
+
       -- of the lines that have their end, by what was passed
       passed_so : came ≡ come_in (said_lines (whole_lines now.input.passing.passed)) → AnswersLines alone (run_of t.parts) traffic e
       passed_so is =
-          cut_short cause
+          cut_short
           (short (come_in (said_lines (whole_lines (read_in now.input.passing))))
           (subst (λ c. IsFront c (come_in (said_lines (whole_lines (read_in now.input.passing))))) (sym is) (whole_front now.input.passing)))
 
       -- of these, or of all
-      front_is : (all : List Came) → came ≡ all → IsCutShort alone (run_of t.parts) h all out
+      front_is : (all : List Came) → came ≡ all → IsCutShort alone (run_of t.parts) traffic e all
       front_is all is = short all (subst (IsFront came) is (IsFront-all came))
 
       halted_so : HasPassed first.input now.input d.brought.ended → AnswersLines alone (run_of t.parts) traffic e
       halted_so (some open_yet reading same is) = passed_so is
-      halted_so (last open_yet over same at_end is) = all_cut_short cause same at_end (front_is (come_in (said_lines (all_lines (read_in now.input.passing)))) is)
-      halted_so (whole over same at_end is) = all_cut_short cause same at_end (front_is (come_in (said_lines (all_lines (read_in now.input.passing)))) is)
+      halted_so (last open_yet over same at_end is) = all_cut_short same at_end (front_is (come_in (said_lines (all_lines (read_in now.input.passing)))) is)
+      halted_so (whole over same at_end is) = all_cut_short same at_end (front_is (come_in (said_lines (all_lines (read_in now.input.passing)))) is)
       halted_so (full over same many is) = passed_so is
-      halted_so (cut over rose is) = cut_short cause (front_is (come_in (said_lines (whole_lines (read_in now.input.passing)))) is)
+      halted_so (cut over rose is) = cut_short (front_is (come_in (said_lines (whole_lines (read_in now.input.passing)))) is)
 
     -- ---- by what was written
 
     -- what a front that was written to so has of its end
     record IsWritten : Type 0 where
-      halts : IsHalted d.said.halted e
+      mutes : IsMuted d.said.muted e
+      halts : d.said.halted ≡ true → Halted (faults_of (outside_of first)) (faults_of (outside_of now))
+      calm : d.said.halted ≡ false → IsCalm (faults_of (outside_of first)) (faults_of (outside_of now))
       lines : AnswersLines alone (run_of t.parts) traffic e
 
-    written_so : HasWritten first.output now.output f.said.notes (record { lines = lines_told t.parts came d.said.told; notes = d.said.noted }) → IsWritten
-    written_so (entire running lines notes written noted) =
+    written_so : HasWritten first.output now.output d.said.muted f.said.notes (record { lines = lines_told t.parts came d.said.told; notes = d.said.noted })
+        → IsWritten
+    written_so (entire running unmuted lines_calm notes_calm written noted) =
         let halted : d.said.halted ≡ false = f.said.halted ∙ running in record {
-          halts = record { cause = λ is. absurd (true≢false (sym is ∙ halted)); calm = λ is. (lines, notes) };
-          lines = whole_so (lines, notes) halted (answered_so halted written noted) f.brought.passed;
+          mutes = record { cause = λ is. absurd (true≢false (sym is ∙ unmuted)); calm = λ is. notes_calm };
+          halts = λ is. absurd (true≢false (sym is ∙ halted));
+          calm = λ is. (lines_calm, notes_calm);
+          lines = whole_so (lines_calm, notes_calm) halted (answered_so unmuted written noted) f.brought.passed;
         }
-    written_so (in_part halted rose written noted part) =
-        let is_halted : d.said.halted ≡ true = f.said.halted ∙ halted in record {
-          halts = record { cause = λ is. rose; calm = λ is. absurd (true≢false (sym is_halted ∙ is)) };
-          lines = halted_so rose (λ all front. cut_so all front written noted part) f.brought.passed;
+    written_so (in_lines stopped unmuted rose notes_calm noted part) =
+        let halted : d.said.halted ≡ true = f.said.halted ∙ stopped in record {
+          mutes = record { cause = λ is. absurd (true≢false (sym is ∙ unmuted)); calm = λ is. notes_calm };
+          halts = λ is. inl rose;
+          calm = λ is. absurd (true≢false (sym halted ∙ is));
+          lines = halted_so (lines_cut unmuted rose notes_calm noted part) f.brought.passed;
+        }
+    written_so (in_notes stopped muted rose lines_calm written part) =
+        let halted : d.said.halted ≡ true = f.said.halted ∙ stopped in record {
+          mutes = record { cause = λ is. rose; calm = λ is. absurd (true≢false (sym muted ∙ is)) };
+          halts = λ is. inr rose;
+          calm = λ is. absurd (true≢false (sym halted ∙ is));
+          lines = halted_so (notes_cut rose lines_calm written part) f.brought.passed;
         }
 
   -- ---- the run
@@ -330,15 +369,15 @@ module _ (t : Task) (first now : Sides) (d : Dealings) (finished : Finished)
         record {
           noted = f.said.notes;
           run = record {
-            halted = d.said.halted;
-            halts = k.halts;
-            run = run_with (run_of t.parts) t.budget finished.report traffic alone d.said.halted ran.run;
+            muted = d.said.muted;
+            mutes = k.mutes;
+            run = run_with (run_of t.parts) t.budget finished.report traffic alone d.said.muted ran.run;
             traffic = traffic;
             one = refl;
             posters = ran.dealt.posters;
             lines = k.lines;
             status = status_so failed d.said.halted finished.spent (faults_of (outside_of first)) (faults_of (outside_of now))
-                (IsSpent (run_of t.parts) t.budget (with_traffic finished.report traffic)) fails k.halts.cause k.halts.calm refl
+                (IsSpent (run_of t.parts) t.budget (with_traffic finished.report traffic)) fails k.halts k.calm refl
                 (λ is. spent_with (run_of t.parts) t.budget finished.report traffic (ran.spent.0 is))
                 (λ more. ran.spent.1 (spent_without (run_of t.parts) t.budget finished.report traffic more));
           };

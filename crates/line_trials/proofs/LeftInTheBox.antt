@@ -27,6 +27,7 @@ use Rattle.office_core.specs.declared.front.Posting.{Posting}
 use Rattle.office_core.specs.Limits.{Setting, run_of, first_worker}
 use Rattle.office_core.specs.Accepted.{past_of}
 use Rattle.office_core.specs.Legal.{IsLegal}
+use Rattle.run_record.specs.declared.record.Record.{Record}
 use Rattle.run_record.specs.Agrees.{IsSession}
 use Rattle.run_record.specs.Quiet.{before_stop, sessions_at}
 use Rattle.run_record.specs.Answered.{stand_together}
@@ -47,10 +48,12 @@ use Rattle.jsonrpc_text.specs.Responses.{answer, batch, early_answer}
 use Rattle.run_record.specs.Run.{alone}
 use Rattle.branch_workers.specs.Split.{split, all_lines, said_lines}
 use Rattle.branch_workers.specs.Texts.{Came}
-use Rattle.branch_workers.specs.Lines.{come_in, finished_before, lines_in, IsFront, IsAnswered, IsCutShort}
+use Rattle.branch_workers.specs.Lines.{come_in, finished_before, noted_before, lines_in, IsFront, IsAnswered, in_lines}
+use Rattle.branch_workers.specs.Headline.{IsCutShort}
 use Rattle.std.specs.Prelude.{◌≢◌}
-use Rattle.std.proofs.Common.{◌<◌, ◌-◌, true≢false, ap, subst, arith, ◌++◌, length, length-append, drop, ltb-true}
-use mathlib.Core.Logic.{inl, inr}
+use Rattle.std.proofs.Common.{◌<◌, ◌-◌, true≢false, ap, subst, sym, arith, ◌++◌, length, length-append, drop, ltb-true}
+use Rattle.line_trials.proofs.Statuses.{rose}
+use Rattle.line_trials.proofs.Endings.{ending}
 
 -- the program
 abbrev program : ProgramParts
@@ -105,10 +108,24 @@ cut = take 60 written
 rest_is_some : drop 60 written ≢ []
 rest_is_some h = true≢false (ap (λ l. elim l [ [] ↦ false | b ∷ bs ↦ true ]) h)
 
-pub cut_short : IsCutShort alone setting history (come_in (said_lines (all_lines read)))
-    (record { written = cut; noted = [] })
+pub cut_short : (r : Record) → r.history.entries.items ≡ history
+    → IsCutShort alone setting (record { read = read; written = cut }) (ending r) (come_in (said_lines (all_lines read)))
 unfolding digits escape_byte is_utf8 chars encode scan_numeral value punctuate lex content word after_number number_of root_name posted answer batch early_answer split
-cut_short = record { came = come_in (said_lines (all_lines read)); front = ([], refl); posted = refl; order = (0 ∷ 1 ∷ []); in_order = refl; written = (drop 60 written, refl); early = λ one. (drop 40 cut, refl); noted = ([], refl); cut = inl (drop 60 written, rest_is_some, refl) }
+cut_short r has = record {
+  came = come_in (said_lines (all_lines read));
+  front = ([], refl);
+  due = record { written = written; noted = [] };
+  answers = subst (λ (h : List Entry). IsAnswered alone setting h (come_in (said_lines (all_lines read))) (record { written = written; noted = [] }))
+      (sym has) answered;
+  cut = in_lines rose refl (drop 60 written, rest_is_some, refl) refl;
+  early = λ one.
+      subst (λ (h : List Entry). IsFront (lines_in setting h (come_in (said_lines (all_lines read))) (finished_before setting h
+      (length (come_in (said_lines (all_lines read)))) (length (come_in (said_lines (all_lines read))) - 1))) cut)
+      (sym has) (drop 40 cut, refl);
+  early_notes = λ one.
+      subst (λ (h : List Entry). IsFront (noted_before setting h (length (come_in (said_lines (all_lines read))) - 1)) [])
+      (sym has) ([], refl);
+}
 
 -- ---- spoilt
 
@@ -123,24 +140,27 @@ too_long xs rest ys less e =
 abbrev due : List ℕ
 due = lines_in setting history (come_in (said_lines (all_lines read))) (finished_before setting history 2 1)
 
-spoilt_by : (bytes : List ℕ) → length bytes < length due
-    → (s : IsCutShort alone setting history (come_in (said_lines (all_lines read))) (record { written = bytes; noted = [] }))
+spoilt_by : (r : Record) → r.history.entries.items ≡ history → (bytes : List ℕ) → length bytes < length due
+    → (s : IsCutShort alone setting (record { read = read; written = bytes }) (ending r) (come_in (said_lines (all_lines read))))
     → s.came ≡ come_in (said_lines (all_lines read)) → ⊥
 unfolding posted split
-spoilt_by bytes less s all =
+spoilt_by r has bytes less s all =
     let early : IsFront due bytes =
-    subst (λ (c : List Came). IsFront (lines_in setting history c (finished_before setting history (length c) (length c - 1))) bytes)
-    all (s.early refl) in
+    subst (λ (h : List Entry). IsFront (lines_in setting h (come_in (said_lines (all_lines read))) (finished_before setting h 2 1)) bytes) has
+    (subst (λ (c : List Came). IsFront (lines_in setting r.history.entries.items c (finished_before setting r.history.entries.items (length c) (length c - 1))) bytes)
+    all (s.early refl)) in
     too_long due early.0 bytes less early.1
 
 -- Where both were posted the first answer was not written, whatever was cut of the notes,
-pub spoilt_nothing_written : (s : IsCutShort alone setting history (come_in (said_lines (all_lines read))) (record { written = []; noted = [] }))
+pub spoilt_nothing_written : (r : Record) → r.history.entries.items ≡ history
+    → (s : IsCutShort alone setting (record { read = read; written = [] }) (ending r) (come_in (said_lines (all_lines read))))
     → s.came ≡ come_in (said_lines (all_lines read)) → ⊥
 unfolding digits escape_byte is_utf8 chars encode scan_numeral value punctuate lex content word after_number number_of root_name posted answer batch early_answer split
-spoilt_nothing_written = spoilt_by [] (ltb-true 0 (length due) refl)
+spoilt_nothing_written r has = spoilt_by r has [] (ltb-true 0 (length due) refl)
 
 -- or not all of it.
-pub spoilt_first_cut : (s : IsCutShort alone setting history (come_in (said_lines (all_lines read))) (record { written = take 20 written; noted = [] }))
+pub spoilt_first_cut : (r : Record) → r.history.entries.items ≡ history
+    → (s : IsCutShort alone setting (record { read = read; written = take 20 written }) (ending r) (come_in (said_lines (all_lines read))))
     → s.came ≡ come_in (said_lines (all_lines read)) → ⊥
 unfolding digits escape_byte is_utf8 chars encode scan_numeral value punctuate lex content word after_number number_of root_name posted answer batch early_answer split
-spoilt_first_cut = spoilt_by (take 20 written) (ltb-true (length (take 20 written)) (length due) refl)
+spoilt_first_cut r has = spoilt_by r has (take 20 written) (ltb-true (length (take 20 written)) (length due) refl)

@@ -8,16 +8,16 @@ use Rattle.branch_workers.specs.Statuses.{Faults, Halted, IsCalm, HasStatus}
 -- ---- the causes
 
 -- counts before a run, and after one in which the source, the output, the notes or the doors failed so often
-abbrev none : Faults
+abbrev pub none : Faults
 none = record { source = 0; output = 0; notes = 0; doors = 0 }
 
-abbrev failed : ℕ → ℕ → ℕ → ℕ → Faults
+abbrev pub failed : ℕ → ℕ → ℕ → ℕ → Faults
 failed source output notes doors = record { source = source; output = output; notes = notes; doors = doors }
 
-rose : Rose 0 1
+pub rose : Rose 0 1
 rose = omega arith
 
-stood : Rose 0 0 → ⊥
+pub stood : Rose 0 0 → ⊥
 stood h = absurd (omega (arith, h))
 
 -- numbers that are found to differ do

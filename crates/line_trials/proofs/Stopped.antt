@@ -27,6 +27,7 @@ use Rattle.office_core.specs.declared.front.Posting.{Posting}
 use Rattle.office_core.specs.Limits.{Setting, run_of, first_worker}
 use Rattle.office_core.specs.Accepted.{past_of}
 use Rattle.office_core.specs.Legal.{IsLegal}
+use Rattle.run_record.specs.declared.record.Record.{Record}
 use Rattle.run_record.specs.Agrees.{IsSession}
 use Rattle.run_record.specs.Quiet.{before_stop, sessions_at}
 use Rattle.run_record.specs.Answered.{stand_together}
@@ -46,10 +47,12 @@ use Rattle.jsonrpc_text.specs.Posted.{posted}
 use Rattle.jsonrpc_text.specs.Responses.{answer, batch, early_answer}
 use Rattle.run_record.specs.Run.{alone}
 use Rattle.branch_workers.specs.Split.{split, all_lines, said_lines}
-use Rattle.branch_workers.specs.Lines.{come_in, IsAnswered, IsCutShort}
-use Rattle.std.specs.Prelude.{◌≢◌}
-use Rattle.std.proofs.Common.{true≢false, ap}
-use mathlib.Core.Logic.{inl, inr}
+use Rattle.branch_workers.specs.Lines.{come_in, finished_before, noted_before, lines_in, IsFront, IsAnswered, in_lines}
+use Rattle.branch_workers.specs.Headline.{IsCutShort}
+use Rattle.std.specs.Prelude.{◌≢◌, length, ◌-◌}
+use Rattle.std.proofs.Common.{true≢false, ap, subst, sym}
+use Rattle.line_trials.proofs.Statuses.{rose}
+use Rattle.line_trials.proofs.Endings.{ending}
 
 -- the program
 abbrev program : ProgramParts
@@ -94,7 +97,25 @@ rest = (34 ∷ 115 ∷ 116 ∷ 111 ∷ 112 ∷ 112 ∷ 101 ∷ 100 ∷ 34 ∷ 12
 rest_is_some : rest ≢ []
 rest_is_some h = true≢false (ap (λ l. elim l [ [] ↦ false | b ∷ bs ↦ true ]) h)
 
-pub cut_short : IsCutShort alone setting history (come_in (said_lines (all_lines read)))
-    (record { written = (123 ∷ 34 ∷ 101 ∷ 114 ∷ 114 ∷ 111 ∷ 114 ∷ 34 ∷ 58 ∷ 123 ∷ 34 ∷ 99 ∷ 111 ∷ 100 ∷ 101 ∷ 34 ∷ 58 ∷ 45 ∷ 51 ∷ 50 ∷ 48 ∷ 48 ∷ 52 ∷ 44 ∷ 34 ∷ 109 ∷ 101 ∷ 115 ∷ 115 ∷ 97 ∷ 103 ∷ 101 ∷ 34 ∷ 58 ∷ []); noted = [] })
+-- what was written of it
+abbrev cut : List ℕ
+cut = (123 ∷ 34 ∷ 101 ∷ 114 ∷ 114 ∷ 111 ∷ 114 ∷ 34 ∷ 58 ∷ 123 ∷ 34 ∷ 99 ∷ 111 ∷ 100 ∷ 101 ∷ 34 ∷ 58 ∷ 45 ∷ 51 ∷ 50 ∷ 48 ∷ 48 ∷ 52 ∷ 44 ∷ 34 ∷ 109 ∷ 101 ∷ 115 ∷ 115 ∷ 97 ∷ 103 ∷ 101 ∷ 34 ∷ 58 ∷ [])
+
+pub cut_short : (r : Record) → r.history.entries.items ≡ history
+    → IsCutShort alone setting (record { read = read; written = cut }) (ending r) (come_in (said_lines (all_lines read)))
 unfolding digits escape_byte is_utf8 chars encode scan_numeral value punctuate lex content word after_number number_of root_name posted answer batch early_answer split
-cut_short = record { came = come_in (said_lines (all_lines read)); front = ([], refl); posted = refl; order = (0 ∷ []); in_order = refl; written = (rest, refl); early = λ one. (_, refl); noted = ([], refl); cut = inl (rest, rest_is_some, refl) }
+cut_short r has = record {
+  came = come_in (said_lines (all_lines read));
+  front = ([], refl);
+  due = record { written = written; noted = [] };
+  answers = subst (λ (h : List Entry). IsAnswered alone setting h (come_in (said_lines (all_lines read))) (record { written = written; noted = [] }))
+      (sym has) answered;
+  cut = in_lines rose refl (rest, rest_is_some, refl) refl;
+  early = λ one.
+      subst (λ (h : List Entry). IsFront (lines_in setting h (come_in (said_lines (all_lines read))) (finished_before setting h
+      (length (come_in (said_lines (all_lines read)))) (length (come_in (said_lines (all_lines read))) - 1))) cut)
+      (sym has) (_, refl);
+  early_notes = λ one.
+      subst (λ (h : List Entry). IsFront (noted_before setting h (length (come_in (said_lines (all_lines read))) - 1)) [])
+      (sym has) ([], refl);
+}

@@ -97,6 +97,7 @@ pub record Asks (parts : ProgramParts) (which : Next) (before now : Dealings) : 
   pub came : Came parts which before.brought now.brought
   pub silent : now.said ≡ before.said
   pub seen : now.brought.seen ≡ length before.said.told
+  pub noted : now.brought.noted ≡ before.said.noted
 
 -- ---- something is said
 
@@ -129,6 +130,7 @@ pub record Halts (before now : Said) : Type 0 where
 pub record Tells (place : ℕ) (outcomes : List Outcome) (before now : Dealings) : Type 0 where
   pub told : now.said.told ≡ before.said.told ++ record { place = place; outcomes = outcomes } ∷ []
   pub noted : now.said.noted ≡ before.said.noted
+  pub muted : now.said.muted ≡ before.said.muted
   pub halts : Halts before.said now.said
   pub brought : now.brought ≡ before.brought
 
@@ -136,5 +138,6 @@ pub record Tells (place : ℕ) (outcomes : List Outcome) (before now : Dealings)
 pub record Notes (text : List ℕ) (before now : Dealings) : Type 0 where
   pub told : now.said.told ≡ before.said.told
   pub noted : now.said.noted ≡ before.said.noted ++ text
+  pub muted : now.said.muted ≡ now.said.halted
   pub halts : Halts before.said now.said
   pub brought : now.brought ≡ before.brought

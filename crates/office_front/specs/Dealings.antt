@@ -11,8 +11,8 @@ pub record Asked : Type 0 where
 
 -- The postings that a front gave, each with whose request it is, and those that are left, where they are told; how
 -- often in a row it had none yet; whether it ended; how often what it reads failed; how many postings it had been told
--- of when it was asked last; and for each posting that it gave, how many postings it had been told of when that was
--- asked for.
+-- of when it was asked last, and what had been noted to it by then; and for each posting that it gave, how many postings
+-- it had been told of when that was asked for.
 pub record Brought : Type 0 where
   pub given : List Posting
   pub asked : List Asked
@@ -21,6 +21,7 @@ pub record Brought : Type 0 where
   pub ended : Bool
   pub faults : ℕ
   pub seen : ℕ
+  pub noted : List ℕ
   pub seens : List ℕ
 
 -- what the calls of the posting of a place came to, in order; places are counted from 0
@@ -28,12 +29,13 @@ pub record Told : Type 0 where
   pub place : ℕ
   pub outcomes : List Outcome
 
--- What a front was told, in order, and what was noted to it; whether it halted: then nothing more is written; and how
--- often what it writes failed.
+-- What a front was told, in order, and what was noted to it; whether it halted: then nothing more is written; whether
+-- it was a note that failed; and how often what it writes failed.
 pub record Said : Type 0 where
   pub told : List Told
   pub noted : List ℕ
   pub halted : Bool
+  pub muted : Bool
   pub faults : ℕ
 
 -- what a front brought, and what was said to it
@@ -48,7 +50,9 @@ pub record IsNew (d : Dealings) : Type 0 where
   pub waits : d.brought.waits ≡ 0
   pub open_yet : d.brought.ended ≡ false
   pub unseen : d.brought.seen ≡ 0
+  pub unnoted : d.brought.noted ≡ []
   pub unasked : d.brought.seens ≡ []
   pub told : d.said.told ≡ []
   pub noted : d.said.noted ≡ []
   pub writes : d.said.halted ≡ false
+  pub unmuted : d.said.muted ≡ false

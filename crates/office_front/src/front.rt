@@ -44,10 +44,10 @@ pub trait Front {
             (λ _. After (dealt (parts_of program.now) first self.new) (Tells place outcomes.now before))
             (λ _. dealt (parts_of program.now) first self.new before) };
 
-    /// Notes a text.
+    /// Notes a text. A front that an answer halted is noted nothing.
     fn note(&mut self, text: &[u8])
         ensures noted { (parts : ProgramParts) (first : Self) (before : Dealings) → dealt parts first self.old before
-            → After (dealt parts first self.new) (Notes text.now before) };
+            → before.said.muted ≡ before.said.halted → After (dealt parts first self.new) (Notes text.now before) };
 
     /// Whether what is written failed, so that nothing more is written.
     fn halted(&self) -> bool

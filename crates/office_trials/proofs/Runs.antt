@@ -83,9 +83,9 @@ is_run w budget h sessions c run has events =
 
 -- ---- no run
 
-module _ (w : Setting) (budget : ℕ) (halted : Bool) (h : List Entry) (run : Record) (has : run.history.entries.items ≡ h) where
+module _ (w : Setting) (budget : ℕ) (muted : Bool) (h : List Entry) (run : Record) (has : run.history.entries.items ≡ h) where
   -- it has entries that are not legal
-  pub illegal : (n : ℕ) → legal_entries w h ≡ n → nat_eq n (length h) ≡ false → IsRun w budget alone halted run → ⊥
+  pub illegal : (n : ℕ) → legal_entries w h ≡ n → nat_eq n (length h) ≡ false → IsRun w budget alone muted run → ⊥
   illegal n e other r =
       differ n (length h) other (sym e ∙ all_count w h (subst (IsLegal w) has r.legal))
     where
@@ -93,24 +93,24 @@ module _ (w : Setting) (budget : ℕ) (halted : Bool) (h : List Entry) (run : Re
       differ n m h = grind (arith, nat_tests)
 
   -- it did not stop
-  pub unstopped : some_entry (past_of w h) stops ≡ false → IsRun w budget alone halted run → ⊥
+  pub unstopped : some_entry (past_of w h) stops ≡ false → IsRun w budget alone muted run → ⊥
   unstopped e r = true≢false (sym r.stopped ∙ ap (λ l. some_entry (past_of w l) stops) has ∙ e)
 
   -- its input was not closed
-  pub unclosed : some_entry (past_of w h) closes ≡ false → IsRun w budget alone halted run → ⊥
+  pub unclosed : some_entry (past_of w h) closes ≡ false → IsRun w budget alone muted run → ⊥
   unclosed e r = true≢false (sym (r.closed refl) ∙ ap (λ l. some_entry (past_of w l) closes) has ∙ e)
 
   -- an entry is of nobody who works at it
-  pub foreign : list_all (is_of_hand alone) h ≡ false → IsRun w budget alone halted run → ⊥
+  pub foreign : list_all (is_of_hand alone) h ≡ false → IsRun w budget alone muted run → ⊥
   foreign e r = true≢false (sym r.actors ∙ ap (list_all (is_of_hand alone)) has ∙ e)
 
   -- a posting is not in one piece
-  pub apart : stand_together h ≡ false → IsRun w budget alone halted run → ⊥
+  pub apart : stand_together h ≡ false → IsRun w budget alone muted run → ⊥
   apart e r = true≢false (sym r.posted ∙ ap stand_together has ∙ e)
 
   module _ (sessions : List (List Event)) (events : run.sessions ≡ sessions) where
     -- the events of a session are missing
-    pub missing : nat_eq (length sessions) (length (births w (past_of w h))) ≡ false → IsRun w budget alone halted run → ⊥
+    pub missing : nat_eq (length sessions) (length (births w (past_of w h))) ≡ false → IsRun w budget alone muted run → ⊥
     missing e r =
         differ (length sessions) (length (births w (past_of w h))) e
         (ap length (sym events) ∙ r.sessions.all ∙ ap (λ l. length (births w (past_of w l))) has)
@@ -120,16 +120,16 @@ module _ (w : Setting) (budget : ℕ) (halted : Bool) (h : List Entry) (run : Re
 
     -- a session had more events than it may
     pub too_many : (s : ℕ) (es : List Event) → slice_get sessions s ≡ Some es → nat_le (length es) budget ≡ false
-        → IsRun w budget alone halted run → ⊥
+        → IsRun w budget alone muted run → ⊥
     too_many s es there e r =
         over (length es) budget e (r.within s es (ap (λ l. slice_get l s) events ∙ there))
       where
         over : (n m : ℕ) → nat_le n m ≡ false → n ≤ m → ⊥
         over n m h k = grind (arith, nat_tests)
 
-    -- something was left to do at the stop, where no front halted
+    -- something was left to do at the stop, where no note failed
     pub restless : AreSessions w (before_stop h) 0 sessions → is_quiet w budget (before_stop h) sessions ≡ false
-        → halted ≡ false → IsRun w budget alone halted run → ⊥
+        → muted ≡ false → IsRun w budget alone muted run → ⊥
     restless a e calm r =
         not_quiet w budget (before_stop h) sessions a e
         (subst (λ l. IsQuiet w budget (before_stop l) sessions) has

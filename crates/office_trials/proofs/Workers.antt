@@ -107,15 +107,15 @@ is_run_of_workers w budget n h sessions c run has events =
     (subst (λ l. WorkersCompute w budget n l run.sessions) (sym has) (subst (WorkersCompute w budget n h) (sym events) c))
 
 -- an entry is of nobody who works at it
-pub stranger : (w : Setting) (budget n : ℕ) (halted : Bool) (h : List Entry) (run : Record) → run.history.entries.items ≡ h
-    → list_all (is_of_hand (workers n)) h ≡ false → IsRun w budget (workers n) halted run → ⊥
-stranger w budget n halted h run has e r =
+pub stranger : (w : Setting) (budget n : ℕ) (muted : Bool) (h : List Entry) (run : Record) → run.history.entries.items ≡ h
+    → list_all (is_of_hand (workers n)) h ≡ false → IsRun w budget (workers n) muted run → ⊥
+stranger w budget n muted h run has e r =
     true≢false (sym r.actors ∙ ap (list_all (is_of_hand (workers n))) has ∙ e)
 
 -- one worker posts the calls of a posting with something between them
-pub posts_apart : (w : Setting) (budget n : ℕ) (halted : Bool) (h : List Entry) (run : Record) → run.history.entries.items ≡ h
-    → (actor : ℕ) → stand_together (of_actor actor h) ≡ false → IsRun w budget (workers n) halted run → ⊥
-posts_apart w budget n halted h run has actor e r =
+pub posts_apart : (w : Setting) (budget n : ℕ) (muted : Bool) (h : List Entry) (run : Record) → run.history.entries.items ≡ h
+    → (actor : ℕ) → stand_together (of_actor actor h) ≡ false → IsRun w budget (workers n) muted run → ⊥
+posts_apart w budget n muted h run has actor e r =
     true≢false (sym (r.posted actor) ∙ ap (λ l. stand_together (of_actor actor l)) has ∙ e)
 
 -- ---- the order of two postings

@@ -29,13 +29,13 @@ use Rattle.order_laws.proofs.Least.{AreAlike, InOrderBy, before_more, before_sam
 
 -- ---- the entries before the first of a kind
 
-before_none : (c : Entry → Bool) (es : List Entry) → list_any c es ≡ false → before_first c es ≡ es
+pub before_none : (c : Entry → Bool) (es : List Entry) → list_any c es ≡ false → before_first c es ≡ es
 before_none c [] h = refl
 before_none c (e ∷ es) h =
     ap (λ b. if b then [] else e ∷ before_first c es) (false_left (c e) (list_any c es) h)
     ∙ ap (λ l. e ∷ l) (before_none c es (false_right (c e) (list_any c es) h))
 
-before_cut : (c : Entry → Bool) (es more : List Entry) → list_any c es ≡ true
+pub before_cut : (c : Entry → Bool) (es more : List Entry) → list_any c es ≡ true
     → before_first c (es ++ more) ≡ before_first c es
 before_cut c [] more h = absurd (true≢false (sym h))
 before_cut c (e ∷ es) more h = by (before_cut c es more) (c e) refl
@@ -48,7 +48,7 @@ before_cut c (e ∷ es) more h = by (before_cut c es more) (c e) refl
     by next false q =
         ap (λ l. if c e then [] else e ∷ l) (next (ap (λ b. b || list_any c es) (sym q) ∙ h))
 
-before_uncut : (c : Entry → Bool) (es more : List Entry) → list_any c es ≡ false
+pub before_uncut : (c : Entry → Bool) (es more : List Entry) → list_any c es ≡ false
     → before_first c (es ++ more) ≡ es ++ before_first c more
 before_uncut c [] more h = refl
 before_uncut c (e ∷ es) more h =
@@ -107,7 +107,7 @@ same_message w es old new n m h g =
 -- ---- a history grows
 
 -- what cuts a history for a posting
-abbrev cut_at : ℕ → Entry → Bool
+abbrev pub cut_at : ℕ → Entry → Bool
 cut_at i e = posts_above first_worker i e || stops e
 
 cuts_wider : (i count : ℕ) (e : Entry) → i < count → cuts count e ≡ true → cut_at i e ≡ true

@@ -12,12 +12,12 @@ pub use Rattle.quiet_laws.specs.Ends.{CameThrough}
 use Rattle.quiet_laws.proofs.Ending.{Ended, quiet_ended, sessions_ended, still_ended, was_closed, was_stopped}
 
 -- with the end of input, the stop and collects it is a run
-pub is_run : {w : Setting} {budget : ℕ} {halted : Bool} {h : List Entry} {run : Record}
-    → CameThrough w budget halted h run.sessions → Ended h run.history.entries.items
+pub is_run : {w : Setting} {budget : ℕ} {muted : Bool} {h : List Entry} {run : Record}
+    → CameThrough w budget muted h run.sessions → Ended h run.history.entries.items
     → IsLegal w run.history.entries.items → list_all (is_of_hand alone) run.history.entries.items ≡ true
     → stand_together run.history.entries.items ≡ true
-    → IsRun w budget alone halted run
-is_run {w} {budget} {halted} {h} {run} came end legal hands together = record {
+    → IsRun w budget alone muted run
+is_run {w} {budget} {muted} {h} {run} came end legal hands together = record {
   legal = legal;
   stopped = was_stopped end w;
   closed = λ one. was_closed end w;

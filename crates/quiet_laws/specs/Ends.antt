@@ -41,13 +41,13 @@ pub record Ended (h now : List Entry) : Type 0 where
   pub collects_are : list_all is_collect collects ≡ true
 
 -- What one worker has before it ends its run: the sessions' events agree with the history and keep to the budget;
--- unless a front halted nothing is left to do; and each posting began where it may.
-pub record CameThrough (w : Setting) (budget : ℕ) (halted : Bool) (h : List Entry)
+-- unless a note failed nothing is left to do; and each posting began where it may.
+pub record CameThrough (w : Setting) (budget : ℕ) (muted : Bool) (h : List Entry)
     (ss : List (List Event)) : Type 0 where
   pub few : length ss ≤ first_worker
   pub sessions : HasSessions w h ss
   pub within : (s : ℕ) (es : List Event) → slice_get ss s ≡ Some es → length es ≤ budget
-  pub quiet : halted ≡ false → IsQuiet w budget h ss
+  pub quiet : muted ≡ false → IsQuiet w budget h ss
   pub still : IsStill w budget h ss
 
 -- One session has other events, and the others have theirs.

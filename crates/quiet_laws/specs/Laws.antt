@@ -52,8 +52,8 @@ BirthsKeepWithin = (w : Setting) (h : List Entry) → length (births w (past_of 
 -- The record of a run of one worker that came through and ended is one of a run.
 abbrev pub EndsAsRun : Type 0
 EndsAsRun =
-    (w : Setting) (budget : ℕ) (halted : Bool) (h : List Entry) (run : Record)
-    → CameThrough w budget halted h run.sessions → Ended h run.history.entries.items
+    (w : Setting) (budget : ℕ) (muted : Bool) (h : List Entry) (run : Record)
+    → CameThrough w budget muted h run.sessions → Ended h run.history.entries.items
     → IsLegal w run.history.entries.items → list_all (is_of_hand alone) run.history.entries.items ≡ true
     → stand_together run.history.entries.items ≡ true
-    → IsRun w budget alone halted run
+    → IsRun w budget alone muted run

@@ -1,5 +1,5 @@
 -- What a front has when it is asked for a posting, and how the run stands then.
-use Rattle.std.proofs.Common.{◌≡◌, ℕ, suc, false, List, [], ◌∷◌, ◌++◌, length, inl, sym, ap, subst, ◌∙◌}
+use Rattle.std.proofs.Common.{◌≡◌, ◌-◌, ℕ, suc, false, List, [], ◌∷◌, ◌++◌, length, inl, sym, ap, subst, ◌∙◌}
 use Rattle.behaviour_tree.specs.Data.{ProgramParts}
 use Rattle.office_core.specs.declared.front.Posting.{Posting}
 use Rattle.office_front.specs.declared.front.Next.TheVariants as next
@@ -11,7 +11,9 @@ use Rattle.run_posts.specs.Open.{IsOpen, StandsInOrder}
 use Rattle.trip_laws.specs.Going.{NotedSoFar}
 use Rattle.run_alone.specs.Between.{Brings, Passed, SaidMore}
 use Rattle.run_alone.specs.Overs.{IsOver}
+use Rattle.branch_workers.specs.Lines.{noted_before, IsFront}
 use Rattle.run_alone.proofs.Earlier.{one_count_more, told_as, told_next}
+use Rattle.run_alone.proofs.Noting.{front_all, front_longer}
 
 module _ {s : State} {xs : List Wait} {n : ℕ} {before now : Dealings} (b : Passed s xs n before) where
   -- how many were told when each posting was asked for, with the next
@@ -20,8 +22,9 @@ module _ {s : State} {xs : List Wait} {n : ℕ} {before now : Dealings} (b : Pas
   seens_next asks = asks.came.seens ∙ ap (λ (k : ℕ). before.brought.seens ++ k ∷ []) asks.seen
 
   -- a posting
-  pub brings_next : {parts : ProgramParts} {p : Posting} → Asks parts (next.Posting p) before now → Brings s xs n p now
-  brings_next asks = record {
+  pub brings_next : {parts : ProgramParts} {p : Posting} → before.said.halted ≡ false → Asks parts (next.Posting p) before now
+      → Brings s xs n p now
+  brings_next running asks = record {
     all = before.brought.given;
     given = asks.came.given;
     opens = subst (λ (x : Said). IsOpen s.setting s.history before.brought.given x.told xs) (sym asks.silent) b.opens;
@@ -32,26 +35,34 @@ module _ {s : State} {xs : List Wait} {n : ℕ} {before now : Dealings} (b : Pas
     earlier = told_as s n before now (before.brought.seens ++ length before.said.told ∷ []) asks.silent (seens_next asks)
         (told_next s n xs before.said.told b.order before.brought.seens b.asked b.earlier);
     noted = subst (λ (x : Said). NotedSoFar s.setting s.history x.noted) (sym asks.silent) b.noted;
+    noted_now = asks.noted ∙ ap (λ (x : Said). x.noted) (sym asks.silent);
+    mutes = subst (λ (x : Said). x.muted ≡ x.halted) (sym asks.silent) (b.mutes running ∙ sym running);
   }
 
-  none_given : GivesNone before.brought now.brought → now.said ≡ before.said → Passed s xs n now
-  none_given none said = record {
+  none_given : GivesNone before.brought now.brought → now.said ≡ before.said → now.brought.noted ≡ before.said.noted
+      → Passed s xs n now
+  none_given none said noted = record {
     opens = coe 1 0 (i. IsOpen s.setting s.history (none.given i) (said i).told xs) b.opens;
     order = subst (λ (x : Said). StandsInOrder s.setting s.history n x.told xs) (sym said) b.order;
     count = ap (λ (ps : List Posting). length ps) none.given ∙ b.count;
     asked = ap (λ (ks : List ℕ). length ks) none.seens ∙ b.asked;
     earlier = told_as s n before now before.brought.seens said none.seens b.earlier;
     noted = subst (λ (x : Said). NotedSoFar s.setting s.history x.noted) (sym said) b.noted;
+    noted_then = front_longer (noted_before s.setting s.history (n - 1)) before.brought.noted now.brought.noted b.noted_then
+        (subst (IsFront before.brought.noted) (sym noted) b.noted_since);
+    noted_since = front_all now.brought.noted now.said.noted (noted ∙ ap (λ (x : Said). x.noted) (sym said));
+    some = λ e. b.some (ap (λ (x : Said). x.halted) (sym said) ∙ e);
+    mutes = λ e. ap (λ (x : Said). x.muted) said ∙ b.mutes (ap (λ (x : Said). x.halted) (sym said) ∙ e);
   }
 
   -- none yet
   pub waits_next : {parts : ProgramParts} → Asks parts next.NotYet before now
       → Passed s xs n now × (now.brought.waits ≡ suc before.brought.waits) × (now.brought.ended ≡ false)
-  waits_next asks = (none_given asks.came.none asks.silent, asks.came.waits, asks.came.ended)
+  waits_next asks = (none_given asks.came.none asks.silent asks.noted, asks.came.waits, asks.came.ended)
 
   -- none any more
   pub ends_next : {parts : ProgramParts} → Asks parts next.End before now → Passed s xs n now × IsOver now
-  ends_next asks = (none_given asks.came.none asks.silent, inl asks.came.ended)
+  ends_next asks = (none_given asks.came.none asks.silent asks.noted, inl asks.came.ended)
 
 -- a posting that was taken in was the last look
 pub taken_looks : {before now : Dealings} → SaidMore before now → before.brought.waits ≡ 0

@@ -25,7 +25,7 @@ use Rattle.trip_laws.proofs.Touring.{void_is}
 use Rattle.run_posts.specs.Fates.{Wait}
 use Rattle.run_posts.proofs.Ending.{told_each}
 use Rattle.run_posts.proofs.Opening.{IsOpen}
-use Rattle.run_alone.specs.Ran.{AreNotes, IsOver, GaveNone, SawFinished, ToldBefore, Ran, Rules}
+use Rattle.run_alone.specs.Ran.{AreNotes, IsOver, GaveNone, NotedBefore, SawFinished, ToldBefore, Ran, Rules}
 use Rattle.run_alone.specs.declared.worker.Finished.{Finished}
 use Rattle.run_alone.proofs.Stepping.{all_append, all_weaker}
 
@@ -82,7 +82,7 @@ module _ {h now : List Entry} (x : Ended h now) where
 
 -- What one worker has at the end of a run, of a history h before its end.
 pub record HasEnded (r : Rules) (h : List Entry) (xs : List Wait) (d : Dealings) (finished : Finished) : Type 0 where
-  pub came : CameThrough r.setting r.budget d.said.halted h finished.report.sessions
+  pub came : CameThrough r.setting r.budget d.said.muted h finished.report.sessions
   pub end : Ended h finished.report.history.entries.items
   pub legal : IsLegal r.setting finished.report.history.entries.items
   pub opens : IsOpen r.setting finished.report.history.entries.items d.brought.given d.said.told xs
@@ -94,12 +94,13 @@ pub record HasEnded (r : Rules) (h : List Entry) (xs : List Wait) (d : Dealings)
   pub asked : length d.brought.seens ≡ length d.brought.given
   pub told_before : ToldBefore r.setting finished.report.history.entries.items d
   pub seen : GaveNone d → SawFinished r.setting finished.report.history.entries.items d
+  pub noted_then : NotedBefore r.setting finished.report.history.entries.items d
   pub looked : Looked r.setting r.budget h finished.report.sessions finished.spent
   pub traffic : finished.report.traffic ≡ []
 
 notes_of : (r : Rules) (h : List Entry) (xs : List Wait) (d : Dealings) (finished : Finished)
     → HasEnded r h xs d finished
-    → AreNotes d.said.halted d.said.noted (notes r.setting finished.report.history.entries.items)
+    → AreNotes d.said.muted d.said.noted (notes r.setting finished.report.history.entries.items)
 notes_of r h xs d finished x = (
   (
     flat_map note_of (outgoing r.setting (past_of r.setting finished.report.history.entries.items) kind.Console),
@@ -132,6 +133,7 @@ ran r text h xs d finished program x = record {
     asked = x.asked;
     told_before = x.told_before;
     seen = x.seen;
+    noted_then = x.noted_then;
   };
   consoles =
       void_is r.setting finished.report.history.entries.items x.legal (settled_end x.end r.setting x.legal x.settled);

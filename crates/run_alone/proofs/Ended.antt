@@ -1,5 +1,5 @@
 -- What one worker has once it did what was left to do, stopped the run and told what was open.
-use Rattle.std.proofs.Common.{◌≡◌, ◌↔◌, ◌<◌, ◌≤◌, ℕ, Bool, true, false, List, [], ◌∷◌, ◌++◌, map, length, take, flat_map, inl, inr, refl, sym, ap, subst, ◌∙◌, append_assoc, le_refl}
+use Rattle.std.proofs.Common.{◌≡◌, ◌↔◌, ◌<◌, ◌≤◌, ◌-◌, ℕ, Bool, true, false, List, [], ◌∷◌, ◌++◌, map, length, take, flat_map, inl, inr, refl, sym, ap, subst, ◌∙◌, append_assoc, le_refl}
 use Rattle.std.specs.Prelude.{slice_get}
 use Rattle.std.specs.List.{filter, list_all}
 use Rattle.std.proofs.lemmas.Bool.{false≢true}
@@ -30,12 +30,13 @@ use Rattle.trip_laws.proofs.Settling.{noted_on, over_all, settled_on}
 use Rattle.session_turn.proofs.Histories.{some_of}
 use Rattle.run_alone.specs.Between.{Passed}
 use Rattle.run_alone.specs.Overs.{IsOver, GaveNone}
-use Rattle.branch_workers.specs.Lines.{finished_before}
+use Rattle.branch_workers.specs.Lines.{finished_before, noted_before, IsFront}
 use Rattle.run_alone.specs.declared.worker.Finished.{Finished}
 use Rattle.run_alone.proofs.Assembling.{HasEnded}
-use Rattle.run_alone.proofs.Finishing.{CanEnd, adoptions_add, adoptions_between, at_end, closed_by, closing_adds, closing_between, closing_by, closing_closes, earlier_end, early_end, open_end, open_gathered, order_end, settled_waits, stop_gathers}
-use Rattle.run_alone.proofs.Stepping.{all_weaker}
-use Rattle.run_alone.proofs.Taking.{collected_all, runs, still_halted}
+use Rattle.run_alone.proofs.Finishing.{CanEnd, adoptions_add, adoptions_between, adoptions_silent, at_end, closed_by, closing_adds, closing_between, closing_by, closing_closes, closing_silent, earlier_end, early_end, open_end, open_gathered, order_end, settled_waits, stop_gathers}
+use Rattle.run_alone.proofs.Noting.{noted_end}
+use Rattle.run_alone.proofs.Stepping.{all_weaker, collected_all}
+use Rattle.run_alone.proofs.Taking.{runs, still_halted}
 
 -- How a run was ended: what was left to do was done, or not where the front halted; the sessions that were born were
 -- adopted; the run was stopped, and the answers were collected.
@@ -150,6 +151,14 @@ module _ {s0 s1 s2 s3 s4 : State} {xs0 xs1 : List Wait} (f : Finishes s0 s1 s2 s
           (i. told_places (take k (ts ++ map told_of (filter is_finished (waits_1 i)))) ≡ finished_before (setting_4 i) (history_4 i) (length all) j)
           (earlier_end w s0.history all xs0 f.swept adoptions (closing_by was_closed) ts can j k within are)
 
+      -- what was noted before the last posting is the same
+      pub noted_at_end : (noted : List ℕ) → IsFront (noted_before w s0.history (length all - 1)) noted
+          → IsFront (noted_before s4.setting s4.history (length all - 1)) noted
+      noted_at_end noted was =
+          coe 1 0 (i. IsFront (noted_before (setting_4 i) (history_4 i) (length all - 1)) noted)
+          (noted_end w s0.history all xs0 f.swept adoptions (closing_by was_closed) ts can
+          (adoptions_silent adoptions f.adopt.adoptions.only) (closing_silent was_closed) noted was)
+
       -- the front expects to be told of what is open
       pub expected_end : (d : Dealings) → d.brought.given ≡ all → d.said.told ≡ ts → AreExpected xs1 d
       expected_end d given said =
@@ -237,7 +246,7 @@ module _ {s0 s1 s2 s3 s4 : State} {xs0 xs1 : List Wait} {n : ℕ} (f : Finishes 
   pub has_ended : (before mid now : Dealings) (finished : Finished) → Passed s0 xs0 n before → IsOver before
       → (GaveNone before → before.brought.seen ≡ length before.said.told)
       → SaidAll s1 xs1 before mid now → Leaves s2 s4 finished → (0 < n → f.swept ≡ [])
-      → (mid.said.halted ≡ false → IsQuietAt s2) → IsStillAt s2
+      → (mid.said.muted ≡ false → IsQuietAt s2) → IsStillAt s2
       → HasEnded (record { setting = s2.setting; budget = s2.budget }) s2.history (filter is_open xs1) now finished
   has_ended before mid now finished passed over saw said left calm quiet still =
       let brought : now.brought ≡ before.brought = said.tells.brought ∙ said.brought_mid in
@@ -250,9 +259,9 @@ module _ {s0 s1 s2 s3 s4 : State} {xs0 xs1 : List Wait} {n : ℕ} (f : Finishes 
       let setting : s4.setting ≡ s2.setting = f.collect.setting ∙ f.stop.setting in
       record {
         came =
-            subst (λ (ss : List (List Event)). CameThrough s2.setting s2.budget now.said.halted s2.history ss) (sym left.sessions)
+            subst (λ (ss : List (List Event)). CameThrough s2.setting s2.budget now.said.muted s2.history ss) (sym left.sessions)
             (came_through s2 team2 (subst (λ (l : Limits). l.sessions ≤ first_worker) (sym team2.limits) (le_refl first_worker))
-            f.adopt.born (λ e. quiet (said.tells.halts.calm e).0) still);
+            f.adopt.born (λ e. quiet (sym said.tells.muted ∙ e)) still);
         end = subst (λ (l : List Entry). Ended s2.history l) (sym left.history) (ended f team0 team2 legal);
         legal = coe 1 0 (i. IsLegal (sym setting i) (left.history i)) legal;
         opens =
@@ -282,6 +291,12 @@ module _ {s0 s1 s2 s3 s4 : State} {xs0 xs1 : List Wait} {n : ℕ} (f : Finishes 
             (ap (λ (k : ℕ). map (λ (t : Told). t.place) (take k (before.said.told ++ map told_of (filter is_finished xs1)))) (saw (gave_none before now brought none))
             ∙ ap (map (λ (t : Told). t.place)) (take_at before.said.told (map told_of (filter is_finished xs1)) (length before.said.told) refl)
             ∙ early_at_end f team0 team2 legal before.brought.given before.said.told idle passed.opens order);
+        noted_then =
+            coe 1 0
+            (i. IsFront (noted_before (sym setting i) (left.history i) (length (brought i).given - 1)) (brought i).noted)
+            (noted_at_end f team0 team2 legal before.brought.given before.said.told idle passed.opens order before.brought.noted
+            (subst (λ (m : ℕ). IsFront (noted_before s0.setting s0.history (m - 1)) before.brought.noted) (sym passed.count)
+            passed.noted_then));
         looked =
             subst (λ (ss : List (List Event)). Looked s2.setting s2.budget s2.history ss finished.spent) (sym left.sessions)
             (looked_by s2 finished.spent left.spent);

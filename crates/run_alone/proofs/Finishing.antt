@@ -27,6 +27,7 @@ use Rattle.session_turn.proofs.Histories.{some_of}
 use Rattle.run_posts.specs.Fates.{Wait, all_collected, is_finished, is_open, settled_in, told_of}
 use Rattle.run_posts.proofs.Ending.{StandsInOrder, all_finished, open_collected, open_told, other_all, settled_collected, stands_early, stands_ended}
 use Rattle.run_posts.proofs.Opening.{IsOpen, is_between, open_between, told_places}
+use Rattle.trip_laws.specs.Going.{is_silent}
 use Rattle.branch_workers.specs.Lines.{finished_before}
 use Rattle.run_alone.proofs.Earlier.{first_told}
 use Rattle.run_alone.proofs.Stepping.{all_append, all_weaker, between_other, other_over, places_settled}
@@ -76,6 +77,14 @@ none_adopted n a h = absurd (false≢true h)
 pub adoptions_add : (es : List Entry) → list_all is_adoption es ≡ true → list_all adds_none es ≡ true
 adoptions_add es all = all_weaker is_adoption adds_none (λ e g. none_adopted e.actor e.act g) es all
 
+none_sent : (n : ℕ) (a : Act) → is_adoption (record { actor = n; act = a }) ≡ true
+    → is_silent (record { actor = n; act = a }) ≡ true
+none_sent n (act.Adopt d) h = refl
+none_sent n a h = absurd (false≢true h)
+
+pub adoptions_silent : (es : List Entry) → list_all is_adoption es ≡ true → list_all is_silent es ≡ true
+adoptions_silent es all = all_weaker is_adoption is_silent (λ e g. none_sent e.actor e.act g) es all
+
 -- ---- the end of input
 
 -- the end of input, where it is to be noted
@@ -89,6 +98,10 @@ closing_between false = refl
 pub closing_adds : (b : Bool) → list_all adds_none (closing_by b) ≡ true
 closing_adds true = refl
 closing_adds false = refl
+
+pub closing_silent : (b : Bool) → list_all is_silent (closing_by b) ≡ true
+closing_silent true = refl
+closing_silent false = refl
 
 pub closing_closes : (b : Bool) → list_all is_close (closing_by b) ≡ true
 closing_closes true = refl
@@ -179,10 +192,10 @@ module _ (w : Setting) (h : List Entry) (all : List Posting) (xs : List Wait) (s
         ∙ or_right (list_any stops (before_end ++ closing)) (list_any stops (stop_entry ∷ gathered)) refl
 
     -- all that comes
-    abbrev more : List Entry
+    abbrev pub more : List Entry
     more = swept ++ ((adoptions ++ closing) ++ stop_entry ∷ gathered)
 
-    more_is : h ++ more ≡ at_end
+    pub more_is : h ++ more ≡ at_end
     more_is =
         sym (append_assoc h swept ((adoptions ++ closing) ++ stop_entry ∷ gathered))
         ∙ sym (append_assoc (h ++ swept) (adoptions ++ closing) (stop_entry ∷ gathered))

@@ -7,6 +7,7 @@ pub mod Earlier
 pub mod Ended
 pub mod Finishing
 pub mod Looks
+pub mod Noting
 pub mod Picking
 pub mod Places
 pub mod Quitting

@@ -14,6 +14,7 @@ use Rattle.run_posts.specs.Telling.{TellsOn}
 use Rattle.run_alone.specs.Between.{Answered, Between, Brings, Closed, Passed}
 use Rattle.run_alone.specs.Overs.{IsOver, GaveNone, asks, most_waits}
 use Rattle.run_alone.proofs.Asking.{brings_next, ends_next, taken_looks, waits_next}
+use Rattle.run_alone.proofs.Taking.{still_halted}
 
 -- What passed with a front until a look at it, before which so many in a row found no posting.
 pub record IsAt (s : State) (xs : List Wait) (n : ℕ) (calm : Bool) (looks : ℕ) (d : Dealings) : Type 0 where
@@ -21,7 +22,7 @@ pub record IsAt (s : State) (xs : List Wait) (n : ℕ) (calm : Bool) (looks : �
   pub waits : d.brought.waits ≡ looks
   pub few : looks ≤ most_waits
   pub going : d.brought.ended ≡ false
-  pub halted : calm ≡ false → d.said.halted ≡ true
+  pub muted : calm ≡ false → d.said.muted ≡ true
   pub seen : 0 < looks → d.brought.seen ≡ length d.said.told
 
 -- what a front has when it is asked for a posting
@@ -49,7 +50,7 @@ at_first d passed new = record {
   waits = new.waits;
   few = omega arith;
   going = new.open_yet;
-  halted = λ e. absurd (false≢true (sym e));
+  muted = λ e. absurd (false≢true (sym e));
   seen = λ some. absurd (omega (arith, some));
 }
 
@@ -61,11 +62,11 @@ module _ {s : State} {xs : List Wait} {n : ℕ} {calm : Bool} {looks : ℕ} {bef
     (x : IsAt s xs n calm looks before) {parts : ProgramParts} (dealt : Dealings → Type 0) where
   -- a posting was given, and taken in
   pub at_posting : {t : State} {ys : List Wait} {m : ℕ} {after : Bool} (p : Posting) (dealt_now : Dealings → Type 0)
-      → After dealt (Asks parts (next.Posting p) before)
+      → before.said.halted ≡ false → After dealt (Asks parts (next.Posting p) before)
       → ((mid : Dealings) → dealt mid → Brings s xs n p mid → After dealt_now (Answered t ys m after mid))
       → After dealt_now (IsAt t ys m after 0)
-  at_posting p dealt_now asked take =
-      let taken = take asked.0 asked.1 (brings_next x.passed asked.2) in
+  at_posting p dealt_now running asked take =
+      let taken = take asked.0 asked.1 (brings_next x.passed running asked.2) in
       let looked = taken_looks (taken.2).said (asked.2).came.waits (asked.2).came.ended in (
         taken.0,
         taken.1,
@@ -74,7 +75,7 @@ module _ {s : State} {xs : List Wait} {n : ℕ} {calm : Bool} {looks : ℕ} {bef
           waits = looked.0;
           few = omega arith;
           going = looked.1;
-          halted = (taken.2).halted;
+          muted = (taken.2).muted;
           seen = λ some. absurd (omega (arith, some));
         },
       )
@@ -91,7 +92,7 @@ module _ {s : State} {xs : List Wait} {n : ℕ} {calm : Bool} {looks : ℕ} {bef
           waits = w.1 ∙ ap (λ m. suc m) x.waits ∙ one;
           few = omega (arith, few);
           going = w.2;
-          halted = λ e. ap (λ (d : Said). d.halted) (asked.2).silent ∙ x.halted e;
+          muted = λ e. ap (λ (d : Said). d.muted) (asked.2).silent ∙ x.muted e;
           seen = λ some. (asked.2).seen ∙ ap (λ (d : Said). length d.told) (sym (asked.2).silent);
         },
       )
@@ -105,7 +106,7 @@ module _ {s : State} {xs : List Wait} {n : ℕ} {calm : Bool} {looks : ℕ} {bef
         record {
           passed = w.0;
           over = w.1;
-          halted = λ e. ap (λ (d : Said). d.halted) (asked.2).silent ∙ x.halted e;
+          muted = λ e. ap (λ (d : Said). d.muted) (asked.2).silent ∙ x.muted e;
           seen = λ none. (asked.2).seen ∙ ap (λ (d : Said). length d.told) (sym (asked.2).silent);
         },
       )
@@ -124,7 +125,7 @@ pub at_stop : {s : State} {xs : List Wait} {n : ℕ} {calm : Bool} {looks : ℕ}
 at_stop {n = n} {calm = calm} {looks = looks} d x stops = record {
   passed = x.passed;
   over = over stops;
-  halted = x.halted;
+  muted = x.muted;
   seen = seen;
 }
   where
@@ -133,7 +134,7 @@ at_stop {n = n} {calm = calm} {looks = looks} d x stops = record {
     seen (inr some) = quiet_at x some
 
     over : Stops n calm looks d → IsOver d
-    over (inl e) = inr (inl (x.halted e))
+    over (inl e) = inr (inl (still_halted d.said.muted d.said.halted x.passed.mutes (x.muted e)))
     over (inr (inl e)) = inr (inl e)
     over (inr (inr (inl e))) = inr (inr (inl (x.waits ∙ all_looks looks e x.few)))
     over (inr (inr (inr e))) = inr (inr (inr (subst (λ (m : ℕ). most_postings ≤ m) (sym x.passed.count) e)))

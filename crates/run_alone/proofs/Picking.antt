@@ -23,7 +23,8 @@ use Rattle.run_alone.specs.Picks.{TookPicks, TookTurns}
 use Rattle.run_alone.specs.Ran.{Rules}
 use Rattle.run_alone.proofs.Courses.{begins, course_begins, course_on, course_took}
 use Rattle.run_alone.proofs.Finishing.{closing_by}
-use Rattle.run_alone.proofs.Taking.{collected_all, runs}
+use Rattle.run_alone.proofs.Stepping.{collected_all}
+use Rattle.run_alone.proofs.Taking.{runs}
 
 -- one course behind another
 pub goes_both : {a b c : State} → Goes a b → Goes b c → Goes a c

@@ -16,7 +16,9 @@ use Rattle.run_cells.proofs.Resting.{stands_at}
 use Rattle.run_cells.proofs.Stilling.{event_at}
 use Rattle.run_sweep.specs.Swept.{NotesBy, Swept, StaysQuiet}
 use Rattle.trip_laws.specs.Going.{AreSettled, NotedSoFar}
-use Rattle.run_alone.specs.Between.{LeftQuiet, Rested}
+use Rattle.run_posts.specs.Fates.{Wait}
+use Rattle.run_alone.specs.Between.{Between, Closed, LeftQuiet, Rested}
+use Rattle.run_alone.proofs.Taking.{calm_quiet}
 
 -- ---- nothing is done
 
@@ -34,23 +36,35 @@ rested_not s settled = record {
   goes = stays;
 }
 
--- it was not calm, or the front said that it halted
-halted_by : (calm stops halted : Bool) → (calm ≡ false → halted ≡ true) → stops ≡ halted → (not calm || stops) ≡ true
-    → halted ≡ true
-halted_by true stops halted f e h = sym e ∙ h
-halted_by false stops halted f e h = f refl
+-- it was not calm, so that a note failed; or an answer halted the front, and nothing was left to do before that
+quiet_by : {s : State} {xs : List Wait} {n : ℕ} {before : Dealings} (calm stops : Bool) → Between s xs n calm
+    → Closed s xs n calm before → stops ≡ before.said.halted → (not calm || stops) ≡ true → before.said.muted ≡ false
+    → IsQuietAt s
+quiet_by {s} {n = n} true stops b closed e h unmuted = calm_quiet s n (closed.passed.some (sym e ∙ h)) (b.quiet refl)
+quiet_by false stops b closed e h unmuted = absurd (false≢true (sym unmuted ∙ closed.muted refl))
 
-pub quiet_not : (s : State) (calm stops : Bool) (dealt : Dealings → Type 0) (before : Dealings) → dealt before
-    → (calm ≡ false → before.said.halted ≡ true) → stops ≡ before.said.halted → (not calm || stops) ≡ true
-    → After dealt (LeftQuiet s s before)
-quiet_not s calm stops dealt before so f e h = (
+pub quiet_not : {s : State} {xs : List Wait} {n : ℕ} {calm stops : Bool} (dealt : Dealings → Type 0) (before : Dealings)
+    → Between s xs n calm → dealt before → Closed s xs n calm before → stops ≡ before.said.halted
+    → (not calm || stops) ≡ true → After dealt (LeftQuiet s s before)
+quiet_not {calm = calm} {stops = stops} dealt before b so closed e h = (
   before,
   so,
   record {
     noted = record { told = refl; said = record { brought = refl; halted = λ x. x }; noted = λ x. x };
-    quiet = λ going. absurd (false≢true (sym going ∙ halted_by calm stops before.said.halted f e h));
+    quiet = quiet_by calm stops b closed e h;
   },
 )
+
+-- it did not halt where it went on, and no note failed
+running_by : (calm stops : Bool) → (not calm || stops) ≡ false → stops ≡ false
+running_by true stops h = h
+running_by false stops h = absurd (false≢true (sym h))
+
+pub mutes_by : {s : State} {xs : List Wait} {n : ℕ} {calm stops : Bool} {before : Dealings} → Closed s xs n calm before
+    → stops ≡ before.said.halted → (not calm || stops) ≡ false → before.said.muted ≡ before.said.halted
+mutes_by {calm = calm} {stops = stops} {before = before} closed e h =
+    let running : before.said.halted ≡ false = sym e ∙ running_by calm stops h in
+    closed.passed.mutes running ∙ sym running
 
 -- it was calm where it went on
 pub was_calm : (calm halted : Bool) → (not calm || halted) ≡ false → calm ≡ true
@@ -96,10 +110,10 @@ quiet_swept {old} {new} went dealt before setting noted quiet halted = (
 )
   where
     by : (b : Bool) → (b ≡ true → IsQuietAt new)
-        → (b ≡ false → (now : Dealings) → dealt now → now.said.halted ≡ true) → (noted.0).said.halted ≡ false
+        → (b ≡ false → (now : Dealings) → dealt now → now.said.halted ≡ true) → (noted.0).said.muted ≡ false
         → IsQuietAt new
     by true q h e = q refl
-    by false q h e = absurd (false≢true (sym e ∙ h refl noted.0 noted.1))
+    by false q h e = absurd (false≢true (sym e ∙ (noted.2.0).notes.muted ∙ h refl noted.0 noted.1))
 
 -- ---- adoptions
 

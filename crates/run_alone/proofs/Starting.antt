@@ -1,5 +1,6 @@
 -- Before the first posting.
-use Rattle.std.proofs.Common.{◌≡◌, ℕ, true, List, [], length, map, Option, refl, sym, ap, subst}
+use Rattle.std.proofs.Common.{◌≡◌, ◌-◌, ℕ, true, List, [], length, map, Option, refl, sym, ap, subst, ◌∙◌, arith}
+use Rattle.std.proofs.lemmas.Bool.{false≢true}
 use Rattle.behaviour_tree.specs.Data.{ProgramParts}
 use Rattle.office_core.specs.declared.front.Posting.{Posting}
 use Rattle.office_core.specs.declared.history.Entry.{Entry}
@@ -22,6 +23,7 @@ use Rattle.run_alone.specs.Between.{Between, Passed}
 use Rattle.run_alone.specs.Ran.{Ran}
 use Rattle.run_alone.specs.declared.worker.Finished.{Finished}
 use Rattle.run_alone.proofs.Earlier.{none_asked}
+use Rattle.run_alone.proofs.Noting.{front_all, noted_none}
 use Rattle.run_alone.proofs.Touring.{travelled_all}
 
 module _ (s : State) (xs : List Wait) (empty : s.history ≡ []) (none : xs ≡ []) where
@@ -47,6 +49,10 @@ module _ (s : State) (xs : List Wait) (empty : s.history ≡ []) (none : xs ≡ 
     asked = ap (λ (ks : List ℕ). length ks) new.unasked;
     earlier = λ j k at. absurd (none_asked d.brought.seens j k new.unasked at);
     noted = coe 1 0 (i. NotedSoFar s.setting (empty i) (new.noted i)) (noted_first s.setting);
+    noted_then = noted_none s.setting s.history (0 - 1) d.brought.noted (omega arith);
+    noted_since = front_all d.brought.noted d.said.noted (new.unnoted ∙ sym new.noted);
+    some = λ e. absurd (false≢true (sym new.writes ∙ e));
+    mutes = λ e. new.unmuted;
   }
 
 -- with the postings of a run that begins

@@ -1,14 +1,17 @@
 -- One posting is posted, swept and told: what is open then, and in which order postings were told.
-use Rattle.std.proofs.Common.{◌≡◌, ◌<◌, ◌≤◌, ℕ, suc, Bool, true, false, ◌&&◌, List, [], ◌∷◌, ◌++◌, map, length, take, nat_eq, nat_le, refl, sym, ap, subst, ◌∙◌, append_assoc, append-nil, le_refl}
+use Rattle.std.proofs.Common.{◌≡◌, ◌<◌, ◌≤◌, ℕ, suc, Bool, true, false, ◌&&◌, List, [], ◌∷◌, ◌++◌, map, length, take, Option, None, Some, nat_eq, nat_le, refl, sym, ap, subst, ◌∙◌, append_assoc, append-nil, le_refl}
 use Rattle.std.specs.List.{filter, list_all}
 use Rattle.std.proofs.lemmas.Bool.{and_from, and_parts, eq-eqb, false≢true, le-leb, or_left}
+use Rattle.behaviour_tree.specs.declared.words.Outcome.{Outcome}
 use Rattle.office_core.specs.declared.front.Posting.{Posting}
 use Rattle.office_core.specs.declared.history.Act.{Act}
 use Rattle.office_core.specs.declared.history.Act.TheVariants as act
 use Rattle.office_core.specs.declared.history.Entry.{Entry}
+use Rattle.office_core.specs.Keys.{first}
 use Rattle.office_core.specs.Limits.{Setting, first_worker}
-use Rattle.office_core.specs.Past.{some_entry, stops}
+use Rattle.office_core.specs.Past.{Past, some_entry, stops}
 use Rattle.office_core.specs.Accepted.{past_of}
+use Rattle.office_core.specs.Answers.{answers}
 use Rattle.office_core.specs.Legal.{IsLegal}
 use Rattle.office_front.specs.Dealings.{Told}
 use Rattle.order_laws.specs.Entries.{adds_none, cuts, is_other, posts_over, posts_under}
@@ -16,7 +19,9 @@ use Rattle.order_laws.specs.Ordering.{Grows}
 use Rattle.order_laws.proofs.Growing.{legal_front}
 use Rattle.order_laws.proofs.Ordering.{before_goes_on, calm_at_post, calm_behind}
 use Rattle.run_record.specs.Order.{before_first}
-use Rattle.run_posts.specs.Fates.{Wait, all_collected, is_finished, is_open, posted_entries, settled_in, told_of}
+use Rattle.run_posts.specs.declared.pending.Fate.{Fate}
+use Rattle.run_posts.specs.declared.pending.Fate.TheVariants.{Message, Known}
+use Rattle.run_posts.specs.Fates.{Wait, all_collected, collected, collected_in, collection, is_finished, is_open, posted_entries, settled_in, told_of}
 use Rattle.run_posts.proofs.Settling.{none_of_all}
 use Rattle.run_posts.proofs.Ending.{AreSettled, StandsInOrder, open_collected, open_told, other_all, settled_collected, stands_next}
 use Rattle.run_posts.proofs.Opening.{IsOpen, all_posts_of, is_between, next_wait, open_between, open_posts, places, told_places}
@@ -64,6 +69,34 @@ pub calm_none : (count : ℕ) (es : List Entry) → list_all adds_none es ≡ tr
 calm_none count es h =
     subst (λ (l : List Entry). list_all adds_none (before_first (cuts count) l) ≡ true) (append-nil es)
     (calm_behind count es [] h refl)
+
+-- ---- what is collected
+
+collection_all : (f : Entry → Bool) → ((m : ℕ) (o : Outcome) → f (record { actor = first_worker; act = act.Collect m o }) ≡ true)
+    → (m : ℕ) (o : Option Outcome) → list_all f (collection m o) ≡ true
+collection_all f each m None = refl
+collection_all f each m (Some o) =
+    and_from (f (record { actor = first_worker; act = act.Collect m o })) true (each m o) refl
+
+collected_one : (f : Entry → Bool) → ((m : ℕ) (o : Outcome) → f (record { actor = first_worker; act = act.Collect m o }) ≡ true)
+    → (v : Setting) (past : Past) (x : Fate) → list_all f (collected v past x) ≡ true
+collected_one f each v past (Message m) = collection_all f each m (first (answers v past m))
+collected_one f each v past (Known o) = refl
+
+collected_fates : (f : Entry → Bool) → ((m : ℕ) (o : Outcome) → f (record { actor = first_worker; act = act.Collect m o }) ≡ true)
+    → (v : Setting) (past : Past) (xs : List Fate) → list_all f (collected_in v past xs) ≡ true
+collected_fates f each v past [] = refl
+collected_fates f each v past (x ∷ xs) =
+    all_append f (collected v past x) (collected_in v past xs) (collected_one f each v past x)
+    (collected_fates f each v past xs)
+
+-- what holds of each collection of the first worker
+pub collected_all : (f : Entry → Bool) → ((m : ℕ) (o : Outcome) → f (record { actor = first_worker; act = act.Collect m o }) ≡ true)
+    → (v : Setting) (past : Past) (xs : List Wait) → list_all f (all_collected v past xs) ≡ true
+collected_all f each v past [] = refl
+collected_all f each v past (x ∷ xs) =
+    all_append f (collected_in v past x.fates) (all_collected v past xs) (collected_fates f each v past x.fates)
+    (collected_all f each v past xs)
 
 -- ---- places
 
@@ -132,7 +165,7 @@ module _ (w : Setting) (h : List Entry) (all : List Posting) (xs : List Wait) (p
     open_step = open_told w after_step (all ++ p ∷ []) ts settled_waits open_gathered
 
     -- the history in one
-    in_one : h ++ (posted ++ (swept ++ gathered)) ≡ after_step
+    pub in_one : h ++ (posted ++ (swept ++ gathered)) ≡ after_step
     in_one = sym (append_assoc h posted (swept ++ gathered)) ∙ sym (append_assoc (h ++ posted) swept gathered)
 
     number_same : nat_eq first_worker first_worker ≡ true

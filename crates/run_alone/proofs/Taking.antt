@@ -1,18 +1,16 @@
 -- A posting is taken in: where the run stands then.
-use Rattle.std.proofs.Common.{◌≡◌, ◌<◌, ◌≤◌, ℕ, zero, suc, Bool, true, false, not, List, [], ◌∷◌, ◌++◌, map, length, take, Option, None, Some, nat_eq, refl, sym, ap, subst, ◌∙◌, append-nil, arith, le_refl}
+use Rattle.std.proofs.Common.{◌≡◌, ◌<◌, ◌≤◌, ◌-◌, ℕ, zero, suc, Bool, true, false, not, List, [], ◌∷◌, ◌++◌, map, length, take, Some, nat_eq, refl, sym, ap, subst, ◌∙◌, append-nil, arith, le_refl}
 use Rattle.std.specs.Prelude.{slice_get}
 use Rattle.std.specs.List.{filter, list_all, list_any}
 use Rattle.std.proofs.lemmas.Bool.{and_from, and_parts, eq-eqb, false≢true, not-true, or_from}
-use Rattle.behaviour_tree.specs.declared.words.Outcome.{Outcome}
 use Rattle.office_core.specs.declared.front.CallIn.{CallIn}
 use Rattle.office_core.specs.declared.front.Posting.{Posting}
 use Rattle.office_core.specs.declared.history.Act.TheVariants as act
 use Rattle.office_core.specs.declared.history.Entry.{Entry}
-use Rattle.office_core.specs.Keys.{first}
+use Rattle.office_core.specs.declared.outgoing.OutKind.TheVariants as kind
 use Rattle.office_core.specs.Limits.{Limits, Setting, first_worker}
-use Rattle.office_core.specs.Past.{Past, is_running, some_entry, stops}
+use Rattle.office_core.specs.Past.{is_running, some_entry, stops}
 use Rattle.office_core.specs.Accepted.{past_of}
-use Rattle.office_core.specs.Answers.{answers}
 use Rattle.office_core.specs.Legal.{IsLegal}
 use Rattle.office_front.specs.Dealings.{Brought, Dealings, Told}
 use Rattle.office_front.specs.Calls.{After}
@@ -20,24 +18,24 @@ use Rattle.order_laws.proofs.Growing.{legal_front, legal_rest}
 use Rattle.quiet_laws.specs.Ends.{is_by_worker}
 use Rattle.quiet_laws.proofs.Aside.{is_aside}
 use Rattle.quiet_laws.proofs.Workers.{quiet_by_answers, still_by_others, still_by_posts}
+use Rattle.run_record.specs.Outside.{notes}
 use Rattle.run_record.specs.Quiet.{IsQuiet, IsStill, posts, posts_for, unbrought}
 use Rattle.run_cells.specs.Crews.{Stand, State, Stays, Team, events_of, past_in}
 use Rattle.run_cells.specs.Rounds.{IsQuietAt, IsStillAt}
 use Rattle.run_cells.proofs.Ends.{few, made_calls}
-use Rattle.run_posts.specs.declared.pending.Fate.{Fate}
-use Rattle.run_posts.specs.declared.pending.Fate.TheVariants.{Message, Known}
-use Rattle.run_posts.specs.Fates.{Wait, all_collected, collected, collected_in, collection, fates_of, is_finished, is_open, posted_entries, settled_in, told_of}
+use Rattle.run_posts.specs.Fates.{Wait, all_collected, fates_of, is_finished, is_open, posted_entries, settled_in, told_of}
 use Rattle.run_posts.specs.Telling.{AreExpected, TellsAll}
 use Rattle.run_posts.proofs.Ending.{StandsInOrder, open_expected}
 use Rattle.run_posts.proofs.Opening.{IsOpen, all_posts_of, next_wait, open_between, open_posts, told_places}
 use Rattle.run_sweep.specs.Swept.{NotesBy, StaysQuiet, Swept}
 use Rattle.trip_laws.specs.Going.{AreSettled, NotedSoFar, is_inward, is_silent}
-use Rattle.trip_laws.proofs.Settling.{brought_over, noted_on, over_all, settled_on}
+use Rattle.trip_laws.proofs.Settling.{all_noted, brought_over, noted_on, over_all, quiet_none, settled_on}
 use Rattle.run_alone.specs.Between.{Answered, Between, Brings, IsCalm, Passed, SaidMore, WasTold}
-use Rattle.branch_workers.specs.Lines.{finished_before}
+use Rattle.branch_workers.specs.Lines.{finished_before, noted_before, IsFront}
 use Rattle.run_alone.proofs.Between.{swept_between}
 use Rattle.run_alone.proofs.Earlier.{asked_within, longer_told}
-use Rattle.run_alone.proofs.Stepping.{CanStep, after_step, after_sweep, all_append, earlier_step, longer, open_gathered, open_step, order_step, posted, settled_waits, waiting}
+use Rattle.run_alone.proofs.Noting.{noted_step}
+use Rattle.run_alone.proofs.Stepping.{CanStep, after_step, after_sweep, collected_all, earlier_step, longer, open_gathered, open_step, order_step, posted, settled_waits, waiting}
 
 -- What taking in a posting did: its calls were posted, a sweep, answers were collected, and the postings that are
 -- finished were told.
@@ -60,10 +58,21 @@ nothing_more (x ∷ xs) ys e = nothing_more xs ys (tail e)
 not_below : 0 < 0 → ⊥
 not_below less = omega (arith, less)
 
+some_below : (n : ℕ) → 0 < suc n
+some_below n = omega arith
+
+one_less : (n : ℕ) → n ≡ suc n - 1
+one_less n = omega arith
+
 -- where there was a posting before, a run that is calm has nothing left to do
 pub calm_quiet : (s : State) (n : ℕ) → 0 < n → IsCalm n s → IsQuietAt s
 calm_quiet s zero some empty = absurd (not_below some)
 calm_quiet s (suc n) some quiet = quiet
+
+-- each call that went out has its outcome where a posting may begin
+calm_brought : (s : State) (n : ℕ) → IsCalm n s → unbrought (past_in s) ≡ []
+calm_brought s zero empty = ap (λ (h : List Entry). unbrought (past_of s.setting h)) empty
+calm_brought s (suc n) quiet = quiet.brought
 
 pub runs : (w : Setting) (h : List Entry) → is_running (past_of w h) ≡ true → some_entry (past_of w h) stops ≡ false
 runs w h e = not-true (some_entry (past_of w h) stops) e
@@ -164,6 +173,12 @@ module _ {s0 s1 s2 s3 : State} {xs0 xs1 xs2 xs3 : List Wait} {n : ℕ} {p : Post
         (earlier_step w s0.history all xs0 p swept ts can j k (subst (λ (m : ℕ). j ≤ m) (sym count) most) within
         (are ∙ ap (λ (m : ℕ). finished_before w s0.history m j) (sym count)))
 
+    -- and what was noted before it was asked for
+    pub noted_then : (noted : List ℕ) → notes w s0.history ≡ noted → IsFront (noted_before s3.setting s3.history n) noted
+    noted_then noted is =
+        coe 1 0 (i. IsFront (noted_before (setting_3 i) (history_3 i) (sym count i)) noted)
+        (noted_step w s0.history all xs0 p swept ts can noted is)
+
     -- the front expects to be told of them
     pub expected_then : (d : Dealings) → d.brought.given ≡ all ++ p ∷ [] → d.said.told ≡ ts → AreExpected xs2 d
     expected_then d given said =
@@ -171,41 +186,13 @@ module _ {s0 s1 s2 s3 : State} {xs0 xs1 xs2 xs3 : List Wait} {n : ℕ} {p : Post
         (open_expected w (after_step w s0.history all xs0 p swept) (all ++ p ∷ []) ts
         (settled_waits w s0.history all xs0 p swept) d given said (open_gathered w s0.history all xs0 p swept ts can))
 
--- ---- what is collected
-
-collection_all : (f : Entry → Bool) → ((m : ℕ) (o : Outcome) → f (record { actor = first_worker; act = act.Collect m o }) ≡ true)
-    → (m : ℕ) (o : Option Outcome) → list_all f (collection m o) ≡ true
-collection_all f each m None = refl
-collection_all f each m (Some o) =
-    and_from (f (record { actor = first_worker; act = act.Collect m o })) true (each m o) refl
-
-collected_one : (f : Entry → Bool) → ((m : ℕ) (o : Outcome) → f (record { actor = first_worker; act = act.Collect m o }) ≡ true)
-    → (v : Setting) (past : Past) (x : Fate) → list_all f (collected v past x) ≡ true
-collected_one f each v past (Message m) = collection_all f each m (first (answers v past m))
-collected_one f each v past (Known o) = refl
-
-collected_fates : (f : Entry → Bool) → ((m : ℕ) (o : Outcome) → f (record { actor = first_worker; act = act.Collect m o }) ≡ true)
-    → (v : Setting) (past : Past) (xs : List Fate) → list_all f (collected_in v past xs) ≡ true
-collected_fates f each v past [] = refl
-collected_fates f each v past (x ∷ xs) =
-    all_append f (collected v past x) (collected_in v past xs) (collected_one f each v past x)
-    (collected_fates f each v past xs)
-
--- what holds of each collection of the first worker
-pub collected_all : (f : Entry → Bool) → ((m : ℕ) (o : Outcome) → f (record { actor = first_worker; act = act.Collect m o }) ≡ true)
-    → (v : Setting) (past : Past) (xs : List Wait) → list_all f (all_collected v past xs) ≡ true
-collected_all f each v past [] = refl
-collected_all f each v past (x ∷ xs) =
-    all_append f (collected_in v past x.fates) (all_collected v past xs) (collected_fates f each v past x.fates)
-    (collected_all f each v past xs)
+-- ---- how a team stands
 
 none_of_not : (f : Entry → Bool) (es : List Entry) → list_all (λ e. not (f e)) es ≡ true → list_any f es ≡ false
 none_of_not f [] h = refl
 none_of_not f (e ∷ es) h =
     let both = and_parts (not (f e)) (list_all (λ d. not (f d)) es) h in
     or_from (f e) (list_any f es) (not-true (f e) both.0) (none_of_not f es both.1)
-
--- ---- how a team stands
 
 few_team : (s : State) → Team s → length (events_of s.stands) ≤ first_worker
 few_team s team =
@@ -292,14 +279,14 @@ module _ {s0 s1 s2 s3 : State} {xs0 xs1 xs2 xs3 : List Wait} {n : ℕ} {p : Post
       (all_collected s2.setting (past_in s2) xs1) inward_gathered legal_then so)
 
   -- what passed with the front then: it was noted to in the sweep, and then told
-  pub passed_then : (before mid now : Dealings) → IsLegal s1.setting s1.history → IsCalm n s0 → Brings s0 xs0 n p before
-      → NotesBy s1.setting s1.history s2.history before mid → TellsAll (map told_of (filter is_finished xs2)) mid now
-      → Passed s3 xs3 (suc n) now × SaidMore before now
-  passed_then before mid now legal calm b notes tells =
-      let brought : now.brought ≡ before.brought = tells.brought ∙ (notes.0).notes.brought in
+  pub passed_then : (before mid now : Dealings) → IsLegal s1.setting s1.history → IsCalm n s0 → AreSettled s0.setting s0.history
+      → Brings s0 xs0 n p before → NotesBy s1.setting s1.history s2.history before mid
+      → TellsAll (map told_of (filter is_finished xs2)) mid now → Passed s3 xs3 (suc n) now × SaidMore before now
+  passed_then before mid now legal calm settled b noting tells =
+      let brought : now.brought ≡ before.brought = tells.brought ∙ (noting.0).notes.brought in
       let given : now.brought.given ≡ b.all ++ p ∷ [] = ap (λ (x : Brought). x.given) brought ∙ b.given in
       let told : now.said.told ≡ before.said.told ++ map told_of (filter is_finished xs2)
-      = tells.told ∙ ap (λ (ts : List Told). ts ++ map told_of (filter is_finished xs2)) (notes.0).notes.told in (
+      = tells.told ∙ ap (λ (ts : List Told). ts ++ map told_of (filter is_finished xs2)) (noting.0).notes.told in (
         record {
           opens = coe 1 0 (i. IsOpen s3.setting s3.history (given i) (told i) xs3)
               (opens_then took b.all b.count team0 team3 calm before.said.told b.opens b.order);
@@ -320,9 +307,21 @@ module _ {s0 s1 s2 s3 : State} {xs0 xs1 xs2 xs3 : List Wait} {n : ℕ} {p : Post
           noted = subst (λ (t : List ℕ). NotedSoFar s3.setting s3.history t) (sym tells.noted)
               (noted_collected mid.said.noted
               (coe 0 1 (i. NotedSoFar (sym took.sweep.setting i) s2.history mid.said.noted)
-              (notes.1 (noted_posted before.said.noted b.noted legal))));
+              (noting.1 (noted_posted before.said.noted b.noted legal))));
+          noted_then = subst (λ (m : ℕ). IsFront (noted_before s3.setting s3.history m) now.brought.noted) (one_less n)
+              (noted_then took b.all b.count team0 team3 calm before.said.told b.opens b.order now.brought.noted
+              (sym (all_noted s0.setting s0.history before.said.noted
+              (quiet_none s0.setting s0.history kind.Console settled (calm_brought s0 n calm)) b.noted)
+              ∙ sym b.noted_now ∙ ap (λ (x : Brought). x.noted) (sym brought)));
+          noted_since = (
+            (noting.0).text,
+            ap (λ (l : List ℕ). l ++ (noting.0).text) (ap (λ (x : Brought). x.noted) brought ∙ b.noted_now)
+                ∙ sym (noting.0).notes.noted ∙ sym tells.noted,
+          );
+          some = λ e. some_below n;
+          mutes = λ e. tells.muted ∙ (noting.0).notes.muted ∙ (tells.halts.calm e).0;
         },
-        record { brought = brought; halted = λ e. ((notes.0).notes.halts.calm (tells.halts.calm e).0).0 },
+        record { brought = brought; halted = λ e. ((noting.0).notes.halts.calm (tells.halts.calm e).0).0 },
       )
 
 -- ---- step by step, as the calls need it
@@ -363,11 +362,6 @@ settled_posted s0 s1 n cs stays legal settled =
     (all_posts_of s0.setting (past_in s0) (n, 0) cs is_inward (λ i q r. refl))
     (coe 0 1 (i. IsLegal (stays.setting i) (stays.history i)) legal) settled)
 
--- each call that went out has its outcome where a posting may begin
-pub calm_brought : (s : State) (n : ℕ) → IsCalm n s → unbrought (past_in s) ≡ []
-calm_brought s zero empty = ap (λ (h : List Entry). unbrought (past_of s.setting h)) empty
-calm_brought s (suc n) quiet = quiet.brought
-
 pub between_brought : {s : State} {xs : List Wait} {n : ℕ} {calm : Bool} → calm ≡ true → Between s xs n calm
     → unbrought (past_in s) ≡ []
 between_brought {s} {xs} {n} e b = calm_brought s n (b.quiet e)
@@ -390,7 +384,7 @@ brought_then s0 s1 xs n cs stays legal b =
 
 -- ---- put together for one call
 
--- a front that halted halted still
+-- what is so only where something else is
 pub still_halted : (before now : Bool) → (now ≡ false → before ≡ false) → before ≡ true → now ≡ true
 still_halted before true calm e = refl
 still_halted before false calm e = absurd (false≢true (sym (calm refl) ∙ e))
@@ -429,14 +423,12 @@ module _ {s0 s1 s2 s3 : State} {xs0 xs1 xs2 xs3 : List Wait} {n : ℕ} (p : Post
       let told = tell mid noted.1
       (expected_then took_so brings.all brings.count team0 team3 (b.quiet refl) before.said.told brings.opens brings.order mid given
       (noted.2.0).notes.told) in
-      let all = passed_then took_so team0 team3 before mid told.0 team1.legal (b.quiet refl) brings noted.2 told.2 in (
+      let all = passed_then took_so team0 team3 before mid told.0 team1.legal (b.quiet refl) b.settled brings noted.2 told.2 in (
         told.0,
         told.1,
         record {
           passed = subst (λ (k : ℕ). Passed s3 xs3 k told.0) (sym e) all.0;
           said = all.1;
-          halted = λ stopped.
-              still_halted mid.said.halted (told.0).said.halted (λ e. ((told.2).halts.calm e).0)
-              (halted stopped mid noted.1);
+          muted = λ stopped. (told.2).muted ∙ (noted.2.0).notes.muted ∙ halted stopped mid noted.1;
         },
       )

@@ -21,7 +21,7 @@ use Rattle.trip_laws.proofs.Settling.{over_all}
 use Rattle.trip_laws.proofs.Touring.{toured_first, toured_on, travelled}
 use Rattle.run_alone.specs.Between.{Rested}
 use Rattle.run_alone.proofs.Stepping.{all_append, all_weaker}
-use Rattle.run_alone.proofs.Taking.{collected_all}
+use Rattle.run_alone.proofs.Stepping.{collected_all}
 
 -- entries came that fetch no call and bring no outcome
 toured_all : (s t : State) (more : List Entry) → t.setting ≡ s.setting → t.history ≡ s.history ++ more

@@ -1,6 +1,6 @@
 -- These definitions serve the proofs alone: no promise speaks of them.
 -- Where a run stands between two postings.
-use Rattle.std.specs.Prelude.{◌≡◌, ◌≤◌, ℕ, suc, Bool, true, false, List, []}
+use Rattle.std.specs.Prelude.{◌≡◌, ◌≤◌, ◌<◌, ℕ, suc, ◌-◌, Bool, true, false, List, []}
 use Rattle.std.specs.Prelude.{◌∷◌, ◌++◌, length, take, Some, slice_get}
 use Rattle.std.specs.List.{list_all}
 use Rattle.office_core.specs.declared.front.Posting.{Posting}
@@ -16,7 +16,7 @@ use Rattle.run_posts.specs.Open.{IsOpen, StandsInOrder, told_places}
 use Rattle.run_sweep.specs.Swept.{StaysQuiet, is_swept}
 use Rattle.trip_laws.specs.Going.{AreSettled, NotedSoFar}
 use Rattle.run_alone.specs.Overs.{IsOver, GaveNone}
-use Rattle.branch_workers.specs.Lines.{finished_before}
+use Rattle.branch_workers.specs.Lines.{finished_before, noted_before, IsFront}
 
 -- posting n may begin
 abbrev pub IsCalm : ℕ → State → Type 0
@@ -43,7 +43,8 @@ pub record WasTold (s : State) (n : ℕ) (told : List Told) (j k : ℕ) : Type 0
 abbrev pub WereTold : State → ℕ → Dealings → Type 0
 WereTold s n d = (j k : ℕ) → slice_get d.brought.seens j ≡ Some k → WasTold s n d.said.told j k
 
--- What passed with a front until then.
+-- What passed with a front until then: what is noted before the last posting had been noted when it was asked last; it
+-- halted only where a posting was taken in, and no note failed unless it halted.
 pub record Passed (s : State) (xs : List Wait) (n : ℕ) (d : Dealings) : Type 0 where
   pub opens : IsOpen s.setting s.history d.brought.given d.said.told xs
   pub order : StandsInOrder s.setting s.history n d.said.told xs
@@ -51,8 +52,12 @@ pub record Passed (s : State) (xs : List Wait) (n : ℕ) (d : Dealings) : Type 0
   pub asked : length d.brought.seens ≡ n
   pub earlier : WereTold s n d
   pub noted : NotedSoFar s.setting s.history d.said.noted
+  pub noted_then : IsFront (noted_before s.setting s.history (n - 1)) d.brought.noted
+  pub noted_since : IsFront d.brought.noted d.said.noted
+  pub some : d.said.halted ≡ true → 0 < n
+  pub mutes : d.said.halted ≡ false → d.said.muted ≡ false
 
--- The same, and then it gave a posting that was not taken in yet.
+-- The same, and then it gave a posting that was not taken in yet; no answer halted it.
 pub record Brings (s : State) (xs : List Wait) (n : ℕ) (p : Posting) (d : Dealings) : Type 0 where
   pub all : List Posting
   pub given : d.brought.given ≡ all ++ p ∷ []
@@ -62,6 +67,8 @@ pub record Brings (s : State) (xs : List Wait) (n : ℕ) (p : Posting) (d : Deal
   pub asked : length d.brought.seens ≡ suc n
   pub earlier : WereTold s n d
   pub noted : NotedSoFar s.setting s.history d.said.noted
+  pub noted_now : d.brought.noted ≡ d.said.noted
+  pub mutes : d.said.muted ≡ d.said.halted
 
 -- Something more passed with a front: nothing was brought, and it halted no less.
 pub record SaidMore (before now : Dealings) : Type 0 where
@@ -96,20 +103,20 @@ pub record NotedOn (old new : State) (before now : Dealings) : Type 0 where
   pub said : SaidMore before now
   pub noted : NotedSoFar old.setting old.history before.said.noted → NotedSoFar new.setting new.history now.said.noted
 
--- What passed with a front while a posting was taken in; if that did not end calm, the front halted.
+-- What passed with a front while a posting was taken in; if that did not end calm, a note failed.
 pub record Answered (s : State) (xs : List Wait) (n : ℕ) (calm : Bool) (before now : Dealings) : Type 0 where
   pub passed : Passed s xs n now
   pub said : SaidMore before now
-  pub halted : calm ≡ false → now.said.halted ≡ true
+  pub muted : calm ≡ false → now.said.muted ≡ true
 
 -- What passed with a front when no posting is asked for any more.
 pub record Closed (s : State) (xs : List Wait) (n : ℕ) (calm : Bool) (now : Dealings) : Type 0 where
   pub passed : Passed s xs n now
   pub over : IsOver now
-  pub halted : calm ≡ false → now.said.halted ≡ true
+  pub muted : calm ≡ false → now.said.muted ≡ true
   pub seen : GaveNone now → now.brought.seen ≡ length now.said.told
 
--- What passed with a front when what was left to do was done: unless it halted nothing is left.
+-- What passed with a front when what was left to do was done: unless a note failed nothing is left.
 pub record LeftQuiet (old new : State) (before now : Dealings) : Type 0 where
   pub noted : NotedOn old new before now
-  pub quiet : now.said.halted ≡ false → IsQuietAt new
+  pub quiet : now.said.muted ≡ false → IsQuietAt new

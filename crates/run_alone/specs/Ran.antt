@@ -1,5 +1,5 @@
 -- What one worker that runs a program alone leaves: the record, and what its front was told.
-use Rattle.std.specs.Prelude.{◌≡◌, ◌↔◌, ℕ, Bool, true, false, List, [], length, map, take}
+use Rattle.std.specs.Prelude.{◌≡◌, ◌↔◌, ℕ, ◌-◌, Bool, true, false, List, [], length, map, take}
 use Rattle.std.specs.Prelude.{Some, Contains, slice_get}
 use Rattle.std.specs.List.{list_all}
 use Rattle.office_core.specs.declared.front.Posting.{Posting}
@@ -11,7 +11,7 @@ use Rattle.run_record.specs.Postings.{posts_by, posts_of, told}
 use Rattle.run_record.specs.Order.{order_alone}
 use Rattle.run_record.specs.Outside.{notes}
 use Rattle.run_record.specs.Run.{alone, IsRun, IsSpent}
-use Rattle.branch_workers.specs.Lines.{is_by_first, finished_before, IsFront}
+use Rattle.branch_workers.specs.Lines.{is_by_first, finished_before, noted_before, IsFront}
 use Rattle.office_front.specs.Dealings.{Told, Dealings}
 pub use Rattle.trip_laws.specs.Trips.{AreVoid, Travelled}
 pub use Rattle.run_alone.specs.Overs.{IsOver, GaveNone, most_waits}
@@ -29,9 +29,9 @@ abbrev pub IsTold : Setting → Past → List Posting → Told → Type 0
 IsTold w past given t =
     (p : Posting) × (slice_get given t.place ≡ Some p) × (told w past first_worker t.place p ≡ Some t.outcomes)
 
--- What was noted is what the history notes; after a halt it is the front of that.
+-- What was noted is what the history notes; where a note failed it is the front of that.
 abbrev pub AreNotes : Bool → List ℕ → List ℕ → Type 0
-AreNotes halted noted all = IsFront noted all × (halted ≡ false → noted ≡ all)
+AreNotes muted noted all = IsFront noted all × (muted ≡ false → noted ≡ all)
 
 -- the postings, among so many, that are finished before the end, in the order in which they are answered
 abbrev pub finished_early : Setting → List Entry → ℕ → List ℕ
@@ -48,20 +48,25 @@ abbrev pub SawFinished : Setting → List Entry → Dealings → Type 0
 SawFinished w h d =
     map (λ (t : Told). t.place) (take d.brought.seen d.said.told) ≡ finished_early w h (length d.brought.given)
 
+-- When the front was asked last, all had been noted to it that the history notes before the last posting.
+abbrev pub NotedBefore : Setting → List Entry → Dealings → Type 0
+NotedBefore w h d = IsFront (noted_before w h (length d.brought.given - 1)) d.brought.noted
+
 -- What passed between a run of this history and its front: each posting that was given was posted, in order, and was
 -- answered once, in order, with what its calls came to; and what the history notes was noted. When a posting was asked
--- for, the front had been told of what is finished before that one; and where it gave none when it was asked last, it
--- had been told by then of what is finished before the end.
+-- for, the front had been told of what is finished before that one, and what the history notes before it had been noted;
+-- and where the front gave none when it was asked last, it had been told by then of what is finished before the end.
 pub record Dealt (w : Setting) (h : List Entry) (d : Dealings) : Type 0 where
   pub posted : posts_by first_worker h ≡ posts_of 0 d.brought.given
   pub posters : list_all is_by_first h ≡ true
   pub order : map (λ (t : Told). t.place) d.said.told ≡ order_alone w h first_worker (length d.brought.given)
   pub told : (t : Told) → Contains d.said.told t → IsTold w (past_of w h) d.brought.given t
-  pub noted : AreNotes d.said.halted d.said.noted (notes w h)
+  pub noted : AreNotes d.said.muted d.said.noted (notes w h)
   pub over : IsOver d
   pub asked : length d.brought.seens ≡ length d.brought.given
   pub told_before : ToldBefore w h d
   pub seen : GaveNone d → SawFinished w h d
+  pub noted_then : NotedBefore w h d
 
 -- ---- the run
 
@@ -69,7 +74,7 @@ pub record Dealt (w : Setting) (h : List Entry) (d : Dealings) : Type 0 where
 -- history says, its console calls came to void; and it tells whether a session used its whole budget and could act all
 -- the same.
 pub record Ran (r : Rules) (text : List ℕ) (d : Dealings) (finished : Finished) : Type 0 where
-  pub run : IsRun r.setting r.budget alone d.said.halted finished.report
+  pub run : IsRun r.setting r.budget alone d.said.muted finished.report
   pub program : finished.report.program ≡ text
   pub traffic : finished.report.traffic ≡ []
   pub dealt : Dealt r.setting finished.report.history.entries.items d

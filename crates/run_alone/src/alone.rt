@@ -29,7 +29,7 @@ pub(crate) struct Alone<'p, S: Session> {
 
 impl<S: Seating> Alone<'_, S> {
     /// Takes in a posting: its calls are posted, all that can be done is done, and what is finished is answered. It says
-    /// whether nothing is left to do; else the front halted.
+    /// whether nothing is left to do; else a note failed.
     pub fn take_in<F: Front, L: Link>(
         &mut self,
         front: &mut F,

@@ -23,7 +23,7 @@ const MOST_LOOKS: u32 = 1_000_000;
 
 impl<S: Seating> Alone<'_, S> {
     /// Takes in what a new front brings, until no more comes or the front halts. It says whether nothing is left to do;
-    /// else the front halted.
+    /// else a note failed.
     pub fn bring_in<F: Front, L: Link>(
         &mut self,
         front: &mut F,

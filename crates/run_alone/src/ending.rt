@@ -69,7 +69,7 @@ impl<S: Seating> Alone<'_, S> {
         ensures rested { OnOk result (Rested calm (state_of (⟦<Cells<'static, S> as Crewed>⟧.crew self.old.cells)) (state_of (⟦<Cells<'static, S> as Crewed>⟧.crew self.new.cells))) }
         ensures toured { OnOk result (ToursBy (state_of (⟦<Cells<'static, S> as Crewed>⟧.crew self.old.cells)).setting (state_of (⟦<Cells<'static, S> as Crewed>⟧.crew self.old.cells)).history (state_of (⟦<Cells<'static, S> as Crewed>⟧.crew self.new.cells)).history (trips_told (L.trips link.old) (L.faults link.old)) (trips_told (L.trips link.new) (L.faults link.new))) }
         ensures noted { OnOk result ((parts : ProgramParts) (first : F) (before : Dealings) → F.dealt parts first front.old before
-            → (calm ≡ false → before.said.halted ≡ true)
+            → Closed (state_of (⟦<Cells<'static, S> as Crewed>⟧.crew self.old.cells)) (waits self.old.pendings) self.old.pendings.postings calm before
             → After (F.dealt parts first front.new)
             (LeftQuiet (state_of (⟦<Cells<'static, S> as Crewed>⟧.crew self.old.cells)) (state_of (⟦<Cells<'static, S> as Crewed>⟧.crew self.new.cells)) before)) }
     {

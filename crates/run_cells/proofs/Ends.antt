@@ -73,10 +73,10 @@ module _ (s : State) (team : Team s) where
       sessions_agree
 
   -- it came through
-  pub came_through : {halted : Bool} → s.setting.limits.sessions ≤ first_worker
+  pub came_through : {muted : Bool} → s.setting.limits.sessions ≤ first_worker
       → length (births s.setting (past_in s)) ≤ length s.stands
-      → (halted ≡ false → IsQuietAt s) → IsStillAt s
-      → CameThrough s.setting s.budget halted s.history (events_of s.stands)
+      → (muted ≡ false → IsQuietAt s) → IsStillAt s
+      → CameThrough s.setting s.budget muted s.history (events_of s.stands)
   came_through limit all quiet still = record {
     few = few limit;
     sessions = sessions_all all;

@@ -60,7 +60,13 @@ pub record IsTelling (all rest : List Wait) (before now : Dealings) : Type 0 whe
 pub telling_starts : (all : List Wait) (d : Dealings) → AreExpected all d → IsTelling all all d d
 telling_starts all d h = record {
   said = [];
-  tells = record { told = sym (append_nil d.said.told); noted = refl; halts = halts_not d.said; brought = refl };
+  tells = record {
+    told = sym (append_nil d.said.told);
+    noted = refl;
+    muted = refl;
+    halts = halts_not d.said;
+    brought = refl;
+  };
   all_of = refl;
   expected = h;
 }
@@ -118,6 +124,7 @@ telling_turn all rest x before now next h t s = record {
         t.told ∙ ap (λ l. l ++ told_of x ∷ []) s.tells.told
         ∙ append_assoc before.said.told s.said (told_of x ∷ []);
     noted = t.noted ∙ s.tells.noted;
+    muted = t.muted ∙ s.tells.muted;
     halts = halts_on before.said now.said next.said s.tells.halts t.halts;
     brought = t.brought ∙ s.tells.brought;
   };

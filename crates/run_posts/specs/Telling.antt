@@ -24,6 +24,7 @@ AreExpected (x ∷ xs) d =
 pub record TellsAll (ts : List Told) (before now : Dealings) : Type 0 where
   pub told : now.said.told ≡ before.said.told ++ ts
   pub noted : now.said.noted ≡ before.said.noted
+  pub muted : now.said.muted ≡ before.said.muted
   pub halts : Halts before.said now.said
   pub brought : now.brought ≡ before.brought
 

@@ -38,9 +38,9 @@ ArePosted (workers n) h = (actor : ℕ) → stand_together (filter (λ e. nat_eq
 
 -- The record of a run that came to its end: the history is legal, ended by a stop, and is of those who work at the
 -- run; each session's events agree with it and keep to the budget; and each accepted message has exactly one answer.
--- Unless a front halted, nothing was left to do at the stop. For one worker it was so before each posting but the
--- first, whether a front halted or not.
-pub record IsRun (w : Setting) (budget : ℕ) (hands : Hands) (halted : Bool) (run : Record) : Type 0 where
+-- Unless a note failed, nothing was left to do at the stop. For one worker it was so before each posting but the first,
+-- whether a note failed or not.
+pub record IsRun (w : Setting) (budget : ℕ) (hands : Hands) (muted : Bool) (run : Record) : Type 0 where
   pub legal : IsLegal w run.history.entries.items
   pub stopped : some_entry (past_of w run.history.entries.items) stops ≡ true
   pub closed : hands ≡ alone → some_entry (past_of w run.history.entries.items) closes ≡ true
@@ -49,7 +49,7 @@ pub record IsRun (w : Setting) (budget : ℕ) (hands : Hands) (halted : Bool) (r
   pub sessions : HasSessions w run.history.entries.items run.sessions
   pub within : (s : ℕ) (events : List Event) → slice_get run.sessions s ≡ Some events → length events ≤ budget
   pub answered : AnswersEach w run.history.entries.items
-  pub quiet : halted ≡ false → IsQuiet w budget (before_stop run.history.entries.items) run.sessions
+  pub quiet : muted ≡ false → IsQuiet w budget (before_stop run.history.entries.items) run.sessions
   pub still : hands ≡ alone → IsStill w budget run.history.entries.items run.sessions
 
 -- A session used its whole budget and could act all the same.

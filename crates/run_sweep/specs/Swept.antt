@@ -27,12 +27,13 @@ is_swept e = is_by_session e || is_errand e
 
 -- ---- the front and the link
 
--- whatever may have passed between a front and a run, something more may have passed since
+-- whatever may have passed between a front and a run, but for an answer that halted it, something more may have passed
+-- since
 abbrev pub PassedOn : {F : Type 0} → (ProgramParts → F → F → Dealings → Type 0) → F → F
     → (Dealings → Dealings → Type 0) → Type 0
 PassedOn {F} dealt old new IsSo =
     (parts : ProgramParts) (first : F) (before : Dealings) → dealt parts first old before
-    → After (dealt parts first new) (IsSo before)
+    → before.said.muted ≡ before.said.halted → After (dealt parts first new) (IsSo before)
 
 -- the front halted
 abbrev pub HasHalted : {F : Type 0} → (ProgramParts → F → F → Dealings → Type 0) → F → Type 0

@@ -3,5 +3,5 @@ use Rattle.quiet_laws.proofs.laws.runs_that_ended_are_runs.Goals as goal
 
 pub returns : goal.returns
 returns c = record {
-  ended = λ w budget halted h run came end legal hands together. is_run {h = h} came end legal hands together;
+  ended = λ w budget muted h run came end legal hands together. is_run {h = h} came end legal hands together;
 }

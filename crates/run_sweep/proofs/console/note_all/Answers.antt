@@ -9,7 +9,7 @@ use Rattle.run_cells.specs.Crews.{state_of}
 use Rattle.run_sweep.specs.Swept.{NotesBy, NotesMore, PassedOn, ToursBy}
 use Rattle.run_sweep.proofs.Errands.{errands_none, errands_more, errand_of, fetched_of, fetched_some, fetched_none}
 use Rattle.run_sweep.proofs.Errands.{cleared_of, less_of, same_history, noted_more, toured_same}
-use Rattle.run_sweep.proofs.Notes.{notes_none, notes_on, failing, passed_none, passed_on, passed_as}
+use Rattle.run_sweep.proofs.Notes.{notes_none, notes_on, notes_mute, failing, passed_none, passed_on, passed_as}
 use Rattle.run_sweep.proofs.console.note_all.Goals as goal
 
 pub loop-out-init : goal.loop-out-init
@@ -21,7 +21,7 @@ loop-out-init g c =
       errands = errands_none s.setting kind.Console s c.requires.settled;
       toured = λ now first t. t;
       noted = passed_none g.F.Front.dealt c.args.front.now (NotesBy s.setting s.history s.history)
-          (λ d. (notes_none d, λ so. so));
+          (λ d muted. (notes_none d muted, λ so. so));
     }
 
 pub note-requires-clause-fetched : goal.note-requires-clause-fetched
@@ -54,7 +54,8 @@ loop-out-preserved g c =
       noted = passed_on g.F.Front.dealt c.args.front.now c.loop-out.front c.note.new.front
           (NotesBy s.setting s.history mid.history) (Notes (console_line (root_of out.value)))
           (NotesBy s.setting s.history new.history)
-          i.noted did.noted (λ a b d m n. noted_more s.setting s.history mid new out a b d x m n);
+          i.noted did.noted (notes_mute s.setting s.history mid.history)
+          (λ a b d m n. noted_more s.setting s.history mid new out a b d x m n);
     }
 
 pub loop-out-smaller : goal.loop-out-smaller
@@ -124,4 +125,4 @@ returns-in_err-note-clause-noted g c =
     failing _ _ c.from_residual-in_err-note.result c.from_residual-in_err-note.ensures.1
     (passed_on g.F.Front.dealt c.args.front.now c.loop-out.front c.note.new.front
     (NotesBy s.setting s.history mid.history) NotesMore NotesMore c.loop-out.invariant.noted c.in_err-note.ensures.noted
-    (λ a b d x y. notes_on a b d x.0 y))
+    (notes_mute s.setting s.history mid.history) (λ a b d x y. notes_on a b d x.0 y))

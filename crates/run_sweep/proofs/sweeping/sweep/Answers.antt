@@ -3,7 +3,7 @@ use Rattle.std.proofs.Common.{◌∙◌, refl, subst, sym}
 use Rattle.run_cells.specs.Crews.{state_of}
 use Rattle.trip_laws.specs.Going.{AreSettled}
 use Rattle.run_sweep.specs.Swept.{NotesBy, NotesMore}
-use Rattle.run_sweep.proofs.Notes.{failing, notes_none, notes_on, passed_none, passed_on}
+use Rattle.run_sweep.proofs.Notes.{failing, notes_none, notes_on, notes_mute, passed_none, passed_on}
 use Rattle.run_sweep.proofs.Rounds.{swept_none, swept_on, notes_then, tours_then, quiet_then, still_then, calm_goes_on}
 use Rattle.run_sweep.proofs.sweeping.sweep.Goals as goal
 use Rattle.trip_laws.specs.Trips.{trips_told}
@@ -18,7 +18,7 @@ loop-init g c =
       brought = c.requires.brought;
       toured = λ first t. t;
       noted = passed_none g.F.Front.dealt c.args.front.now (NotesBy s.setting s.history s.history)
-          (λ d. (notes_none d, λ so. so));
+          (λ d muted. (notes_none d muted, λ so. so));
       still = λ q. (refl, refl);
     }
 
@@ -46,7 +46,7 @@ loop-preserved g c =
       noted = passed_on g.F.Front.dealt c.args.front.now c.loop.front c.go_round.new.front
           (NotesBy s.setting s.history mid.history) (NotesBy mid.setting mid.history new.history)
           (NotesBy s.setting s.history new.history)
-          i.noted did.noted (notes_then s mid new i.swept.setting);
+          i.noted did.noted (notes_mute s.setting s.history mid.history) (notes_then s mid new i.swept.setting);
       still = λ q. absurd ((did.still (quiet_then s mid i.swept i.still q)).0 c.in-Again.is);
     }
 
@@ -81,7 +81,7 @@ returns-in-Calm-clause-noted g c =
     passed_on g.F.Front.dealt c.args.front.now c.loop.front c.go_round.new.front
     (NotesBy s.setting s.history mid.history) (NotesBy mid.setting mid.history new.history)
     (NotesBy s.setting s.history new.history) i.noted c.in_ok-go_round.ensures.noted
-    (notes_then s mid new i.swept.setting)
+    (notes_mute s.setting s.history mid.history) (notes_then s mid new i.swept.setting)
 
 pub returns-in-Calm-clause-quiet : goal.returns-in-Calm-clause-quiet
 returns-in-Calm-clause-quiet g c = λ _. c.in_ok-go_round.ensures.calm c.in-Calm.is
@@ -123,7 +123,7 @@ returns-in-Halted-clause-noted g c =
     passed_on g.F.Front.dealt c.args.front.now c.loop.front c.go_round.new.front
     (NotesBy s.setting s.history mid.history) (NotesBy mid.setting mid.history new.history)
     (NotesBy s.setting s.history new.history) i.noted c.in_ok-go_round.ensures.noted
-    (notes_then s mid new i.swept.setting)
+    (notes_mute s.setting s.history mid.history) (notes_then s mid new i.swept.setting)
 
 pub returns-in-Halted-clause-halted : goal.returns-in-Halted-clause-halted
 returns-in-Halted-clause-halted g c = λ _. c.in_ok-go_round.ensures.halted c.in-Halted.is
@@ -154,4 +154,4 @@ returns-in_err-go_round-clause-noted g c =
     failing _ _ c.from_residual.result c.from_residual.ensures.1
     (passed_on g.F.Front.dealt c.args.front.now c.loop.front c.go_round.new.front
     (NotesBy s.setting s.history mid.history) NotesMore NotesMore c.loop.invariant.noted c.in_err-go_round.ensures.noted
-    (λ a b d x y. notes_on a b d x.0 y))
+    (notes_mute s.setting s.history mid.history) (λ a b d x y. notes_on a b d x.0 y))

@@ -6,14 +6,14 @@ use Rattle.door_front.proofs.front.DoorFrontFront.note.Goals as goal
 
 pub returns-then-halted : goal.returns-then-halted
 returns-then-halted g c = record {
-  noted = λ parts first before h.
+  noted = λ parts first before h muted.
       noted_cut-so _ parts _ _ h.0 h.1 _ c.args.self.now.kept.now (taking (g.N.Sink.taken c.args.self.now.notes.now) (g.N.Sink.faults c.args.self.now.notes.now))
-      before h.2 c.args.text.now (sym c.halted.ensures ∙ c.if-halted.true);
+      before h.2 c.args.text.now (sym c.halted.ensures ∙ c.if-halted.true) muted;
 }
 
 pub returns-then-write_cut : goal.returns-then-write_cut
 returns-then-write_cut g c = record {
-  noted = λ parts first before h.
+  noted = λ parts first before h muted.
       noted_part-so _ parts _ _ h.0 h.1 _ c.args.self.now.kept.now (taking (g.N.Sink.taken c.args.self.now.notes.now) (g.N.Sink.faults c.args.self.now.notes.now))
       before h.2 c.halt.new.self (taking (g.N.Sink.taken c.write_cut.new.sink) (g.N.Sink.faults c.write_cut.new.sink)) c.args.text.now c.write_cut.ensures.0
       (sym c.halted.ensures ∙ c.if-halted.false) (sym c.write_cut.ensures.2 ∙ c.if-write_cut.true) c.write_cut.ensures.1 c.halt.ensures;
@@ -21,7 +21,7 @@ returns-then-write_cut g c = record {
 
 pub returns-else-write_cut : goal.returns-else-write_cut
 returns-else-write_cut g c = record {
-  noted = λ parts first before h.
+  noted = λ parts first before h muted.
       noted_whole-so _ parts _ _ h.0 h.1 _ c.args.self.now.kept.now (taking (g.N.Sink.taken c.args.self.now.notes.now) (g.N.Sink.faults c.args.self.now.notes.now))
       before h.2 (taking (g.N.Sink.taken c.write_cut.new.sink) (g.N.Sink.faults c.write_cut.new.sink)) c.args.text.now c.write_cut.ensures.0
       (sym c.halted.ensures ∙ c.if-halted.false) (sym c.write_cut.ensures.2 ∙ c.if-write_cut.false) c.write_cut.ensures.1;

@@ -15,9 +15,8 @@ pub returns-then-self : goal.returns-then-self
 returns-then-self g c = record {
   told = λ first before h due.
       told-so (parts_of c.args.program.now) _ _ _ _ _ h.0 h.1 h.2 h.3 h.4 _ _ before h.5
-      (sides_in c.args.self.now.kept.now (g.S.Source.left c.args.self.now.source.now) (g.S.Source.faults c.args.self.now.source.now)
-      (taking (g.K.Sink.taken c.args.self.now.output.now) (g.K.Sink.faults c.args.self.now.output.now)) (taking (g.N.Sink.taken c.args.self.now.notes.now) (g.N.Sink.faults c.args.self.now.notes.now)))
-      refl c.args.place c.args.outcomes.now due
+      (output_of (taking (g.K.Sink.taken c.args.self.now.output.now) (g.K.Sink.faults c.args.self.now.output.now)) (taking (g.N.Sink.taken c.args.self.now.notes.now) (g.N.Sink.faults c.args.self.now.notes.now)) c.args.self.now.kept.now.written.items c.args.self.now.kept.now.halted)
+      c.args.place c.args.outcomes.now due
       (told-halted (parts_of c.args.program.now) _ _ _ before.said h.5.said (record { place = c.args.place; outcomes = c.args.outcomes.now }) c.if-self.true);
 }
 
@@ -48,9 +47,8 @@ pub returns : goal.returns
 returns g c = record {
   told = λ first before h due.
       told-so (parts_of c.args.program.now) _ _ _ _ _ h.0 h.1 h.2 h.3 h.4 _ _ before h.5
-      (sides_in (record c.args.self.now.kept.now { written = c.write_kept.new.written; halted = c.in_ok-cut.cut }) (g.S.Source.left c.args.self.now.source.now) (g.S.Source.faults c.args.self.now.source.now)
-      (taking (g.K.Sink.taken c.write_kept.new.sink) (g.K.Sink.faults c.write_kept.new.sink)) (taking (g.N.Sink.taken c.args.self.now.notes.now) (g.N.Sink.faults c.args.self.now.notes.now)))
-      refl c.args.place c.args.outcomes.now due
+      (output_of (taking (g.K.Sink.taken c.write_kept.new.sink) (g.K.Sink.faults c.write_kept.new.sink)) (taking (g.N.Sink.taken c.args.self.now.notes.now) (g.N.Sink.faults c.args.self.now.notes.now)) c.write_kept.new.written.items c.in_ok-cut.cut)
+      c.args.place c.args.outcomes.now due
       (told-written (parts_of c.args.program.now) _ _ _ before.said h.5.said (record { place = c.args.place; outcomes = c.args.outcomes.now })
       (output_of (taking (g.K.Sink.taken c.write_kept.new.sink) (g.K.Sink.faults c.write_kept.new.sink)) (taking (g.N.Sink.taken c.args.self.now.notes.now) (g.N.Sink.faults c.args.self.now.notes.now)) c.write_kept.new.written.items c.in_ok-cut.cut)
       c.as_bytes.result.now c.in_ok-cut.ensures.0 c.if-self.false (c.as_bytes.ensures.value ∙ c.in_ok-line.ensures)

@@ -1,9 +1,7 @@
 -- What the reader brings passes, and nothing is said.
-use Rattle.std.proofs.Common.{◌≡◌, refl, false}
+use Rattle.std.proofs.Common.{◌≡◌, false}
 use Rattle.behaviour_tree.specs.PartsView.{parts_of}
-use Rattle.line_front.specs.Reading.{Fails}
-use Rattle.sink_writing.specs.Sinks.{taking}
-use Rattle.line_front.specs.Keeping.{sides_in}
+use Rattle.line_front.specs.Reading.{input_of, Fails}
 use Rattle.line_front.proofs.Dealing.{asked-so}
 use Rattle.line_front.proofs.front.LineFrontFront.next.Goals as goal
 
@@ -13,8 +11,7 @@ returns g c = record {
       let failed : first.kept.now.reader.failed ≡ false → Fails c.next.new.self.failed (g.S.Source.faults first.source.now) (g.S.Source.faults c.next.new.source) =
       λ is. c.next.ensures.failed (g.S.Source.faults first.source.now) (h.4 is) in
       asked-so (parts_of c.args._program.now) _ _ _ _ _ h.0 h.1 h.2 h.3 failed _ _ before h.5
-      (sides_in (record c.args.self.now.kept.now { reader = c.next.new.self }) (g.S.Source.left c.next.new.source) (g.S.Source.faults c.next.new.source)
-      (taking (g.K.Sink.taken c.args.self.now.output.now) (g.K.Sink.faults c.args.self.now.output.now)) (taking (g.N.Sink.taken c.args.self.now.notes.now) (g.N.Sink.faults c.args.self.now.notes.now)))
-      refl c.next.ensures.longer.0 c.next.ensures.longer.1 running c.next.result
+      (input_of c.next.new.self.lines c.next.new.self.reads c.next.new.self.over (g.S.Source.left c.next.new.source) (g.S.Source.faults c.next.new.source))
+      c.next.ensures.longer.0 c.next.ensures.longer.1 running c.next.result
       (c.next.ensures.came (parts_of c.args._program.now) _ before.brought c.requires.some h.5.brought yet);
 }

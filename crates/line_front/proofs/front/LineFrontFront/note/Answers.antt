@@ -2,27 +2,24 @@
 use Rattle.std.proofs.Common.{refl}
 use Rattle.sink_writing.specs.Sinks.{taking}
 use Rattle.line_front.specs.Writing.{output_of}
-use Rattle.line_front.specs.Keeping.{sides_in}
 use Rattle.line_front.proofs.Saying.{noted-halted, noted-written}
 use Rattle.line_front.proofs.Dealing.{noted-so}
 use Rattle.line_front.proofs.front.LineFrontFront.note.Goals as goal
 
 pub returns-then-self : goal.returns-then-self
 returns-then-self g c = record {
-  noted = λ parts first before h.
+  noted = λ parts first before h muted.
       noted-so parts _ _ _ _ _ h.0 h.1 h.2 h.3 h.4 _ _ before h.5
-      (sides_in c.args.self.now.kept.now (g.S.Source.left c.args.self.now.source.now) (g.S.Source.faults c.args.self.now.source.now)
-      (taking (g.K.Sink.taken c.args.self.now.output.now) (g.K.Sink.faults c.args.self.now.output.now)) (taking (g.N.Sink.taken c.args.self.now.notes.now) (g.N.Sink.faults c.args.self.now.notes.now)))
-      refl c.args.text.now (noted-halted parts _ _ _ before.said h.5.said c.args.text.now c.if-self.true);
+      (output_of (taking (g.K.Sink.taken c.args.self.now.output.now) (g.K.Sink.faults c.args.self.now.output.now)) (taking (g.N.Sink.taken c.args.self.now.notes.now) (g.N.Sink.faults c.args.self.now.notes.now)) c.args.self.now.kept.now.written.items c.args.self.now.kept.now.halted)
+      c.args.text.now (noted-halted parts _ _ _ before.said h.5.said c.args.text.now c.if-self.true muted);
 }
 
 pub returns : goal.returns
 returns g c = record {
-  noted = λ parts first before h.
+  noted = λ parts first before h muted.
       noted-so parts _ _ _ _ _ h.0 h.1 h.2 h.3 h.4 _ _ before h.5
-      (sides_in (record c.args.self.now.kept.now { halted = c.write_cut-cut.result }) (g.S.Source.left c.args.self.now.source.now) (g.S.Source.faults c.args.self.now.source.now)
-      (taking (g.K.Sink.taken c.args.self.now.output.now) (g.K.Sink.faults c.args.self.now.output.now)) (taking (g.N.Sink.taken c.write_cut-cut.new.sink) (g.N.Sink.faults c.write_cut-cut.new.sink)))
-      refl c.args.text.now
+      (output_of (taking (g.K.Sink.taken c.args.self.now.output.now) (g.K.Sink.faults c.args.self.now.output.now)) (taking (g.N.Sink.taken c.write_cut-cut.new.sink) (g.N.Sink.faults c.write_cut-cut.new.sink)) c.args.self.now.kept.now.written.items c.write_cut-cut.result)
+      c.args.text.now
       (noted-written parts _ _ _ before.said h.5.said
       (output_of (taking (g.K.Sink.taken c.args.self.now.output.now) (g.K.Sink.faults c.args.self.now.output.now)) (taking (g.N.Sink.taken c.write_cut-cut.new.sink) (g.N.Sink.faults c.write_cut-cut.new.sink)) c.args.self.now.kept.now.written.items c.write_cut-cut.result)
       c.args.text.now c.write_cut-cut.ensures.0 c.if-self.false c.write_cut-cut.ensures.1 refl refl c.write_cut-cut.ensures.2);

@@ -52,12 +52,11 @@ looks-preserved-in-Posting g c =
       toured = toured_both i.setting i.toured e.toured;
       passed = λ first before so new passed.
           let at = i.passed first before so new passed in
-          at_posting at.2 (dealt parts first c.next.new.self) c.in-Posting.posting (dealt parts first c.take_in.new.front)
+          let running = runs_so c.postings.result c.looks.looks c.looks.calm c.halted-halted.result at.0.said.halted
+          (c.halted-halted.ensures parts first at.0 at.1) (sym c.may_ask-going.ensures ∙ c.if-not-going.false) in
+          at_posting at.2 (dealt parts first c.next.new.self) c.in-Posting.posting (dealt parts first c.take_in.new.front) running
           (came_as dealt c.looks.front c.next.new.self (ap parts_of (c.program.ensures ∙ i.program)) c.in-Posting.is
-          c.in_ok-posting.ensures.came first at.0 at.1 at.2.going
-          (runs_so c.postings.result c.looks.looks c.looks.calm c.halted-halted.result at.0.said.halted
-          (c.halted-halted.ensures parts first at.0 at.1) (sym c.may_ask-going.ensures ∙ c.if-not-going.false))
-          (quiet_at at.2))
+          c.in_ok-posting.ensures.came first at.0 at.1 at.2.going running (quiet_at at.2))
           (λ mid is brings.
           after_under dealt first c.take_in.new.front (ap parts_of i.program)
           (e.passed first mid (dealt_under dealt first c.next.new.self mid (sym (ap parts_of i.program)) is) brings));

@@ -59,7 +59,7 @@ returns-clause-ran g c =
       spent = c.in_ok-spent.ensures.exact;
     })
     (closed_under _ _ e.pendings closed)
-    (e.noted parts first before so closed.halted)
+    (e.noted parts first before so closed)
     (λ mid now expected.
     tells_under dealt c.rest.new.front c.tell_finished.new.front _ _ program c.in_ok-tell_finished.ensures.told first mid
     now expected)

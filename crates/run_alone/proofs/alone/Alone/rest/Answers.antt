@@ -1,6 +1,6 @@
 -- What is left to do is done, or nothing.
 use Rattle.std.proofs.Common.{sym, ◌∙◌}
-use Rattle.run_alone.proofs.Rests.{quiet_not, quiet_swept, rested_calm, rested_not, was_calm}
+use Rattle.run_alone.proofs.Rests.{mutes_by, quiet_not, quiet_swept, rested_calm, rested_not, was_calm}
 use Rattle.run_alone.proofs.Taking.{between_brought}
 use Rattle.run_alone.proofs.alone.Alone.rest.Goals as goal
 
@@ -17,8 +17,8 @@ returns-then-stopped-clause-toured g c = λ first toured. toured
 
 pub returns-then-stopped-clause-noted : goal.returns-then-stopped-clause-noted
 returns-then-stopped-clause-noted g c =
-    λ parts first before so halted.
-    quiet_not _ _ _ _ before so halted (c.halted-halted.ensures parts first before so)
+    λ parts first before so closed.
+    quiet_not _ before c.requires.between so closed (c.halted-halted.ensures parts first before so)
     (sym c.is_stopped-stopped.ensures ∙ c.if-stopped.true)
 
 pub returns-clause-rested : goal.returns-clause-rested
@@ -28,7 +28,9 @@ returns-clause-rested g c =
 
 pub returns-clause-noted : goal.returns-clause-noted
 returns-clause-noted g c =
-    λ parts first before so halted.
-    quiet_swept _ _ before c.in_ok-sweep.ensures.swept.setting (c.in_ok-sweep.ensures.noted parts first before so)
+    λ parts first before so closed.
+    quiet_swept _ _ before c.in_ok-sweep.ensures.swept.setting
+    (c.in_ok-sweep.ensures.noted parts first before so
+    (mutes_by closed (c.halted-halted.ensures parts first before so) (sym c.is_stopped-stopped.ensures ∙ c.if-stopped.false)))
     c.in_ok-sweep.ensures.quiet
     (λ stopped now is. c.in_ok-sweep.ensures.halted stopped parts first now is)

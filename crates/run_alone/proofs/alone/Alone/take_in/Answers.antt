@@ -52,7 +52,7 @@ returns-clause-passed g c =
     c.in_ok-tell_finished.ensures.waiting c.requires.work.team c.in_ok-post.ensures.work.team work.team c.requires.between
     (dealt parts first c.sweep.new.front) (dealt parts first c.tell_finished.new.front) before
     (c.in_ok-tell_finished.ensures.postings ∙ c.in_ok-collect_all.ensures.postings ∙ c.in_ok-post.ensures.postings)
-    brings (c.in_ok-calm.ensures.noted parts first before so)
+    brings (c.in_ok-calm.ensures.noted parts first before so brings.mutes)
     (λ stopped mid now. c.in_ok-calm.ensures.halted stopped parts first mid now)
     (λ mid now expected.
     tells_under dealt c.sweep.new.front c.tell_finished.new.front _ _ program c.in_ok-tell_finished.ensures.told first mid now
