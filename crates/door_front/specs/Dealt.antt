@@ -168,9 +168,9 @@ abbrev pub HaveWaited : ℕ → List PortTold → Type 0
 HaveWaited n [] = Unit {0}
 HaveWaited n (p ∷ ps) = has_waited n p × HaveWaited n ps
 
--- The front had no posting: each connection waited for an answer or was over. Where one may come some time, so many as
--- may be open waited for an answer, or each door has ended, or answered at least as often, in all, that nobody has come
--- yet as there was none in a row; and at least as often was rested, at all doors. Else no connection can come any more.
+-- The front had no posting: each connection waited for an answer or was over. No connection can come any more; or at
+-- least as often as there was none in a row was rested, at all doors, and so many as may be open waited for an answer,
+-- or each door has ended or answered as often, in all, that nobody has come yet.
 pub record HadNone (kept : Keeping) (d : Dealings) : Type 0 where
   pub busy : List Bool
   pub each : WereBusy d 0 busy kept.links

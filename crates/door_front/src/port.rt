@@ -26,7 +26,7 @@ impl<D: Door + Drop> Model for Port<D> {
 }
 
 impl<D: Door + Drop> Port<D> {
-    /// A door that was not tried yet.
+    /// A door that has not ended, and the service to which it leads.
     pub fn new(service: u32, door: D) -> Port<D>
         requires faultless { (D.told door).faults ≡ 0 }
         requires unclosed { (D.told door).closed ≡ false }

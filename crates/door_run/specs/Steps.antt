@@ -46,13 +46,13 @@ pub record Opened : Type 0 where
 abbrev pub opened_by : DoorsTold → List PortTold → Bool → Opened
 opened_by doors ports failed = record { doors = doors; ports = ports; failed = failed }
 
--- One try to open a door was made at each of these places, in order; where it could not be opened it was left out.
-pub record Opens (places : List DoorAt) (before now : Opened) : Type 0 where
+-- One try was made to open each of the wanted doors, in order; what could not be opened was left out.
+pub record Opens (wanted : List DoorAt) (before now : Opened) : Type 0 where
   pub opened : List Bool
-  pub tried : length opened ≡ length places
-  pub ports : now.ports ≡ before.ports ++ ports_at before.doors.tally (items_where_true opened places)
-  pub tally : now.doors.tally ≡ with_openings (items_where_true opened places) before.doors.tally
-  pub tries : Lists before.doors.tries now.doors.tries (tries_at places opened)
+  pub tried : length opened ≡ length wanted
+  pub ports : now.ports ≡ before.ports ++ ports_at before.doors.tally (items_where_true opened wanted)
+  pub tally : now.doors.tally ≡ with_openings (items_where_true opened wanted) before.doors.tally
+  pub tries : Lists before.doors.tries now.doors.tries (tries_at wanted opened)
   pub returned : now.doors.returned ≡ before.doors.returned
   pub came_back : now.doors.returned_doors ≡ before.doors.returned_doors
   pub faults : RoseBy (count_by not opened) before.doors.faults now.doors.faults

@@ -55,7 +55,7 @@ came_at_door doors visit = list_any (λ (door : DoorAt). nat_eq visit.service do
 abbrev pub leads_to : ℕ → Visit → Bool
 leads_to n visit = nat_eq n visit.service
 
--- how many wires the doors gave that were opened at these places and lead to service n, by what they told
+-- how many wires the doors gave that were opened there and lead to service n, by what they told
 abbrev pub wires_to : ℕ → List DoorAt → List DoorTold → ℕ
 wires_to n [] ds = 0
 wires_to n (p ∷ ps) [] = 0
@@ -70,7 +70,7 @@ AreInOrder n (d ∷ ds) = (d.place ≡ n) × AreInOrder (added n 1) ds
 
 -- doors were opened there
 abbrev pub with_openings : List DoorAt → Tally → Tally
-with_openings places tally = fold (λ counts place. with_opened counts) tally places
+with_openings doors tally = fold (λ counts door. with_opened counts) tally doors
 
 -- these wires came back
 abbrev pub with_wires : List WireTold → Tally → Tally
@@ -94,17 +94,17 @@ pub record RoseBy (failures before now : ℕ) : Type 0 where
   pub counted : added before failures ≤ now
   pub calm : failures ≡ 0 → now ≡ before
 
--- One try to open a door was made at each of these places, in order. All that were opened came back in that order, and
+-- One try was made to open each of the wanted doors, in order. All that were opened came back in that order, and
 -- as many wires as they gave; and the doors count and tell just this, with a fault for each that was not opened or came
 -- back and had failed.
-pub record IsUsed (places : List DoorAt) (before now : DoorsTold) (used : Used) : Type 0 where
-  pub tried : length used.opened ≡ length places
-  pub back : length used.doors ≡ length (items_where_true used.opened places)
+pub record IsUsed (wanted : List DoorAt) (before now : DoorsTold) (used : Used) : Type 0 where
+  pub tried : length used.opened ≡ length wanted
+  pub back : length used.doors ≡ length (items_where_true used.opened wanted)
   pub in_order : AreInOrder before.tally.opened used.doors
   pub given : sum_by (λ (door : DoorTold). door.wires) used.doors ≡ length used.wires
   pub tally : now.tally
-      ≡ with_doors used.doors (with_wires used.wires (with_openings (items_where_true used.opened places) before.tally))
-  pub tries : Lists before.tries now.tries (tries_at places used.opened)
+      ≡ with_doors used.doors (with_wires used.wires (with_openings (items_where_true used.opened wanted) before.tally))
+  pub tries : Lists before.tries now.tries (tries_at wanted used.opened)
   pub returned : Lists before.returned now.returned used.wires
   pub came_back : Lists before.returned_doors now.returned_doors used.doors
   pub faults : RoseBy (failures_in used) before.faults now.faults

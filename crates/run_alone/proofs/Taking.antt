@@ -30,7 +30,7 @@ use Rattle.run_posts.proofs.Opening.{IsOpen, all_posts_of, next_wait, open_betwe
 use Rattle.run_sweep.specs.Swept.{NotesBy, StaysQuiet, Swept}
 use Rattle.trip_laws.specs.Going.{AreSettled, NotedSoFar, is_inward, is_silent}
 use Rattle.trip_laws.proofs.Settling.{all_noted, brought_over, noted_on, over_all, quiet_none, settled_on}
-use Rattle.run_alone.specs.Between.{Answered, Between, Brings, IsCalm, Passed, SaidMore, WasTold}
+use Rattle.run_alone.specs.Between.{Answered, Between, Brings, MayBeginAt, Passed, SaidMore, WasTold}
 use Rattle.branch_workers.specs.Lines.{finished_before, noted_before, IsFront}
 use Rattle.run_alone.proofs.Between.{swept_between}
 use Rattle.run_alone.proofs.Earlier.{asked_within, longer_told}
@@ -65,12 +65,12 @@ one_less : (n : ℕ) → n ≡ suc n - 1
 one_less n = omega arith
 
 -- where there was a posting before, a run that is calm has nothing left to do
-pub calm_quiet : (s : State) (n : ℕ) → 0 < n → IsCalm n s → IsQuietAt s
+pub calm_quiet : (s : State) (n : ℕ) → 0 < n → MayBeginAt n s → IsQuietAt s
 calm_quiet s zero some empty = absurd (not_below some)
 calm_quiet s (suc n) some quiet = quiet
 
 -- each call that went out has its outcome where a posting may begin
-calm_brought : (s : State) (n : ℕ) → IsCalm n s → unbrought (past_in s) ≡ []
+calm_brought : (s : State) (n : ℕ) → MayBeginAt n s → unbrought (past_in s) ≡ []
 calm_brought s zero empty = ap (λ (h : List Entry). unbrought (past_of s.setting h)) empty
 calm_brought s (suc n) quiet = quiet.brought
 
@@ -114,7 +114,7 @@ module _ {s0 s1 s2 s3 : State} {xs0 xs1 xs2 xs3 : List Wait} {n : ℕ} {p : Post
   setting_3 : s3.setting ≡ w
   setting_3 = took.collect.setting ∙ setting_2
 
-  module _ (team0 : Team s0) (team3 : Team s3) (calm : IsCalm n s0) (ts : List Told) (opens : IsOpen w s0.history all ts xs0)
+  module _ (team0 : Team s0) (team3 : Team s3) (calm : MayBeginAt n s0) (ts : List Told) (opens : IsOpen w s0.history all ts xs0)
       (order : StandsInOrder w s0.history n ts xs0) where
     legal_3 : IsLegal w (after_step w s0.history all xs0 p swept)
     legal_3 = subst (IsLegal w) history_3 (subst (λ (v : Setting). IsLegal v s3.history) setting_3 team3.legal)
@@ -223,7 +223,7 @@ still_collected old new xs stays still =
 
 -- a posting was posted where it may begin
 pub still_posted : (old new : State) (n : ℕ) (cs : List CallIn) → Team old
-    → Stays old new (posted_entries old.setting (past_in old) (n, 0) cs) → IsCalm n old → IsStillAt old → IsStillAt new
+    → Stays old new (posted_entries old.setting (past_in old) (n, 0) cs) → MayBeginAt n old → IsStillAt old → IsStillAt new
 still_posted old new n cs team stays calm still =
     coe 1 0 (i. IsStill (stays.setting i) (stays.budget i) (stays.history i) (events_of (stays.stands i)))
     (still_by_posts old.setting old.budget first_worker n old.history (posted_entries old.setting (past_in old) (n, 0) cs)
@@ -279,7 +279,7 @@ module _ {s0 s1 s2 s3 : State} {xs0 xs1 xs2 xs3 : List Wait} {n : ℕ} {p : Post
       (all_collected s2.setting (past_in s2) xs1) inward_gathered legal_then so)
 
   -- what passed with the front then: it was noted to in the sweep, and then told
-  pub passed_then : (before mid now : Dealings) → IsLegal s1.setting s1.history → IsCalm n s0 → AreSettled s0.setting s0.history
+  pub passed_then : (before mid now : Dealings) → IsLegal s1.setting s1.history → MayBeginAt n s0 → AreSettled s0.setting s0.history
       → Brings s0 xs0 n p before → NotesBy s1.setting s1.history s2.history before mid
       → TellsAll (map told_of (filter is_finished xs2)) mid now → Passed s3 xs3 (suc n) now × SaidMore before now
   passed_then before mid now legal calm settled b noting tells =

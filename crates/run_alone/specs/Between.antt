@@ -19,8 +19,8 @@ use Rattle.run_alone.specs.Overs.{IsOver, GaveNone}
 use Rattle.branch_workers.specs.Lines.{finished_before, noted_before, IsFront}
 
 -- posting n may begin
-abbrev pub IsCalm : ℕ → State → Type 0
-IsCalm n s = MayBegin s.setting s.budget n s.history (events_of s.stands)
+abbrev pub MayBeginAt : ℕ → State → Type 0
+MayBeginAt n s = MayBegin s.setting s.budget n s.history (events_of s.stands)
 
 -- Between two postings, so many of which were taken in: how it stands with the calls that went out, and with postings
 -- that wait and that were told; that each posting began where it may; and if it is calm, that the next one may begin.
@@ -32,7 +32,7 @@ pub record Between (s : State) (xs : List Wait) (n : ℕ) (calm : Bool) : Type 0
   pub opens : IsOpen s.setting s.history all said xs
   pub order : StandsInOrder s.setting s.history n said xs
   pub count : length all ≡ n
-  pub quiet : calm ≡ true → IsCalm n s
+  pub quiet : calm ≡ true → MayBeginAt n s
 
 -- Of what was told the first k are the postings, among so many, that are finished before posting j.
 pub record WasTold (s : State) (n : ℕ) (told : List Told) (j k : ℕ) : Type 0 where

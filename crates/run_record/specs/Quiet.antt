@@ -1,4 +1,4 @@
--- When nothing is left to do in a record: at its end, and before each posting.
+-- When nothing is left to do in a record, and when each posting may begin.
 use Rattle.std.specs.Prelude.{◌≡◌, ℕ, zero, suc, Bool, true, false, not, ◌&&◌, List, [], ◌∷◌}
 use Rattle.std.specs.Prelude.{◌++◌, length, nat_eq, Some, is_some, slice_get}
 use Rattle.std.specs.List.{list_any, filter}

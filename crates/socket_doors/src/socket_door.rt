@@ -142,7 +142,7 @@ impl<H: Net + Clock + Copy + Drop> SocketDoor<H> {
         }
     }
 
-    /// Waits for a while: until somebody comes, where nobody was there at the last look. It counts it.
+    /// Counts a rest, and waits for a while: until somebody comes, where nobody was there at the last look.
     fn wait(&mut self)
         ensures counts { self.new.counts ≡ rested self.old.counts }
         ensures empty { IsTrue self.new.empty → IsTrue self.old.empty }

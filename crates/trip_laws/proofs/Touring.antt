@@ -38,7 +38,7 @@ use Rattle.session_turn.proofs.Histories.{past_on, some_of, service_stays}
 use Rattle.run_record.specs.Outside.{Trip, trips, fetched_in, trip_of, console_calls}
 use Rattle.outside_traits.specs.Told.{Lists}
 use Rattle.outside_links.specs.Trips.{Made}
-use Rattle.trip_laws.specs.Trips.{TripsTold, faults_behind, HasCounted, IsTrip, Travelled, AreVoid}
+use Rattle.trip_laws.specs.Trips.{TripsTold, faults_after_trip, HasCounted, IsTrip, Travelled, AreVoid}
 use Rattle.trip_laws.specs.Going.{is_inward, is_of_session, fetch_of, answer_of, went_out, goes_to, AreSettled}
 use Rattle.trip_laws.specs.Going.{IsTour, AreTours, Toured, IsHeard}
 use Rattle.trip_laws.proofs.Places.{filter_map_same, any_at, at_front}
@@ -217,7 +217,7 @@ nothing_made (Some ms) = sym (append-nil ms)
 counted_on : (before now later : ℕ) (some more : List Made) → HasCounted before now some → HasCounted now later more
     → HasCounted before later (some ++ more)
 counted_on before now later some more a b =
-    b ∙ ap (λ n. fold faults_behind n more) a ∙ sym (fold-append faults_behind before some more)
+    b ∙ ap (λ n. fold faults_after_trip n more) a ∙ sym (fold-append faults_after_trip before some more)
 
 pub toured_first : (w : Setting) (now : TripsTold) → Toured w [] now now
 toured_first w now =

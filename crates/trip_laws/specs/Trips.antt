@@ -35,13 +35,13 @@ abbrev pub has_failed : Made → Bool
 has_failed m = is_none m.came
 
 -- how often a link has failed behind a trip, where it had failed so often: one more where the trip failed
-abbrev pub faults_behind : ℕ → Made → ℕ
-faults_behind before m = if has_failed m then one_more before else before
+abbrev pub faults_after_trip : ℕ → Made → ℕ
+faults_after_trip before m = if has_failed m then one_more before else before
 
 -- These trips were made between two counts of failures: it rose by one for each that failed and for no other, up to the
 -- last value of its type.
 abbrev pub HasCounted : ℕ → ℕ → List Made → Type 0
-HasCounted before now made = now ≡ fold faults_behind before made
+HasCounted before now made = now ≡ fold faults_after_trip before made
 
 -- ---- trips
 
