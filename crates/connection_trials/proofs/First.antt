@@ -588,7 +588,7 @@ module _ (w : Setting) (h : List Entry) (halted : Bool) (t : Traffic) (reading :
         (k.bodies ∙ ap (λ (l : List Fed). take (length f.visit.bodies) (body ∷ bodies_in l)) is)
         (ap (λ (u : Visit). slice_get u.bodies 1) (sym v.2) ∙ z.taken) in (
           z.more,
-          first_posted one f k
+          first_posted s one f k
               ∙ ap (λ (l : List Came). posts_of 0 (map posting_of (came_with 0 body ∷ l)))
               (z.came ∙ ap (λ (n : ℕ). came_with n z.body ∷ z.more) service ∙ ap (λ (b : List ℕ). came_with 0 b ∷ z.more) second),
         )

@@ -227,7 +227,7 @@ pub record AsksOne (number : ℕ) (body : Option (List ℕ)) (before now : Listi
   pub later : LinkTold
   pub there : slice_get before.links number ≡ Some link
   pub read : stage_at link ≡ Stages.Reads
-  pub first : (k : ℕ) (earlier : LinkTold) → slice_get before.links k ≡ Some earlier → k < number → reads earlier ≡ false
+  pub first : (k : ℕ) (l : LinkTold) → slice_get before.links k ≡ Some l → k < number → reads l ≡ false
   pub asked : IsAsked (length before.traffics) body link later
   pub set : now.links ≡ slice_set before.links number later
 
