@@ -85,8 +85,8 @@ pub record IsAnswered (hands : Hands) (w : Setting) (h : List Entry) (all : List
   pub written : out.written ≡ lines_in w h all order
   pub noted : out.noted ≡ notes w h
 
--- Of what was due one of the two was cut, since its sink failed: the lines, and then all was noted; or the notes, and
--- then the lines were not cut by a failure.
+-- One of the two sinks failed, and what was due to it was cut. Where it was that of the lines all was noted; where it
+-- was that of the notes the lines are a front of those due.
 pub data WasCut (before now : Faults) (due out : Output) : Type 0 where
   in_lines : Rose before.output now.output → now.notes ≡ before.notes → IsProperFront out.written due.written
       → out.noted ≡ due.noted → WasCut before now due out

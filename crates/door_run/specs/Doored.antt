@@ -64,9 +64,10 @@ pub record AreNoted (w : Setting) (h : List Entry) (halted : Bool) (before now :
 
 -- A task was run over doors by one worker: its record is that of such a run and of this text, with the bytes of each
 -- connection that was accepted as its traffic; what came on these was served; its notes were written, and in each case
--- those before the last posting; each turn took the pick 0; and its calls to the console came to void. Doors were opened where the program has them, and all that was
--- opened and accepted came back; to each service lead as many connections as its doors gave. Unless the front halted or
--- there were the most postings, it went on until none could come any more, or none came for too long.
+-- those before the last posting; each turn took the pick 0; and its calls to the console came to void. Doors were opened
+-- where the program has them, and all that was opened and accepted came back; to each service lead as many connections
+-- as its doors gave. Unless the front halted or there were the most postings, it went on until none could come any more,
+-- or none came for too long.
 pub record IsDoored (IsMade : Line → Type 0) (t : Task) (before now : Outside) (ended : Ended) : Type 0 where
   pub halted : Bool
   pub run : IsRun (run_of t.parts) t.budget alone halted ended.report

@@ -1,5 +1,5 @@
 -- Runs that ended since their output failed, once.
-use Rattle.std.specs.Prelude.{ℕ, List, [], Some}
+use Rattle.std.specs.Prelude.{[], Some}
 use Rattle.run_record.specs.declared.record.Record.{Record}
 use Rattle.branch_workers.specs.Headline.{Ending}
 use Rattle.line_trials.proofs.Statuses.{none, failed}

@@ -1,5 +1,5 @@
 -- What is noted before a posting, in a history of two of them with a note behind each.
-use Rattle.std.proofs.Common.{◌≡◌, true, false, List, [], ◌∷◌, refl}
+use Rattle.std.proofs.Common.{◌≡◌, false, List, [], ◌∷◌, refl}
 use Rattle.jolie_trees.specs.declared.root.Root.TheVariants as root
 use Rattle.jolie_trees.specs.Data.{node, no_fields}
 use Rattle.behaviour_tree.specs.declared.program.Execution.TheVariants as execution

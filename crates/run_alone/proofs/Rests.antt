@@ -40,7 +40,7 @@ rested_not s settled = record {
 quiet_by : {s : State} {xs : List Wait} {n : ℕ} {before : Dealings} (calm stops : Bool) → Between s xs n calm
     → Closed s xs n calm before → stops ≡ before.said.halted → (not calm || stops) ≡ true → before.said.muted ≡ false
     → IsQuietAt s
-quiet_by {s} {n = n} true stops b closed e h unmuted = calm_quiet s n (closed.passed.some (sym e ∙ h)) (b.quiet refl)
+quiet_by {s = s} {n = n} true stops b closed e h unmuted = calm_quiet s n (closed.passed.some (sym e ∙ h)) (b.quiet refl)
 quiet_by false stops b closed e h unmuted = absurd (false≢true (sym unmuted ∙ closed.muted refl))
 
 pub quiet_not : {s : State} {xs : List Wait} {n : ℕ} {calm stops : Bool} (dealt : Dealings → Type 0) (before : Dealings)

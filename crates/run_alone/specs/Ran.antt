@@ -54,8 +54,9 @@ NotedBefore w h d = IsFront (noted_before w h (length d.brought.given - 1)) d.br
 
 -- What passed between a run of this history and its front: each posting that was given was posted, in order, and was
 -- answered once, in order, with what its calls came to; and what the history notes was noted. When a posting was asked
--- for, the front had been told of what is finished before that one, and what the history notes before it had been noted;
--- and where the front gave none when it was asked last, it had been told by then of what is finished before the end.
+-- for, the front had been told of what is finished before that one; and where it gave none when it was asked last, it
+-- had been told by then of what is finished before the end. By then what the history notes before the last posting had
+-- been noted.
 pub record Dealt (w : Setting) (h : List Entry) (d : Dealings) : Type 0 where
   pub posted : posts_by first_worker h ≡ posts_of 0 d.brought.given
   pub posters : list_all is_by_first h ≡ true
