@@ -1,4 +1,4 @@
-use Rattle.std.proofs.Common.{◌≤◌, ◌++◌, length, take, ap, ◌∙◌}
+use Rattle.std.proofs.Common.{◌≤◌, ◌++◌, length, take, ap, ◌∙◌, arith}
 use Rattle.std.proofs.lemmas.List.{length-take-le, take-append-le}
 use Rattle.http_link.proofs.Heard.{tells_none}
 use Rattle.http_link.proofs.inbox.Inbox.fill.Goals as goal
