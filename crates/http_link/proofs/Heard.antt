@@ -1,9 +1,10 @@
 -- Reads in a row.
 use Rattle.std.proofs.Common.{◌≡◌, ◌<◌, ◌≤◌, ℕ, ◌==◌, Bool, true, false, not, ◌&&◌, ◌||◌, List, [], ◌∷◌, ◌++◌, length, Some, None, sym, refl, ap, ◌∙◌, subst, arith, length-append, append_assoc, append-nil}
 use Rattle.std.proofs.lemmas.Bool.{ne_eqb}
-use Rattle.std.specs.Prelude.{Option}
+use Rattle.std.specs.Prelude.{Option, MatchResult, Result, Ok, Err}
 use Rattle.std.specs.Io.KnownBytes.{Appends}
 use Rattle.std.proofs.KnownBytes.{Appends-nil, Appends-trans}
+use Rattle.outside_traits.specs.Calls.{tells_end}
 use Rattle.outside_traits.specs.Told.{Lists}
 use Rattle.outside_traits.specs.declared.calls.WireCall.{WireCall}
 use Rattle.outside_traits.specs.declared.calls.WireCall.TheVariants.{Read}
@@ -36,13 +37,22 @@ calm_on first mid now ended before c = record {
 }
 
 -- a read of an open wire, with room for some bytes, tells the end where it gives none
-pub tells_none : (was now closed : Bool) (room count : ℕ) → now ≡ (was || (not closed && (not (room == 0) && (count == 0))))
+tells_none : (was now closed : Bool) (room count : ℕ) → now ≡ (was || (not closed && (not (room == 0) && (count == 0))))
     → closed ≡ false → 0 < room → now ≡ (was || (count == 0))
 tells_none was now closed room count told is_open some =
     let roomy : (room == 0) ≡ false = ne_eqb room 0 (λ e. omega arith) in
     told
     ∙ ap (λ b. was || (not b && (not (room == 0) && (count == 0)))) is_open
     ∙ ap (λ b. was || (not b && (count == 0))) roomy
+
+-- so a read that did not fail leaves the wire calm
+pub read_calmly : {E : Type 0} (r : Result ℕ E) (before now : WireTraffic) (closed : Bool) (room : ℕ)
+    → MatchResult r (λ _. now.lost ≡ before.lost) (λ _. now.lost ≡ true) → now.cut ≡ before.cut
+    → now.ended ≡ (before.ended || tells_end closed room r) → closed ≡ false → 0 < room
+    → MatchResult r (λ count. IsCalm before now (count == 0)) (λ _. now.lost ≡ true)
+read_calmly (Ok count) before now closed room lost cut told is_open some =
+    record { lost = lost; cut = cut; end = tells_none before.ended now.ended closed room count told is_open some }
+read_calmly (Err error) before now closed room lost cut told is_open some = lost
 
 -- a write of an open wire that failed cut it
 pub cuts : (was now closed : Bool) → now ≡ (was || not closed) → closed ≡ false → now ≡ true

@@ -1,6 +1,8 @@
 //! The bytes that were read in a trip.
 ghost use Rattle.std.specs.Prelude.{◌≡◌, ◌<◌, ◌≤◌, ◌+◌, ◌==◌, ◌++◌, [], ◌∷◌, ℕ, List, MatchResult, IfOk, false, true, length};
-ghost use Rattle.std.specs.Io.KnownBytes.{Appends};
+ghost use Rattle.std.specs.Io.{ReadsAtMost};
+ghost use Rattle.std.specs.Io.KnownBytes.{Appends, WriteAppends};
+ghost use Rattle.outside_traits.specs.Calls.{moved};
 ghost use Rattle.httparse.specs.Spans.{IsWithin, span_bytes};
 ghost use Rattle.outside_traits.specs.Told.{Lists};
 ghost use Rattle.outside_traits.specs.declared.calls.WireCall.TheVariants.{Read};
@@ -77,7 +79,7 @@ impl Inbox {
     {
         let mut chunk = [0; CHUNK];
         let room = (MOST_READ - self.bytes.len()).min(CHUNK);
-        match wire.read(&mut chunk[..room]) {
+        match read_some(wire, &mut chunk[..room]) {
             Ok(count) => {
                 self.keep(&chunk[..count]);
                 Ok(count)
@@ -105,4 +107,20 @@ impl Inbox {
         bytes.truncate(place.end - place.start);
         bytes
     }
+}
+
+/// Reads once, where there is room for some bytes, and says how many came.
+fn read_some<W: Wire>(wire: &mut W, into: &mut [u8]) -> Result<usize, Failed>
+    requires open { W.closed wire.old ≡ false }
+    requires some { 0 < length into.old }
+    ensures bound { ReadsAtMost result into.new }
+    ensures given { WriteAppends (W.given wire.old) (W.given wire.new) result into.new }
+    ensures taken { W.taken wire.new ≡ W.taken wire.old }
+    ensures calls { Lists (W.calls wire.old) (W.calls wire.new) (Read (moved result) ∷ []) }
+    ensures open { W.closed wire.new ≡ false }
+    ensures told { MatchResult result
+        (λ count. IsCalm (traffic (W.given wire.old) (W.taken wire.old) (W.calls wire.old) (W.lost wire.old) (W.cut wire.old) (W.ended wire.old)) (traffic (W.given wire.new) (W.taken wire.new) (W.calls wire.new) (W.lost wire.new) (W.cut wire.new) (W.ended wire.new)) (count == 0))
+        (λ _. W.lost wire.new ≡ true) }
+{
+    wire.read(into)
 }

@@ -1,12 +1,11 @@
-use Rattle.std.proofs.Common.{◌≤◌, ◌++◌, length, take, ap, ◌∙◌, arith}
+use Rattle.std.proofs.Common.{◌≤◌, ◌++◌, length, take, ap, ◌∙◌}
 use Rattle.std.proofs.lemmas.List.{length-take-le, take-append-le}
-use Rattle.http_link.proofs.Heard.{tells_none}
 use Rattle.http_link.proofs.inbox.Inbox.fill.Goals as goal
 
 pub returns-in-Ok-clause-read : goal.returns-in-Ok-clause-read
 returns-in-Ok-clause-read g c =
     let count = c.in-Ok.count in
-    let into = c.read.new.into in
+    let into = c.read_some.new.into in
     let fits : count ≤ length into = c.in-Ok.ensures.bound.0 in (
       take count into,
       length-take-le count into fits,
@@ -14,10 +13,3 @@ returns-in-Ok-clause-read g c =
       c.in-Ok.ensures.given,
       c.in-Ok.ensures.calls,
     )
-
-pub returns-in-Ok-clause-told : goal.returns-in-Ok-clause-told
-returns-in-Ok-clause-told g c = record {
-  lost = c.in-Ok.ensures.lost;
-  cut = c.in-Ok.ensures.cut;
-  end = tells_none _ _ (g.W.Wire.closed c.args.wire.now) _ c.in-Ok.count c.in-Ok.ensures.ended c.requires.open (omega arith);
-}
