@@ -123,6 +123,7 @@ ended_by b faults =
       ended = true;
       faults = faults;
       seen = b.seen;
+      noted = b.noted;
       seens = b.seens;
     }
 
@@ -173,6 +174,7 @@ brought_by before later = record {
   ended = false;
   faults = later.faults;
   seen = 0;
+  noted = [];
   seens = before.seens ++ 0 ∷ [];
 }
 
