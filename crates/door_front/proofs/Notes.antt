@@ -39,7 +39,7 @@ part_is_proper xs text n lt = (
 -- ---- what was said, by the same notes
 
 -- a front is told more
-noted_told : (first now : Taking) (s after : Said) (notes : List ℕ) → after.halted ≡ s.halted → after.noted ≡ s.noted
+pub noted_told : (first now : Taking) (s after : Said) (notes : List ℕ) → after.halted ≡ s.halted → after.noted ≡ s.noted
     → HasNoted first now s notes → HasNoted first now after notes
 noted_told first now s after notes halted same (entire running calm is) = entire (halted ∙ running) calm (is ∙ sym same)
 noted_told first now s after notes halted same (in_part cut rose part) =
