@@ -48,7 +48,7 @@ module _ {A : Type 0} where
   get_set_same (z ∷ xs) (suc i) x y e = get_set_same xs i x y e
 
   -- the others stay
-  get_set_unlike : (xs : List A) (i j : ℕ) (y : A) → (i ≡ j → ⊥) → slice_get (slice_set xs i y) j ≡ slice_get xs j
+  pub get_set_unlike : (xs : List A) (i j : ℕ) (y : A) → (i ≡ j → ⊥) → slice_get (slice_set xs i y) j ≡ slice_get xs j
   get_set_unlike [] i j y h = refl
   get_set_unlike (z ∷ xs) zero zero y h = absurd (h refl)
   get_set_unlike (z ∷ xs) zero (suc j) y h = refl
