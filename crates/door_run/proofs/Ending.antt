@@ -32,13 +32,13 @@ use Rattle.door_run.proofs.Serving.{as_many, given_long}
 
 module _ (w : Setting) (h : List Entry) (first now : Taking) (s : Said) (written : List ℕ) where
   -- where it did not halt, all of them
-  entire_so : HasNoted first now s written → AreNotes s.halted s.noted (notes w h) → s.halted ≡ false
+  pub entire_so : HasNoted first now s written → AreNotes s.halted s.noted (notes w h) → s.halted ≡ false
       → (written ≡ notes w h) × (now.faults ≡ first.faults)
   entire_so (entire running same is) all calm = (is ∙ all.1 calm, same)
   entire_so (in_part halted rose part) all calm = absurd (true≢false (sym halted ∙ calm))
 
   -- else a front of them
-  part_so : HasNoted first now s written → AreNotes s.halted s.noted (notes w h) → s.halted ≡ true
+  pub part_so : HasNoted first now s written → AreNotes s.halted s.noted (notes w h) → s.halted ≡ true
       → IsProperFront written (notes w h) × Rose first.faults now.faults
   part_so (entire running same is) all stopped = absurd (true≢false (sym stopped ∙ running))
   part_so (in_part halted rose part) all stopped = (proper_front written s.noted (notes w h) part all.0, rose)
