@@ -59,9 +59,9 @@ is_told visit = nat_eq (length visit.texts) (length visit.bodies)
 -- once and those of one connection in their order, by the worker that has the connections; and, whether the front
 -- halted or not, each once the one before it on its connection was answered, and where each connection before its own
 -- waited for an answer or was over. What was written on each is what is to be written where the responses to its
--- postings are told; where it stands as failed the last of these, or what is due behind it, may have been cut. The
+-- postings are told; where it stands as failed in a write the last of these, or what is due behind it, was cut. The
 -- response to each posting was told that was finished before the last one came; and unless the front halted, to each.
--- Whether a connection that stands so has failed its wire tells, when it comes back.
+-- Whether a connection has failed its wire tells, when it comes back.
 pub record IsServed (w : Setting) (h : List Entry) (halted : Bool) (traffic : List Traffic) : Type 0 where
   pub visits : List Visit
   pub all : Requests

@@ -40,10 +40,10 @@ pub record AreTaken (visits : List Visit) (asked : List Asked) : Type 0 where
   pub all : (k : ℕ) (visit : Visit) → slice_get visits k ≡ Some visit
       → count_by (is_of k) asked ≡ length visit.bodies
 
--- The bytes of a connection that stands so: the bodies are those of the first requests that were read, and of all where
--- it is over; and what was written is what is to be written where these texts are told. Where it stands as failed that
--- may have been cut: then a front of it was written, in which no more is wanting than the last answer and what is due
--- behind it, and the requests behind were not taken.
+-- The bytes of a connection that stands so. Unless it stands as failed in a write the bodies are those of the first
+-- requests that were read, and of all where it is over; and what was written is what is to be written where these texts
+-- are told. Where it stands as failed in a write the bodies are those of the first requests, and a front of that was
+-- written, in which no more is wanting than the last answer and what is due behind it.
 pub record HasPassed (visit : Visit) (traffic : Traffic) : Type 0 where
   pub stage : visit.stage ≢ Stages.Spent
   pub keeps : (reading : Reading traffic.read)

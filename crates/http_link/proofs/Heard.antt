@@ -12,7 +12,7 @@ use Rattle.outside_dials.specs.Dials.{WireTraffic}
 use Rattle.http_port.proofs.CallLemmas.{Notes-nil}
 use Rattle.http_link.specs.Responses.{IsUnfinished}
 use Rattle.http_link.specs.Trips.{Reads, no_more, gives, ends, most_read}
-use Rattle.http_link.specs.Steps.{IsCalm, Heard, HeardInPart}
+use Rattle.http_link.specs.Steps.{IsCalm, IsLost, IsCut, Heard, HeardInPart}
 
 -- ---- what a wire tells of its failures and its end
 
@@ -45,18 +45,32 @@ tells_none was now closed room count told is_open some =
     ∙ ap (λ b. was || (not b && (not (room == 0) && (count == 0)))) is_open
     ∙ ap (λ b. was || (not b && (count == 0))) roomy
 
--- so a read that did not fail leaves the wire calm
+-- so a read that did not fail leaves the wire calm, and one that failed lost it
 pub read_calmly : {E : Type 0} (r : Result ℕ E) (before now : WireTraffic) (closed : Bool) (room : ℕ)
     → MatchResult r (λ _. now.lost ≡ before.lost) (λ _. now.lost ≡ true) → now.cut ≡ before.cut
     → now.ended ≡ (before.ended || tells_end closed room r) → closed ≡ false → 0 < room
-    → MatchResult r (λ count. IsCalm before now (count == 0)) (λ _. now.lost ≡ true)
+    → MatchResult r (λ count. IsCalm before now (count == 0)) (λ _. IsLost before now)
 read_calmly (Ok count) before now closed room lost cut told is_open some =
     record { lost = lost; cut = cut; end = tells_none before.ended now.ended closed room count told is_open some }
-read_calmly (Err error) before now closed room lost cut told is_open some = lost
+read_calmly (Err error) before now closed room lost cut told is_open some =
+    record { lost = lost; cut = cut; end = told ∙ sym (or_false before.ended) }
 
 -- a write of an open wire that failed cut it
-pub cuts : (was now closed : Bool) → now ≡ (was || not closed) → closed ≡ false → now ≡ true
-cuts was now closed told is_open = told ∙ ap (λ b. was || not b) is_open ∙ or_true was
+pub cuts : (before now : WireTraffic) (closed : Bool) → now.lost ≡ before.lost → now.cut ≡ (before.cut || not closed)
+    → now.ended ≡ before.ended → closed ≡ false → IsCut before now
+cuts before now closed lost told ended is_open = record {
+  lost = lost;
+  cut = told ∙ ap (λ b. before.cut || not b) is_open ∙ or_true before.cut;
+  end = ended;
+}
+
+-- nothing failed, and then a read did
+pub lost_on : (first mid now : WireTraffic) → IsCalm first mid false → IsLost mid now → IsLost first now
+lost_on first mid now before f = record {
+  lost = f.lost;
+  cut = f.cut ∙ before.cut;
+  end = f.end ∙ before.end ∙ sym (or_false first.ended);
+}
 
 -- ---- reads
 
@@ -138,8 +152,8 @@ heard_end first before now was came next (b ∷ piece) count h open_ did e long 
 -- one more, which failed
 pub heard_cut : (first before now : WireTraffic) (was came next : List ℕ) → Heard first before was came false → IsUnfinished came → next ≡ came
     → Appends before.given now.given [] → now.taken ≡ before.taken → Lists before.calls now.calls (Read 0 ∷ [])
-    → now.lost ≡ true → HeardInPart first now was next
-heard_cut first before now was came next h open_ e given taken noted lost = record {
+    → IsLost before now → HeardInPart first now was next
+heard_cut first before now was came next h open_ e given taken noted failed = record {
   piece = h.piece;
   grown = e ∙ h.grown;
   given = subst (Appends first.given now.given) (append-nil h.piece) (Appends-trans first.given before.given now.given h.piece [] h.given given);
@@ -149,7 +163,7 @@ heard_cut first before now was came next h open_ e given taken noted lost = reco
   reads = subst (λ l. Reads was h.calls l false) (sym e) h.reads;
   unfinished = subst IsUnfinished (sym e) open_;
   bounded = subst (λ l. length l ≤ most_read) (sym e) h.bounded;
-  lost = lost;
+  failed = lost_on first before now h.calm failed;
 }
 
 -- reads behind reads, with what is told of their wire
@@ -180,7 +194,7 @@ heard_on_cut first mid now was came next h k = record {
   reads = reads_on was came next h.calls k.calls false h.reads k.reads;
   unfinished = k.unfinished;
   bounded = k.bounded;
-  lost = k.lost;
+  failed = lost_on first mid now h.calm k.failed;
 }
 
 -- what was read stays unfinished while it is shorter than this

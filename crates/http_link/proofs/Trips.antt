@@ -13,10 +13,10 @@ use Rattle.outside_traits.specs.declared.calls.WireCall.TheVariants.{Read}
 use Rattle.outside_dials.specs.Dials.{WireTraffic, IsNew, Tells, CountsWire}
 use Rattle.http_port.specs.Writing.{IsWritten}
 use Rattle.http_port.proofs.PartLemmas.{take_min}
-use Rattle.http_link.specs.Trips.{Telling, telling, Shows, Exchange, Failing, unsent, unheard, unanswered}
-use Rattle.http_link.specs.Steps.{IsCalm, Heard, HeardInPart, Exchanged, CutOff, in_writing, in_reading, Finds}
+use Rattle.http_link.specs.Trips.{Telling, telling, Shows, TellsEnd, Exchange, Failing, unsent, unheard, unanswered}
+use Rattle.http_link.specs.Steps.{IsCalm, IsLost, IsCut, Heard, HeardInPart, Exchanged, CutOff, in_writing, in_reading, Finds}
 use Rattle.http_link.specs.Responses.{IsNoResponse}
-use Rattle.http_link.proofs.Heard.{or_true, calm_on, Notes-trans, heard_on, heard_on_cut}
+use Rattle.http_link.proofs.Heard.{or_true, calm_on, lost_on, Notes-trans, heard_on, heard_on_cut}
 
 -- ---- on one wire
 
@@ -43,18 +43,19 @@ exchanged before mid now sent came ended taken w given calm h = record {
 
 -- a request that was written, and a read behind it that failed
 pub cut_in_reading : (before mid now : WireTraffic) (sent came : List ℕ) → Appends before.taken mid.taken sent
-    → IsWritten before.calls mid.calls sent true → mid.given ≡ before.given → HeardInPart mid now [] came → CutOff before now sent
-cut_in_reading before mid now sent came taken w given h =
+    → IsWritten before.calls mid.calls sent true → mid.given ≡ before.given → IsCalm before mid false → HeardInPart mid now [] came
+    → CutOff before now sent
+cut_in_reading before mid now sent came taken w given calm h =
     in_reading came w.calls h.calls
     (subst (λ t. Appends before.taken t sent) (sym h.taken) taken)
     (subst (λ g. Appends g now.given came) given (subst (Appends mid.given now.given) (sym h.grown) h.given))
     (Notes-trans before.calls mid.calls now.calls w.calls (h.calls ++ Read 0 ∷ []) w.noted h.noted)
     (own_writes before.calls mid.calls sent true w)
-    h.reads h.unfinished h.bounded h.lost
+    h.reads h.unfinished h.bounded (lost_on before mid now calm h.failed)
 
 -- a write that failed
 pub cut_in_writing : (before now : WireTraffic) (sent : List ℕ) (count : ℕ) → count < length sent
-    → Appends before.taken now.taken (take count sent) → IsWritten before.calls now.calls (take count sent) false → now.given ≡ before.given → now.cut ≡ true
+    → Appends before.taken now.taken (take count sent) → IsWritten before.calls now.calls (take count sent) false → now.given ≡ before.given → IsCut before now
     → CutOff before now sent
 cut_in_writing before now sent count short taken w given cut =
     in_writing count w.calls short taken (subst (λ g. Appends before.given g []) (sym given) (Appends-nil before.given)) w.noted
@@ -76,6 +77,22 @@ pub told_so : (P : WireTraffic → Type 0) (told : Option WireTraffic) (t : Wire
 told_so P None t e holds = tt
 told_so P (Some last) t e holds = subst P (sym e) holds
 
+-- a new wire on which nothing failed
+calm_end : (blank t : WireTraffic) (ended : Bool) → IsNew blank → IsCalm blank t ended → TellsEnd false false ended t
+calm_end blank t ended new calm = record {
+  lost = calm.lost ∙ new.lost;
+  cut = calm.cut ∙ new.cut;
+  end = calm.end ∙ ap (λ b. b || ended) new.ended;
+}
+
+-- one on which a write failed
+cut_end : (blank t : WireTraffic) → IsNew blank → IsCut blank t → TellsEnd false true false t
+cut_end blank t new c = record { lost = c.lost ∙ new.lost; cut = c.cut; end = c.end ∙ new.ended }
+
+-- one on which a read failed
+lost_end : (blank t : WireTraffic) → IsNew blank → IsLost blank t → TellsEnd true false false t
+lost_end blank t new l = record { lost = l.lost; cut = l.cut ∙ new.cut; end = l.end ∙ new.ended }
+
 -- the exchange on a new wire that came back
 pub exchange_told : (blank t : WireTraffic) (dialled : Option (List (List ℕ))) (last : Option WireTraffic) (faults : ℕ) (sent came : List ℕ)
     (ended : Bool) → IsNew blank → Tells last t → Exchanged blank t sent came ended → Exchange (telling blank dialled last faults) sent came ended
@@ -86,7 +103,7 @@ exchange_told blank t dialled last faults sent came ended new e x = record {
   written = x.written;
   read = x.read;
   bounded = x.bounded;
-  end = told_so (λ (w : WireTraffic). w.ended ≡ ended) last t e (x.calm.end ∙ ap (λ b. b || ended) new.ended);
+  end = told_so (TellsEnd false false ended) last t e (calm_end blank t ended new x.calm);
 }
 
 starts_with : (count : ℕ) (sent : List ℕ) → StartsWith sent (take count sent)
@@ -99,13 +116,14 @@ shorter count sent short = omega (arith, short, length-take count sent)
 
 -- a wire that failed and came back
 pub failing_told : (blank t : WireTraffic) (before : Telling) (dialled : Option (List (List ℕ))) (last : Option WireTraffic) (faults : ℕ)
-    (sent : List ℕ) → Tells last t → CutOff blank t sent → Rose before.faults faults → Failing sent before (telling blank dialled last faults)
-failing_told blank t before dialled last faults sent e (in_writing count writes short taken given noted written cut) risen =
+    (sent : List ℕ) → IsNew blank → Tells last t → CutOff blank t sent → Rose before.faults faults
+    → Failing sent before (telling blank dialled last faults)
+failing_told blank t before dialled last faults sent new e (in_writing count writes short taken given noted written cut) risen =
     unsent (take count sent) writes (shows blank last t (take count sent) [] writes e taken given noted) (starts_with count sent)
-    (shorter count sent short) written (told_so (λ (w : WireTraffic). w.cut ≡ true) last t e cut) risen
-failing_told blank t before dialled last faults sent e (in_reading came writes reads taken given noted written read open_ bounded lost) risen =
+    (shorter count sent short) written (told_so (TellsEnd false true false) last t e (cut_end blank t new cut)) risen
+failing_told blank t before dialled last faults sent new e (in_reading came writes reads taken given noted written read open_ bounded lost) risen =
     unheard came writes reads (shows blank last t sent came (writes ++ (reads ++ Read 0 ∷ [])) e taken given noted) written read open_ bounded
-    (told_so (λ (w : WireTraffic). w.lost ≡ true) last t e lost) risen
+    (told_so (TellsEnd true false false) last t e (lost_end blank t new lost)) risen
 
 -- a dialler's count stands where the wire did not fail
 pub count_stands : (blank t : WireTraffic) (sent came : List ℕ) (ended : Bool) (before now : ℕ) → IsNew blank → Exchanged blank t sent came ended
@@ -117,9 +135,9 @@ count_stands blank t sent came ended before now new x counts =
 pub count_rises : (blank t : WireTraffic) (sent : List ℕ) (before now : ℕ) → CutOff blank t sent → CountsWire (t.lost || t.cut) before now
     → Rose before now
 count_rises blank t sent before now (in_writing count writes short taken given noted written cut) counts =
-    counts.failed (ap (λ b. t.lost || b) cut ∙ or_true t.lost)
+    counts.failed (ap (λ b. t.lost || b) cut.cut ∙ or_true t.lost)
 count_rises blank t sent before now (in_reading came writes reads taken given noted written read open_ bounded lost) counts =
-    counts.failed (ap (λ b. b || t.cut) lost)
+    counts.failed (ap (λ b. b || t.cut) lost.lost)
 
 -- ---- by what a call answers
 
@@ -132,7 +150,7 @@ pub exchanged_or_cut : {E : Type 0} (r : Result (Option Span) E) (before mid now
 exchanged_or_cut (Ok found) before mid now sent was came e taken w given calm m =
     (m.0, m.1, exchanged before mid now sent came m.0 taken w given calm (subst (λ l. Heard mid now l came m.0) e m.2))
 exchanged_or_cut (Err x) before mid now sent was came e taken w given calm m =
-    cut_in_reading before mid now sent came taken w given (subst (λ l. HeardInPart mid now l came) e m)
+    cut_in_reading before mid now sent came taken w given calm (subst (λ l. HeardInPart mid now l came) e m)
 
 -- reads of a head, and what came of the reads behind them
 pub found_on : {E : Type 0} (r : Result (Option Span) E) (first mid now : WireTraffic) (was came next : List ℕ) → Heard first mid was came false
@@ -153,7 +171,7 @@ visited (Ok found) blank new t sent came before dialled last mid faults fresh is
     (m.0, m.1, exchange_told blank t dialled last faults sent came m.0 is told x, count_stands blank t sent came m.0 mid faults is x counts ∙ same)
 visited (Err e) blank new t sent came before dialled last mid faults fresh is m told counts same =
     let x : CutOff blank t sent = subst (λ (n : WireTraffic). CutOff n t sent) fresh m in
-    failing_told blank t before dialled last faults sent told x (subst (λ n. Rose n faults) same (count_rises blank t sent mid faults x counts))
+    failing_told blank t before dialled last faults sent is told x (subst (λ n. Rose n faults) same (count_rises blank t sent mid faults x counts))
 
 -- a trip fails where what was asked brought no response
 pub fails_unanswered : (sent asked came : List ℕ) (ended : Bool) (before now : Telling) → asked ≡ sent → Exchange now asked came ended

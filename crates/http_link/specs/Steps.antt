@@ -56,6 +56,18 @@ pub record IsCalm (before now : WireTraffic) (ended : Bool) : Type 0 where
   pub cut : now.cut ≡ before.cut
   pub end : now.ended ≡ (before.ended || ended)
 
+-- a read of a wire failed meanwhile; no write did, and no read told the end
+pub record IsLost (before now : WireTraffic) : Type 0 where
+  pub lost : now.lost ≡ true
+  pub cut : now.cut ≡ before.cut
+  pub end : now.ended ≡ before.ended
+
+-- a write of a wire failed meanwhile; no read did, and none told the end
+pub record IsCut (before now : WireTraffic) : Type 0 where
+  pub lost : now.lost ≡ before.lost
+  pub cut : now.cut ≡ true
+  pub end : now.ended ≡ before.ended
+
 -- reads of a wire took what was read from these bytes to those, and nothing else was done with it
 pub record Heard (before now : WireTraffic) (was came : List ℕ) (ended : Bool) : Type 0 where
   pub piece : List ℕ
@@ -79,7 +91,7 @@ pub record HeardInPart (before now : WireTraffic) (was came : List ℕ) : Type 0
   pub reads : Reads was calls came false
   pub unfinished : IsUnfinished came
   pub bounded : length came ≤ most_read
-  pub lost : now.lost ≡ true
+  pub failed : IsLost before now
 
 -- ---- on one wire
 
@@ -100,8 +112,8 @@ pub data CutOff (before now : WireTraffic) (sent : List ℕ) : Type 0 where
   in_writing : (count : ℕ) (writes : List WireCall) → count < length sent
       → Appends before.taken now.taken (take count sent) → Appends before.given now.given []
       → Lists before.calls now.calls writes → IsWritten (Some []) (Some writes) (take count sent) false
-      → now.cut ≡ true → CutOff before now sent
+      → IsCut before now → CutOff before now sent
   in_reading : (came : List ℕ) (writes reads : List WireCall) → Appends before.taken now.taken sent
       → Appends before.given now.given came → Lists before.calls now.calls (writes ++ (reads ++ Read 0 ∷ []))
       → IsWritten (Some []) (Some writes) sent true → Reads [] reads came false → IsUnfinished came
-      → length came ≤ most_read → now.lost ≡ true → CutOff before now sent
+      → length came ≤ most_read → IsLost before now → CutOff before now sent

@@ -51,8 +51,14 @@ pub record Telling : Type 0 where
 abbrev pub telling : WireTraffic → Option (List (List ℕ)) → Option WireTraffic → ℕ → Telling
 telling blank dialled last faults = record { blank = blank; dialled = dialled; last = last; faults = faults }
 
--- On the last wire that came back a request was written whole, and then this was read; ended says whether a read of it
--- told that no more comes.
+-- a wire tells so whether a read of it failed, whether a write did, and whether a read told that no more comes
+pub record TellsEnd (by_read by_write ended : Bool) (t : WireTraffic) : Type 0 where
+  pub lost : t.lost ≡ by_read
+  pub cut : t.cut ≡ by_write
+  pub end : t.ended ≡ ended
+
+-- On the last wire that came back a request was written whole, and then this was read, and no call of it failed; ended
+-- says whether a read of it told that no more comes.
 pub record Exchange (now : Telling) (sent came : List ℕ) (ended : Bool) : Type 0 where
   pub writes : List WireCall
   pub reads : List WireCall
@@ -60,7 +66,7 @@ pub record Exchange (now : Telling) (sent came : List ℕ) (ended : Bool) : Type
   pub written : IsWritten (Some []) (Some writes) sent true
   pub read : Reads [] reads came ended
   pub bounded : length came ≤ most_read
-  pub end : IfSome now.last (λ t. t.ended ≡ ended)
+  pub end : IfSome now.last (TellsEnd false false ended)
 
 -- A trip that brings this back: the location was dialled, its request was written on the wire that came back, and what
 -- was read there is a response of this body. The dialler's count of faults stands.
@@ -79,12 +85,12 @@ pub data Failing (sent : List ℕ) (before now : Telling) : Type 0 where
   -- the open wire failed in a write, behind a front of the request that is not all of it, and came back
   unsent : (went : List ℕ) (writes : List WireCall) → Shows now.blank now.last went [] writes → StartsWith sent went
       → length went < length sent → IsWritten (Some []) (Some writes) went false
-      → IfSome now.last (λ t. t.cut ≡ true) → Rose before.faults now.faults → Failing sent before now
+      → IfSome now.last (TellsEnd false true false) → Rose before.faults now.faults → Failing sent before now
   -- the wire failed in a read, behind the request, while what had come was no whole response yet, and came back
   unheard : (came : List ℕ) (writes reads : List WireCall)
       → Shows now.blank now.last sent came (writes ++ (reads ++ Read 0 ∷ []))
       → IsWritten (Some []) (Some writes) sent true → Reads [] reads came false → IsUnfinished came
-      → length came ≤ most_read → IfSome now.last (λ t. t.lost ≡ true) → Rose before.faults now.faults
+      → length came ≤ most_read → IfSome now.last (TellsEnd true false false) → Rose before.faults now.faults
       → Failing sent before now
   -- what was read is no response, and the dialler's count stands
   unanswered : (came : List ℕ) (ended : Bool) → Exchange now sent came ended → IsNoResponse came ended

@@ -1,5 +1,5 @@
 //! The bytes that were read in a trip.
-ghost use Rattle.std.specs.Prelude.{◌≡◌, ◌<◌, ◌≤◌, ◌+◌, ◌==◌, ◌++◌, [], ◌∷◌, ℕ, List, MatchResult, IfOk, false, true, length};
+ghost use Rattle.std.specs.Prelude.{◌≡◌, ◌<◌, ◌≤◌, ◌+◌, ◌==◌, ◌++◌, [], ◌∷◌, ℕ, List, MatchResult, IfOk, false, length};
 ghost use Rattle.std.specs.Io.{ReadsAtMost};
 ghost use Rattle.std.specs.Io.KnownBytes.{Appends, WriteAppends};
 ghost use Rattle.outside_traits.specs.Calls.{moved};
@@ -7,7 +7,7 @@ ghost use Rattle.httparse.specs.Spans.{IsWithin, span_bytes};
 ghost use Rattle.outside_traits.specs.Told.{Lists};
 ghost use Rattle.outside_traits.specs.declared.calls.WireCall.TheVariants.{Read};
 ghost use Rattle.outside_dials.specs.Dials.{traffic};
-ghost use Rattle.http_link.specs.Steps.{IsCalm};
+ghost use Rattle.http_link.specs.Steps.{IsCalm, IsLost};
 ghost use Rattle.http_link.specs.Trips.{most_read};
 
 use http_port::{LONGEST_BODY, LONGEST_HEAD};
@@ -75,7 +75,7 @@ impl Inbox {
         ensures open { W.closed wire.new ≡ false }
         ensures told { MatchResult result
             (λ count. IsCalm (traffic (W.given wire.old) (W.taken wire.old) (W.calls wire.old) (W.lost wire.old) (W.cut wire.old) (W.ended wire.old)) (traffic (W.given wire.new) (W.taken wire.new) (W.calls wire.new) (W.lost wire.new) (W.cut wire.new) (W.ended wire.new)) (count == 0))
-            (λ _. W.lost wire.new ≡ true) }
+            (λ _. IsLost (traffic (W.given wire.old) (W.taken wire.old) (W.calls wire.old) (W.lost wire.old) (W.cut wire.old) (W.ended wire.old)) (traffic (W.given wire.new) (W.taken wire.new) (W.calls wire.new) (W.lost wire.new) (W.cut wire.new) (W.ended wire.new))) }
     {
         let mut chunk = [0; CHUNK];
         let room = (MOST_READ - self.bytes.len()).min(CHUNK);
@@ -120,7 +120,7 @@ fn read_some<W: Wire>(wire: &mut W, into: &mut [u8]) -> Result<usize, Failed>
     ensures open { W.closed wire.new ≡ false }
     ensures told { MatchResult result
         (λ count. IsCalm (traffic (W.given wire.old) (W.taken wire.old) (W.calls wire.old) (W.lost wire.old) (W.cut wire.old) (W.ended wire.old)) (traffic (W.given wire.new) (W.taken wire.new) (W.calls wire.new) (W.lost wire.new) (W.cut wire.new) (W.ended wire.new)) (count == 0))
-        (λ _. W.lost wire.new ≡ true) }
+        (λ _. IsLost (traffic (W.given wire.old) (W.taken wire.old) (W.calls wire.old) (W.lost wire.old) (W.cut wire.old) (W.ended wire.old)) (traffic (W.given wire.new) (W.taken wire.new) (W.calls wire.new) (W.lost wire.new) (W.cut wire.new) (W.ended wire.new))) }
 {
     wire.read(into)
 }

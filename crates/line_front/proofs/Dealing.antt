@@ -77,6 +77,7 @@ nothing_dealt parts left faults to_lines to_notes = (
   record {
     brought = record {
       read = Consumes-nil left;
+      near = tt;
       passed = some refl refl refl nothing_came;
       given = refl;
       asked = refl;
@@ -158,6 +159,7 @@ brought_seen : (first now : Input) (count : ℕ) (counts noted : List ℕ) (b : 
     → HasBrought first now (with_seen count counts noted b)
 brought_seen first now count counts noted b h = record {
   read = h.read;
+  near = h.near;
   passed = h.passed;
   given = h.given;
   asked = h.asked;

@@ -4,14 +4,14 @@ use Rattle.std.specs.Io.KnownBytes.{Consumes, IsAtEnd}
 use Rattle.std.proofs.KnownBytes.{Consumes-nil, Consumes-trans}
 use Rattle.outside_traits.specs.Causes.{Rose}
 use Rattle.branch_workers.specs.Split.{IsOpen, split, whole_lines, is_blank, said_lines}
-use Rattle.line_front.specs.Passing.{Passing, read_in, IsLine}
+use Rattle.line_front.specs.Passing.{Passing, read_in, longest_piece, IsLine, IsNear}
 use Rattle.line_front.specs.declared.piece.Piece.{Piece}
 use Rattle.line_front.specs.declared.piece.Piece.TheVariants as piece
 use Rattle.line_front.specs.declared.next_line.Step.{Step}
 use Rattle.line_front.specs.declared.next_line.Step.TheVariants as step
 use Rattle.line_front.specs.Reading.{Fails}
 use Rattle.line_front.specs.Steps.{Reading, reading, Grows, ReadsPiece, IsAsBefore, IsNext, Looks, IsIdle, Comes, last_step, step_after}
-use Rattle.line_front.proofs.Splitting.{lines-passed}
+use Rattle.line_front.proofs.Splitting.{lines-passed, near_more, near_passed, same_behind}
 use Rattle.line_front.proofs.Postings.{said_lines-more_blank}
 
 -- ---- one thing after another
@@ -34,11 +34,11 @@ Grows-nothing a = record { bytes = []; read = sym (append-nil (read_in a.passing
 
 -- before anything is passed
 pub idle-start : (a : Reading) → IsIdle a a
-idle-start a = (record { grows = Grows-nothing a; lines = refl }, refl)
+idle-start a = (record { grows = Grows-nothing a; near = λ near. near; lines = refl }, refl)
 
 -- lines were passed in two steps
 IsAsBefore-trans : (a b c : Reading) → IsAsBefore a b → IsAsBefore b c → IsAsBefore a c
-IsAsBefore-trans a b c f g = record { grows = Grows-trans a b c f.grows g.grows; lines = g.lines ∙ f.lines }
+IsAsBefore-trans a b c f g = record { grows = Grows-trans a b c f.grows g.grows; near = λ near. g.near (f.near near); lines = g.lines ∙ f.lines }
 
 -- nothing came twice
 pub idle-trans : (a b c : Reading) → IsIdle a b → IsIdle b c → IsIdle a c
@@ -78,6 +78,7 @@ module _ (n : ℕ) (before : Passing) (left : Option (List ℕ)) (faults : ℕ) 
       ∙ ap (λ r. before.passed ++ r) (sym l.whole) in (
         record {
           grows = record { bytes = []; read = read ∙ sym (append-nil (read_in before)); given = Consumes-nil left; later = omega arith };
+          near = near_passed before now n l rest;
           lines =
               ap said_lines (ap whole_lines passed ∙ lines-passed before.passed line ended l.inside)
               ∙ said_lines-more_blank (whole_lines before.passed) line blank;
@@ -99,21 +100,31 @@ last_is before now true is calm open_yet at_end =
 last_is before now false is calm open_yet at_end =
     subst (λ (b : Bool). IsNext (cond b step.End step.Last) before now) (sym is) (calm, open_yet, is, at_end)
 
-module _ (before now : Reading) (unended : IsOpen before.passing.rest) (ended : (split before.passing.passed).1 ≡ []) where
-  -- it is as before where the lines that were passed are the same
-  as_before : Grows before now → now.passing.passed ≡ before.passing.passed → IsAsBefore before now
-  as_before grows passed = record { grows = grows; lines = ap (λ p. said_lines (whole_lines p)) passed }
+module _ (before now : Reading) (unended : IsOpen before.passing.rest) (ended : (split before.passing.passed).1 ≡ [])
+    (short : length now.passing.rest ≤ length before.passing.rest + longest_piece) where
+  -- what stands behind the lines that were passed grew by the piece
+  grown : (p : Piece) → (r : ReadsPiece p before now) → now.passing.rest ≡ before.passing.rest ++ r.grows.bytes
+  grown p r = same_behind before.passing.passed now.passing.rest (before.passing.rest ++ r.grows.bytes)
+      (ap (λ l. l ++ now.passing.rest) (sym r.passed) ∙ r.grows.read ∙ append_assoc before.passing.passed before.passing.rest r.grows.bytes)
+
+  -- it is as before, with the lines that were passed
+  as_before : (p : Piece) → ReadsPiece p before now → IsAsBefore before now
+  as_before p r = record {
+    grows = r.grows;
+    near = λ near. near_more before.passing now.passing r.grows.bytes unended (grown p r) short;
+    lines = ap (λ q. said_lines (whole_lines q)) r.passed;
+  }
 
   -- what a piece came to
   pub piece_comes : (p : Piece) → ReadsPiece p before now → Comes (step_after p now.passing.rest) before now
-  piece_comes piece.More r = (as_before r.grows r.passed, r.ends)
+  piece_comes piece.More r = (as_before piece.More r, r.ends)
   piece_comes piece.End r = record {
-    same = as_before r.grows r.passed;
+    same = as_before piece.End r;
     ended = ap (λ p. (split p).1) r.passed ∙ ended;
     found = last_is before now (is_blank now.passing.rest) refl r.ends.0 (subst (λ (p : Passing). IsOpen p.rest) (sym r.ends.1) unended) r.ends.2;
   }
   piece_comes piece.Failed r = record {
-    same = as_before r.grows r.passed;
+    same = as_before piece.Failed r;
     ended = ap (λ p. (split p).1) r.passed ∙ ended;
     found = (r.ends.0, subst (λ (p : Passing). IsOpen p.rest) (sym r.ends.1) unended);
   }

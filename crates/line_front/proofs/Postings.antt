@@ -26,12 +26,12 @@ use Rattle.run_record.specs.Order.{numbers_from}
 use Rattle.branch_workers.specs.Split.{split, whole_lines, all_lines, said_lines, is_blank, IsOpen}
 use Rattle.branch_workers.specs.Texts.{call_in, posting_of}
 use Rattle.branch_workers.specs.Lines.{line_in, come_in}
-use Rattle.line_front.specs.Passing.{Passing, read_in, IsLine}
+use Rattle.line_front.specs.Passing.{Passing, read_in, IsLine, IsNear}
 use Rattle.line_front.specs.Reading.{Input, input_of, came_by, came_in, asked_of, HasPassed, some, last, whole, full, cut, HasBrought}
 use Rattle.line_front.specs.declared.next_line.Step.{Step}
 use Rattle.line_front.specs.declared.next_line.Step.TheVariants as step
 use Rattle.line_front.specs.Steps.{Reading, IsAsBefore, IsNext, Looks, GivesLine}
-use Rattle.line_front.proofs.Splitting.{lines-passed, lines-last, lines-cut}
+use Rattle.line_front.proofs.Splitting.{lines-passed, lines-last, lines-cut, near_passed}
 
 -- ---- what more lines bring in
 
@@ -154,6 +154,7 @@ brought-ended first now b over h open_yet = (
   ended_by b b.faults,
   record {
     read = h.read;
+    near = h.near;
     passed = ended_passed first now b.ended open_yet over h.passed;
     given = h.given;
     asked = h.asked;
@@ -209,6 +210,7 @@ module _ (first : Input) (reads : List Read) (over : Bool) (running : over ≡ f
   pub brought-idle : now.faults ≡ before.faults → HasBrought first (input_of now.passing reads over now.left now.faults) b
   brought-idle calm = record {
     read = read_now;
+    near = same.near h.near;
     passed = some open_yet running (calm ∙ here.0) came_now;
     given = h.given;
     asked = h.asked;
@@ -224,6 +226,7 @@ module _ (first : Input) (reads : List Read) (over : Bool) (running : over ≡ f
     ended_by b now.faults,
     record {
       read = read_now;
+      near = same.near h.near;
       passed = passed;
       given = h.given;
       asked = h.asked;
@@ -263,9 +266,9 @@ module _ (first : Input) (reads : List Read) (over : Bool) (running : over ≡ f
 
     -- the front gives its posting
     gives_so : (p : Posting) (later : Input) → p ≡ posting_of (line_in line) → later.reads ≡ reads ++ posted line ∷ [] → later.left ≡ now.left
-        → later.faults ≡ before.faults → read_in later.passing ≡ read_in now.passing → HasPassed first later false
+        → later.faults ≡ before.faults → read_in later.passing ≡ read_in now.passing → IsNear later.passing → HasPassed first later false
         → (after : Brought) × HasBrought first later after × Gives parts p b after
-    gives_so p later is kept left calm read passed =
+    gives_so p later is kept left calm read near passed =
         let more : length later.reads ≡ length reads + 1 = ap length kept ∙ length-append reads (posted line ∷ []) in
         let given : map posting_of (came_in later) ≡ b.given ++ posting_of (line_in line) ∷ [] =
         ap (λ rs. map posting_of (map came_by rs)) kept ∙ ap (map posting_of) (map-append came_by reads (posted line ∷ []))
@@ -278,6 +281,7 @@ module _ (first : Input) (reads : List Read) (over : Bool) (running : over ≡ f
           brought_by b later,
           record {
             read = subst (λ l. Consumes first.left l (read_in later.passing)) (sym left) (subst (Consumes first.left now.left) (sym read) read_now);
+            near = near;
             passed = passed;
             given = refl;
             asked = refl;
@@ -317,6 +321,7 @@ module _ (first : Input) (reads : List Read) (over : Bool) (running : over ≡ f
         let lines : said_lines (whole_lines now.passing.passed) ++ line ∷ [] ≡ said_lines (whole_lines later.passing.passed) =
         sym (said_lines-more (whole_lines now.passing.passed) line said) ∙ ap said_lines (sym (ap whole_lines passed ∙ lines-passed now.passing.passed line ended l.inside)) in
         gives_so parts has_one room line p later is kept left (faults ∙ calm) read
+        (near_passed now.passing later.passing n l rest (same.near h.near))
         (some refl still (faults ∙ calm ∙ here.0) (ap (map came_by) kept ∙ came_more parts has_one room line ∙ ap come_in lines))
 
     -- the last line has none
@@ -329,6 +334,7 @@ module _ (first : Input) (reads : List Read) (over : Bool) (running : over ≡ f
         sym (said_lines-more (whole_lines now.passing.passed) line said)
         ∙ ap said_lines (sym (ap (λ x. all_lines (read_in x)) same_passing ∙ lines-last now.passing.passed line ended inside)) in
         gives_so parts has_one room line p later is kept left (faults ∙ calm) (ap read_in same_passing)
+        (subst IsNear (sym same_passing) (same.near h.near))
         (last refl over_now (faults ∙ calm ∙ here.0) (subst IsAtEnd (sym left) at_end) (ap (map came_by) kept ∙ came_more parts has_one room line ∙ ap come_in lines))
 
 -- ---- calls

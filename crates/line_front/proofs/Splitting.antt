@@ -5,9 +5,9 @@ use Rattle.std.specs.List.{position, prefix_len}
 use Rattle.std.proofs.lemmas.Bool.{eqb-false, eqb-true, ne_eqb, ltb-false}
 use Rattle.std.proofs.lemmas.List.Quantifiers.{position-Some}
 use Rattle.std.proofs.lemmas.List.Sums.{prefix_len_passes}
-use Rattle.std.proofs.lemmas.List.{take-append-drop, take_all, take_more, length-take, length-take-le, length-drop, drop-drop}
+use Rattle.std.proofs.lemmas.List.{take-append-drop, take-append-le, take_all, take_more, length-take, length-take-le, length-drop, drop-drop}
 use Rattle.branch_workers.specs.Split.{split, onto, IsOpen, whole_lines, all_lines}
-use Rattle.line_front.specs.Passing.{IsLine}
+use Rattle.line_front.specs.Passing.{Passing, IsLine, longest_piece, IsNear}
 
 -- ---- lines of longer bytes
 
@@ -235,3 +235,44 @@ module _ (bytes : List ℕ) (passed n : ℕ) (l : IsLine n (drop passed bytes)) 
       let lt : n < length (drop passed bytes) = line_inside n (drop passed bytes) l in
       let long : length (drop passed bytes) ≡ length bytes - passed = length-drop passed bytes in
       omega arith
+
+-- ---- how much is read behind the lines that were passed
+
+-- a front of what is open is open
+IsOpen-take : (n : ℕ) (xs : List ℕ) → IsOpen xs → IsOpen (take n xs)
+IsOpen-take zero xs h = tt
+IsOpen-take (suc n) [] h = tt
+IsOpen-take (suc n) (x ∷ xs) h = (h.0, IsOpen-take n xs h.1)
+
+-- a piece behind what is open
+pub near_more : (before now : Passing) (bytes : List ℕ) → IsOpen before.rest → now.rest ≡ before.rest ++ bytes
+    → length now.rest ≤ length before.rest + longest_piece → IsNear now
+near_more before now bytes open_yet grown short =
+    let same : length now.rest ≡ length (before.rest ++ bytes) = ap length grown in
+    let within : length (before.rest ++ bytes) - longest_piece ≤ length before.rest = omega arith in
+    subst (λ r. IsOpen (take (length r - longest_piece) r)) (sym grown)
+    (subst IsOpen (sym (take-append-le (length (before.rest ++ bytes) - longest_piece) before.rest bytes within))
+    (IsOpen-take (length (before.rest ++ bytes) - longest_piece) before.rest open_yet))
+
+-- where nothing ends in a front, an end stands behind it
+end_behind : (n k : ℕ) (xs : List ℕ) → get_or xs n 0 ≡ 10 → n < length xs → IsOpen (take k xs) → k ≤ n
+end_behind n zero xs at lt open_yet = omega arith
+end_behind n (suc k) [] at lt open_yet = omega (arith, lt)
+end_behind zero (suc k) (x ∷ xs) at lt open_yet = absurd (open_yet.0 at)
+end_behind (suc n) (suc k) (x ∷ xs) at lt open_yet =
+    let rest : k ≤ n = end_behind n k xs at (omega (arith, lt)) open_yet.1 in
+    omega (arith, rest)
+
+-- a line is passed
+pub near_passed : (before now : Passing) (n : ℕ) → IsLine n before.rest → now.rest ≡ drop (n + 1) before.rest → IsNear before → IsNear now
+near_passed before now n l left near =
+    let inside : n < length before.rest = line_inside n before.rest l in
+    let behind : length before.rest - longest_piece ≤ n = end_behind n (length before.rest - longest_piece) before.rest (line_end n before.rest l) inside near in
+    let long : length (drop (n + 1) before.rest) ≡ length before.rest - (n + 1) = length-drop (n + 1) before.rest in
+    let none : 0 ≡ length (drop (n + 1) before.rest) - longest_piece = omega arith in
+    subst (λ r. IsOpen (take (length r - longest_piece) r)) (sym left) (subst (λ k. IsOpen (take k (drop (n + 1) before.rest))) none tt)
+
+-- what stands behind the same bytes is the same
+pub same_behind : (xs ys zs : List ℕ) → xs ++ ys ≡ xs ++ zs → ys ≡ zs
+same_behind [] ys zs e = e
+same_behind (x ∷ xs) ys zs e = same_behind xs ys zs (let rest : xs ++ ys ≡ xs ++ zs = cc in rest)

@@ -9,7 +9,7 @@ use Rattle.run_record.specs.Order.{numbers_from}
 use Rattle.branch_workers.specs.Split.{whole_lines, all_lines, said_lines}
 use Rattle.branch_workers.specs.Texts.{Came, posting_of}
 use Rattle.branch_workers.specs.Lines.{come_in}
-use Rattle.line_front.specs.Passing.{Passing, read_in}
+use Rattle.line_front.specs.Passing.{Passing, read_in, IsNear}
 
 -- The input of a front: what was read, and how far its lines were passed; what the lines said that were not blank;
 -- whether nothing more is read; what the source has left, where that is told, and how often it failed.
@@ -58,9 +58,10 @@ pub data HasPassed (first now : Input) (ended : Bool) : Type 0 where
       → came_in now ≡ come_in (said_lines (whole_lines (read_in now.passing))) → HasPassed first now ended
 
 -- What a front brought, since its input was the first: the postings of what came in, which is what the lines say of the
--- bytes that the source gave.
+-- bytes that the source gave. It read on for the next line alone, a piece at a time.
 pub record HasBrought (first now : Input) (b : Brought) : Type 0 where
   pub read : Consumes first.left now.left (read_in now.passing)
+  pub near : IsNear now.passing
   pub passed : HasPassed first now b.ended
   pub given : b.given ≡ map posting_of (came_in now)
   pub asked : b.asked ≡ asked_of (length now.reads)

@@ -11,7 +11,7 @@ use Rattle.office_front.specs.declared.front.Next.TheVariants as next
 use Rattle.branch_workers.specs.Texts.{posting_of}
 use Rattle.branch_workers.specs.Lines.{line_in}
 use Rattle.branch_workers.specs.Split.{IsOpen, split, whole_lines, is_blank, said_lines}
-use Rattle.line_front.specs.Passing.{Passing, read_in, IsLine}
+use Rattle.line_front.specs.Passing.{Passing, read_in, IsNear, IsLine}
 use Rattle.line_front.specs.declared.piece.Piece.{Piece}
 use Rattle.line_front.specs.declared.piece.Piece.TheVariants as piece
 use Rattle.line_front.specs.declared.next_line.Step.{Step}
@@ -46,9 +46,10 @@ pub record ReadsPiece (which : Piece) (before now : Reading) : Type 0 where
   pub passed : now.passing.passed ≡ before.passing.passed
   pub ends : EndsSo which before now
 
--- More may have been read, and blank lines passed, and no other.
+-- More may have been read, as far as the next line asks for it, and blank lines passed, and no other.
 pub record IsAsBefore (before now : Reading) : Type 0 where
   pub grows : Grows before now
+  pub near : IsNear before.passing → IsNear now.passing
   pub lines : said_lines (whole_lines now.passing.passed) ≡ said_lines (whole_lines before.passing.passed)
 
 -- what comes next behind the lines that were passed

@@ -1,8 +1,8 @@
 //! What was read, cut into lines.
 
-ghost use Rattle.std.specs.Prelude.{◌≡◌, ◌≤◌, ◌+◌, [], ◌∷◌, ◌++◌, length, take, drop, position, ◌==◌, MatchOption, MatchResult};
+ghost use Rattle.std.specs.Prelude.{◌≡◌, ◌≤◌, ◌+◌, [], ◌∷◌, ◌++◌, length, take, drop, position, ◌==◌, MatchOption, MatchResult, OnOk};
 ghost use Rattle.branch_workers.specs.Split.{IsOpen, split};
-ghost use Rattle.line_front.specs.Passing.{IsLine, nothing_read};
+ghost use Rattle.line_front.specs.Passing.{IsLine, longest_piece, nothing_read};
 
 use crate::piece::Piece;
 use outside_traits::{Failed, Source};
@@ -95,9 +95,10 @@ impl Lines {
 
     /// Reads a piece behind what was read. After want of memory nothing was read.
     pub(crate) fn fill<S: Source>(&mut self, source: &mut S) -> Result<Piece, AllocError>
-        ensures { MatchResult result
+        ensures read { MatchResult result
             (λ piece. ReadsPiece piece (reading self.old (S.left source.old) (S.faults source.old)) (reading self.new (S.left source.new) (S.faults source.new)))
             (λ _. (self.new ≡ self.old) × (source.new ≡ source.old)) }
+        ensures short { OnOk result (length self.new.rest ≤ length self.old.rest + longest_piece) }
     {
         self.bytes.reserve(PIECE)?;
         let mut buffer = [0u8; PIECE];

@@ -33,9 +33,9 @@ spoilt_note_cut_by_the_output (in_lines r calm part all) = let clash : [] ≡ 3 
 spoilt_note_cut_by_the_output (in_notes r calm front part) = stood r
 
 -- a note failed, and all was noted; a line was left out
-pub spoilt_line_cut_by_a_note : WasCut none (failed 0 0 1 0) due (record { written = 1 ∷ 10 ∷ []; noted = due.noted }) → ⊥
-spoilt_line_cut_by_a_note (in_lines r calm part all) = stood r
-spoilt_line_cut_by_a_note (in_notes r calm front part) = part.1 (nothing_left part.0 part.2)
+pub spoilt_note_failed_and_all_was_noted : WasCut none (failed 0 0 1 0) due (record { written = 1 ∷ 10 ∷ []; noted = due.noted }) → ⊥
+spoilt_note_failed_and_all_was_noted (in_lines r calm part all) = stood r
+spoilt_note_failed_and_all_was_noted (in_notes r calm front part) = part.1 (nothing_left part.0 part.2)
   where
     nothing_left : (rest : List ℕ) → 3 ∷ 10 ∷ rest ≡ 3 ∷ 10 ∷ [] → rest ≡ []
     nothing_left rest e = cc

@@ -4,10 +4,12 @@
 mod obstacle;
 mod patience;
 mod patient_stream;
+mod returned_wires;
 mod socket_door;
 mod socket_doors;
 
 pub use patience::Patience;
 pub use patient_stream::PatientStream;
+pub use returned_wires::ReturnedWire;
 pub use socket_door::SocketDoor;
 pub use socket_doors::SocketDoors;

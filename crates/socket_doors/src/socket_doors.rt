@@ -2,12 +2,12 @@ ghost use Rattle.std.specs.Prelude.{◌≡◌, ◌∷◌, [], None, IfOk, OnErr,
 ghost use Rattle.outside_traits.specs.Causes.{HasCause};
 ghost use Rattle.outside_doors.specs.Counts.{untried, with_opened};
 ghost use Rattle.outside_traits.specs.Told.{Lists};
-ghost use Rattle.outside_doors.specs.Returns.{try_told};
+ghost use Rattle.outside_doors.specs.Returns.{no_book, try_told};
 ghost use Rattle.outside_sockets.specs.Locations.{is_of_socket};
-ghost use Rattle.socket_doors.specs.Told.{untold_book};
 
 use crate::patience::Patience;
 use crate::patient_stream::PatientStream;
+use crate::returned_wires::{ReturnedWire, ReturnedWires};
 use crate::socket_door::SocketDoor;
 use outside_doors::{Counts, DoorCounts, Doors, ReturnedDoors, Tries, Try};
 use outside_sockets::{SocketWire, address_of};
@@ -17,7 +17,7 @@ use std::marker::Model;
 use std::net::{Net, OpenListener, TcpListener};
 use std::rt::Clock;
 
-/// Doors over the TCP sockets of the system. They tell what they count, and for as long as there is memory to keep it the tries to open a door and what each door counted that came back. They do not tell the wires.
+/// Doors over the TCP sockets of the system. They tell what they count, and for as long as there is memory to keep it the tries to open a door, how the calls of each wire had gone that came back, and what each door counted. They tell none of the bytes.
 #[derive(Drop)]
 pub struct SocketDoors<H: Net + Clock + Copy + Drop> {
     host: H,
@@ -25,22 +25,22 @@ pub struct SocketDoors<H: Net + Clock + Copy + Drop> {
     counts: Counts,
     faults: u64,
     tries: Tries,
+    returned: ReturnedWires,
     returned_doors: ReturnedDoors,
 }
 
 impl<H: Net + Clock + Copy + Drop> Model for SocketDoors<H> {
-    ghost use Rattle.std.specs.Prelude.{None};
     ghost use Rattle.outside_doors.specs.Returns.{BookTold};
 
     ghost Value = { BookTold };
 
-    ghost view = { λ d. record { tally = d.counts; faults = d.faults; tries = d.tries; wires = None; doors = d.returned_doors } };
+    ghost view = { λ d. record { tally = d.counts; faults = d.faults; tries = d.tries; wires = d.returned; doors = d.returned_doors } };
 }
 
 impl<H: Net + Clock + Copy + Drop> SocketDoors<H> {
     /// Doors at which those who come are waited for with this patience.
     pub fn new(alloc: Global, host: H, patience: Patience) -> SocketDoors<H>
-        ensures { result ≡ untold_book }
+        ensures { result ≡ no_book }
     {
         SocketDoors {
             host,
@@ -48,6 +48,7 @@ impl<H: Net + Clock + Copy + Drop> SocketDoors<H> {
             counts: Counts::new(),
             faults: 0,
             tries: Tries::new(alloc),
+            returned: ReturnedWires::new(alloc),
             returned_doors: ReturnedDoors::new(alloc),
         }
     }
@@ -71,6 +72,13 @@ impl<H: Net + Clock + Copy + Drop> SocketDoors<H> {
         ensures { IfSome self.now.tries (λ tries. result.now ≡ tries) }
     {
         self.tries.kept()
+    }
+
+    /// The wires that came back in order: all, where they are told.
+    pub fn returned(&self) -> &[ReturnedWire]
+        ensures { IfSome self.now.wires (λ wires. result.now ≡ wires) }
+    {
+        self.returned.kept()
     }
 
     /// What each door counted that came back, in order: all, where they are told.
@@ -122,8 +130,9 @@ impl<H: Net + Clock + Copy + Drop> Doors for SocketDoors<H> {
 
     fn wire_back(&mut self, mut wire: SocketWire<PatientStream<H::Stream, H>>) {
         wire.close();
-        self.counts
-            .add_wire(wire.is_lost(), wire.is_cut(), wire.has_ended());
+        let (lost, cut, ended) = (wire.is_lost(), wire.is_cut(), wire.has_ended());
+        self.counts.add_wire(lost, cut, ended);
+        self.returned.keep(lost, cut, ended);
     }
 
     fn door_back(&mut self, door: SocketDoor<H>) {

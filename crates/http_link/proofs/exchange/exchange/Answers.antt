@@ -16,4 +16,5 @@ pub returns-in-Err : goal.returns-in-Err
 returns-in-Err g c =
     let writes = c.in-Err.ensures.writes in
     cut_in_writing (traffic (g.W.Wire.given c.args.wire.now) (g.W.Wire.taken c.args.wire.now) (g.W.Wire.calls c.args.wire.now) (g.W.Wire.lost c.args.wire.now) (g.W.Wire.cut c.args.wire.now) (g.W.Wire.ended c.args.wire.now)) (traffic (g.W.Wire.given c.write_all.new.wire) (g.W.Wire.taken c.write_all.new.wire) (g.W.Wire.calls c.write_all.new.wire) (g.W.Wire.lost c.write_all.new.wire) (g.W.Wire.cut c.write_all.new.wire) (g.W.Wire.ended c.write_all.new.wire)) c.args.request.now writes.0 writes.1 writes.2 writes.3 c.in-Err.ensures.given
-    (cuts (g.W.Wire.cut c.args.wire.now) (g.W.Wire.cut c.write_all.new.wire) (g.W.Wire.closed c.args.wire.now) c.in-Err.ensures.cut c.requires.open)
+    (cuts (traffic (g.W.Wire.given c.args.wire.now) (g.W.Wire.taken c.args.wire.now) (g.W.Wire.calls c.args.wire.now) (g.W.Wire.lost c.args.wire.now) (g.W.Wire.cut c.args.wire.now) (g.W.Wire.ended c.args.wire.now)) (traffic (g.W.Wire.given c.write_all.new.wire) (g.W.Wire.taken c.write_all.new.wire) (g.W.Wire.calls c.write_all.new.wire) (g.W.Wire.lost c.write_all.new.wire) (g.W.Wire.cut c.write_all.new.wire) (g.W.Wire.ended c.write_all.new.wire))
+    (g.W.Wire.closed c.args.wire.now) c.in-Err.ensures.lost c.in-Err.ensures.cut c.in-Err.ensures.ended c.requires.open)

@@ -9,10 +9,10 @@ returns-in_err-piece g c =
     let wanting = err_from_is_err_and c.from_residual.result c.from_residual.ensures.1 in
     at_error c.from_residual.result (λ s. Comes s (reading c.args.lines.now (g.S.Source.left c.args.source.now) (g.S.Source.faults c.args.source.now)) (reading c.fill.new.self (g.S.Source.left c.fill.new.source) (g.S.Source.faults c.fill.new.source)))
     (λ _. IsIdle (reading c.args.lines.now (g.S.Source.left c.args.source.now) (g.S.Source.faults c.args.source.now)) (reading c.fill.new.self (g.S.Source.left c.fill.new.source) (g.S.Source.faults c.fill.new.source))) wanting.0 wanting.1
-    (rw (c.in_err-piece.ensures.0, c.in_err-piece.ensures.1) (idle-start (reading c.args.lines.now (g.S.Source.left c.args.source.now) (g.S.Source.faults c.args.source.now))))
+    (rw (c.in_err-piece.ensures.read.0, c.in_err-piece.ensures.read.1) (idle-start (reading c.args.lines.now (g.S.Source.left c.args.source.now) (g.S.Source.faults c.args.source.now))))
 
 pub returns : goal.returns
 returns g c =
     piece_comes-as (reading c.args.lines.now (g.S.Source.left c.args.source.now) (g.S.Source.faults c.args.source.now))
     (reading c.fill.new.self (g.S.Source.left c.fill.new.source) (g.S.Source.faults c.fill.new.source))
-    c.requires.unended c.requires.ended c.after_piece.result c.in_ok-piece.piece c.after_piece.ensures c.in_ok-piece.ensures
+    c.requires.unended c.requires.ended c.in_ok-piece.ensures.short c.after_piece.result c.in_ok-piece.piece c.after_piece.ensures c.in_ok-piece.ensures.read
