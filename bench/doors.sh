@@ -8,7 +8,8 @@
 make_crate 'door_trials: socket_doors outside_doors outside_sockets outside_traits anyhow' <<'EOF'
 //! Follows the lines of its input at doors over sockets, and says what came of each: `open LOCATION`; `accept`, `rest`
 //! and `shut` of the door that was opened last; `read`, `write TEXT`, `fill COUNT` and `back` of the wire that came
-//! last; `doors`, what each door told that was shut: connections, waits and failures; and `told`.
+//! last; `doors`, what each door told that was shut: connections, waits and failures; `wires`, what was told of each
+//! wire that went back: `l` where a read failed, `c` where a write did, `e` where a read told the end; and `told`.
 #![tactic(auto)]
 
 use outside_doors::{Door, Doors, Knock};
@@ -64,7 +65,8 @@ impl<H: Net + Clock + Copy + Drop> House<H> {
             "write" => self.write(rest.as_bytes()),
             "fill" => self.fill(rest.parse().unwrap_or(0)),
             "back" => self.back(),
-            "doors" => self.returned(),
+            "doors" => self.returned_doors(),
+            "wires" => self.returned_wires(),
             _ => self.told(),
         }
     }
@@ -156,11 +158,23 @@ impl<H: Net + Clock + Copy + Drop> House<H> {
         self.say("back")
     }
 
-    fn returned(&mut self) -> Result<String, AllocError> {
+    fn returned_doors(&mut self) -> Result<String, AllocError> {
         let mut said = String::new(self.alloc);
         for door in self.doors.returned_doors() {
             let (wires, waits, faults) = (door.wires(), door.waits(), door.faults());
             let one = format!(in self.alloc; "{wires} {waits} {faults};")?;
+            said.push_str(one.as_str())?;
+        }
+        Ok(said)
+    }
+
+    fn returned_wires(&mut self) -> Result<String, AllocError> {
+        let mut said = String::new(self.alloc);
+        for wire in self.doors.returned() {
+            let lost = if wire.is_lost() { "l" } else { "" };
+            let cut = if wire.is_cut() { "c" } else { "" };
+            let ended = if wire.has_ended() { "e" } else { "" };
+            let one = format!(in self.alloc; "{lost}{cut}{ended};")?;
             said.push_str(one.as_str())?;
         }
         Ok(said)

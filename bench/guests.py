@@ -143,6 +143,7 @@ def one_door(rows, house, port):
     rows.row("what a guest gets behind it", guest.recv(64), b"bye")
     rows.row("a wire that goes back", house.say("back"), "back")
     rows.row("a wire that went back is closed", guest.recv(64), b"")
+    rows.row("it tells the end", house.say("wires"), "e;")
     guest.close()
 
 
@@ -183,6 +184,7 @@ def ill_guests(rows, house, port):
     rows.row("a guest who has gone sends nothing", house.say("read"), "failed")
     rows.row("a guest who has gone takes nothing", house.say("write x"), "failed")
     house.say("back")
+    rows.row("each wire tells how it failed", house.say("wires"), "e;l;l;c;lc;")
 
     guests = [come(port) for _ in range(50)]
     rows.row("many at once", [house.say("accept") for _ in guests], ["came" for _ in guests])
