@@ -23,7 +23,7 @@ five_more old a b c d e =
     ∙ ap (λ xs. xs ++ e) (append_assoc old (a ++ b ++ c) d) ∙ append_assoc old (a ++ b ++ c ++ d) e
 
 -- bytes with these hints and this advice
-pub is_explained : (file text : List ℕ) (r : Refusal) (bytes : List ℕ) (hints : List Hint) (advice : Option Advice) → AreHintsOf text r.cause r.at hints → IsAdvised text r.cause r.at advice
+pub is_explained : (file text : List ℕ) (r : Refusal) (bytes : List ℕ) (hints : List Hint) (advice : Option Advice) → AreHintsOf text r.cause r.at hints → IsAdvised text r.cause r.at hints advice
     → bytes ≡ explanation file text r hints advice → IsExplained file text r bytes
 is_explained file text r bytes hints advice told advised lines =
     record { hints = hints; told = told; advice = advice; advised = advised; lines = lines }

@@ -72,7 +72,7 @@ pub record IsExplained (file text : List ℕ) (r : Refusal) (bytes : List ℕ) :
   pub hints : List Hint
   pub told : AreHintsOf text r.cause r.at hints
   pub advice : Option Advice
-  pub advised : IsAdvised text r.cause r.at advice
+  pub advised : IsAdvised text r.cause r.at hints advice
   pub lines : bytes ≡ explanation file text r hints advice
 
 -- ---- another line

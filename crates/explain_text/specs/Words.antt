@@ -96,3 +96,5 @@ abbrev pub advice_words : Advice → List ℕ
 advice_words advice.Separator = codes "`;` stands between two statements, and none behind the last"
 advice_words advice.Handlers = codes "`,` stands between two handlers, and a handler is `Fault => what it does`"
 advice_words advice.Compound = codes "`y += 1` is `y = y + 1` here"
+advice_words advice.Elsewhere =
+    codes "another Jolie has this; docs/language.md says under `A file from elsewhere` what to write"

@@ -1,25 +1,30 @@
 //! What is advised where the place alone does not help.
 
-ghost use Rattle.std.specs.Prelude.{◌≡◌, IfOk, MatchBool};
+ghost use Rattle.std.specs.Prelude.{◌≡◌, Some, None, IfOk, MatchBool, if◌then◌else◌};
+ghost use Rattle.std.specs.List.{list_any};
 ghost use Rattle.jolie_tokens.specs.declared.sign.Sign.TheVariants as signs;
 ghost use Rattle.jolie_tokens.specs.declared.token.TokenKind.TheVariants as kinds;
 ghost use Rattle.explain_text.specs.Advised as spec;
 ghost use Rattle.explain_text.specs.Words.{advice_words};
 
+use crate::front::{begins_with, begins_word};
 use file_verdicts::Cause;
 use jolie_tokens::{LexError, Sign, Token, TokenKind, lex};
+use parse_hints::Hint;
 use std::alloc::{AllocError, Global};
 use text_places::{before, behind};
 
 /// What a person may have meant.
 #[derive(Clone, Copy, Debug, PartialEq, Eq)]
 pub enum Advice {
-    /// A `;` stands before a `}`.
+    /// A `;` stands before a `}`, or is wanting before a statement.
     Separator,
     /// A `=>` stands where no handler may.
     Handlers,
     /// An operator stands before a `=`.
     Compound,
+    /// It is part of another Jolie.
+    Elsewhere,
 }
 
 impl Advice {
@@ -31,21 +36,24 @@ impl Advice {
             Advice::Handlers =>
                 "`,` stands between two handlers, and a handler is `Fault => what it does`",
             Advice::Compound => "`y += 1` is `y = y + 1` here",
+            Advice::Elsewhere =>
+                "another Jolie has this; docs/language.md says under `A file from elsewhere` what to write",
         }
     }
 }
 
-/// What is advised of a refusal at a place.
+/// What is advised of a refusal at a place, where these may stand.
 pub fn advice_for(
     alloc: Global,
     text: &[u8],
     cause: Cause,
     at: usize,
+    hints: &[Hint],
 ) -> Result<Option<Advice>, AllocError>
-    ensures { IfOk result (λ advised. spec.IsAdvised text.now cause at advised) }
+    ensures { IfOk result (λ advised. spec.IsAdvised text.now cause at hints.now advised) }
 {
     match cause {
-        Cause::Syntax => advice_at(alloc, text, at),
+        Cause::Syntax => advice_at(alloc, text, at, hints),
         Cause::TooLong => Ok(None),
         Cause::BadByte => Ok(None),
         Cause::OpenString => Ok(None),
@@ -57,9 +65,14 @@ pub fn advice_for(
 }
 
 /// What is advised of a token that may not stand at a place.
-#[tactic(auto, using(crate::proofs::Ends::none_suits))]
-fn advice_at(alloc: Global, text: &[u8], at: usize) -> Result<Option<Advice>, AllocError>
-    ensures { IfOk result (λ advised. spec.IsAdvisedAt text.now at advised) }
+#[tactic(auto, using(crate::proofs::Ends::none_suits, crate::proofs::Ends::advised_between, crate::proofs::Ends::ended))]
+fn advice_at(
+    alloc: Global,
+    text: &[u8],
+    at: usize,
+    hints: &[Hint],
+) -> Result<Option<Advice>, AllocError>
+    ensures { IfOk result (λ advised. spec.IsAdvisedAt text.now at hints.now advised) }
 {
     let rest = behind(text, at);
     if rest.starts_with("=>".as_bytes()) {
@@ -68,6 +81,12 @@ fn advice_at(alloc: Global, text: &[u8], at: usize) -> Result<Option<Advice>, Al
     if rest.starts_with("+=".as_bytes()) || rest.starts_with("-=".as_bytes()) {
         return Ok(Some(Advice::Compound));
     }
+    if has_separator(hints) {
+        return Ok(between(rest));
+    }
+    if is_elsewhere(rest) {
+        return Ok(Some(Advice::Elsewhere));
+    }
     if !rest.starts_with("}".as_bytes()) {
         return Ok(None);
     }
@@ -75,6 +94,51 @@ fn advice_at(alloc: Global, text: &[u8], at: usize) -> Result<Option<Advice>, Al
         return Ok(None);
     }
     Ok(Some(Advice::Separator))
+}
+
+/// What is advised of a token before which `;` may stand.
+fn between(rest: &[u8]) -> Option<Advice>
+    ensures { result ≡ (if spec.begins_statement rest.now then Some Advice.Separator else None) }
+{
+    if begins_statement(rest) {
+        return Some(Advice::Separator);
+    }
+    None
+}
+
+/// Whether `;` is among hints.
+fn has_separator(hints: &[Hint]) -> bool
+    ensures { result ≡ list_any spec.is_semicolon hints.now }
+{
+    hints.iter().any(|hint| is_separator(*hint))
+}
+
+/// Whether a hint is `;`.
+fn is_separator(hint: Hint) -> bool
+    ensures { result ≡ spec.is_semicolon hint }
+{
+    matches!(hint, Hint::Semicolon)
+}
+
+/// Whether a word stands there that may begin a statement.
+fn begins_statement(rest: &[u8]) -> bool
+    ensures { result ≡ spec.begins_statement rest.now }
+{
+    begins_word(rest) && !begins_with("instanceof", rest)
+}
+
+/// Whether a word or sign stands there with which a file from elsewhere goes on.
+fn is_elsewhere(rest: &[u8]) -> bool
+    ensures { result ≡ spec.is_elsewhere rest.now }
+{
+    begins_with("include", rest)
+        || begins_with("from", rest)
+        || begins_with("embed", rest)
+        || begins_with("define", rest)
+        || begins_with("constants", rest)
+        || begins_with("in", rest)
+        || begins_with("csets", rest)
+        || rest.starts_with("->".as_bytes())
 }
 
 /// Whether bytes have tokens, of which the last is `;`.

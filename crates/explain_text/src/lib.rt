@@ -6,6 +6,7 @@
 #![tactic(auto)]
 
 mod advice;
+mod front;
 mod lines;
 mod listed;
 mod notes;

@@ -22,8 +22,8 @@ pub fn explained(
     ensures { IfOk result (λ bytes. spec.IsExplained file.now text.now refusal.now bytes.items) }
 {
     let at = refusal.at as usize;
-    let advice = advice_for(alloc, text, refusal.cause, at)?;
     let hints = hints_of(alloc, text, refusal.cause, at)?;
+    let advice = advice_for(alloc, text, refusal.cause, at, hints.as_slice())?;
     let listed = listed(alloc, hints.as_slice())?;
     let words = tagged_words(alloc, refusal)?;
     let mut bytes = Vec::new(alloc);

@@ -1,9 +1,9 @@
 //! What a person reads of a refusal: what is wrong, and the rule that says so.
 
 ghost use Rattle.std.specs.Prelude.{◌≡◌};
-ghost use Rattle.jolie_tokens.specs.Bytes as bytes;
 ghost use Rattle.explain_text.specs.Words as spec;
 
+use crate::front::begins_with;
 use file_verdicts::Cause;
 use service_check::CheckName;
 use text_places::behind;
@@ -112,28 +112,4 @@ fn rule_of_set(rest: &[u8]) -> &'static str
         return "an operation of a concurrent service begins a session, or a set names fields of its type";
     }
     "a set that names a field of a type has one of it for each of its variables"
-}
-
-/// Whether the word stands at the front, and no longer one.
-fn begins_with(word: &str, text: &[u8]) -> bool
-    ensures { result ≡ spec.begins_with word.now text.now }
-{
-    text.starts_with(word.as_bytes()) && !continues_word(behind(text, word.len()))
-}
-
-/// Whether a letter, a digit or `_` stands at the front.
-fn continues_word(text: &[u8]) -> bool
-    ensures { result ≡ bytes.begins bytes.is_word_byte text.now }
-{
-    match text.first() {
-        Some(byte) => is_word_byte(*byte),
-        None => false,
-    }
-}
-
-/// Whether a byte is a letter, a digit or `_`.
-fn is_word_byte(byte: u8) -> bool
-    ensures { result ≡ bytes.is_word_byte byte }
-{
-    byte.is_ascii_alphabetic() || byte == b'_' || byte.is_ascii_digit()
 }
