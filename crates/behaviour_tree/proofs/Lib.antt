@@ -2,4 +2,5 @@ pub mod Behind
 pub mod Inputs
 pub mod Leading
 pub mod Positions
+pub mod Sent
 pub mod Shapes

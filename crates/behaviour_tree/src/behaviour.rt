@@ -1,5 +1,6 @@
 ghost use Rattle.std.specs.Prelude.{◌≡◌, map, option_map, IfOk};
-ghost use Rattle.behaviour_tree.specs.View.{behaviour_view, branch_view, handler_view, handlers_view, path_view, reply_view};
+ghost use Rattle.behaviour_tree.specs.Data.{assign, choose, copy, repeat, solicit};
+ghost use Rattle.behaviour_tree.specs.View.{behaviour_view, branch_view, expr_view, handler_view, handlers_view, path_view, reply_view};
 
 use crate::expr::{Expr, PathExpr};
 use std::alloc::AllocError;
@@ -112,17 +113,11 @@ impl Behaviour {
     {
         match self {
             Behaviour::Nothing => Ok(Behaviour::Nothing),
-            Behaviour::Assign { path, value } => Ok(Behaviour::Assign {
-                path: path.copied()?,
-                value: value.copied()?,
-            }),
+            Behaviour::Assign { path, value } => copied_assign(path, value),
             Behaviour::Undef { path } => Ok(Behaviour::Undef {
                 path: path.copied()?,
             }),
-            Behaviour::Copy { path, value } => Ok(Behaviour::Copy {
-                path: path.copied()?,
-                value: value.copied()?,
-            }),
+            Behaviour::Copy { path, value } => copied_copy(path, value),
             Behaviour::Bind { variable, value } => Ok(Behaviour::Bind {
                 variable: *variable,
                 value: value.copied()?,
@@ -130,20 +125,13 @@ impl Behaviour {
             Behaviour::Sequence(list) => Ok(Behaviour::Sequence(copied_behaviours(list)?)),
             Behaviour::Parallel(list) => Ok(Behaviour::Parallel(copied_behaviours(list)?)),
             Behaviour::If { test, then, other } => {
-                let then = boxed(then, then.copied()?)?;
-                let other = boxed(other, other.copied()?)?;
-                Ok(Behaviour::If {
-                    test: test.copied()?,
-                    then,
-                    other,
-                })
+                let then = copied_in_box(then)?;
+                let other = copied_in_box(other)?;
+                copied_if(test, then, other)
             }
             Behaviour::While { test, body } => {
-                let body = boxed(body, body.copied()?)?;
-                Ok(Behaviour::While {
-                    test: test.copied()?,
-                    body,
-                })
+                let body = copied_in_box(body)?;
+                copied_while(test, body)
             }
             Behaviour::Choice(list) => Ok(Behaviour::Choice(copied_branches(list)?)),
             Behaviour::Notify { port, op, value } => Ok(Behaviour::Notify {
@@ -159,14 +147,7 @@ impl Behaviour {
                 handlers,
             } => {
                 let handlers = handlers.copied()?;
-                let target = copied_target(target)?;
-                Ok(Behaviour::Solicit {
-                    port: *port,
-                    op: *op,
-                    value: value.copied()?,
-                    target,
-                    handlers,
-                })
+                copied_solicit(*port, *op, value, target, handlers)
             }
             Behaviour::Install(handlers) => Ok(Behaviour::Install(handlers.copied()?)),
             Behaviour::Throw { fault, value } => Ok(Behaviour::Throw {
@@ -177,11 +158,71 @@ impl Behaviour {
             Behaviour::InnerHandler => Ok(Behaviour::InnerHandler),
             Behaviour::Scope { name, body } => Ok(Behaviour::Scope {
                 name: *name,
-                body: boxed(body, body.copied()?)?,
+                body: copied_in_box(body)?,
             }),
-            Behaviour::Block(body) => Ok(Behaviour::Block(boxed(body, body.copied()?)?)),
+            Behaviour::Block(body) => Ok(Behaviour::Block(copied_in_box(body)?)),
         }
     }
+}
+
+/// An assignment with these parts copied.
+fn copied_assign(path: &PathExpr, value: &Expr) -> Result<Behaviour, AllocError>
+    ensures { IfOk result (λ p. behaviour_view p ≡ assign (path_view path.now) (expr_view value.now)) }
+{
+    let path = path.copied()?;
+    let value = value.copied()?;
+    Ok(Behaviour::Assign { path, value })
+}
+
+/// A deep copy with these parts copied.
+fn copied_copy(path: &PathExpr, value: &Expr) -> Result<Behaviour, AllocError>
+    ensures { IfOk result (λ p. behaviour_view p ≡ copy (path_view path.now) (expr_view value.now)) }
+{
+    let path = path.copied()?;
+    let value = value.copied()?;
+    Ok(Behaviour::Copy { path, value })
+}
+
+/// A choice by a test, whose branches are copied already.
+fn copied_if(
+    test: &Expr,
+    then: Box<Behaviour>,
+    other: Box<Behaviour>,
+) -> Result<Behaviour, AllocError>
+    ensures { IfOk result (λ p. behaviour_view p ≡ choose (expr_view test.now) (behaviour_view then.value) (behaviour_view other.value)) }
+{
+    let test = test.copied()?;
+    Ok(Behaviour::If { test, then, other })
+}
+
+/// A loop whose body is copied already.
+fn copied_while(test: &Expr, body: Box<Behaviour>) -> Result<Behaviour, AllocError>
+    ensures { IfOk result (λ p. behaviour_view p ≡ repeat (expr_view test.now) (behaviour_view body.value)) }
+{
+    let test = test.copied()?;
+    Ok(Behaviour::While { test, body })
+}
+
+/// A call and its wait, with handlers that are copied already.
+fn copied_solicit(
+    port: u32,
+    op: u32,
+    value: &Expr,
+    target: &Option<PathExpr>,
+    handlers: Handlers,
+) -> Result<Behaviour, AllocError>
+    ensures { IfOk result (λ p. behaviour_view p
+        ≡ solicit port op (expr_view value.now) (option_map path_view target.now) (handlers_view handlers)) }
+{
+    let target = copied_target(target)?;
+    let value = value.copied()?;
+    Ok(Behaviour::Solicit {
+        port,
+        op,
+        value,
+        target,
+        handlers,
+    })
 }
 
 impl Branch {
@@ -253,11 +294,13 @@ impl Handlers {
     }
 }
 
-/// A behaviour in a box of the same allocator as another.
-fn boxed(like: &Box<Behaviour>, body: Behaviour) -> Result<Box<Behaviour>, AllocError>
-    ensures { IfOk result (λ b. b.value ≡ body) }
+/// A copy in a box of the same allocator.
+#[cycle(copied)]
+fn copied_in_box(body: &Box<Behaviour>) -> Result<Box<Behaviour>, AllocError>
+    ensures { IfOk result (λ copy. behaviour_view copy.value ≡ behaviour_view body.now.value) }
 {
-    Ok(Box::new(*Box::allocator(like), body)?)
+    let copy = body.copied()?;
+    Ok(Box::new(*Box::allocator(body), copy)?)
 }
 
 fn copied_target(target: &Option<PathExpr>) -> Result<Option<PathExpr>, AllocError>

@@ -188,33 +188,35 @@ impl Expr {
             Expr::Or(list) => Ok(Expr::Or(copied_exprs(list)?)),
             Expr::And(list) => Ok(Expr::And(copied_exprs(list)?)),
             Expr::Compare { left, op, right } => Ok(Expr::Compare {
-                left: boxed(left, left.copied()?)?,
+                left: copied_in_box(left)?,
                 op: *op,
-                right: boxed(right, right.copied()?)?,
+                right: copied_in_box(right)?,
             }),
             Expr::Sum { first, rest } => Ok(Expr::Sum {
-                first: boxed(first, first.copied()?)?,
+                first: copied_in_box(first)?,
                 rest: copied_sum_parts(rest)?,
             }),
             Expr::Product { first, rest } => Ok(Expr::Product {
-                first: boxed(first, first.copied()?)?,
+                first: copied_in_box(first)?,
                 rest: copied_mul_parts(rest)?,
             }),
-            Expr::Minus(inner) => Ok(Expr::Minus(boxed(inner, inner.copied()?)?)),
-            Expr::Not(inner) => Ok(Expr::Not(boxed(inner, inner.copied()?)?)),
+            Expr::Minus(inner) => Ok(Expr::Minus(copied_in_box(inner)?)),
+            Expr::Not(inner) => Ok(Expr::Not(copied_in_box(inner)?)),
             Expr::Cast { to, value } => Ok(Expr::Cast {
                 to: *to,
-                value: boxed(value, value.copied()?)?,
+                value: copied_in_box(value)?,
             }),
         }
     }
 }
 
-/// An expression in a box of the same allocator as another.
-fn boxed(like: &Box<Expr>, expr: Expr) -> Result<Box<Expr>, AllocError>
-    ensures { IfOk result (λ b. b.value ≡ expr) }
+/// A copy in a box of the same allocator.
+#[cycle(copied)]
+fn copied_in_box(expr: &Box<Expr>) -> Result<Box<Expr>, AllocError>
+    ensures { IfOk result (λ copy. expr_view copy.value ≡ expr_view expr.now.value) }
 {
-    Ok(Box::new(*Box::allocator(like), expr)?)
+    let copy = expr.copied()?;
+    Ok(Box::new(*Box::allocator(expr), copy)?)
 }
 
 #[cycle(copied)]

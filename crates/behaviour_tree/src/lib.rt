@@ -14,6 +14,7 @@ pub use behaviour::{Behaviour, Branch, Handler, HandlerKey, Handlers, ReplyPart}
 pub use expr::{
     CastKind, CompareOp, Expr, Member, MulOp, MulPart, PathExpr, PathStep, SumOp, SumPart,
 };
+pub use operations::operation_sent;
 pub use program::{
     Alias, CorrelationSet, Execution, Interface, Operation, Parts, Port, Program, Service,
     SetVariable, Throws,

@@ -1,7 +1,8 @@
 ghost use Rattle.std.specs.Prelude.{◌≡◌, [], ◌∷◌, ◌++◌, map, slice_get, option_map, IfNone, MatchOption, ◌+◌};
 ghost use Rattle.std.specs.List.{position_from};
 ghost use Rattle.std.specs.Option.{option_copied};
-ghost use Rattle.behaviour_tree.specs.Operations.{has_name, in_32_bits, input_interfaces, is_among, mentions, operation_at, operations_in, rest_of, service_operations};
+ghost use Rattle.behaviour_tree.specs.FormedServices.{sent_to};
+ghost use Rattle.behaviour_tree.specs.Operations.{has_name, in_32_bits, input_interfaces, is_among, mentions, operation_at, operations_in, operations_of, rest_of, service_operations};
 ghost use Rattle.behaviour_tree.specs.Operations as spec;
 ghost use Rattle.behaviour_tree.specs.PartsView.{interface_view, operation_view, parts_of, parts_view, port_view, service_view};
 
@@ -79,6 +80,35 @@ fn operations_at(interfaces: &[Interface], number: u32) -> &[Operation]
         None => &[],
         Some(interface) => interface.operations.as_slice(),
     }
+}
+
+/// The operation of a number that can be sent to a port: none of an input port.
+pub fn operation_sent<'a>(parts: &'a Parts, port: &Port, op: u32) -> Option<&'a Operation>
+    ensures { option_map operation_view (option_copied result) ≡ slice_get (sent_to (parts_view parts.now).interfaces (port_view port.now)) op }
+{
+    if port.input {
+        return None;
+    }
+    operation_among(&parts.interfaces, &port.interfaces, op)
+}
+
+/// The operation of a number among those of the interfaces of some numbers.
+fn operation_among<'a>(
+    interfaces: &'a [Interface],
+    numbers: &[u32],
+    op: u32,
+) -> Option<&'a Operation>
+    ensures { option_map operation_view (option_copied result) ≡ slice_get (operations_of (map interface_view interfaces.now) numbers.now) op }
+{
+    let mut left = op as usize;
+    for number in numbers {
+        let operations = operations_at(interfaces, *number);
+        if left < operations.len() {
+            return Some(&operations[left]);
+        }
+        left -= operations.len();
+    }
+    None
 }
 
 fn operation_of<'a>(parts: &'a Parts, service: &Service, op: u32) -> Option<&'a Operation>

@@ -4,11 +4,10 @@ ghost use Rattle.correlation.specs.Sessions.{are_sets, key_with};
 ghost use Rattle.correlation.specs.Index.{has_key, has_set, is_of_other, keys_of, shown, with_key};
 ghost use Rattle.correlation.specs.declared.set_keys.SetKeys.{SetKeys};
 
+use crate::key::Sought;
 use crate::keys::Keys;
 use crate::session::{Completed, Session};
 use crate::set_keys::SetKeys;
-use crate::steps::Steps;
-use jolie_trees::Root;
 use std::alloc::{AllocError, Global};
 use std::sync::ledger::Ledger;
 
@@ -19,15 +18,16 @@ pub struct Index {
 }
 
 impl Index {
-    /// The session whose key in a set has these values.
-    pub fn find<L: Ledger>(&self, set: u32, values: &[Root], steps: &mut Steps<L>) -> Option<u32>
-        ensures session { result ≡ session_with values.now (keys_of self.now.sets.items set) }
-        ensures counted { steps.old ≤ steps.new }
-        ensures cost { 2 ^ (steps.new - steps.old) ≤ 2 * length (keys_of self.now.sets.items set) + 1 }
+    /// The session whose key in a set has the values that are sought.
+    pub fn find<L: Ledger>(&self, set: u32, sought: &mut Sought<'_, L>) -> Option<u32>
+        ensures session { result ≡ session_with sought.old.values (keys_of self.now.sets.items set) }
+        ensures same { sought.new.values ≡ sought.old.values }
+        ensures counted { sought.old.steps ≤ sought.new.steps }
+        ensures cost { 2 ^ (sought.new.steps - sought.old.steps) ≤ 2 * length (keys_of self.now.sets.items set) + 1 }
     {
         for keys in &self.sets {
             if keys.set == set {
-                return keys.keys.find(values, steps);
+                return keys.keys.find(sought);
             }
         }
         None

@@ -1,12 +1,11 @@
-ghost use Rattle.std.specs.Prelude.{◌≡◌, ◌+◌, ℕ, List, pos, string_bytes};
+ghost use Rattle.std.specs.Prelude.{◌≡◌, ◌+◌, ◌<◌, ℕ, List, pos, string_bytes};
 ghost use Rattle.jolie_trees.specs.declared.root.Root.{Root};
 ghost use Rattle.correlation.specs.Order.{bytes_of, key_order, kind_of, number_of, value_order};
 
-use crate::steps::Steps;
 use jolie_trees::Root;
 use std::cmp::Ordering;
 use std::marker::Model;
-use std::sync::ledger::Ledger;
+use std::sync::ledger::{Blank, Book, Ledger, Share};
 
 /// The values of a complete key. Only `compare` reads them.
 #[derive(Drop)]
@@ -30,14 +29,53 @@ impl Key {
     {
         Key { values }
     }
+}
 
-    /// How the key stands to values. Each call is one step.
-    pub fn compare<L: Ledger>(&self, values: &[Root], steps: &mut Steps<L>) -> Ordering
-        ensures order { result ≡ key_order self.now values.now }
-        ensures tick { steps.new ≡ steps.old + 1 }
+/// Values that are sought among keys, and how many keys they were compared with. The count takes no bytes.
+///
+/// Nobody but `compare` reads the values, and each call of it counts in the very value that holds them: who is handed
+/// them can compare no key without counting it there.
+#[derive(Drop)]
+pub struct Sought<'a, L: Ledger> {
+    values: &'a [Root],
+    book: Book<L>,
+    share: Share<L>,
+}
+
+impl<'a, L: Ledger> Model for Sought<'a, L> {
+    ghost use Rattle.std.specs.Prelude.{◌<◌};
+    ghost use Rattle.correlation.specs.Sought.{Sought};
+
+    ghost Value = { Sought };
+
+    ghost view = { λ s. record { values = s.values.now; steps = s.book.total } };
+
+    ghost invariant = { λ s. 0 < s.share.parts };
+}
+
+impl<'a, L: Ledger> Sought<'a, L> {
+    /// These values, which were not compared yet.
+    pub fn new(values: &'a [Root], blank: Blank) -> Sought<'a, L>
+        requires name { blank.name ≡ L.name }
+        requires parts { blank.parts ≡ L.parts }
+        requires some { 0 < blank.parts }
+        ensures { result ≡ record { values = values.now; steps = 0 } }
     {
-        steps.tick();
-        order_of_lists(&self.values, values)
+        let (book, share) = blank.open::<L>();
+        Sought {
+            values,
+            book,
+            share,
+        }
+    }
+
+    /// How a key stands to the values. Each call is one step.
+    pub fn compare(&mut self, key: &Key) -> Ordering
+        ensures order { result ≡ key_order key.now self.old.values }
+        ensures step { self.new ≡ record { values = self.old.values; steps = self.old.steps + 1 } }
+    {
+        self.book.add(&mut self.share, 1);
+        order_of_lists(&key.values, self.values)
     }
 }
 

@@ -1,8 +1,7 @@
 ghost use Rattle.std.specs.Prelude.{◌≡◌, ◌+◌, ◌*◌, ◌^◌, ◌-◌, ◌≤◌, ◌<◌, ℕ, true, drop, take, List, length, MatchResult};
 ghost use Rattle.correlation.specs.Places.{is_rising, searched};
 
-use crate::key::{Key, KeyRow};
-use crate::steps::Steps;
+use crate::key::{Key, KeyRow, Sought};
 use jolie_trees::Root;
 use std::alloc::{AllocError, Global};
 use std::cmp::Ordering;
@@ -30,13 +29,14 @@ impl Keys {
         }
     }
 
-    /// The session whose key has these values.
-    pub fn find<L: Ledger>(&self, values: &[Root], steps: &mut Steps<L>) -> Option<u32>
-        ensures session { result ≡ session_with values.now self.now.rows.items }
-        ensures counted { steps.old ≤ steps.new }
-        ensures cost { 2 ^ (steps.new - steps.old) ≤ 2 * length self.now.rows.items + 1 }
+    /// The session whose key has the values that are sought.
+    pub fn find<L: Ledger>(&self, sought: &mut Sought<'_, L>) -> Option<u32>
+        ensures session { result ≡ session_with sought.old.values self.now.rows.items }
+        ensures same { sought.new.values ≡ sought.old.values }
+        ensures counted { sought.old.steps ≤ sought.new.steps }
+        ensures cost { 2 ^ (sought.new.steps - sought.old.steps) ≤ 2 * length self.now.rows.items + 1 }
     {
-        match search(&self.rows, values, steps) {
+        match search(&self.rows, sought) {
             Ok(place) => Some(self.rows[place].session),
             Err(_) => None,
         }
@@ -75,23 +75,24 @@ fn place_of<L: Ledger>(rows: &[KeyRow], values: &[Root], blank: Blank) -> Result
     ensures place { result ≡ searched values.now rows.now }
     ensures within { MatchResult result (λ k. k < length rows.now) (λ k. k ≤ length rows.now) }
 {
-    let mut steps = Steps::<L>::new(blank);
-    search(rows, values, &mut steps)
+    let mut sought = Sought::<L>::new(values, blank);
+    search(rows, &mut sought)
 }
 
-/// Where values stand among rising keys, or where they would.
-fn search<L: Ledger>(rows: &[KeyRow], values: &[Root], steps: &mut Steps<L>) -> Result<usize, usize>
+/// Where the values that are sought stand among rising keys, or where they would.
+fn search<L: Ledger>(rows: &[KeyRow], sought: &mut Sought<'_, L>) -> Result<usize, usize>
     requires rising { is_rising rows.now ≡ true }
-    ensures place { result ≡ searched values.now rows.now }
+    ensures place { result ≡ searched sought.old.values rows.now }
     ensures within { MatchResult result (λ k. k < length rows.now) (λ k. k ≤ length rows.now) }
-    ensures counted { steps.old ≤ steps.new }
-    ensures cost { 2 ^ (steps.new - steps.old) ≤ 2 * length rows.now + 1 }
+    ensures same { sought.new.values ≡ sought.old.values }
+    ensures counted { sought.old.steps ≤ sought.new.steps }
+    ensures cost { 2 ^ (sought.new.steps - sought.old.steps) ≤ 2 * length rows.now + 1 }
 {
     let mut window = rows;
     let mut before = 0;
     while !window.is_empty() {
         let middle = window.len() / 2;
-        match window[middle].key.compare(values, steps) {
+        match sought.compare(&window[middle].key) {
             Ordering::Less => {
                 before += middle + 1;
                 window = rows_after(window, middle);

@@ -8,10 +8,8 @@ mod keys;
 mod rows;
 mod session;
 mod set_keys;
-mod steps;
 
 pub use bind_reply::BindReply;
-pub use key::{Key, KeyRow};
+pub use key::{Key, KeyRow, Sought};
 pub use rows::Rows;
 pub use session::{Session, SetOf, Sets, Values, Variables, Written};
-pub use steps::Steps;

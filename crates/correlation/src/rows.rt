@@ -4,8 +4,8 @@ ghost use Rattle.correlation.specs.Sessions.{are_sets, completed, if_bound, repl
 
 use crate::bind_reply::BindReply;
 use crate::index::Index;
+use crate::key::Sought;
 use crate::session::{Session, SetOf, Sets, Values, Written};
-use crate::steps::Steps;
 use jolie_trees::Root;
 use std::alloc::{AllocError, Global};
 use std::sync::ledger::Ledger;
@@ -64,13 +64,15 @@ impl Rows {
         false
     }
 
-    /// The live session whose key in a set has these values.
-    pub fn find<L: Ledger>(&self, set: u32, values: &[Root], steps: &mut Steps<L>) -> Option<u32>
-        ensures session { result ≡ holder (sessions_of self.now) set values.now }
-        ensures counted { steps.old ≤ steps.new }
-        ensures cost { 2 ^ (steps.new - steps.old) ≤ 2 * length (rows_of (sessions_of self.now) set) + 1 }
+    /// The live session whose key in a set has the values that are sought. Of n keys it compares at most as many as n can be
+    /// halved, and one more: 2 to the power of their number is at most 2 n + 1.
+    pub fn find<L: Ledger>(&self, set: u32, sought: &mut Sought<'_, L>) -> Option<u32>
+        ensures session { result ≡ holder (sessions_of self.now) set sought.old.values }
+        ensures same { sought.new.values ≡ sought.old.values }
+        ensures counted { sought.old.steps ≤ sought.new.steps }
+        ensures cost { 2 ^ (sought.new.steps - sought.old.steps) ≤ 2 * length (rows_of (sessions_of self.now) set) + 1 }
     {
-        self.index.find(set, values, steps)
+        self.index.find(set, sought)
     }
 
     /// Notes a session and its sets.

@@ -8,12 +8,12 @@ use Rattle.jolie_tokens.specs.declared.lex_error.LexError.{LexError}
 use Rattle.jolie_tokens.specs.declared.lex_error.LexError.TheVariants as lex
 use Rattle.jolie_tokens.specs.Texts.{longest, IsRead}
 use Rattle.jolie_tokens.specs.Outcomes.{UnlessMemory}
-use Rattle.parse_hints.specs.MayStand.{IsNoMemory}
-use Rattle.parse_hints.proofs.Trials.{fits, none_read, same_tokens}
-use Rattle.parse_hints.specs.declared.hint.Hint.{Hint}
+use Rattle.explain_hints.specs.MayStand.{IsNoMemory}
+use Rattle.explain_hints.proofs.Trials.{fits, none_read, same_tokens}
+use Rattle.explain_hints.specs.declared.hint.Hint.{Hint}
 use Rattle.explain_text.specs.declared.advice.Advice.{Advice}
 use Rattle.explain_text.specs.declared.advice.Advice.TheVariants as advice
-use Rattle.explain_text.specs.Advised.{LastIsSemicolon, EndsInSemicolon, is_semicolon, begins_statement, is_elsewhere, IsSeparated, Suits, IsAdvisedAt}
+use Rattle.explain_text.specs.Advised.{LastIsSemicolon, EndsInSemicolon, is_semicolon, begins_statement, comes_from_elsewhere, IsSeparated, Suits, IsAdvisedAt}
 
 -- what lex says of bytes that have tokens
 abbrev GivesAll : List ℕ → Result (List Token) LexError → Type 0
@@ -35,13 +35,14 @@ ends_nowhere bytes r e f is same told all x =
 -- no advice suits
 pub none_suits : (text : List ℕ) (at : ℕ) (hints : List Hint) → starts_with nat_eq (drop at text) (codes "=>") ≡ false
     → (starts_with nat_eq (drop at text) (codes "+=") || starts_with nat_eq (drop at text) (codes "-=")) ≡ false
-    → list_any is_semicolon hints ≡ false → is_elsewhere (drop at text) ≡ false
+    → list_any is_semicolon hints ≡ false → comes_from_elsewhere hints (drop at text) ≡ false
     → (starts_with nat_eq (drop at text) (codes "}") ≡ true → EndsInSemicolon (take at text) → ⊥) → IsAdvisedAt text at hints None
 none_suits text at hints no_arrow no_sum no_separator no_elsewhere no_end advice.Handlers suits = false≢true (sym no_arrow ∙ suits)
 none_suits text at hints no_arrow no_sum no_separator no_elsewhere no_end advice.Compound suits = false≢true (sym no_sum ∙ suits)
 none_suits text at hints no_arrow no_sum no_separator no_elsewhere no_end advice.Separator suits =
     let end : IsSeparated false text at = subst (λ b. IsSeparated b text at) no_separator suits in no_end end.0 end.1
 none_suits text at hints no_arrow no_sum no_separator no_elsewhere no_end advice.Elsewhere suits = false≢true (sym no_elsewhere ∙ suits.1)
+none_suits text at hints no_arrow no_sum no_separator no_elsewhere no_end advice.ByteOrderMark suits = suits
 
 -- what is advised where `;` may stand
 pub advised_between : (text : List ℕ) (at : ℕ) (hints : List Hint) (advised : Option Advice) → starts_with nat_eq (drop at text) (codes "=>") ≡ false
@@ -57,6 +58,7 @@ advised_between text at hints advised no_arrow no_sum separator is =
     none other advice.Separator suits =
         let here : IsSeparated true text at = subst (λ b. IsSeparated b text at) separator suits in false≢true (sym other ∙ here)
     none other advice.Elsewhere suits = false≢true (sym suits.0 ∙ separator)
+    none other advice.ByteOrderMark suits = suits
 
     by : (b : Bool) → begins_statement (drop at text) ≡ b → (a : Option Advice) → a ≡ (if b then Some advice.Separator else None) → IsAdvisedAt text at hints a
     by true begun a same = subst (IsAdvisedAt text at hints) (sym same) (subst (λ b. IsSeparated b text at) (sym separator) begun)

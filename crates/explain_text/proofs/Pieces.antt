@@ -2,8 +2,8 @@
 use Rattle.std.proofs.Common.{◌≡◌, ◌<◌, ℕ, List, [], ◌∷◌, ◌++◌, length, Option, arith, refl, ap, ◌∙◌}
 use Rattle.std.specs.Prelude.{codes}
 use Rattle.std.proofs.lemmas.List.{append_assoc}
-use Rattle.parse_hints.specs.declared.hint.Hint.{Hint}
-use Rattle.file_verdicts.specs.declared.refusal.Refusal.{Refusal}
+use Rattle.explain_hints.specs.declared.hint.Hint.{Hint}
+use Rattle.check_verdicts.specs.declared.refusal.Refusal.{Refusal}
 use Rattle.explain_text.specs.declared.advice.Advice.{Advice}
 use Rattle.explain_text.specs.Advised.{IsAdvised}
 use Rattle.explain_text.specs.Explained.{explanation, line_if_any, AreHintsOf, IsExplained}

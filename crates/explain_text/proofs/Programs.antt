@@ -3,10 +3,10 @@ use Rattle.std.proofs.Common.{◌≡◌, ℕ, List, Result, Ok, Err, refl, subst
 use Rattle.std.specs.Prelude.{MatchResult}
 use Rattle.jolie_ast.specs.declared.tree.Definition.{Definition}
 use Rattle.service_check.specs.Programs.{program_of}
-use Rattle.file_verdicts.specs.declared.refusal.Refusal.{Refusal}
-use Rattle.file_verdicts.specs.RefusalLines.{refusal_line}
-use Rattle.file_verdicts.specs.Programs.{IsChecked, IsFileOf, IsUncheckedBy}
-use Rattle.file_notes.specs.Notes.{notes_of}
+use Rattle.check_verdicts.specs.declared.refusal.Refusal.{Refusal}
+use Rattle.check_verdicts.specs.RefusalLines.{refusal_line}
+use Rattle.check_verdicts.specs.Programs.{IsChecked, IsFileOf, IsUncheckedBy}
+use Rattle.explain_notes.specs.Notes.{notes_of}
 use Rattle.explain_text.specs.Noted.{IsNoted, noted_text}
 
 -- what was found of a text

@@ -1,14 +1,15 @@
 -- The lines that explain a refusal, and the one of a file that can't be read.
-use Rattle.std.specs.Prelude.{◌≡◌, ℕ, List, [], ◌∷◌, ◌++◌, codes, Option, option_map, unwrap_or}
+use Rattle.std.specs.Prelude.{◌≡◌, ℕ, nat_lt, Bool, ◌&&◌, ◌||◌, not, ◌==◌, if◌then◌else◌, List, [], ◌∷◌, ◌++◌, codes, map}
+use Rattle.std.specs.Prelude.{Option, option_map, unwrap_or}
 use Rattle.std.specs.Fmt.{decimal}
-use Rattle.text_places.specs.Places.{line_at, column_at, line_of, mark_of}
-use Rattle.parse_hints.specs.declared.hint.Hint.{Hint}
-use Rattle.parse_hints.specs.Hints.{words_of as hint_words}
-use Rattle.parse_hints.specs.MayStand.{AreToldAt}
-use Rattle.file_verdicts.specs.declared.refusal.Cause.{Cause}
-use Rattle.file_verdicts.specs.declared.refusal.Cause.TheVariants as cause
-use Rattle.file_verdicts.specs.declared.refusal.Refusal.{Refusal}
-use Rattle.file_verdicts.specs.RefusalLines.{stage_word, cause_word}
+use Rattle.explain_places.specs.Places.{line_at, column_at, line_of, mark_of}
+use Rattle.explain_hints.specs.declared.hint.Hint.{Hint}
+use Rattle.explain_hints.specs.Hints.{words_of as hint_words}
+use Rattle.explain_hints.specs.MayStand.{AreToldAt}
+use Rattle.check_verdicts.specs.declared.refusal.Cause.{Cause}
+use Rattle.check_verdicts.specs.declared.refusal.Cause.TheVariants as cause
+use Rattle.check_verdicts.specs.declared.refusal.Refusal.{Refusal}
+use Rattle.check_verdicts.specs.RefusalLines.{stage_word, cause_word}
 use Rattle.explain_text.specs.Words.{words_of, rule_of, advice_words}
 use Rattle.explain_text.specs.Advised.{IsAdvised}
 use Rattle.explain_text.specs.declared.advice.Advice.{Advice}
@@ -20,11 +21,19 @@ abbrev pub head_line : List ℕ → ℕ → ℕ → List ℕ → List ℕ
 head_line file line column words =
     file ++ (codes ":" ++ (decimal line ++ (codes ":" ++ (decimal column ++ (codes ": " ++ (words ++ codes "\n"))))))
 
--- words of a place of a file's text: where it is, the line in which it stands, and a mark under it
+-- a byte that no terminal shows: one below 32 but a tab, and 127
+abbrev pub is_hidden : ℕ → Bool
+is_hidden b = (nat_lt b 32 && not (b == 9)) || b == 127
+
+-- what is written for a byte: `?` for one that no terminal shows, so that none moves what stands there
+abbrev pub shown : ℕ → ℕ
+shown b = if is_hidden b then 63 else b
+
+-- words of a place of a file's text: where it is, the line in which it stands as it is shown, and a mark under it
 abbrev pub pointed : List ℕ → List ℕ → ℕ → List ℕ → List ℕ
 pointed file text at words =
     head_line file (line_at text at) (column_at text at) words
-    ++ line_of text at ++ codes "\n" ++ mark_of text at ++ codes "\n"
+    ++ map shown (line_of text at) ++ codes "\n" ++ mark_of text at ++ codes "\n"
 
 -- `WORDS [STAGE NAME]`: what is wrong, and what documents call the refusal by
 abbrev pub tagged_words : Refusal → List ℕ

@@ -1,11 +1,13 @@
 -- What is said of a program: `ok`, and the lines of its notes.
-use Rattle.std.specs.Prelude.{◌≡◌, ℕ, List, [], ◌∷◌, ◌++◌, codes, flat_map}
+use Rattle.std.specs.Prelude.{◌≡◌, ℕ, Bool, true, false, ◌&&◌, if◌then◌else◌, List, [], ◌∷◌, ◌++◌, codes, drop}
+use Rattle.std.specs.Prelude.{flat_map}
 use Rattle.behaviour_tree.specs.Data.{ProgramParts}
-use Rattle.file_verdicts.specs.Programs.{IsChecked}
-use Rattle.file_notes.specs.declared.kind.NoteKind.{NoteKind}
-use Rattle.file_notes.specs.declared.kind.NoteKind.TheVariants as kind
-use Rattle.file_notes.specs.Notes.{Noted, notes_of}
+use Rattle.check_verdicts.specs.Programs.{IsChecked}
+use Rattle.explain_notes.specs.declared.kind.NoteKind.{NoteKind}
+use Rattle.explain_notes.specs.declared.kind.NoteKind.TheVariants as kind
+use Rattle.explain_notes.specs.Notes.{Noted, notes_of}
 use Rattle.explain_text.specs.Explained.{pointed}
+use Rattle.explain_text.specs.Words.{begins_with}
 
 -- what a person reads of a note
 abbrev pub note_words : NoteKind → List ℕ
@@ -22,9 +24,24 @@ note_words kind.TreeCut = codes "`=` takes the root alone: `<<` copies what stan
 note_words kind.LiteralCut = codes "`=` sets the root alone: `<<` copies the members of the literal too"
 note_words kind.Unanswered = codes "this is answered, and nothing sets it"
 
+-- it is noted of a handler
+abbrev pub is_of_handler : NoteKind → Bool
+is_of_handler kind.Unthrown = true
+is_of_handler k = false
+
+-- a handler of `default` stands there, which in another Jolie is one of all faults
+abbrev pub is_default : NoteKind → List ℕ → Bool
+is_default k rest = is_of_handler k && begins_with (codes "default") rest
+
+-- what a person reads of a note, by the text from its place on
+abbrev pub words_at : NoteKind → List ℕ → List ℕ
+words_at k rest =
+    if is_default k rest then codes "`default` is the name of a fault here, and nothing throws it: name each fault"
+    else note_words k
+
 -- where a note is and what it says, the line of the place, and its mark
 abbrev pub note_lines : List ℕ → List ℕ → Noted → List ℕ
-note_lines file text n = pointed file text n.name.at (codes "note: " ++ note_words n.kind)
+note_lines file text n = pointed file text n.name.at (codes "note: " ++ words_at n.kind (drop n.name.at text))
 
 -- `ok`, and the lines of each note
 abbrev pub noted_text : List ℕ → List ℕ → List Noted → List ℕ

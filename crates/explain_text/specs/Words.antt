@@ -4,8 +4,8 @@ use Rattle.std.specs.List.{starts_with}
 use Rattle.jolie_tokens.specs.Bytes.{begins, is_word_byte}
 use Rattle.check_base.specs.declared.refusal.CheckName.{CheckName}
 use Rattle.check_base.specs.declared.refusal.CheckName.TheVariants as check
-use Rattle.file_verdicts.specs.declared.refusal.Cause.{Cause}
-use Rattle.file_verdicts.specs.declared.refusal.Cause.TheVariants as cause
+use Rattle.check_verdicts.specs.declared.refusal.Cause.{Cause}
+use Rattle.check_verdicts.specs.declared.refusal.Cause.TheVariants as cause
 use Rattle.explain_text.specs.declared.advice.Advice.{Advice}
 use Rattle.explain_text.specs.declared.advice.Advice.TheVariants as advice
 
@@ -42,7 +42,8 @@ begins_with word text = starts_with nat_eq text word && not (begins is_word_byte
 abbrev pub kind_rule : List ℕ → List ℕ
 kind_rule rest =
     if starts_with nat_eq rest (codes "\"") then
-    codes "a location is `socket://host:port` or `local://name`, a socket has `protocol: jsonrpc`; "
+    codes "a location is `local://name` or `socket://host:port`, where the host is a name or four numbers "
+    ++ codes "as `127.0.0.1` and the port 1 to 65535; a socket has `protocol: jsonrpc`; "
     ++ codes "an index of a message's path is a number"
     else if begins_with (codes "cset") rest then codes "a set stands in a service with `execution: concurrent`"
     else
@@ -98,3 +99,4 @@ advice_words advice.Handlers = codes "`,` stands between two handlers, and a han
 advice_words advice.Compound = codes "`y += 1` is `y = y + 1` here"
 advice_words advice.Elsewhere =
     codes "another Jolie has this; docs/language.md says under `A file from elsewhere` what to write"
+advice_words advice.ByteOrderMark = codes "this is a byte order mark: save the file as UTF-8 without one"

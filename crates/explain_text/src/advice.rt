@@ -8,11 +8,14 @@ ghost use Rattle.explain_text.specs.Advised as spec;
 ghost use Rattle.explain_text.specs.Words.{advice_words};
 
 use crate::front::{begins_with, begins_word};
-use file_verdicts::Cause;
+use check_verdicts::Cause;
+use explain_hints::Hint;
+use explain_places::{before, behind};
 use jolie_tokens::{LexError, Sign, Token, TokenKind, lex};
-use parse_hints::Hint;
 use std::alloc::{AllocError, Global};
-use text_places::{before, behind};
+
+/// The bytes of a byte order mark in UTF-8.
+const BYTE_ORDER_MARK: [u8; 3] = [0xEF, 0xBB, 0xBF];
 
 /// What a person may have meant.
 #[derive(Clone, Copy, Debug, PartialEq, Eq)]
@@ -25,6 +28,8 @@ pub enum Advice {
     Compound,
     /// It is part of another Jolie.
     Elsewhere,
+    /// A byte order mark stands there.
+    ByteOrderMark,
 }
 
 impl Advice {
@@ -38,6 +43,8 @@ impl Advice {
             Advice::Compound => "`y += 1` is `y = y + 1` here",
             Advice::Elsewhere =>
                 "another Jolie has this; docs/language.md says under `A file from elsewhere` what to write",
+            Advice::ByteOrderMark =>
+                "this is a byte order mark: save the file as UTF-8 without one",
         }
     }
 }
@@ -55,7 +62,7 @@ pub fn advice_for(
     match cause {
         Cause::Syntax => advice_at(alloc, text, at, hints),
         Cause::TooLong => Ok(None),
-        Cause::BadByte => Ok(None),
+        Cause::BadByte => Ok(advised_of_byte(behind(text, at))),
         Cause::OpenString => Ok(None),
         Cause::OpenComment => Ok(None),
         Cause::BadNumber => Ok(None),
@@ -84,7 +91,7 @@ fn advice_at(
     if has_separator(hints) {
         return Ok(between(rest));
     }
-    if is_elsewhere(rest) {
+    if comes_from_elsewhere(hints, rest) {
         return Ok(Some(Advice::Elsewhere));
     }
     if !rest.starts_with("}".as_bytes()) {
@@ -127,6 +134,51 @@ fn begins_statement(rest: &[u8]) -> bool
     begins_word(rest) && !begins_with("instanceof", rest)
 }
 
+/// What is advised of a byte with which no token begins.
+fn advised_of_byte(rest: &[u8]) -> Option<Advice>
+    ensures { result ≡ spec.advised_of_byte rest.now }
+{
+    if begins_with_mark(rest) {
+        return Some(Advice::ByteOrderMark);
+    }
+    None
+}
+
+/// Whether a byte order mark stands there.
+fn begins_with_mark(rest: &[u8]) -> bool
+    ensures { result ≡ spec.begins_with_mark rest.now }
+{
+    rest.starts_with(&BYTE_ORDER_MARK)
+}
+
+/// Whether what stands there is of a file from elsewhere, where these may stand.
+fn comes_from_elsewhere(hints: &[Hint], rest: &[u8]) -> bool
+    ensures { result ≡ spec.comes_from_elsewhere hints.now rest.now }
+{
+    is_elsewhere(rest) || goes_over_names(hints, rest)
+}
+
+/// Whether `:` stands there where `)` may.
+fn goes_over_names(hints: &[Hint], rest: &[u8]) -> bool
+    ensures { result ≡ spec.goes_over_names hints.now rest.now }
+{
+    rest.starts_with(":".as_bytes()) && has_closing(hints)
+}
+
+/// Whether `)` is among hints.
+fn has_closing(hints: &[Hint]) -> bool
+    ensures { result ≡ list_any spec.closes hints.now }
+{
+    hints.iter().any(|hint| closes(*hint))
+}
+
+/// Whether a hint is `)`.
+fn closes(hint: Hint) -> bool
+    ensures { result ≡ spec.closes hint }
+{
+    matches!(hint, Hint::CloseParen)
+}
+
 /// Whether a word or sign stands there with which a file from elsewhere goes on.
 fn is_elsewhere(rest: &[u8]) -> bool
     ensures { result ≡ spec.is_elsewhere rest.now }
@@ -138,6 +190,11 @@ fn is_elsewhere(rest: &[u8]) -> bool
         || begins_with("constants", rest)
         || begins_with("in", rest)
         || begins_with("csets", rest)
+        || begins_with("main", rest)
+        || begins_with("execution", rest)
+        || begins_with("Location", rest)
+        || begins_with("Protocol", rest)
+        || begins_with("Interfaces", rest)
         || rest.starts_with("->".as_bytes())
 }
 

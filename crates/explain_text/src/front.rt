@@ -4,7 +4,7 @@ ghost use Rattle.std.specs.Prelude.{◌≡◌};
 ghost use Rattle.jolie_tokens.specs.Bytes as bytes;
 ghost use Rattle.explain_text.specs.Words as spec;
 
-use text_places::behind;
+use explain_places::behind;
 
 /// Whether the word stands at the front, and no longer one.
 pub(crate) fn begins_with(word: &str, text: &[u8]) -> bool

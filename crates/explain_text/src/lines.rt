@@ -1,12 +1,12 @@
 //! The lines of an explanation.
 
-ghost use Rattle.std.specs.Prelude.{◌≡◌, ◌++◌, IfOk, OnOk, string_bytes};
+ghost use Rattle.std.specs.Prelude.{◌≡◌, ◌++◌, IfOk, OnOk, map, string_bytes};
 ghost use Rattle.explain_text.specs.Explained as spec;
 
+use explain_places::{Place, line_of, mark_of, place_of};
 use std::alloc::{AllocError, Global};
-use text_places::{Place, line_of, mark_of, place_of};
 
-/// Adds words of a place of a file's text: where it is, the line in which it stands, and a mark under it.
+/// Adds words of a place of a file's text: where it is, the line in which it stands as it is shown, and a mark under it.
 #[tactic(auto, using(crate::proofs::Pieces::five_more))]
 pub fn add_pointed(
     alloc: Global,
@@ -21,11 +21,35 @@ pub fn add_pointed(
     let head = head(alloc, file, place_of(text, at), words)?;
     let mark = mark_of(alloc, text, at)?;
     bytes.extend_from_slice(head.as_bytes())?;
-    bytes.extend_from_slice(line_of(text, at))?;
+    add_shown(bytes, line_of(text, at))?;
     bytes.extend_from_slice("\n".as_bytes())?;
     bytes.extend_from_slice(mark.as_slice())?;
     bytes.extend_from_slice("\n".as_bytes())?;
     Ok(())
+}
+
+/// Adds bytes as they are shown.
+fn add_shown(bytes: &mut Vec<u8>, line: &[u8]) -> Result<(), AllocError>
+    ensures { OnOk result (bytes.new.items ≡ bytes.old.items ++ map spec.shown line.now) }
+{
+    for byte in line {
+        bytes.push(shown(*byte))?;
+    }
+    Ok(())
+}
+
+/// What is written for a byte.
+fn shown(byte: u8) -> u8
+    ensures { result ≡ spec.shown byte }
+{
+    if is_hidden(byte) { b'?' } else { byte }
+}
+
+/// Whether no terminal shows a byte.
+fn is_hidden(byte: u8) -> bool
+    ensures { result ≡ spec.is_hidden byte }
+{
+    (byte < 32 && byte != b'\t') || byte == 127
 }
 
 /// The line that says where a place is and what is said of it.

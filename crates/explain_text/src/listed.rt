@@ -3,7 +3,7 @@
 ghost use Rattle.std.specs.Prelude.{◌≡◌, ◌++◌, IfOk, OnOk};
 ghost use Rattle.explain_text.specs.Explained as spec;
 
-use parse_hints::Hint;
+use explain_hints::Hint;
 use std::alloc::{AllocError, Global};
 
 /// Hints with commas between, and "or" before the last.

@@ -1,14 +1,16 @@
 //! A program, with its notes.
 
 ghost use Rattle.std.specs.Prelude.{◌≡◌, ◌++◌, IfOk, MatchResult, OnOk, codes, string_bytes};
-ghost use Rattle.file_notes.specs.Notes.{notes_of};
-ghost use Rattle.file_verdicts.specs.Programs.{IsUncheckedBy};
-ghost use Rattle.file_verdicts.specs.RefusalLines.{refusal_line};
+ghost use Rattle.explain_notes.specs.Notes.{notes_of};
+ghost use Rattle.check_verdicts.specs.Programs.{IsUncheckedBy};
+ghost use Rattle.check_verdicts.specs.RefusalLines.{refusal_line};
 ghost use Rattle.explain_text.specs.Noted as spec;
 
+use crate::front::begins_with;
 use crate::lines::add_pointed;
-use file_notes::{Note, NoteKind, notes_of};
-use file_verdicts::{Refusal, definitions_in};
+use check_verdicts::{Refusal, definitions_in};
+use explain_notes::{Note, NoteKind, notes_of};
+use explain_places::behind;
 use jolie_ast::Ast;
 use std::alloc::{AllocError, Global};
 
@@ -59,16 +61,34 @@ fn add_note(
 ) -> Result<(), AllocError>
     ensures { OnOk result (bytes.new.items ≡ bytes.old.items ++ spec.note_lines file.now text.now note.now) }
 {
-    let said = said(alloc, note.kind())?;
-    add_pointed(alloc, file, text, note.at() as usize, said.as_str(), bytes)
+    let at = note.at() as usize;
+    let said = said(alloc, note.kind(), behind(text, at))?;
+    add_pointed(alloc, file, text, at, said.as_str(), bytes)
 }
 
-/// What a note says of its place.
-fn said(alloc: Global, kind: NoteKind) -> Result<String, AllocError>
-    ensures { IfOk result (λ said. string_bytes said ≡ codes "note: " ++ spec.note_words kind) }
+/// What a note says of its place, by the text from there on.
+fn said(alloc: Global, kind: NoteKind, rest: &[u8]) -> Result<String, AllocError>
+    ensures { IfOk result (λ said. string_bytes said ≡ codes "note: " ++ spec.words_at kind rest.now) }
 {
-    let words = words(kind);
+    let words = words_at(kind, rest);
     format!(in alloc; "note: {words}")
+}
+
+/// What a person reads of a note, by the text from its place on.
+fn words_at(kind: NoteKind, rest: &[u8]) -> &'static str
+    ensures { result.now ≡ spec.words_at kind rest.now }
+{
+    if is_of_handler(kind) && begins_with("default", rest) {
+        return "`default` is the name of a fault here, and nothing throws it: name each fault";
+    }
+    words(kind)
+}
+
+/// Whether it is noted of a handler.
+fn is_of_handler(kind: NoteKind) -> bool
+    ensures { result ≡ spec.is_of_handler kind }
+{
+    matches!(kind, NoteKind::Unthrown)
 }
 
 /// What a person reads of a note.

@@ -7,8 +7,8 @@ use crate::advice::{Advice, advice_for};
 use crate::lines::{add_line, add_pointed};
 use crate::listed::listed;
 use crate::words::{rule, words};
-use file_verdicts::{Cause, Refusal};
-use parse_hints::{Hint, hints_at};
+use check_verdicts::{Cause, Refusal};
+use explain_hints::{Hint, hints_at};
 use std::alloc::{AllocError, Global};
 
 /// What a person reads of the refusal of a file's text.

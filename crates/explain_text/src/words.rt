@@ -4,9 +4,9 @@ ghost use Rattle.std.specs.Prelude.{◌≡◌};
 ghost use Rattle.explain_text.specs.Words as spec;
 
 use crate::front::begins_with;
-use file_verdicts::Cause;
+use check_verdicts::Cause;
+use explain_places::behind;
 use service_check::CheckName;
-use text_places::behind;
 
 /// What is wrong.
 pub fn words(cause: Cause) -> &'static str
@@ -92,7 +92,7 @@ fn rule_of_kind(rest: &[u8]) -> &'static str
     ensures { result.now ≡ spec.kind_rule rest.now }
 {
     if rest.starts_with("\"".as_bytes()) {
-        return "a location is `socket://host:port` or `local://name`, a socket has `protocol: jsonrpc`; an index of a message's path is a number";
+        return "a location is `local://name` or `socket://host:port`, where the host is a name or four numbers as `127.0.0.1` and the port 1 to 65535; a socket has `protocol: jsonrpc`; an index of a message's path is a number";
     }
     if begins_with("cset", rest) {
         return "a set stands in a service with `execution: concurrent`";

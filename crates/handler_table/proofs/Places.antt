@@ -7,7 +7,7 @@ use Rattle.std.proofs.lemmas.Cmp.{ranked}
 use Rattle.behaviour_tree.specs.declared.behaviour.Handler.{Handler, out-Handler}
 use Rattle.behaviour_tree.specs.Data.{Proc}
 use Rattle.behaviour_tree.specs.View.{behaviour_view, handler_view, HandlerView}
-use Rattle.calculus.specs.Tables.{Entries, entry, with, without}
+use Rattle.session_calculus.specs.Tables.{Entries, entry, with, without}
 use Rattle.handler_table.specs.Entries.{number_of, entry_of, entries_of, is_scope}
 use Rattle.handler_table.specs.Rows.{views_of, starts_above, is_rising, are_scopes, behind, moved, searched}
 use Rattle.handler_table.proofs.Views.{handler_seen}

@@ -3,7 +3,7 @@ use Rattle.std.proofs.Common.{◌≡◌, ℕ, suc, ◌+◌, max, nat_le, List, [
 use Rattle.std.proofs.lemmas.Bool.Decides.{nat_tests}
 use Rattle.behaviour_tree.specs.Data.{PathTree, Proc, Procs, no_procs, proc, Branches, no_branches, one_way, request, nothing, sequence, parallel, choose, repeat, choice, scope, block}
 use Rattle.behaviour_tree.specs.View.{BranchView, HandlerView, ReplyView, branch_of, branches_of, handlers_of, procs_of}
-use Rattle.calculus.specs.Tables.{filled, filled_all, filled_branches, forms, levels}
+use Rattle.session_calculus.specs.Tables.{filled, filled_all, filled_branches, forms, levels}
 use Rattle.handler_table.specs.declared.size.Size.{Size}
 use Rattle.handler_table.specs.Sizes.{forms_of, forms_of_branches, forms_of_handlers, levels_of, levels_of_branches, levels_of_handlers}
 use Rattle.handler_table.specs.Sizes.{saturated, sized, size_of, size_of_all, size_of_branches, size_of_handlers, beside, around}

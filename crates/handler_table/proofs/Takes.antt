@@ -5,7 +5,7 @@ use Rattle.behaviour_tree.specs.declared.behaviour.Handler.{Handler}
 use Rattle.behaviour_tree.specs.declared.behaviour.Handlers.{Handlers, out-Handlers}
 use Rattle.behaviour_tree.specs.Data.{Proc}
 use Rattle.behaviour_tree.specs.View.{HandlerView, handler_view, handlers_of, handlers_view}
-use Rattle.calculus.specs.Tables.{Entries, Table, over, plus, put_over, taken_in, with, with_handler}
+use Rattle.session_calculus.specs.Tables.{Entries, Table, over, plus, put_over, taken_in, with, with_handler}
 use Rattle.handler_table.specs.Entries.{are_of_scopes, entries_in, entries_of, entry_of, is_scope, number_of}
 use Rattle.handler_table.specs.Rows.{are_scopes, views_of}
 use Rattle.handler_table.specs.Filled.{taken, with_all}

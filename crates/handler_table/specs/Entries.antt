@@ -5,7 +5,7 @@ use Rattle.behaviour_tree.specs.declared.behaviour.HandlerKey.TheVariants as key
 use Rattle.behaviour_tree.specs.declared.behaviour.Handler.{Handler}
 use Rattle.behaviour_tree.specs.Data.{Proc, HandlerList, no_handlers, handler}
 use Rattle.behaviour_tree.specs.View.{HandlerView, handler_view}
-use Rattle.calculus.specs.Tables.{Entries}
+use Rattle.session_calculus.specs.Tables.{Entries}
 
 -- the number in a key; the scope around has none
 abbrev pub number_of : HandlerKey → ℕ

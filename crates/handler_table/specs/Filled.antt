@@ -6,7 +6,7 @@ use Rattle.std.specs.Borrow.{Bor}
 use Rattle.behaviour_tree.specs.declared.behaviour.Behaviour.{Behaviour}
 use Rattle.behaviour_tree.specs.Data.{Proc}
 use Rattle.behaviour_tree.specs.View.{behaviour_view, BranchView, HandlerView, ReplyView}
-use Rattle.calculus.specs.Tables.{Table, filled, or_nothing, taken_in, with_handler}
+use Rattle.session_calculus.specs.Tables.{Table, filled, or_nothing, taken_in, with_handler}
 
 -- what stands in place of cH: a behaviour, or nothing
 abbrev pub former_of : Option (Bor Behaviour) → Proc

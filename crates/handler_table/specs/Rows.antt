@@ -4,7 +4,7 @@ use Rattle.std.specs.Prelude.{ℕ, suc, ◌+◌, Bool, true, ◌&&◌, nat_lt, L
 use Rattle.std.specs.Ordering.{nat_cmp, match_ordering}
 use Rattle.behaviour_tree.specs.declared.behaviour.Handler.{Handler}
 use Rattle.behaviour_tree.specs.View.{HandlerView, handler_view}
-use Rattle.calculus.specs.Tables.{Entries}
+use Rattle.session_calculus.specs.Tables.{Entries}
 use Rattle.handler_table.specs.Entries.{is_scope}
 
 -- ---- what a row keeps

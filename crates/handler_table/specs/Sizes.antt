@@ -2,7 +2,7 @@
 -- How large a behaviour is, as far as 32 bits hold it.
 use Rattle.std.specs.Prelude.{ℕ, ◌+◌, ◌-◌, ◌^◌, min, max}
 use Rattle.behaviour_tree.specs.Data.{Proc, Procs, Branches, HandlerList}
-use Rattle.calculus.specs.Tables.{extent_of, extent_of_branches, extent_of_handlers, forms, levels}
+use Rattle.session_calculus.specs.Tables.{extent_of, extent_of_branches, extent_of_handlers, forms, levels}
 use Rattle.handler_table.specs.declared.size.Size.{Size}
 
 -- a number as far as 32 bits hold it

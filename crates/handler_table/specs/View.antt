@@ -1,8 +1,8 @@
 -- The table that a Rust table stands for.
 use Rattle.std.specs.Prelude.{ℕ, ◌-◌}
 use Rattle.std.specs.Vec.{vec_len, vec_capacity}
-use Rattle.calculus.specs.Tables as spec
-use Rattle.calculus.specs.Tables.{Entries}
+use Rattle.session_calculus.specs.Tables as spec
+use Rattle.session_calculus.specs.Tables.{Entries}
 use Rattle.handler_table.specs.Entries.{entries_of}
 use Rattle.handler_table.specs.declared.row.Row.{Row}
 use Rattle.handler_table.specs.declared.table.Table.{Table}

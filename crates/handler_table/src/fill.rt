@@ -1,7 +1,7 @@
 ghost use Rattle.std.specs.Prelude.{◌≡◌, map, option_map, IfOk};
 ghost use Rattle.behaviour_tree.specs.Data.{choose, repeat, scope};
 ghost use Rattle.behaviour_tree.specs.View.{behaviour_view, branch_view, branches_of, expr_view, path_view, procs_of, reply_view};
-ghost use Rattle.calculus.specs.Tables as spec;
+ghost use Rattle.session_calculus.specs.Tables as spec;
 ghost use Rattle.handler_table.specs.Filled.{filled_branch, filled_reply, former_of};
 
 use behaviour_tree::{Behaviour, Branch, Expr, PathExpr, ReplyPart};
@@ -21,12 +21,12 @@ pub fn filled(body: &Behaviour, former: Option<&Behaviour>) -> Result<Behaviour,
         Behaviour::Sequence(list) => Ok(Behaviour::Sequence(filled_all(list, former)?)),
         Behaviour::Parallel(list) => Ok(Behaviour::Parallel(filled_all(list, former)?)),
         Behaviour::If { test, then, other } => {
-            let then_filled = boxed(then, filled(then, former)?)?;
-            let other_filled = boxed(other, filled(other, former)?)?;
+            let then_filled = filled_in_box(then, former)?;
+            let other_filled = filled_in_box(other, former)?;
             chosen(test, then_filled, other_filled)
         }
         Behaviour::While { test, body } => {
-            let body_filled = boxed(body, filled(body, former)?)?;
+            let body_filled = filled_in_box(body, former)?;
             repeated(test, body_filled)
         }
         Behaviour::Choice(list) => Ok(Behaviour::Choice(filled_branches(list, former)?)),
@@ -38,10 +38,22 @@ pub fn filled(body: &Behaviour, former: Option<&Behaviour>) -> Result<Behaviour,
         Behaviour::InnerHandler => copied_former(former),
         Behaviour::Scope { name, body } => Ok(Behaviour::Scope {
             name: *name,
-            body: boxed(body, filled(body, former)?)?,
+            body: filled_in_box(body, former)?,
         }),
-        Behaviour::Block(body) => Ok(Behaviour::Block(boxed(body, filled(body, former)?)?)),
+        Behaviour::Block(body) => Ok(Behaviour::Block(filled_in_box(body, former)?)),
     }
+}
+
+/// The same in a box of the same allocator.
+#[cycle(filled)]
+fn filled_in_box(
+    body: &Box<Behaviour>,
+    former: Option<&Behaviour>,
+) -> Result<Box<Behaviour>, AllocError>
+    ensures { IfOk result (λ p. behaviour_view p.value ≡ spec.filled (former_of former.entry) (behaviour_view body.now.value)) }
+{
+    let copy = filled(body, former)?;
+    Ok(Box::new(*Box::allocator(body), copy)?)
 }
 
 #[cycle(filled)]
@@ -78,19 +90,31 @@ fn filled_in_branch(branch: &Branch, former: Option<&Behaviour>) -> Result<Branc
 {
     let target = copied_path(&branch.target)?;
     let after = filled(&branch.after, former)?;
-    match &branch.reply {
-        None => Ok(Branch {
+    match filled_in_answer(&branch.reply, former) {
+        Ok(reply) => Ok(Branch {
             op: branch.op,
             target,
-            reply: None,
+            reply,
             after,
         }),
-        Some(reply) => Ok(Branch {
-            op: branch.op,
-            target,
-            reply: Some(filled_in_reply(reply, former)?),
-            after,
-        }),
+        Err(error) => {
+            drop(after);
+            Err(error)
+        }
+    }
+}
+
+/// The reply of a branch that has one.
+#[cycle(filled)]
+fn filled_in_answer(
+    reply: &Option<ReplyPart>,
+    former: Option<&Behaviour>,
+) -> Result<Option<ReplyPart>, AllocError>
+    ensures { IfOk result (λ r. option_map reply_view r ≡ option_map (filled_reply (former_of former.entry)) (option_map reply_view reply.now)) }
+{
+    match reply {
+        None => Ok(None),
+        Some(reply) => Ok(Some(filled_in_reply(reply, former)?)),
     }
 }
 
@@ -131,13 +155,6 @@ fn repeated(test: &Expr, body: Box<Behaviour>) -> Result<Behaviour, AllocError>
         test: test.copied()?,
         body,
     })
-}
-
-/// A behaviour in a box of the same allocator as another.
-fn boxed(like: &Box<Behaviour>, body: Behaviour) -> Result<Box<Behaviour>, AllocError>
-    ensures { IfOk result (λ b. b.value ≡ body) }
-{
-    Ok(Box::new(*Box::allocator(like), body)?)
 }
 
 fn copied_path(path: &Option<PathExpr>) -> Result<Option<PathExpr>, AllocError>

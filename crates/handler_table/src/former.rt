@@ -1,6 +1,6 @@
 ghost use Rattle.std.specs.Prelude.{◌≡◌};
 ghost use Rattle.behaviour_tree.specs.Data.{nothing};
-ghost use Rattle.calculus.specs.Tables.{forms, levels};
+ghost use Rattle.session_calculus.specs.Tables.{forms, levels};
 ghost use Rattle.handler_table.specs.Filled.{former_of};
 ghost use Rattle.handler_table.specs.Sizes.{saturated};
 

@@ -1,6 +1,6 @@
 ghost use Rattle.std.specs.Prelude.{◌≡◌};
 ghost use Rattle.behaviour_tree.specs.View.{behaviour_view};
-ghost use Rattle.calculus.specs.Tables.{filled, is_handler};
+ghost use Rattle.session_calculus.specs.Tables.{filled, is_handler};
 ghost use Rattle.handler_table.specs.Filled.{former_of};
 
 use crate::former::Former;

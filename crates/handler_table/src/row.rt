@@ -7,6 +7,7 @@ ghost use Rattle.handler_table.specs.Rows.{are_scopes, is_rising, searched, view
 use behaviour_tree::{Behaviour, Handler, HandlerKey};
 use std::alloc::{AllocError, Global};
 use std::cmp::Ordering;
+use std::mem;
 
 /// Handlers in rising order of the numbers in their keys.
 #[derive(Drop)]
@@ -19,7 +20,7 @@ impl Row {
     ghost use Rattle.std.specs.Prelude.{[], option_map, OnOk, MatchResult};
     ghost use Rattle.std.specs.Option.{option_copied};
     ghost use Rattle.behaviour_tree.specs.View.{behaviour_view, handler_view};
-    ghost use Rattle.calculus.specs.Tables.{entry, with, without};
+    ghost use Rattle.session_calculus.specs.Tables.{entry, with, without};
     ghost use Rattle.handler_table.specs.View.{row_view, room_of};
 
     pub fn new(alloc: Global) -> Row
@@ -116,7 +117,7 @@ fn replaced(list: &mut Vec<Handler>, place: usize, handler: Handler)
     ensures len { vec_len list.new ≡ vec_len list.old }
     ensures capacity { vec_capacity list.new ≡ vec_capacity list.old }
 {
-    list[place] = handler;
+    drop(mem::replace(&mut list[place], handler));
 }
 
 /// Inserts a handler where there is room.

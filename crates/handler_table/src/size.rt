@@ -1,6 +1,6 @@
 ghost use Rattle.std.specs.Prelude.{◌≡◌, ◌&&◌, [], ◌∷◌, map, nat_le};
 ghost use Rattle.behaviour_tree.specs.View.{behaviour_view, branch_view, branches_of, handlers_view, procs_of};
-ghost use Rattle.calculus.specs.Tables.{filled, filled_all, filled_branches, most_forms, most_levels};
+ghost use Rattle.session_calculus.specs.Tables.{filled, filled_all, filled_branches, most_forms, most_levels};
 ghost use Rattle.handler_table.specs.Filled.{former_of};
 ghost use Rattle.handler_table.specs.Sizes as spec;
 

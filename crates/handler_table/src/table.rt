@@ -41,7 +41,7 @@ impl Table {
     ghost use Rattle.std.specs.Vec.{vec_len};
     ghost use Rattle.behaviour_tree.specs.View.{behaviour_view, handler_view, handlers_view};
     ghost use Rattle.behaviour_tree.specs.declared.behaviour.Handlers.{out-Handlers};
-    ghost use Rattle.calculus.specs.Tables as spec;
+    ghost use Rattle.session_calculus.specs.Tables as spec;
     ghost use Rattle.handler_table.specs.Entries.{are_of_scopes, entries_in, is_scope, number_of};
     ghost use Rattle.handler_table.specs.Filled.{taken, with_all};
     ghost use Rattle.handler_table.specs.Refusals.{TellsWhether};

@@ -7,7 +7,8 @@ use Rattle.http_connection.specs.declared.stage.Ending.TheVariants as Ends
 use Rattle.http_connection.specs.declared.stage.Standing.{Standing}
 use Rattle.http_connection.specs.declared.stage.Standing.TheVariants as Stands
 use Rattle.http_connection.specs.Stages.{stage_of, MayBeAsked, IsBehindTelling}
-use Rattle.http_connection.specs.Seen.{Line, Seen}
+use Rattle.outside_traits.specs.Told.{WireTold}
+use Rattle.http_connection.specs.Seen.{Seen}
 use Rattle.http_connection.specs.Talking.{WireTells, IsTalking}
 use Rattle.http_connection.specs.Steps.{HandsOut}
 
@@ -54,7 +55,7 @@ ended_before Stands.Spent now result h ended = absurd (spent_unended now h.1 end
 -- ---- a read
 
 -- the wire of a connection that waits is open where it was open at first
-waiting_open : (first : Line) (now : Seen) (bodies : List (List ℕ)) (texts : List (Option (List ℕ))) → IsTalking first now bodies texts
+waiting_open : (first : WireTold) (now : Seen) (bodies : List (List ℕ)) (texts : List (Option (List ℕ))) → IsTalking first now bodies texts
     → now.kept.next ≡ Stands.Waits → first.closed ≡ false → now.line.closed ≡ false
 waiting_open first now bodies texts t e is_open =
     (subst (λ n. WireTells (stage_of n) first now.kept.read.items now.line) e t.wire).closed ∙ is_open
@@ -64,7 +65,7 @@ or_true true = refl
 or_true false = refl
 
 -- it gave none, though there was room
-pub read_tells : (first : Line) (now : Seen) (bodies : List (List ℕ)) (texts : List (Option (List ℕ))) → IsTalking first now bodies texts
+pub read_tells : (first : WireTold) (now : Seen) (bodies : List (List ℕ)) (texts : List (Option (List ℕ))) → IsTalking first now bodies texts
     → now.kept.next ≡ Stands.Waits → first.closed ≡ false → (before after : Bool) (room count : ℕ)
     → after ≡ (before || (not now.line.closed && (not (room == 0) && (count == 0)))) → room == 0 ≡ false → count ≡ 0 → after ≡ true
 read_tells first now bodies texts t e is_open before after room count told some none =

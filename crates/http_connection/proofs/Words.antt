@@ -20,7 +20,8 @@ use Rattle.http_connection.specs.declared.stage.Ending.TheVariants as Ends
 use Rattle.http_connection.specs.declared.stage.Standing.{Standing}
 use Rattle.http_connection.specs.declared.stage.Standing.TheVariants as Stands
 use Rattle.http_connection.specs.Stages.{stage_of}
-use Rattle.http_connection.specs.Seen.{Line, Seen}
+use Rattle.outside_traits.specs.Told.{WireTold}
+use Rattle.http_connection.specs.Seen.{Seen}
 use Rattle.http_connection.specs.Talking.{Log, log, log_of, HasGiven, due, told_to, Closes, HasWritten, Passed, IsTalking}
 use Rattle.http_connection.specs.Prompt.{IsDone}
 use Rattle.http_connection.specs.Law.{Holding, holding, bodies_of, talk_of, IsInOrder, IsComplete, IsAllWritten, HasEnded, IsCutOff, Keeps, StaysFront, KeepsWord}
@@ -264,7 +265,7 @@ stays Stages.ReadFailed h l k = stays_so h l (whole_front h l k.1)
 stays Stages.WriteFailed h l k = stays_so h l k.front
 stays Stages.Spent h l k = tt
 
-pub keeps_word : (first : Line) (now : Seen) (bodies : List (List ℕ)) (texts : List (Option (List ℕ))) → IsTalking first now bodies texts → KeepsWord first now bodies texts
+pub keeps_word : (first : WireTold) (now : Seen) (bodies : List (List ℕ)) (texts : List (Option (List ℕ))) → IsTalking first now bodies texts → KeepsWord first now bodies texts
 keeps_word first now bodies texts t =
     let l = log_of now bodies texts in
     record {

@@ -9,7 +9,8 @@ use Rattle.http_port.specs.Talk.{talk}
 use Rattle.http_connection.specs.declared.stage.Stage.{Stage}
 use Rattle.http_connection.specs.declared.stage.Stage.TheVariants as Stages
 use Rattle.http_connection.specs.Stages.{stage_of}
-use Rattle.http_connection.specs.Seen.{Line, Seen}
+use Rattle.outside_traits.specs.Told.{WireTold}
+use Rattle.http_connection.specs.Seen.{Seen}
 use Rattle.http_connection.specs.Talking.{Log, log_of, WireTells}
 
 -- what bytes hold: their requests in order, and how these end
@@ -89,10 +90,10 @@ StaysFront Stages.Spent h l = Unit {0}
 -- What holds of a connection that was made with a wire as first, handed out these bodies and was told these texts: what
 -- was read and written is what the wire gave and took, the wire is closed and failed as the stage says, and in each
 -- reading of the bytes what passed is what they hold.
-pub record KeepsWord (first : Line) (now : Seen) (bodies : List (List ℕ)) (texts : List (Option (List ℕ)))
+pub record KeepsWord (first : WireTold) (now : Seen) (bodies : List (List ℕ)) (texts : List (Option (List ℕ)))
     : Type 0 where
-  pub given : Appends first.given now.line.given now.kept.read.items
-  pub taken : Appends first.taken now.line.taken now.kept.written.items
+  pub given : Appends first.read now.line.read now.kept.read.items
+  pub taken : Appends first.written now.line.written now.kept.written.items
   pub wire : WireTells (stage_of now.kept.next) first now.kept.read.items now.line
   pub keeps : (reading : Reading now.kept.read.items)
       → ∥ Keeps (stage_of now.kept.next) (holding now.kept.read.items reading) (log_of now bodies texts) ∥₁

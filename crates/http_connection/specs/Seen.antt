@@ -1,39 +1,22 @@
 -- What contracts see of a connection.
-use Rattle.std.specs.Prelude.{ℕ, Bool, false, List, Option}
+use Rattle.std.specs.Prelude.{Bool}
+use Rattle.outside_traits.specs.Told.{WireTold}
 use Rattle.http_connection.specs.declared.kept.Kept.{Kept}
 
 -- whether a read of a wire has failed, and whether a write has before it was closed
 pub record Failures : Type 0 where
-  pub lost : Bool
-  pub cut : Bool
+  pub read_failed : Bool
+  pub write_failed : Bool
 
--- the same by its parts
-abbrev pub failures_of : Bool → Bool → Failures
-failures_of lost cut = record { lost = lost; cut = cut }
+-- those of a wire that tells this
+abbrev pub failures_of : WireTold → Failures
+failures_of wire = record { read_failed = wire.read_failed; write_failed = wire.write_failed }
 
--- of a wire that has not failed
-abbrev pub no_failures : Failures
-no_failures = failures_of false false
-
--- The state of a wire: the bytes that were read of it, that are left and that were written, where these are told; its
--- failures, and whether it is closed.
-pub record Line : Type 0 where
-  pub given : Option (List ℕ)
-  pub left : Option (List ℕ)
-  pub taken : Option (List ℕ)
-  pub failures : Failures
-  pub closed : Bool
-
--- the same by its parts
-abbrev pub line_of : Option (List ℕ) → Option (List ℕ) → Option (List ℕ) → Failures → Bool → Line
-line_of given left taken failures closed =
-    record { given = given; left = left; taken = taken; failures = failures; closed = closed }
-
--- a connection: what it keeps, and the state of its wire
+-- a connection: what it keeps, and what its wire tells
 pub record Seen : Type 0 where
   pub kept : Kept
-  pub line : Line
+  pub line : WireTold
 
 -- the same by its parts
-abbrev pub seen : Kept → Line → Seen
+abbrev pub seen : Kept → WireTold → Seen
 seen kept line = record { kept = kept; line = line }

@@ -13,7 +13,8 @@ use Rattle.http_connection.specs.declared.kept.Kept.{Kept}
 use Rattle.http_connection.specs.declared.stage.Ending.{Ending}
 use Rattle.http_connection.specs.declared.stage.Standing.{Standing}
 use Rattle.http_connection.specs.declared.stage.Standing.TheVariants as Stands
-use Rattle.http_connection.specs.Seen.{Line, Seen}
+use Rattle.outside_traits.specs.Told.{WireTold}
+use Rattle.http_connection.specs.Seen.{Seen, failures_of}
 use Rattle.http_connection.specs.Talking.{Log, log, log_of, IsAnswered, HasGiven, IsOpen, cut_behind_failed_write}
 use Rattle.http_connection.specs.Prompt.{IsDone}
 
@@ -42,36 +43,38 @@ is_interim (Request body close) = false
 is_interim (Refused status) = false
 
 -- all of the text went out; or, where that was cut, a front of it and not all
-abbrev pub IsFrontOf : Bool → List ℕ → List ℕ → Type 0
-IsFrontOf false text went = went ≡ text
-IsFrontOf true text went = (count : ℕ) × (count < length text) × (went ≡ take count text)
+abbrev pub IsPrefixOf : Bool → List ℕ → List ℕ → Type 0
+IsPrefixOf false text went = went ≡ text
+IsPrefixOf true text went = (count : ℕ) × (count < length text) × (went ≡ take count text)
 
 -- what a wire tells of its failures behind a text: as before, or, where the text was cut, that a write failed
-abbrev pub FailedWhereCut : Bool → Line → Line → Type 0
-FailedWhereCut false before now = now.failures ≡ before.failures
+abbrev pub FailedWhereCut : Bool → WireTold → WireTold → Type 0
+FailedWhereCut false before now = failures_of now ≡ failures_of before
 FailedWhereCut true before now =
-    (now.failures.lost ≡ before.failures.lost) × (now.failures.cut ≡ cut_behind_failed_write before)
+    (now.read_failed ≡ before.read_failed) × (now.write_failed ≡ cut_behind_failed_write before)
 
 -- A wire took so many bytes of the text: all, unless a write failed.
-pub record Takes (text : List ℕ) (count : ℕ) (before now : Line) : Type 0 where
+pub record Takes (text : List ℕ) (count : ℕ) (before now : WireTold) : Type 0 where
   pub within : count ≤ length text
-  pub taken : Appends before.taken now.taken (take count text)
-  pub calm : count ≡ length text → now.failures ≡ before.failures
+  pub taken : Appends before.written now.written (take count text)
+  pub calm : count ≡ length text → failures_of now ≡ failures_of before
   pub cause : count < length text → FailedWhereCut true before now
-  pub given : now.given ≡ before.given
-  pub left : now.left ≡ before.left
+  pub given : now.read ≡ before.read
+  pub left : now.unread ≡ before.unread
   pub closed : now.closed ≡ before.closed
+  pub door : now.door ≡ before.door
 
 -- The text was written and kept, or a front of it and not all where the wire failed.
 pub record Sends (text : List ℕ) (cut : Bool) (was now : Seen) : Type 0 where
   pub went : List ℕ
-  pub front : IsFrontOf cut text went
+  pub front : IsPrefixOf cut text went
   pub written : now.kept.written.items ≡ was.kept.written.items ++ went
-  pub taken : Appends was.line.taken now.line.taken went
+  pub taken : Appends was.line.written now.line.written went
   pub failures : FailedWhereCut cut was.line now.line
-  pub given : now.line.given ≡ was.line.given
-  pub left : now.line.left ≡ was.line.left
+  pub given : now.line.read ≡ was.line.read
+  pub left : now.line.unread ≡ was.line.unread
   pub closed : now.line.closed ≡ was.line.closed
+  pub door : now.line.door ≡ was.line.door
   pub read : now.kept.read.items ≡ was.kept.read.items
   pub reader : now.kept.reader ≡ was.kept.reader
   pub next : now.kept.next ≡ was.kept.next
@@ -87,21 +90,23 @@ pub record Rests (was now : Kept) : Type 0 where
 pub record Finishes (ending : Ending) (was now : Seen) : Type 0 where
   pub next : now.kept.next ≡ Stands.Over ending
   pub closed : now.line.closed ≡ true
-  pub given : now.line.given ≡ was.line.given
-  pub taken : now.line.taken ≡ was.line.taken
-  pub failures : now.line.failures ≡ was.line.failures
+  pub door : now.line.door ≡ was.line.door
+  pub given : now.line.read ≡ was.line.read
+  pub taken : now.line.written ≡ was.line.written
+  pub failures : failures_of now.line ≡ failures_of was.line
   pub read : now.kept.read.items ≡ was.kept.read.items
   pub written : now.kept.written.items ≡ was.kept.written.items
   pub reader : now.kept.reader ≡ was.kept.reader
 
 -- What was read and written is the open wire's.
-pub record IsCarried (first : Line) (now : Seen) : Type 0 where
-  pub given : Appends first.given now.line.given now.kept.read.items
-  pub taken : Appends first.taken now.line.taken now.kept.written.items
+pub record IsCarried (first : WireTold) (now : Seen) : Type 0 where
+  pub given : Appends first.read now.line.read now.kept.read.items
+  pub taken : Appends first.written now.line.written now.kept.written.items
+  pub door : now.line.door ≡ first.door
   pub wire : IsOpen first now.kept.read.items now.line
 
 -- All that the reader gave is answered, and this piece was read and not fed.
-pub record IsGoing (first : Line) (now : Seen) (piece : List ℕ) (bodies : List (List ℕ))
+pub record IsGoing (first : WireTold) (now : Seen) (piece : List ℕ) (bodies : List (List ℕ))
     (texts : List (Option (List ℕ))) : Type 0 where
   pub carried : IsCarried first now
   pub early : List ℕ
@@ -109,7 +114,7 @@ pub record IsGoing (first : Line) (now : Seen) (piece : List ℕ) (bodies : List
   pub answered : IsAnswered now.kept.reader (log early now.kept.written.items bodies texts)
 
 -- The reader gave this last, of which nothing was done.
-pub record IsFed (first : Line) (now : Seen) (last : Fed) (bodies : List (List ℕ)) (texts : List (Option (List ℕ)))
+pub record IsFed (first : WireTold) (now : Seen) (last : Fed) (bodies : List (List ℕ)) (texts : List (Option (List ℕ)))
     : Type 0 where
   pub carried : IsCarried first now
   pub given : HasGiven last now.kept.reader (log_of now bodies texts)

@@ -17,7 +17,8 @@ use Rattle.http_connection.specs.declared.stage.Ending.TheVariants as Ends
 use Rattle.http_connection.specs.declared.stage.Standing.{Standing}
 use Rattle.http_connection.specs.declared.stage.Standing.TheVariants as Stands
 use Rattle.http_connection.specs.Stages.{stage_of}
-use Rattle.http_connection.specs.Seen.{Line, Seen}
+use Rattle.outside_traits.specs.Told.{WireTold}
+use Rattle.http_connection.specs.Seen.{Seen, failures_of}
 
 -- What passed on a connection: the bytes that were read and written, the bodies that were handed out, and the texts
 -- that were told, each an answer or that there is nothing to say.
@@ -117,39 +118,41 @@ Passed (Stands.Over Ends.WriteFailed) place l =
 Passed Stands.Spent place l = Unit {0}
 
 -- the wire is open, and did not fail since it was as first
-pub record IsOpen (first : Line) (read : List ℕ) (line : Line) : Type 0 where
-  pub left : Consumes first.left line.left read
-  pub failures : line.failures ≡ first.failures
+pub record IsOpen (first : WireTold) (read : List ℕ) (line : WireTold) : Type 0 where
+  pub left : Consumes first.unread line.unread read
+  pub failures : failures_of line ≡ failures_of first
   pub closed : line.closed ≡ first.closed
 
 -- it is closed; what was read is a front of what it had
-pub record IsShut (first : Line) (read : List ℕ) (line : Line) : Type 0 where
-  pub front : IfSome first.left (λ all. StartsWith all read)
+pub record IsShut (first : WireTold) (read : List ℕ) (line : WireTold) : Type 0 where
+  pub front : IfSome first.unread (λ all. StartsWith all read)
   pub closed : line.closed ≡ true
 
 -- whether a write of a wire has failed before it was closed, behind one more that fails
-abbrev pub cut_behind_failed_write : Line → Bool
-cut_behind_failed_write line = line.failures.cut || not line.closed
+abbrev pub cut_behind_failed_write : WireTold → Bool
+cut_behind_failed_write line = line.write_failed || not line.closed
 
 -- what the wire tells at a stage, where this was read of it since it was as first
-abbrev pub WireTells : Stage → Line → List ℕ → Line → Type 0
+abbrev pub WireTells : Stage → WireTold → List ℕ → WireTold → Type 0
 WireTells Stages.Reads first read line = IsOpen first read line
 WireTells Stages.Owes first read line = IsOpen first read line
 WireTells Stages.Ended first read line =
-    IsShut first read line × (line.failures ≡ first.failures) × IfSome first.left (λ all. all ≡ read)
-WireTells Stages.Closed first read line = IsShut first read line × (line.failures ≡ first.failures)
+    IsShut first read line × (failures_of line ≡ failures_of first) × IfSome first.unread (λ all. all ≡ read)
+WireTells Stages.Closed first read line = IsShut first read line × (failures_of line ≡ failures_of first)
 WireTells Stages.ReadFailed first read line =
-    IsShut first read line × (line.failures.lost ≡ true) × (line.failures.cut ≡ first.failures.cut)
+    IsShut first read line × (line.read_failed ≡ true) × (line.write_failed ≡ first.write_failed)
 WireTells Stages.WriteFailed first read line =
-    IsShut first read line × (line.failures.lost ≡ first.failures.lost) × (line.failures.cut ≡ cut_behind_failed_write first)
+    IsShut first read line × (line.read_failed ≡ first.read_failed) × (line.write_failed ≡ cut_behind_failed_write first)
 WireTells Stages.Spent first read line = IsOpen first read line
 
 -- The connection, made with a wire that was as first, has handed out these bodies in order and was told these texts.
-pub record IsTalking (first : Line) (now : Seen) (bodies : List (List ℕ)) (texts : List (Option (List ℕ)))
+pub record IsTalking (first : WireTold) (now : Seen) (bodies : List (List ℕ)) (texts : List (Option (List ℕ)))
     : Type 0 where
   -- what was read and written is what the wire gave and took
-  pub given : Appends first.given now.line.given now.kept.read.items
-  pub taken : Appends first.taken now.line.taken now.kept.written.items
+  pub given : Appends first.read now.line.read now.kept.read.items
+  pub taken : Appends first.written now.line.written now.kept.written.items
+  -- it is the same wire: it tells the same door
+  pub door : now.line.door ≡ first.door
   pub wire : WireTells (stage_of now.kept.next) first now.kept.read.items now.line
   pub passed : Passed now.kept.next now.kept.reader (log_of now bodies texts)
 

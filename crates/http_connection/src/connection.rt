@@ -2,7 +2,8 @@
 ghost use Rattle.std.specs.Prelude.{◌≡◌, ◌++◌, ◌∷◌, [], true, false, List, ℕ, Option, option_copied, IfOk, MatchResult};
 ghost use Rattle.http_port.specs.Talk.{answer as answer_text};
 ghost use Rattle.http_connection.specs.Stages.{stage_of, is_waiting, MayBeAsked, MayBeTold, IsBehindAsking, IsBehindTelling};
-ghost use Rattle.http_connection.specs.Seen.{Line, failures_of, line_of, seen};
+ghost use Rattle.outside_traits.specs.Told.{WireTold};
+ghost use Rattle.http_connection.specs.Seen.{seen};
 ghost use Rattle.http_connection.specs.Talking.{log, IsTalking, handed};
 ghost use Rattle.http_connection.specs.Prompt.{IsPrompt, OnlyWrites};
 ghost use Rattle.http_connection.specs.declared.stage.Stage.TheVariants as Stages;
@@ -31,8 +32,8 @@ impl<W: Wire> Connection<W> {
         ensures wire { result.wire ≡ wire }
         ensures stage { stage_of result.kept.next ≡ Stages.Reads }
         ensures talks { IsTalking
-            (line_of (W.given wire) (W.left wire) (W.taken wire) (failures_of (W.lost wire) (W.cut wire)) (W.closed wire))
-            (seen result.kept (line_of (W.given result.wire) (W.left result.wire) (W.taken result.wire) (failures_of (W.lost result.wire) (W.cut result.wire)) (W.closed result.wire)))
+            (W.told wire)
+            (seen result.kept (W.told result.wire))
             [] [] }
     {
         Connection {
@@ -67,21 +68,21 @@ impl<W: Wire> Connection<W> {
     /// connection that was made with an open wire stands as ended only where a read told the end of what comes in.
     pub fn next_request(&mut self) -> Result<Option<Bytes>, AllocError>
         requires { MayBeAsked (stage_of self.old.kept.next) }
-        ensures talks { (first : Line) (bodies : List (List ℕ)) (texts : List (Option (List ℕ)))
-            → IsTalking first (seen self.old.kept (line_of (W.given self.old.wire) (W.left self.old.wire) (W.taken self.old.wire) (failures_of (W.lost self.old.wire) (W.cut self.old.wire)) (W.closed self.old.wire))) bodies texts
+        ensures talks { (first : WireTold) (bodies : List (List ℕ)) (texts : List (Option (List ℕ)))
+            → IsTalking first (seen self.old.kept (W.told self.old.wire)) bodies texts
             → MatchResult result
-            (λ came. IsTalking first (seen self.new.kept (line_of (W.given self.new.wire) (W.left self.new.wire) (W.taken self.new.wire) (failures_of (W.lost self.new.wire) (W.cut self.new.wire)) (W.closed self.new.wire))) (bodies ++ handed came) texts)
-            (λ _. IsTalking first (seen self.new.kept (line_of (W.given self.new.wire) (W.left self.new.wire) (W.taken self.new.wire) (failures_of (W.lost self.new.wire) (W.cut self.new.wire)) (W.closed self.new.wire))) bodies texts) }
+            (λ came. IsTalking first (seen self.new.kept (W.told self.new.wire)) (bodies ++ handed came) texts)
+            (λ _. IsTalking first (seen self.new.kept (W.told self.new.wire)) bodies texts) }
         ensures stage { MatchResult result (λ came. IsBehindAsking came (stage_of self.new.kept.next)) (λ _. stage_of self.new.kept.next ≡ Stages.Spent) }
         ensures held { is_waiting self.old.kept.next ≡ false → self.new.wire ≡ self.old.wire }
-        ensures prompt { (first : Line) (bodies : List (List ℕ)) (texts : List (Option (List ℕ)))
-            → IsTalking first (seen self.old.kept (line_of (W.given self.old.wire) (W.left self.old.wire) (W.taken self.old.wire) (failures_of (W.lost self.old.wire) (W.cut self.old.wire)) (W.closed self.old.wire))) bodies texts
-            → IsPrompt (W.calls self.old.wire) (W.calls self.new.wire)
+        ensures prompt { (first : WireTold) (bodies : List (List ℕ)) (texts : List (Option (List ℕ)))
+            → IsTalking first (seen self.old.kept (W.told self.old.wire)) bodies texts
+            → IsPrompt (W.told self.old.wire).calls (W.told self.new.wire).calls
             (log self.old.kept.read.items self.old.kept.written.items bodies texts)
             (log self.new.kept.read.items self.new.kept.written.items bodies texts) }
-        ensures ended { (first : Line) (bodies : List (List ℕ)) (texts : List (Option (List ℕ)))
-            → IsTalking first (seen self.old.kept (line_of (W.given self.old.wire) (W.left self.old.wire) (W.taken self.old.wire) (failures_of (W.lost self.old.wire) (W.cut self.old.wire)) (W.closed self.old.wire))) bodies texts
-            → first.closed ≡ false → stage_of self.new.kept.next ≡ Stages.Ended → W.ended self.new.wire ≡ true }
+        ensures ended { (first : WireTold) (bodies : List (List ℕ)) (texts : List (Option (List ℕ)))
+            → IsTalking first (seen self.old.kept (W.told self.old.wire)) bodies texts
+            → first.closed ≡ false → stage_of self.new.kept.next ≡ Stages.Ended → (W.told self.new.wire).ended ≡ true }
     {
         if !self.kept.waits() {
             return self.kept.hand_out();
@@ -95,14 +96,14 @@ impl<W: Wire> Connection<W> {
     /// After want of memory the text counts for nothing.
     pub fn answer(&mut self, text: Option<&[u8]>) -> Result<(), AllocError>
         requires { MayBeTold (stage_of self.old.kept.next) }
-        ensures talks { (first : Line) (bodies : List (List ℕ)) (texts : List (Option (List ℕ)))
-            → IsTalking first (seen self.old.kept (line_of (W.given self.old.wire) (W.left self.old.wire) (W.taken self.old.wire) (failures_of (W.lost self.old.wire) (W.cut self.old.wire)) (W.closed self.old.wire))) bodies texts
+        ensures talks { (first : WireTold) (bodies : List (List ℕ)) (texts : List (Option (List ℕ)))
+            → IsTalking first (seen self.old.kept (W.told self.old.wire)) bodies texts
             → MatchResult result
-            (λ _. IsTalking first (seen self.new.kept (line_of (W.given self.new.wire) (W.left self.new.wire) (W.taken self.new.wire) (failures_of (W.lost self.new.wire) (W.cut self.new.wire)) (W.closed self.new.wire))) bodies (texts ++ option_copied text.entry ∷ []))
-            (λ _. IsTalking first (seen self.new.kept (line_of (W.given self.new.wire) (W.left self.new.wire) (W.taken self.new.wire) (failures_of (W.lost self.new.wire) (W.cut self.new.wire)) (W.closed self.new.wire))) bodies texts) }
+            (λ _. IsTalking first (seen self.new.kept (W.told self.new.wire)) bodies (texts ++ option_copied text.entry ∷ []))
+            (λ _. IsTalking first (seen self.new.kept (W.told self.new.wire)) bodies texts) }
         ensures stage { MatchResult result (λ _. IsBehindTelling (stage_of self.new.kept.next)) (λ _. stage_of self.new.kept.next ≡ Stages.Spent) }
         ensures read { self.new.kept.read.items ≡ self.old.kept.read.items }
-        ensures wrote { OnlyWrites (W.calls self.old.wire) (W.calls self.new.wire) self.old.kept.written.items self.new.kept.written.items }
+        ensures wrote { OnlyWrites (W.told self.old.wire).calls (W.told self.new.wire).calls self.old.kept.written.items self.new.kept.written.items }
     {
         tell(&mut self.wire, &mut self.kept, text)
     }
@@ -128,14 +129,14 @@ impl<W: Wire> Connection<W> {
 /// Writes the answer that is owed, and closes or goes on.
 fn tell<W: Wire>(wire: &mut W, kept: &mut Kept, text: Option<&[u8]>) -> Result<(), AllocError>
     requires { MayBeTold (stage_of kept.old.next) }
-    ensures talks { (first : Line) (bodies : List (List ℕ)) (texts : List (Option (List ℕ)))
-        → IsTalking first (seen kept.old (line_of (W.given wire.old) (W.left wire.old) (W.taken wire.old) (failures_of (W.lost wire.old) (W.cut wire.old)) (W.closed wire.old))) bodies texts
+    ensures talks { (first : WireTold) (bodies : List (List ℕ)) (texts : List (Option (List ℕ)))
+        → IsTalking first (seen kept.old (W.told wire.old)) bodies texts
         → MatchResult result
-        (λ _. IsTalking first (seen kept.new (line_of (W.given wire.new) (W.left wire.new) (W.taken wire.new) (failures_of (W.lost wire.new) (W.cut wire.new)) (W.closed wire.new))) bodies (texts ++ option_copied text.entry ∷ []))
-        (λ _. IsTalking first (seen kept.new (line_of (W.given wire.new) (W.left wire.new) (W.taken wire.new) (failures_of (W.lost wire.new) (W.cut wire.new)) (W.closed wire.new))) bodies texts) }
+        (λ _. IsTalking first (seen kept.new (W.told wire.new)) bodies (texts ++ option_copied text.entry ∷ []))
+        (λ _. IsTalking first (seen kept.new (W.told wire.new)) bodies texts) }
     ensures next { MatchResult result (λ _. IsBehindTelling (stage_of kept.new.next)) (λ _. kept.new.next ≡ Stands.Spent) }
     ensures read { kept.new.read.items ≡ kept.old.read.items }
-    ensures wrote { OnlyWrites (W.calls wire.old) (W.calls wire.new) kept.old.written.items kept.new.written.items }
+    ensures wrote { OnlyWrites (W.told wire.old).calls (W.told wire.new).calls kept.old.written.items kept.new.written.items }
 {
     match kept.owed() {
         None => Err(AllocError),
@@ -151,14 +152,14 @@ fn answer_with<W: Wire>(
     close: bool,
 ) -> Result<(), AllocError>
     requires { kept.old.next ≡ Stands.Owes close }
-    ensures talks { (first : Line) (bodies : List (List ℕ)) (texts : List (Option (List ℕ)))
-        → IsTalking first (seen kept.old (line_of (W.given wire.old) (W.left wire.old) (W.taken wire.old) (failures_of (W.lost wire.old) (W.cut wire.old)) (W.closed wire.old))) bodies texts
+    ensures talks { (first : WireTold) (bodies : List (List ℕ)) (texts : List (Option (List ℕ)))
+        → IsTalking first (seen kept.old (W.told wire.old)) bodies texts
         → MatchResult result
-        (λ _. IsTalking first (seen kept.new (line_of (W.given wire.new) (W.left wire.new) (W.taken wire.new) (failures_of (W.lost wire.new) (W.cut wire.new)) (W.closed wire.new))) bodies (texts ++ option_copied text.entry ∷ []))
-        (λ _. IsTalking first (seen kept.new (line_of (W.given wire.new) (W.left wire.new) (W.taken wire.new) (failures_of (W.lost wire.new) (W.cut wire.new)) (W.closed wire.new))) bodies texts) }
+        (λ _. IsTalking first (seen kept.new (W.told wire.new)) bodies (texts ++ option_copied text.entry ∷ []))
+        (λ _. IsTalking first (seen kept.new (W.told wire.new)) bodies texts) }
     ensures next { MatchResult result (λ _. IsBehindTelling (stage_of kept.new.next)) (λ _. kept.new.next ≡ Stands.Spent) }
     ensures read { kept.new.read.items ≡ kept.old.read.items }
-    ensures wrote { OnlyWrites (W.calls wire.old) (W.calls wire.new) kept.old.written.items kept.new.written.items }
+    ensures wrote { OnlyWrites (W.told wire.old).calls (W.told wire.new).calls kept.old.written.items kept.new.written.items }
 {
     kept.stand(Standing::Spent);
     let bytes = answer_bytes(kept.alloc, text, close)?;

@@ -1,7 +1,7 @@
 //! What goes out on a wire.
 ghost use Rattle.std.specs.Prelude.{◌≡◌, false, take, MatchResult};
 ghost use Rattle.http_port.specs.Writing.{IsWritten};
-ghost use Rattle.http_connection.specs.Seen.{failures_of, line_of, seen};
+ghost use Rattle.http_connection.specs.Seen.{seen};
 ghost use Rattle.http_connection.specs.Prompt.{OnlyWrites};
 ghost use Rattle.http_connection.specs.Steps.{Takes, Sends, Rests, Finishes};
 
@@ -13,9 +13,9 @@ use std::alloc::AllocError;
 /// Writes the bytes, as far as the wire takes them, and says how many it took, which are kept: all, unless it failed.
 fn write_all<W: Wire>(wire: &mut W, bytes: &[u8]) -> usize
     ensures takes { Takes bytes.now result
-        (line_of (W.given wire.old) (W.left wire.old) (W.taken wire.old) (failures_of (W.lost wire.old) (W.cut wire.old)) (W.closed wire.old))
-        (line_of (W.given wire.new) (W.left wire.new) (W.taken wire.new) (failures_of (W.lost wire.new) (W.cut wire.new)) (W.closed wire.new)) }
-    ensures calls { IsWritten (W.calls wire.old) (W.calls wire.new) (take result bytes.now) false }
+        (W.told wire.old)
+        (W.told wire.new) }
+    ensures calls { IsWritten (W.told wire.old).calls (W.told wire.new).calls (take result bytes.now) false }
 {
     let mut done = 0;
     while done < bytes.len() {
@@ -31,10 +31,10 @@ fn write_all<W: Wire>(wire: &mut W, bytes: &[u8]) -> usize
 pub(crate) fn send<W: Wire>(wire: &mut W, kept: &mut Kept, bytes: &[u8]) -> Result<bool, AllocError>
     ensures sends { MatchResult result
         (λ cut. Sends bytes.now cut
-        (seen kept.old (line_of (W.given wire.old) (W.left wire.old) (W.taken wire.old) (failures_of (W.lost wire.old) (W.cut wire.old)) (W.closed wire.old)))
-        (seen kept.new (line_of (W.given wire.new) (W.left wire.new) (W.taken wire.new) (failures_of (W.lost wire.new) (W.cut wire.new)) (W.closed wire.new))))
+        (seen kept.old (W.told wire.old))
+        (seen kept.new (W.told wire.new)))
         (λ _. Rests kept.old kept.new × (wire.new ≡ wire.old)) }
-    ensures wrote { OnlyWrites (W.calls wire.old) (W.calls wire.new) kept.old.written.items kept.new.written.items }
+    ensures wrote { OnlyWrites (W.told wire.old).calls (W.told wire.new).calls kept.old.written.items kept.new.written.items }
 {
     kept.written.reserve(bytes.len())?;
     let count = write_all(wire, bytes);
@@ -45,10 +45,10 @@ pub(crate) fn send<W: Wire>(wire: &mut W, kept: &mut Kept, bytes: &[u8]) -> Resu
 /// Closes the wire: the connection is over so.
 pub(crate) fn finish<W: Wire>(wire: &mut W, kept: &mut Kept, ending: Ending)
     ensures finishes { Finishes ending
-        (seen kept.old (line_of (W.given wire.old) (W.left wire.old) (W.taken wire.old) (failures_of (W.lost wire.old) (W.cut wire.old)) (W.closed wire.old)))
-        (seen kept.new (line_of (W.given wire.new) (W.left wire.new) (W.taken wire.new) (failures_of (W.lost wire.new) (W.cut wire.new)) (W.closed wire.new))) }
-    ensures wrote { OnlyWrites (W.calls wire.old) (W.calls wire.new) kept.old.written.items kept.new.written.items }
-    ensures ended { W.ended wire.new ≡ W.ended wire.old }
+        (seen kept.old (W.told wire.old))
+        (seen kept.new (W.told wire.new)) }
+    ensures wrote { OnlyWrites (W.told wire.old).calls (W.told wire.new).calls kept.old.written.items kept.new.written.items }
+    ensures ended { (W.told wire.new).ended ≡ (W.told wire.old).ended }
 {
     wire.close();
     kept.stand(Standing::Over(ending));

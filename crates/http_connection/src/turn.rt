@@ -2,7 +2,8 @@
 ghost use Rattle.std.specs.Prelude.{◌≡◌, true, false, List, ℕ, Option, OnErr, MatchResult};
 ghost use Rattle.http_port.specs.declared.head_reader.Fed.TheVariants as Gives;
 ghost use Rattle.http_connection.specs.Stages.{stage_of, IsBehindTelling};
-ghost use Rattle.http_connection.specs.Seen.{Line, failures_of, line_of, seen};
+ghost use Rattle.outside_traits.specs.Told.{WireTold};
+ghost use Rattle.http_connection.specs.Seen.{seen};
 ghost use Rattle.http_connection.specs.Talking.{log, IsTalking};
 ghost use Rattle.http_connection.specs.Prompt.{OnlyWrites};
 ghost use Rattle.http_connection.specs.Steps.{IsGoing, IsFed, is_interim, Called};
@@ -25,18 +26,18 @@ const INTERIM: &[u8] = b"HTTP/1.1 100 Continue\r\n\r\n";
 /// Reads on until the next request is whole, or none comes any more.
 pub(crate) fn settle<W: Wire>(wire: &mut W, kept: &mut Kept) -> Result<(), AllocError>
     requires { kept.old.next ≡ Stands.Waits }
-    ensures talks { (first : Line) (bodies : List (List ℕ)) (texts : List (Option (List ℕ)))
-        → IsTalking first (seen kept.old (line_of (W.given wire.old) (W.left wire.old) (W.taken wire.old) (failures_of (W.lost wire.old) (W.cut wire.old)) (W.closed wire.old))) bodies texts
-        → IsTalking first (seen kept.new (line_of (W.given wire.new) (W.left wire.new) (W.taken wire.new) (failures_of (W.lost wire.new) (W.cut wire.new)) (W.closed wire.new))) bodies texts }
+    ensures talks { (first : WireTold) (bodies : List (List ℕ)) (texts : List (Option (List ℕ)))
+        → IsTalking first (seen kept.old (W.told wire.old)) bodies texts
+        → IsTalking first (seen kept.new (W.told wire.new)) bodies texts }
     ensures next { OnErr result (kept.new.next ≡ Stands.Spent) }
-    ensures called { (first : Line) (bodies : List (List ℕ)) (texts : List (Option (List ℕ)))
-        → IsTalking first (seen kept.old (line_of (W.given wire.old) (W.left wire.old) (W.taken wire.old) (failures_of (W.lost wire.old) (W.cut wire.old)) (W.closed wire.old))) bodies texts
-        → Called (W.calls wire.old) (W.calls wire.new)
+    ensures called { (first : WireTold) (bodies : List (List ℕ)) (texts : List (Option (List ℕ)))
+        → IsTalking first (seen kept.old (W.told wire.old)) bodies texts
+        → Called (W.told wire.old).calls (W.told wire.new).calls
         (log kept.old.read.items kept.old.written.items bodies texts)
         (log kept.new.read.items kept.new.written.items bodies texts) }
-    ensures ended { (first : Line) (bodies : List (List ℕ)) (texts : List (Option (List ℕ)))
-        → IsTalking first (seen kept.old (line_of (W.given wire.old) (W.left wire.old) (W.taken wire.old) (failures_of (W.lost wire.old) (W.cut wire.old)) (W.closed wire.old))) bodies texts
-        → first.closed ≡ false → stage_of kept.new.next ≡ Stages.Ended → W.ended wire.new ≡ true }
+    ensures ended { (first : WireTold) (bodies : List (List ℕ)) (texts : List (Option (List ℕ)))
+        → IsTalking first (seen kept.old (W.told wire.old)) bodies texts
+        → first.closed ≡ false → stage_of kept.new.next ≡ Stages.Ended → (W.told wire.new).ended ≡ true }
 {
     for _ in 0..u64::MAX {
         read_on(wire, kept)?;
@@ -51,18 +52,18 @@ pub(crate) fn settle<W: Wire>(wire: &mut W, kept: &mut Kept) -> Result<(), Alloc
 /// Reads a piece and does all that is due for it.
 fn read_on<W: Wire>(wire: &mut W, kept: &mut Kept) -> Result<(), AllocError>
     requires { kept.old.next ≡ Stands.Waits }
-    ensures talks { (first : Line) (bodies : List (List ℕ)) (texts : List (Option (List ℕ)))
-        → IsTalking first (seen kept.old (line_of (W.given wire.old) (W.left wire.old) (W.taken wire.old) (failures_of (W.lost wire.old) (W.cut wire.old)) (W.closed wire.old))) bodies texts
-        → IsTalking first (seen kept.new (line_of (W.given wire.new) (W.left wire.new) (W.taken wire.new) (failures_of (W.lost wire.new) (W.cut wire.new)) (W.closed wire.new))) bodies texts }
+    ensures talks { (first : WireTold) (bodies : List (List ℕ)) (texts : List (Option (List ℕ)))
+        → IsTalking first (seen kept.old (W.told wire.old)) bodies texts
+        → IsTalking first (seen kept.new (W.told wire.new)) bodies texts }
     ensures next { OnErr result (kept.new.next ≡ Stands.Spent) }
-    ensures called { (first : Line) (bodies : List (List ℕ)) (texts : List (Option (List ℕ)))
-        → IsTalking first (seen kept.old (line_of (W.given wire.old) (W.left wire.old) (W.taken wire.old) (failures_of (W.lost wire.old) (W.cut wire.old)) (W.closed wire.old))) bodies texts
-        → Called (W.calls wire.old) (W.calls wire.new)
+    ensures called { (first : WireTold) (bodies : List (List ℕ)) (texts : List (Option (List ℕ)))
+        → IsTalking first (seen kept.old (W.told wire.old)) bodies texts
+        → Called (W.told wire.old).calls (W.told wire.new).calls
         (log kept.old.read.items kept.old.written.items bodies texts)
         (log kept.new.read.items kept.new.written.items bodies texts) }
-    ensures ended { (first : Line) (bodies : List (List ℕ)) (texts : List (Option (List ℕ)))
-        → IsTalking first (seen kept.old (line_of (W.given wire.old) (W.left wire.old) (W.taken wire.old) (failures_of (W.lost wire.old) (W.cut wire.old)) (W.closed wire.old))) bodies texts
-        → first.closed ≡ false → stage_of kept.new.next ≡ Stages.Ended → W.ended wire.new ≡ true }
+    ensures ended { (first : WireTold) (bodies : List (List ℕ)) (texts : List (Option (List ℕ)))
+        → IsTalking first (seen kept.old (W.told wire.old)) bodies texts
+        → first.closed ≡ false → stage_of kept.new.next ≡ Stages.Ended → (W.told wire.new).ended ≡ true }
 {
     kept.stand(Standing::Spent);
     kept.read.reserve(CHUNK)?;
@@ -86,12 +87,12 @@ fn read_on<W: Wire>(wire: &mut W, kept: &mut Kept) -> Result<(), AllocError>
 /// Feeds the reader a piece that was read, and does all that is due then.
 pub(crate) fn go_on<W: Wire>(wire: &mut W, kept: &mut Kept, piece: &[u8]) -> Result<(), AllocError>
     requires { kept.old.next ≡ Stands.Spent }
-    ensures talks { (first : Line) (bodies : List (List ℕ)) (texts : List (Option (List ℕ)))
-        → IsGoing first (seen kept.old (line_of (W.given wire.old) (W.left wire.old) (W.taken wire.old) (failures_of (W.lost wire.old) (W.cut wire.old)) (W.closed wire.old))) piece.now bodies texts
-        → IsTalking first (seen kept.new (line_of (W.given wire.new) (W.left wire.new) (W.taken wire.new) (failures_of (W.lost wire.new) (W.cut wire.new)) (W.closed wire.new))) bodies texts }
+    ensures talks { (first : WireTold) (bodies : List (List ℕ)) (texts : List (Option (List ℕ)))
+        → IsGoing first (seen kept.old (W.told wire.old)) piece.now bodies texts
+        → IsTalking first (seen kept.new (W.told wire.new)) bodies texts }
     ensures next { MatchResult result (λ _. IsBehindTelling (stage_of kept.new.next)) (λ _. kept.new.next ≡ Stands.Spent) }
     ensures read { kept.new.read.items ≡ kept.old.read.items }
-    ensures wrote { OnlyWrites (W.calls wire.old) (W.calls wire.new) kept.old.written.items kept.new.written.items }
+    ensures wrote { OnlyWrites (W.told wire.old).calls (W.told wire.new).calls kept.old.written.items kept.new.written.items }
 {
     let fed = kept.feed(piece)?;
     if is_interim(&fed) {
@@ -110,12 +111,12 @@ fn is_interim(fed: &Fed) -> bool
 /// Writes the interim line, and goes on with what the reader gives then.
 fn invite<W: Wire>(wire: &mut W, kept: &mut Kept) -> Result<(), AllocError>
     requires { kept.old.next ≡ Stands.Spent }
-    ensures talks { (first : Line) (bodies : List (List ℕ)) (texts : List (Option (List ℕ)))
-        → IsFed first (seen kept.old (line_of (W.given wire.old) (W.left wire.old) (W.taken wire.old) (failures_of (W.lost wire.old) (W.cut wire.old)) (W.closed wire.old))) Gives.Interim bodies texts
-        → IsTalking first (seen kept.new (line_of (W.given wire.new) (W.left wire.new) (W.taken wire.new) (failures_of (W.lost wire.new) (W.cut wire.new)) (W.closed wire.new))) bodies texts }
+    ensures talks { (first : WireTold) (bodies : List (List ℕ)) (texts : List (Option (List ℕ)))
+        → IsFed first (seen kept.old (W.told wire.old)) Gives.Interim bodies texts
+        → IsTalking first (seen kept.new (W.told wire.new)) bodies texts }
     ensures next { MatchResult result (λ _. IsBehindTelling (stage_of kept.new.next)) (λ _. kept.new.next ≡ Stands.Spent) }
     ensures read { kept.new.read.items ≡ kept.old.read.items }
-    ensures wrote { OnlyWrites (W.calls wire.old) (W.calls wire.new) kept.old.written.items kept.new.written.items }
+    ensures wrote { OnlyWrites (W.told wire.old).calls (W.told wire.new).calls kept.old.written.items kept.new.written.items }
 {
     let cut = send(wire, kept, INTERIM)?;
     if cut {
@@ -134,12 +135,12 @@ fn invite<W: Wire>(wire: &mut W, kept: &mut Kept) -> Result<(), AllocError>
 fn take_up<W: Wire>(wire: &mut W, kept: &mut Kept, fed: Fed) -> Result<(), AllocError>
     requires next { kept.old.next ≡ Stands.Spent }
     requires fed { is_interim fed ≡ false }
-    ensures talks { (first : Line) (bodies : List (List ℕ)) (texts : List (Option (List ℕ)))
-        → IsFed first (seen kept.old (line_of (W.given wire.old) (W.left wire.old) (W.taken wire.old) (failures_of (W.lost wire.old) (W.cut wire.old)) (W.closed wire.old))) fed bodies texts
-        → IsTalking first (seen kept.new (line_of (W.given wire.new) (W.left wire.new) (W.taken wire.new) (failures_of (W.lost wire.new) (W.cut wire.new)) (W.closed wire.new))) bodies texts }
+    ensures talks { (first : WireTold) (bodies : List (List ℕ)) (texts : List (Option (List ℕ)))
+        → IsFed first (seen kept.old (W.told wire.old)) fed bodies texts
+        → IsTalking first (seen kept.new (W.told wire.new)) bodies texts }
     ensures next { MatchResult result (λ _. IsBehindTelling (stage_of kept.new.next)) (λ _. kept.new.next ≡ Stands.Spent) }
     ensures read { kept.new.read.items ≡ kept.old.read.items }
-    ensures wrote { OnlyWrites (W.calls wire.old) (W.calls wire.new) kept.old.written.items kept.new.written.items }
+    ensures wrote { OnlyWrites (W.told wire.old).calls (W.told wire.new).calls kept.old.written.items kept.new.written.items }
 {
     match fed {
         Fed::NotYet => {
@@ -158,12 +159,12 @@ fn take_up<W: Wire>(wire: &mut W, kept: &mut Kept, fed: Fed) -> Result<(), Alloc
 /// Writes a refusal, with which the connection closes.
 fn refuse<W: Wire>(wire: &mut W, kept: &mut Kept, status: u16) -> Result<(), AllocError>
     requires { kept.old.next ≡ Stands.Spent }
-    ensures talks { (first : Line) (bodies : List (List ℕ)) (texts : List (Option (List ℕ)))
-        → IsFed first (seen kept.old (line_of (W.given wire.old) (W.left wire.old) (W.taken wire.old) (failures_of (W.lost wire.old) (W.cut wire.old)) (W.closed wire.old))) (Gives.Refused status) bodies texts
-        → IsTalking first (seen kept.new (line_of (W.given wire.new) (W.left wire.new) (W.taken wire.new) (failures_of (W.lost wire.new) (W.cut wire.new)) (W.closed wire.new))) bodies texts }
+    ensures talks { (first : WireTold) (bodies : List (List ℕ)) (texts : List (Option (List ℕ)))
+        → IsFed first (seen kept.old (W.told wire.old)) (Gives.Refused status) bodies texts
+        → IsTalking first (seen kept.new (W.told wire.new)) bodies texts }
     ensures next { MatchResult result (λ _. IsBehindTelling (stage_of kept.new.next)) (λ _. kept.new.next ≡ Stands.Spent) }
     ensures read { kept.new.read.items ≡ kept.old.read.items }
-    ensures wrote { OnlyWrites (W.calls wire.old) (W.calls wire.new) kept.old.written.items kept.new.written.items }
+    ensures wrote { OnlyWrites (W.told wire.old).calls (W.told wire.new).calls kept.old.written.items kept.new.written.items }
 {
     let bytes = response_bytes(kept.alloc, status, &[], true)?;
     let cut = send(wire, kept, bytes.as_slice())?;

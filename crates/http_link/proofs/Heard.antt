@@ -25,7 +25,7 @@ or_true true = refl
 or_true false = refl
 
 -- no call of it failed or told the end
-pub unmoved : (before now : WireTraffic) → now.lost ≡ before.lost → now.cut ≡ before.cut → now.ended ≡ before.ended → IsCalm before now false
+pub unmoved : (before now : WireTraffic) → now.read_failed ≡ before.read_failed → now.write_failed ≡ before.write_failed → now.ended ≡ before.ended → IsCalm before now false
 unmoved before now lost cut ended = record { lost = lost; cut = cut; end = ended ∙ or_false before.ended }
 
 -- nothing failed, and then nothing more
@@ -47,7 +47,7 @@ tells_none was now closed room count told is_open some =
 
 -- so a read that did not fail leaves the wire calm, and one that failed lost it
 pub read_calmly : {E : Type 0} (r : Result ℕ E) (before now : WireTraffic) (closed : Bool) (room : ℕ)
-    → MatchResult r (λ _. now.lost ≡ before.lost) (λ _. now.lost ≡ true) → now.cut ≡ before.cut
+    → MatchResult r (λ _. now.read_failed ≡ before.read_failed) (λ _. now.read_failed ≡ true) → now.write_failed ≡ before.write_failed
     → now.ended ≡ (before.ended || tells_end closed room r) → closed ≡ false → 0 < room
     → MatchResult r (λ count. IsCalm before now (count == 0)) (λ _. IsLost before now)
 read_calmly (Ok count) before now closed room lost cut told is_open some =
@@ -56,11 +56,11 @@ read_calmly (Err error) before now closed room lost cut told is_open some =
     record { lost = lost; cut = cut; end = told ∙ sym (or_false before.ended) }
 
 -- a write of an open wire that failed cut it
-pub cuts : (before now : WireTraffic) (closed : Bool) → now.lost ≡ before.lost → now.cut ≡ (before.cut || not closed)
+pub cuts : (before now : WireTraffic) (closed : Bool) → now.read_failed ≡ before.read_failed → now.write_failed ≡ (before.write_failed || not closed)
     → now.ended ≡ before.ended → closed ≡ false → IsCut before now
 cuts before now closed lost told ended is_open = record {
   lost = lost;
-  cut = told ∙ ap (λ b. before.cut || not b) is_open ∙ or_true before.cut;
+  cut = told ∙ ap (λ b. before.write_failed || not b) is_open ∙ or_true before.write_failed;
   end = ended;
 }
 
@@ -99,7 +99,7 @@ pub heard_nothing : (t : WireTraffic) (was : List ℕ) → length was ≤ most_r
 heard_nothing t was bounded = record {
   piece = [];
   grown = sym (append-nil was);
-  given = Appends-nil t.given;
+  given = Appends-nil t.read;
   taken = refl;
   calls = [];
   noted = Notes-nil t.calls;
@@ -110,8 +110,8 @@ heard_nothing t was bounded = record {
 
 -- what one read did to what is told of its wire
 pub record Did (before now : WireTraffic) (piece : List ℕ) (count : ℕ) : Type 0 where
-  pub given : Appends before.given now.given piece
-  pub taken : now.taken ≡ before.taken
+  pub given : Appends before.read now.read piece
+  pub taken : now.written ≡ before.written
   pub noted : Lists before.calls now.calls (Read count ∷ [])
   pub calm : IsCalm before now (count == 0)
 
@@ -121,7 +121,7 @@ pub heard_more : (first before now : WireTraffic) (was came next piece : List �
 heard_more first before now was came next piece count h open_ did e long some bounded = record {
   piece = h.piece ++ piece;
   grown = e ∙ ap (λ l. l ++ piece) h.grown ∙ append_assoc was h.piece piece;
-  given = Appends-trans first.given before.given now.given h.piece piece h.given did.given;
+  given = Appends-trans first.read before.read now.read h.piece piece h.given did.given;
   taken = did.taken ∙ h.taken;
   calls = h.calls ++ Read count ∷ [];
   noted = Notes-trans first.calls before.calls now.calls h.calls (Read count ∷ []) h.noted did.noted;
@@ -138,7 +138,7 @@ pub heard_end : (first before now : WireTraffic) (was came next piece : List ℕ
 heard_end first before now was came next [] count h open_ did e long none bounded = record {
   piece = h.piece;
   grown = e ∙ append-nil came ∙ h.grown;
-  given = subst (Appends first.given now.given) (append-nil h.piece) (Appends-trans first.given before.given now.given h.piece [] h.given did.given);
+  given = subst (Appends first.read now.read) (append-nil h.piece) (Appends-trans first.read before.read now.read h.piece [] h.given did.given);
   taken = did.taken ∙ h.taken;
   calls = h.calls ++ Read 0 ∷ [];
   noted = subst (λ n. Lists first.calls now.calls (h.calls ++ Read n ∷ [])) none
@@ -151,12 +151,12 @@ heard_end first before now was came next (b ∷ piece) count h open_ did e long 
 
 -- one more, which failed
 pub heard_cut : (first before now : WireTraffic) (was came next : List ℕ) → Heard first before was came false → IsUnfinished came → next ≡ came
-    → Appends before.given now.given [] → now.taken ≡ before.taken → Lists before.calls now.calls (Read 0 ∷ [])
+    → Appends before.read now.read [] → now.written ≡ before.written → Lists before.calls now.calls (Read 0 ∷ [])
     → IsLost before now → HeardInPart first now was next
 heard_cut first before now was came next h open_ e given taken noted failed = record {
   piece = h.piece;
   grown = e ∙ h.grown;
-  given = subst (Appends first.given now.given) (append-nil h.piece) (Appends-trans first.given before.given now.given h.piece [] h.given given);
+  given = subst (Appends first.read now.read) (append-nil h.piece) (Appends-trans first.read before.read now.read h.piece [] h.given given);
   taken = taken ∙ h.taken;
   calls = h.calls;
   noted = Notes-trans first.calls before.calls now.calls h.calls (Read 0 ∷ []) h.noted noted;
@@ -172,7 +172,7 @@ pub heard_on : (first mid now : WireTraffic) (was came next : List ℕ) (ended :
 heard_on first mid now was came next ended h k = record {
   piece = h.piece ++ k.piece;
   grown = k.grown ∙ ap (λ l. l ++ k.piece) h.grown ∙ append_assoc was h.piece k.piece;
-  given = Appends-trans first.given mid.given now.given h.piece k.piece h.given k.given;
+  given = Appends-trans first.read mid.read now.read h.piece k.piece h.given k.given;
   taken = k.taken ∙ h.taken;
   calls = h.calls ++ k.calls;
   noted = Notes-trans first.calls mid.calls now.calls h.calls k.calls h.noted k.noted;
@@ -186,7 +186,7 @@ pub heard_on_cut : (first mid now : WireTraffic) (was came next : List ℕ) → 
 heard_on_cut first mid now was came next h k = record {
   piece = h.piece ++ k.piece;
   grown = k.grown ∙ ap (λ l. l ++ k.piece) h.grown ∙ append_assoc was h.piece k.piece;
-  given = Appends-trans first.given mid.given now.given h.piece k.piece h.given k.given;
+  given = Appends-trans first.read mid.read now.read h.piece k.piece h.given k.given;
   taken = k.taken ∙ h.taken;
   calls = h.calls ++ k.calls;
   noted = subst (Lists first.calls now.calls) (sym (append_assoc h.calls k.calls (Read 0 ∷ [])))

@@ -26,12 +26,12 @@ own_writes : (before now : Option (List WireCall)) (went : List ℕ) (whole : Bo
 own_writes before now went whole w = record { calls = w.calls; noted = refl; writes = w.writes; count = w.count; moves = w.moves }
 
 -- a request that was written, and reads behind it
-pub exchanged : (before mid now : WireTraffic) (sent came : List ℕ) (ended : Bool) → Appends before.taken mid.taken sent
-    → IsWritten before.calls mid.calls sent true → mid.given ≡ before.given → IsCalm before mid false → Heard mid now [] came ended
+pub exchanged : (before mid now : WireTraffic) (sent came : List ℕ) (ended : Bool) → Appends before.written mid.written sent
+    → IsWritten before.calls mid.calls sent true → mid.read ≡ before.read → IsCalm before mid false → Heard mid now [] came ended
     → Exchanged before now sent came ended
 exchanged before mid now sent came ended taken w given calm h = record {
-  taken = subst (λ t. Appends before.taken t sent) (sym h.taken) taken;
-  given = subst (λ g. Appends g now.given came) given (subst (Appends mid.given now.given) (sym h.grown) h.given);
+  taken = subst (λ t. Appends before.written t sent) (sym h.taken) taken;
+  given = subst (λ g. Appends g now.read came) given (subst (Appends mid.read now.read) (sym h.grown) h.given);
   writes = w.calls;
   reads = h.calls;
   noted = Notes-trans before.calls mid.calls now.calls w.calls h.calls w.noted h.noted;
@@ -42,34 +42,34 @@ exchanged before mid now sent came ended taken w given calm h = record {
 }
 
 -- a request that was written, and a read behind it that failed
-pub cut_in_reading : (before mid now : WireTraffic) (sent came : List ℕ) → Appends before.taken mid.taken sent
-    → IsWritten before.calls mid.calls sent true → mid.given ≡ before.given → IsCalm before mid false → HeardInPart mid now [] came
+pub cut_in_reading : (before mid now : WireTraffic) (sent came : List ℕ) → Appends before.written mid.written sent
+    → IsWritten before.calls mid.calls sent true → mid.read ≡ before.read → IsCalm before mid false → HeardInPart mid now [] came
     → CutOff before now sent
 cut_in_reading before mid now sent came taken w given calm h =
     in_reading came w.calls h.calls
-    (subst (λ t. Appends before.taken t sent) (sym h.taken) taken)
-    (subst (λ g. Appends g now.given came) given (subst (Appends mid.given now.given) (sym h.grown) h.given))
+    (subst (λ t. Appends before.written t sent) (sym h.taken) taken)
+    (subst (λ g. Appends g now.read came) given (subst (Appends mid.read now.read) (sym h.grown) h.given))
     (Notes-trans before.calls mid.calls now.calls w.calls (h.calls ++ Read 0 ∷ []) w.noted h.noted)
     (own_writes before.calls mid.calls sent true w)
     h.reads h.unfinished h.bounded (lost_on before mid now calm h.failed)
 
 -- a write that failed
 pub cut_in_writing : (before now : WireTraffic) (sent : List ℕ) (count : ℕ) → count < length sent
-    → Appends before.taken now.taken (take count sent) → IsWritten before.calls now.calls (take count sent) false → now.given ≡ before.given → IsCut before now
+    → Appends before.written now.written (take count sent) → IsWritten before.calls now.calls (take count sent) false → now.read ≡ before.read → IsCut before now
     → CutOff before now sent
 cut_in_writing before now sent count short taken w given cut =
-    in_writing count w.calls short taken (subst (λ g. Appends before.given g []) (sym given) (Appends-nil before.given)) w.noted
+    in_writing count w.calls short taken (subst (λ g. Appends before.read g []) (sym given) (Appends-nil before.read)) w.noted
     (own_writes before.calls now.calls (take count sent) false w) cut
 
 -- ---- by the dialler
 
 -- what is told of a wire that came back
 shows : (blank : WireTraffic) (told : Option WireTraffic) (t : WireTraffic) (went came : List ℕ) (calls : List WireCall) → Tells told t
-    → Appends blank.taken t.taken went → Appends blank.given t.given came → Lists blank.calls t.calls calls
+    → Appends blank.written t.written went → Appends blank.read t.read came → Lists blank.calls t.calls calls
     → Shows blank told went came calls
 shows blank None t went came calls e taken given noted = tt
 shows blank (Some last) t went came calls e taken given noted =
-    subst (λ (x : WireTraffic). Appends blank.taken x.taken went × Appends blank.given x.given came × Lists blank.calls x.calls calls)
+    subst (λ (x : WireTraffic). Appends blank.written x.written went × Appends blank.read x.read came × Lists blank.calls x.calls calls)
     (sym e) (taken, given, noted)
 
 -- what holds of a wire is told of it
@@ -80,22 +80,22 @@ told_so P (Some last) t e holds = subst P (sym e) holds
 -- a new wire on which nothing failed
 calm_end : (blank t : WireTraffic) (ended : Bool) → IsNew blank → IsCalm blank t ended → TellsEnd false false ended t
 calm_end blank t ended new calm = record {
-  lost = calm.lost ∙ new.lost;
-  cut = calm.cut ∙ new.cut;
+  lost = calm.lost ∙ new.read_failed;
+  cut = calm.cut ∙ new.write_failed;
   end = calm.end ∙ ap (λ b. b || ended) new.ended;
 }
 
 -- one on which a write failed
 cut_end : (blank t : WireTraffic) → IsNew blank → IsCut blank t → TellsEnd false true false t
-cut_end blank t new c = record { lost = c.lost ∙ new.lost; cut = c.cut; end = c.end ∙ new.ended }
+cut_end blank t new c = record { lost = c.lost ∙ new.read_failed; cut = c.cut; end = c.end ∙ new.ended }
 
 -- one on which a read failed
 lost_end : (blank t : WireTraffic) → IsNew blank → IsLost blank t → TellsEnd true false false t
-lost_end blank t new l = record { lost = l.lost; cut = l.cut ∙ new.cut; end = l.end ∙ new.ended }
+lost_end blank t new l = record { lost = l.lost; cut = l.cut ∙ new.write_failed; end = l.end ∙ new.ended }
 
 -- the exchange on a new wire that came back
 pub exchange_told : (blank t : WireTraffic) (dialled : Option (List (List ℕ))) (last : Option WireTraffic) (faults : ℕ) (sent came : List ℕ)
-    (ended : Bool) → IsNew blank → Tells last t → Exchanged blank t sent came ended → Exchange (telling blank dialled last faults) sent came ended
+    (ended : Bool) → IsNew blank → Tells last t → Exchanged blank t sent came ended → Exchange (telling blank (record { dialled = dialled; last = last; faults = faults })) sent came ended
 exchange_told blank t dialled last faults sent came ended new e x = record {
   writes = x.writes;
   reads = x.reads;
@@ -117,7 +117,7 @@ shorter count sent short = omega (arith, short, length-take count sent)
 -- a wire that failed and came back
 pub failing_told : (blank t : WireTraffic) (before : Telling) (dialled : Option (List (List ℕ))) (last : Option WireTraffic) (faults : ℕ)
     (sent : List ℕ) → IsNew blank → Tells last t → CutOff blank t sent → Rose before.faults faults
-    → Failing sent before (telling blank dialled last faults)
+    → Failing sent before (telling blank (record { dialled = dialled; last = last; faults = faults }))
 failing_told blank t before dialled last faults sent new e (in_writing count writes short taken given noted written cut) risen =
     unsent (take count sent) writes (shows blank last t (take count sent) [] writes e taken given noted) (starts_with count sent)
     (shorter count sent short) written (told_so (TellsEnd false true false) last t e (cut_end blank t new cut)) risen
@@ -127,23 +127,23 @@ failing_told blank t before dialled last faults sent new e (in_reading came writ
 
 -- a dialler's count stands where the wire did not fail
 pub count_stands : (blank t : WireTraffic) (sent came : List ℕ) (ended : Bool) (before now : ℕ) → IsNew blank → Exchanged blank t sent came ended
-    → CountsWire (t.lost || t.cut) before now → now ≡ before
+    → CountsWire (t.read_failed || t.write_failed) before now → now ≡ before
 count_stands blank t sent came ended before now new x counts =
-    counts.calm (ap (λ b. b || t.cut) (x.calm.lost ∙ new.lost) ∙ x.calm.cut ∙ new.cut)
+    counts.calm (ap (λ b. b || t.write_failed) (x.calm.lost ∙ new.read_failed) ∙ x.calm.cut ∙ new.write_failed)
 
 -- and rises where it failed
-pub count_rises : (blank t : WireTraffic) (sent : List ℕ) (before now : ℕ) → CutOff blank t sent → CountsWire (t.lost || t.cut) before now
+pub count_rises : (blank t : WireTraffic) (sent : List ℕ) (before now : ℕ) → CutOff blank t sent → CountsWire (t.read_failed || t.write_failed) before now
     → Rose before now
 count_rises blank t sent before now (in_writing count writes short taken given noted written cut) counts =
-    counts.failed (ap (λ b. t.lost || b) cut.cut ∙ or_true t.lost)
+    counts.failed (ap (λ b. t.read_failed || b) cut.cut ∙ or_true t.read_failed)
 count_rises blank t sent before now (in_reading came writes reads taken given noted written read open_ bounded lost) counts =
-    counts.failed (ap (λ b. b || t.cut) lost.lost)
+    counts.failed (ap (λ b. b || t.write_failed) lost.lost)
 
 -- ---- by what a call answers
 
 -- a request that was written, and what came of the reads behind it
 pub exchanged_or_cut : {E : Type 0} (r : Result (Option Span) E) (before mid now : WireTraffic) (sent was came : List ℕ) → was ≡ []
-    → Appends before.taken mid.taken sent → IsWritten before.calls mid.calls sent true → mid.given ≡ before.given
+    → Appends before.written mid.written sent → IsWritten before.calls mid.calls sent true → mid.read ≡ before.read
     → IsCalm before mid false
     → MatchResult r (λ found. (ended : Bool) × Finds came ended found × Heard mid now was came ended) (λ _. HeardInPart mid now was came)
     → MatchResult r (λ found. (ended : Bool) × Finds came ended found × Exchanged before now sent came ended) (λ _. CutOff before now sent)
@@ -163,9 +163,9 @@ found_on (Err x) first mid now was came next h m = heard_on_cut first mid now wa
 pub visited : {E : Type 0} (r : Result (Option Span) E) (blank new t : WireTraffic) (sent came : List ℕ) (before : Telling)
     (dialled : Option (List (List ℕ))) (last : Option WireTraffic) (mid faults : ℕ) → new ≡ blank → IsNew blank
     → MatchResult r (λ found. (ended : Bool) × Finds came ended found × Exchanged new t sent came ended) (λ _. CutOff new t sent)
-    → Tells last t → CountsWire (t.lost || t.cut) mid faults → mid ≡ before.faults
-    → MatchResult r (λ found. (ended : Bool) × Finds came ended found × Exchange (telling blank dialled last faults) sent came ended
-    × (faults ≡ before.faults)) (λ _. Failing sent before (telling blank dialled last faults))
+    → Tells last t → CountsWire (t.read_failed || t.write_failed) mid faults → mid ≡ before.faults
+    → MatchResult r (λ found. (ended : Bool) × Finds came ended found × Exchange (telling blank (record { dialled = dialled; last = last; faults = faults })) sent came ended
+    × (faults ≡ before.faults)) (λ _. Failing sent before (telling blank (record { dialled = dialled; last = last; faults = faults })))
 visited (Ok found) blank new t sent came before dialled last mid faults fresh is m told counts same =
     let x : Exchanged blank t sent came m.0 = subst (λ (n : WireTraffic). Exchanged n t sent came m.0) fresh m.2 in
     (m.0, m.1, exchange_told blank t dialled last faults sent came m.0 is told x, count_stands blank t sent came m.0 mid faults is x counts ∙ same)

@@ -52,28 +52,28 @@ Finds bytes ended (Some span) = IsWithin (length bytes) span × IsResponse bytes
 
 -- no call of a wire failed meanwhile; ended says whether a read told the end
 pub record IsCalm (before now : WireTraffic) (ended : Bool) : Type 0 where
-  pub lost : now.lost ≡ before.lost
-  pub cut : now.cut ≡ before.cut
+  pub lost : now.read_failed ≡ before.read_failed
+  pub cut : now.write_failed ≡ before.write_failed
   pub end : now.ended ≡ (before.ended || ended)
 
 -- a read of a wire failed meanwhile; no write did, and no read told the end
 pub record IsLost (before now : WireTraffic) : Type 0 where
-  pub lost : now.lost ≡ true
-  pub cut : now.cut ≡ before.cut
+  pub lost : now.read_failed ≡ true
+  pub cut : now.write_failed ≡ before.write_failed
   pub end : now.ended ≡ before.ended
 
 -- a write of a wire failed meanwhile; no read did, and none told the end
 pub record IsCut (before now : WireTraffic) : Type 0 where
-  pub lost : now.lost ≡ before.lost
-  pub cut : now.cut ≡ true
+  pub lost : now.read_failed ≡ before.read_failed
+  pub cut : now.write_failed ≡ true
   pub end : now.ended ≡ before.ended
 
 -- reads of a wire took what was read from these bytes to those, and nothing else was done with it
 pub record Heard (before now : WireTraffic) (was came : List ℕ) (ended : Bool) : Type 0 where
   pub piece : List ℕ
   pub grown : came ≡ was ++ piece
-  pub given : Appends before.given now.given piece
-  pub taken : now.taken ≡ before.taken
+  pub given : Appends before.read now.read piece
+  pub taken : now.written ≡ before.written
   pub calls : List WireCall
   pub noted : Lists before.calls now.calls calls
   pub reads : Reads was calls came ended
@@ -84,8 +84,8 @@ pub record Heard (before now : WireTraffic) (was came : List ℕ) (ended : Bool)
 pub record HeardInPart (before now : WireTraffic) (was came : List ℕ) : Type 0 where
   pub piece : List ℕ
   pub grown : came ≡ was ++ piece
-  pub given : Appends before.given now.given piece
-  pub taken : now.taken ≡ before.taken
+  pub given : Appends before.read now.read piece
+  pub taken : now.written ≡ before.written
   pub calls : List WireCall
   pub noted : Lists before.calls now.calls (calls ++ Read 0 ∷ [])
   pub reads : Reads was calls came false
@@ -97,8 +97,8 @@ pub record HeardInPart (before now : WireTraffic) (was came : List ℕ) : Type 0
 
 -- a request was written on a wire, and then this was read
 pub record Exchanged (before now : WireTraffic) (sent came : List ℕ) (ended : Bool) : Type 0 where
-  pub taken : Appends before.taken now.taken sent
-  pub given : Appends before.given now.given came
+  pub taken : Appends before.written now.written sent
+  pub given : Appends before.read now.read came
   pub writes : List WireCall
   pub reads : List WireCall
   pub noted : Lists before.calls now.calls (writes ++ reads)
@@ -110,10 +110,10 @@ pub record Exchanged (before now : WireTraffic) (sent came : List ℕ) (ended : 
 -- the wire failed, behind a front of the request that is not all of it, or in a read behind all of it
 pub data CutOff (before now : WireTraffic) (sent : List ℕ) : Type 0 where
   in_writing : (count : ℕ) (writes : List WireCall) → count < length sent
-      → Appends before.taken now.taken (take count sent) → Appends before.given now.given []
+      → Appends before.written now.written (take count sent) → Appends before.read now.read []
       → Lists before.calls now.calls writes → IsWritten (Some []) (Some writes) (take count sent) false
       → IsCut before now → CutOff before now sent
-  in_reading : (came : List ℕ) (writes reads : List WireCall) → Appends before.taken now.taken sent
-      → Appends before.given now.given came → Lists before.calls now.calls (writes ++ (reads ++ Read 0 ∷ []))
+  in_reading : (came : List ℕ) (writes reads : List WireCall) → Appends before.written now.written sent
+      → Appends before.read now.read came → Lists before.calls now.calls (writes ++ (reads ++ Read 0 ∷ []))
       → IsWritten (Some []) (Some writes) sent true → Reads [] reads came false → IsUnfinished came
       → length came ≤ most_read → IsLost before now → CutOff before now sent

@@ -8,7 +8,7 @@ use Rattle.outside_traits.specs.declared.calls.WireCall.{WireCall}
 use Rattle.outside_traits.specs.declared.calls.WireCall.TheVariants.{Read}
 use Rattle.outside_traits.specs.declared.errors.CallError.{CallError}
 use Rattle.outside_traits.specs.declared.errors.CallError.TheVariants.{Failed, Memory}
-use Rattle.outside_dials.specs.Dials.{Dials, WireTraffic}
+use Rattle.outside_dials.specs.Dials.{DialTold, Dials, WireTraffic}
 use Rattle.http_port.specs.Writing.{IsWritten}
 use Rattle.http_link.specs.Requests.{request}
 use Rattle.http_link.specs.Responses.{IsResponse, IsNoResponse, IsUnfinished}
@@ -31,7 +31,7 @@ pub data Reads : List ℕ → List WireCall → List ℕ → Bool → Type 0 whe
 -- nothing of it is told, this says nothing.
 abbrev pub Shows : WireTraffic → Option WireTraffic → List ℕ → List ℕ → List WireCall → Type 0
 Shows blank told went came calls = IfSome told (λ t.
-    Appends blank.taken t.taken went × Appends blank.given t.given came × Lists blank.calls t.calls calls)
+    Appends blank.written t.written went × Appends blank.read t.read came × Lists blank.calls t.calls calls)
 
 -- the most bytes that a trip reads: those of the longest head part and the longest body, and one more
 abbrev pub most_read : ℕ
@@ -47,14 +47,14 @@ pub record Telling : Type 0 where
   pub last : Option WireTraffic
   pub faults : ℕ
 
--- what is told of a dialler, from its four parts
-abbrev pub telling : WireTraffic → Option (List (List ℕ)) → Option WireTraffic → ℕ → Telling
-telling blank dialled last faults = record { blank = blank; dialled = dialled; last = last; faults = faults }
+-- the same by what a new wire of the dialler tells, and by what the dialler does
+abbrev pub telling : WireTraffic → DialTold → Telling
+telling blank told = record { blank = blank; dialled = told.dialled; last = told.last; faults = told.faults }
 
 -- a wire tells so whether a read of it failed, whether a write did, and whether a read told that no more comes
 pub record TellsEnd (by_read by_write ended : Bool) (t : WireTraffic) : Type 0 where
-  pub lost : t.lost ≡ by_read
-  pub cut : t.cut ≡ by_write
+  pub lost : t.read_failed ≡ by_read
+  pub cut : t.write_failed ≡ by_write
   pub end : t.ended ≡ ended
 
 -- On the last wire that came back a request was written whole, and then this was read, and no call of it failed; ended

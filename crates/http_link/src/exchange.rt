@@ -19,12 +19,12 @@ pub(crate) fn visit<D: Dial>(
     inbox: &mut Inbox,
 ) -> Result<Option<Span>, Failed>
     requires { inbox.old ≡ [] }
-    ensures dialled { Dials (D.dialled dial.old) (D.dialled dial.new) location.now }
+    ensures dialled { Dials (D.told dial.old).dialled (D.told dial.new).dialled location.now }
     ensures visited { MatchResult result
         (λ found. (ended : Bool) × Finds inbox.new ended found
-        × Exchange (telling D.blank (D.dialled dial.new) (D.last dial.new) (D.faults dial.new)) request.now inbox.new ended
-        × (D.faults dial.new ≡ D.faults dial.old))
-        (λ _. Failing request.now (telling D.blank (D.dialled dial.old) (D.last dial.old) (D.faults dial.old)) (telling D.blank (D.dialled dial.new) (D.last dial.new) (D.faults dial.new))) }
+        × Exchange (telling D.blank (D.told dial.new)) request.now inbox.new ended
+        × ((D.told dial.new).faults ≡ (D.told dial.old).faults))
+        (λ _. Failing request.now (telling D.blank (D.told dial.old)) (telling D.blank (D.told dial.new))) }
 {
     let Ok(mut wire) = dial.dial(location) else {
         return Err(Failed);
@@ -41,11 +41,11 @@ fn exchange<W: Wire>(
     inbox: &mut Inbox,
 ) -> Result<Option<Span>, Failed>
     requires empty { inbox.old ≡ [] }
-    requires open { W.closed wire.old ≡ false }
+    requires open { (W.told wire.old).closed ≡ false }
     ensures { MatchResult result
         (λ found. (ended : Bool) × Finds inbox.new ended found
-        × Exchanged (traffic (W.given wire.old) (W.taken wire.old) (W.calls wire.old) (W.lost wire.old) (W.cut wire.old) (W.ended wire.old)) (traffic (W.given wire.new) (W.taken wire.new) (W.calls wire.new) (W.lost wire.new) (W.cut wire.new) (W.ended wire.new)) request.now inbox.new ended)
-        (λ _. CutOff (traffic (W.given wire.old) (W.taken wire.old) (W.calls wire.old) (W.lost wire.old) (W.cut wire.old) (W.ended wire.old)) (traffic (W.given wire.new) (W.taken wire.new) (W.calls wire.new) (W.lost wire.new) (W.cut wire.new) (W.ended wire.new)) request.now) }
+        × Exchanged (traffic (W.told wire.old)) (traffic (W.told wire.new)) request.now inbox.new ended)
+        (λ _. CutOff (traffic (W.told wire.old)) (traffic (W.told wire.new)) request.now) }
 {
     match write_all(wire, request) {
         Ok(()) => read_response(wire, inbox),

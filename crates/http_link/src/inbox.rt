@@ -63,19 +63,19 @@ impl Inbox {
     /// Reads once, and says how many bytes came.
     pub(crate) fn fill<W: Wire>(&mut self, wire: &mut W) -> Result<usize, Failed>
         requires room { length self.old < most_read }
-        requires open { W.closed wire.old ≡ false }
+        requires open { (W.told wire.old).closed ≡ false }
         ensures read { MatchResult result
             (λ count. (piece : List ℕ) × (length piece ≡ count) × (self.new ≡ self.old ++ piece)
-            × Appends (W.given wire.old) (W.given wire.new) piece
-            × Lists (W.calls wire.old) (W.calls wire.new) (Read count ∷ []))
-            (λ _. (self.new ≡ self.old) × Appends (W.given wire.old) (W.given wire.new) []
-            × Lists (W.calls wire.old) (W.calls wire.new) (Read 0 ∷ [])) }
+            × Appends (W.told wire.old).read (W.told wire.new).read piece
+            × Lists (W.told wire.old).calls (W.told wire.new).calls (Read count ∷ []))
+            (λ _. (self.new ≡ self.old) × Appends (W.told wire.old).read (W.told wire.new).read []
+            × Lists (W.told wire.old).calls (W.told wire.new).calls (Read 0 ∷ [])) }
         ensures bounded { length self.new ≤ most_read }
-        ensures taken { W.taken wire.new ≡ W.taken wire.old }
-        ensures open { W.closed wire.new ≡ false }
+        ensures taken { (W.told wire.new).written ≡ (W.told wire.old).written }
+        ensures open { (W.told wire.new).closed ≡ false }
         ensures told { MatchResult result
-            (λ count. IsCalm (traffic (W.given wire.old) (W.taken wire.old) (W.calls wire.old) (W.lost wire.old) (W.cut wire.old) (W.ended wire.old)) (traffic (W.given wire.new) (W.taken wire.new) (W.calls wire.new) (W.lost wire.new) (W.cut wire.new) (W.ended wire.new)) (count == 0))
-            (λ _. IsLost (traffic (W.given wire.old) (W.taken wire.old) (W.calls wire.old) (W.lost wire.old) (W.cut wire.old) (W.ended wire.old)) (traffic (W.given wire.new) (W.taken wire.new) (W.calls wire.new) (W.lost wire.new) (W.cut wire.new) (W.ended wire.new))) }
+            (λ count. IsCalm (traffic (W.told wire.old)) (traffic (W.told wire.new)) (count == 0))
+            (λ _. IsLost (traffic (W.told wire.old)) (traffic (W.told wire.new))) }
     {
         let mut chunk = [0; CHUNK];
         let room = (MOST_READ - self.bytes.len()).min(CHUNK);
@@ -111,16 +111,16 @@ impl Inbox {
 
 /// Reads once, where there is room for some bytes, and says how many came.
 fn read_some<W: Wire>(wire: &mut W, into: &mut [u8]) -> Result<usize, Failed>
-    requires open { W.closed wire.old ≡ false }
+    requires open { (W.told wire.old).closed ≡ false }
     requires some { 0 < length into.old }
     ensures bound { ReadsAtMost result into.new }
-    ensures given { WriteAppends (W.given wire.old) (W.given wire.new) result into.new }
-    ensures taken { W.taken wire.new ≡ W.taken wire.old }
-    ensures calls { Lists (W.calls wire.old) (W.calls wire.new) (Read (moved result) ∷ []) }
-    ensures open { W.closed wire.new ≡ false }
+    ensures given { WriteAppends (W.told wire.old).read (W.told wire.new).read result into.new }
+    ensures taken { (W.told wire.new).written ≡ (W.told wire.old).written }
+    ensures calls { Lists (W.told wire.old).calls (W.told wire.new).calls (Read (moved result) ∷ []) }
+    ensures open { (W.told wire.new).closed ≡ false }
     ensures told { MatchResult result
-        (λ count. IsCalm (traffic (W.given wire.old) (W.taken wire.old) (W.calls wire.old) (W.lost wire.old) (W.cut wire.old) (W.ended wire.old)) (traffic (W.given wire.new) (W.taken wire.new) (W.calls wire.new) (W.lost wire.new) (W.cut wire.new) (W.ended wire.new)) (count == 0))
-        (λ _. IsLost (traffic (W.given wire.old) (W.taken wire.old) (W.calls wire.old) (W.lost wire.old) (W.cut wire.old) (W.ended wire.old)) (traffic (W.given wire.new) (W.taken wire.new) (W.calls wire.new) (W.lost wire.new) (W.cut wire.new) (W.ended wire.new))) }
+        (λ count. IsCalm (traffic (W.told wire.old)) (traffic (W.told wire.new)) (count == 0))
+        (λ _. IsLost (traffic (W.told wire.old)) (traffic (W.told wire.new))) }
 {
     wire.read(into)
 }

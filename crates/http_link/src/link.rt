@@ -48,16 +48,12 @@ impl<D> HttpLink<D> {
 }
 
 impl<D: Dial> Link for HttpLink<D> {
-    ghost trips = { λ _. None };
-
-    ghost coming = { λ _. None };
-
-    ghost faults = { λ l. l.faults };
+    ghost told = { λ l. record { trips = None; coming = None; faults = l.faults } };
 
     fn trip(&mut self, location: &str, text: &[u8]) -> Result<Vec<u8>, CallError>
         ensures trip { MatchResult result
-            (λ body. Answered location.now text.now (telling D.blank (D.dialled self.old.dial) (D.last self.old.dial) (D.faults self.old.dial)) (telling D.blank (D.dialled self.new.dial) (D.last self.new.dial) (D.faults self.new.dial)) body.items)
-            (λ error. BringsNothing location.now text.now (telling D.blank (D.dialled self.old.dial) (D.last self.old.dial) (D.faults self.old.dial)) (telling D.blank (D.dialled self.new.dial) (D.last self.new.dial) (D.faults self.new.dial)) error) }
+            (λ body. Answered location.now text.now (telling D.blank (D.told self.old.dial)) (telling D.blank (D.told self.new.dial)) body.items)
+            (λ error. BringsNothing location.now text.now (telling D.blank (D.told self.old.dial)) (telling D.blank (D.told self.new.dial)) error) }
         ensures faults { self.new.faults ≡ faults_after result self.old.faults }
     {
         let request = request_bytes(self.alloc, location, text)?;

@@ -17,11 +17,11 @@ pub(crate) fn read_response<W: Wire>(
     inbox: &mut Inbox,
 ) -> Result<Option<Span>, Failed>
     requires empty { inbox.old ≡ [] }
-    requires open { W.closed wire.old ≡ false }
+    requires open { (W.told wire.old).closed ≡ false }
     ensures { MatchResult result
         (λ found. (ended : Bool) × Finds inbox.new ended found
-        × Heard (traffic (W.given wire.old) (W.taken wire.old) (W.calls wire.old) (W.lost wire.old) (W.cut wire.old) (W.ended wire.old)) (traffic (W.given wire.new) (W.taken wire.new) (W.calls wire.new) (W.lost wire.new) (W.cut wire.new) (W.ended wire.new)) inbox.old inbox.new ended)
-        (λ _. HeardInPart (traffic (W.given wire.old) (W.taken wire.old) (W.calls wire.old) (W.lost wire.old) (W.cut wire.old) (W.ended wire.old)) (traffic (W.given wire.new) (W.taken wire.new) (W.calls wire.new) (W.lost wire.new) (W.cut wire.new) (W.ended wire.new)) inbox.old inbox.new) }
+        × Heard (traffic (W.told wire.old)) (traffic (W.told wire.new)) inbox.old inbox.new ended)
+        (λ _. HeardInPart (traffic (W.told wire.old)) (traffic (W.told wire.new)) inbox.old inbox.new) }
 {
     match read_head(wire, inbox) {
         Ok(announced) => match announced.extent {
@@ -36,13 +36,13 @@ pub(crate) fn read_response<W: Wire>(
 /// Reads until a head part is whole, or there can be none.
 fn read_head<W: Wire>(wire: &mut W, inbox: &mut Inbox) -> Result<Announced, Failed>
     requires empty { inbox.old ≡ [] }
-    requires open { W.closed wire.old ≡ false }
+    requires open { (W.told wire.old).closed ≡ false }
     ensures heard { MatchResult result
         (λ announced. (ended : Bool) × Knows inbox.new ended announced
-        × Heard (traffic (W.given wire.old) (W.taken wire.old) (W.calls wire.old) (W.lost wire.old) (W.cut wire.old) (W.ended wire.old)) (traffic (W.given wire.new) (W.taken wire.new) (W.calls wire.new) (W.lost wire.new) (W.cut wire.new) (W.ended wire.new)) inbox.old inbox.new ended)
-        (λ _. HeardInPart (traffic (W.given wire.old) (W.taken wire.old) (W.calls wire.old) (W.lost wire.old) (W.cut wire.old) (W.ended wire.old)) (traffic (W.given wire.new) (W.taken wire.new) (W.calls wire.new) (W.lost wire.new) (W.cut wire.new) (W.ended wire.new)) inbox.old inbox.new) }
+        × Heard (traffic (W.told wire.old)) (traffic (W.told wire.new)) inbox.old inbox.new ended)
+        (λ _. HeardInPart (traffic (W.told wire.old)) (traffic (W.told wire.new)) inbox.old inbox.new) }
     ensures fits { IfOk result Fits }
-    ensures open { W.closed wire.new ≡ false }
+    ensures open { (W.told wire.new).closed ≡ false }
 {
     let mut scan = START;
     loop {
@@ -67,11 +67,11 @@ fn read_sized<W: Wire>(
     requires head { HasHead inbox.old (record { head = head; extent = Extent.Sized size }) }
     requires fits { (head ≤ LONGEST_HEAD) × (size ≤ LONGEST_BODY) }
     requires bounded { length inbox.old ≤ most_read }
-    requires open { W.closed wire.old ≡ false }
+    requires open { (W.told wire.old).closed ≡ false }
     ensures { MatchResult result
         (λ found. (ended : Bool) × Finds inbox.new ended found
-        × Heard (traffic (W.given wire.old) (W.taken wire.old) (W.calls wire.old) (W.lost wire.old) (W.cut wire.old) (W.ended wire.old)) (traffic (W.given wire.new) (W.taken wire.new) (W.calls wire.new) (W.lost wire.new) (W.cut wire.new) (W.ended wire.new)) inbox.old inbox.new ended)
-        (λ _. HeardInPart (traffic (W.given wire.old) (W.taken wire.old) (W.calls wire.old) (W.lost wire.old) (W.cut wire.old) (W.ended wire.old)) (traffic (W.given wire.new) (W.taken wire.new) (W.calls wire.new) (W.lost wire.new) (W.cut wire.new) (W.ended wire.new)) inbox.old inbox.new) }
+        × Heard (traffic (W.told wire.old)) (traffic (W.told wire.new)) inbox.old inbox.new ended)
+        (λ _. HeardInPart (traffic (W.told wire.old)) (traffic (W.told wire.new)) inbox.old inbox.new) }
 {
     let end = head + size as usize;
     match read_to(wire, inbox, end) {
@@ -90,11 +90,11 @@ fn read_to_end<W: Wire>(
     requires head { HasHead inbox.old (record { head = head; extent = Extent.ToEnd }) }
     requires fits { head ≤ LONGEST_HEAD }
     requires bounded { length inbox.old ≤ most_read }
-    requires open { W.closed wire.old ≡ false }
+    requires open { (W.told wire.old).closed ≡ false }
     ensures { MatchResult result
         (λ found. (ended : Bool) × Finds inbox.new ended found
-        × Heard (traffic (W.given wire.old) (W.taken wire.old) (W.calls wire.old) (W.lost wire.old) (W.cut wire.old) (W.ended wire.old)) (traffic (W.given wire.new) (W.taken wire.new) (W.calls wire.new) (W.lost wire.new) (W.cut wire.new) (W.ended wire.new)) inbox.old inbox.new ended)
-        (λ _. HeardInPart (traffic (W.given wire.old) (W.taken wire.old) (W.calls wire.old) (W.lost wire.old) (W.cut wire.old) (W.ended wire.old)) (traffic (W.given wire.new) (W.taken wire.new) (W.calls wire.new) (W.lost wire.new) (W.cut wire.new) (W.ended wire.new)) inbox.old inbox.new) }
+        × Heard (traffic (W.told wire.old)) (traffic (W.told wire.new)) inbox.old inbox.new ended)
+        (λ _. HeardInPart (traffic (W.told wire.old)) (traffic (W.told wire.new)) inbox.old inbox.new) }
 {
     match read_to(wire, inbox, head + LONGEST_BODY as usize + 1) {
         Ok(true) => Ok(None),
@@ -110,11 +110,11 @@ fn read_to_end<W: Wire>(
 fn read_to<W: Wire>(wire: &mut W, inbox: &mut Inbox, end: usize) -> Result<bool, Failed>
     requires most { end ≤ most_read }
     requires bounded { length inbox.old ≤ most_read }
-    requires open { W.closed wire.old ≡ false }
+    requires open { (W.told wire.old).closed ≡ false }
     requires unfinished { (more : List ℕ) → length (inbox.old ++ more) < end → IsUnfinished (inbox.old ++ more) }
     ensures heard { MatchResult result
-        (λ there. Heard (traffic (W.given wire.old) (W.taken wire.old) (W.calls wire.old) (W.lost wire.old) (W.cut wire.old) (W.ended wire.old)) (traffic (W.given wire.new) (W.taken wire.new) (W.calls wire.new) (W.lost wire.new) (W.cut wire.new) (W.ended wire.new)) inbox.old inbox.new (not there))
-        (λ _. HeardInPart (traffic (W.given wire.old) (W.taken wire.old) (W.calls wire.old) (W.lost wire.old) (W.cut wire.old) (W.ended wire.old)) (traffic (W.given wire.new) (W.taken wire.new) (W.calls wire.new) (W.lost wire.new) (W.cut wire.new) (W.ended wire.new)) inbox.old inbox.new) }
+        (λ there. Heard (traffic (W.told wire.old)) (traffic (W.told wire.new)) inbox.old inbox.new (not there))
+        (λ _. HeardInPart (traffic (W.told wire.old)) (traffic (W.told wire.new)) inbox.old inbox.new) }
     ensures there { IfOk result (λ there. MatchBool there (end ≤ length inbox.new) (length inbox.new < end)) }
 {
     while inbox.len() < end {

@@ -40,20 +40,24 @@ pub fn serve_wire<W: Wire, S: Serve>(
     serve: &mut S,
 ) -> Result<WireEnd, AllocError>
     ensures serves { IfOk result (λ end. (did : Service) × (calls : List WireCall)
-        × Appends (W.given wire.old) (W.given wire.new) did.came
-        × Consumes (W.left wire.old) (W.left wire.new) did.came
-        × Appends (W.taken wire.old) (W.taken wire.new) did.went
-        × Lists (W.calls wire.old) (W.calls wire.new) calls
+        × Appends (W.told wire.old).read (W.told wire.new).read did.came
+        × Consumes (W.told wire.old).unread (W.told wire.new).unread did.came
+        × Appends (W.told wire.old).written (W.told wire.new).written did.went
+        × Lists (W.told wire.old).calls (W.told wire.new).calls calls
         × Grows (S.heard serve.old) (S.heard serve.new) did.bodies
         × Grows (S.said serve.old) (S.said serve.new) did.said
         × IsFed reader.old did end reader.new
         × IsPrompt reader.old did calls
         × StopsAtNothing calls
         × Serves reader.old did end) }
-    ensures ended { result ≡ Ok WireEnd.Ended → IsAtEnd (W.left wire.new) }
-    ensures lost { MatchResult result (λ end. W.lost wire.new ≡ lost_behind end (W.lost wire.old)) (λ _. W.lost wire.new ≡ W.lost wire.old) }
-    ensures cut { MatchResult result (λ end. W.cut wire.new ≡ cut_behind end (W.closed wire.old) (W.cut wire.old)) (λ _. W.cut wire.new ≡ W.cut wire.old) }
-    ensures closed { W.closed wire.new ≡ W.closed wire.old }
+    ensures ended { result ≡ Ok WireEnd.Ended → IsAtEnd (W.told wire.new).unread }
+    ensures lost { MatchResult result
+        (λ end. (W.told wire.new).read_failed ≡ lost_behind end (W.told wire.old).read_failed)
+        (λ _. (W.told wire.new).read_failed ≡ (W.told wire.old).read_failed) }
+    ensures cut { MatchResult result
+        (λ end. (W.told wire.new).write_failed ≡ cut_behind end (W.told wire.old).closed (W.told wire.old).write_failed)
+        (λ _. (W.told wire.new).write_failed ≡ (W.told wire.old).write_failed) }
+    ensures closed { (W.told wire.new).closed ≡ (W.told wire.old).closed }
     ensures err { OnErr result (reader.new ≡ Spent) }
 {
     let end = serve_each(alloc, wire, reader, serve);
@@ -71,20 +75,24 @@ fn serve_each<W: Wire, S: Serve>(
     serve: &mut S,
 ) -> Result<WireEnd, AllocError>
     ensures serves { IfOk result (λ end. (did : Service) × (calls : List WireCall)
-        × Appends (W.given wire.old) (W.given wire.new) did.came
-        × Consumes (W.left wire.old) (W.left wire.new) did.came
-        × Appends (W.taken wire.old) (W.taken wire.new) did.went
-        × Lists (W.calls wire.old) (W.calls wire.new) calls
+        × Appends (W.told wire.old).read (W.told wire.new).read did.came
+        × Consumes (W.told wire.old).unread (W.told wire.new).unread did.came
+        × Appends (W.told wire.old).written (W.told wire.new).written did.went
+        × Lists (W.told wire.old).calls (W.told wire.new).calls calls
         × Grows (S.heard serve.old) (S.heard serve.new) did.bodies
         × Grows (S.said serve.old) (S.said serve.new) did.said
         × IsFed reader.old did end reader.new
         × IsPrompt reader.old did calls
         × StopsAtNothing calls
         × Serves reader.old did end) }
-    ensures ended { result ≡ Ok WireEnd.Ended → IsAtEnd (W.left wire.new) }
-    ensures lost { MatchResult result (λ end. W.lost wire.new ≡ lost_behind end (W.lost wire.old)) (λ _. W.lost wire.new ≡ W.lost wire.old) }
-    ensures cut { MatchResult result (λ end. W.cut wire.new ≡ cut_behind end (W.closed wire.old) (W.cut wire.old)) (λ _. W.cut wire.new ≡ W.cut wire.old) }
-    ensures closed { W.closed wire.new ≡ W.closed wire.old }
+    ensures ended { result ≡ Ok WireEnd.Ended → IsAtEnd (W.told wire.new).unread }
+    ensures lost { MatchResult result
+        (λ end. (W.told wire.new).read_failed ≡ lost_behind end (W.told wire.old).read_failed)
+        (λ _. (W.told wire.new).read_failed ≡ (W.told wire.old).read_failed) }
+    ensures cut { MatchResult result
+        (λ end. (W.told wire.new).write_failed ≡ cut_behind end (W.told wire.old).closed (W.told wire.old).write_failed)
+        (λ _. (W.told wire.new).write_failed ≡ (W.told wire.old).write_failed) }
+    ensures closed { (W.told wire.new).closed ≡ (W.told wire.old).closed }
 {
     reader.asks_where_given();
     let mut chunk = [0; CHUNK];

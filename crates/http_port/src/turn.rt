@@ -44,15 +44,17 @@ pub(crate) fn take_turn<W: Wire, S: Serve>(
     ensures reacts { IfOk result (λ turn. (fed : Fed) × (said : List Said) × (went : List ℕ)
         × Feeds reader.old piece.now fed reader.new
         × Reacts fed said went turn
-        × Appends (W.taken wire.old) (W.taken wire.new) went
-        × IsWritten (W.calls wire.old) (W.calls wire.new) went (goes turn)
+        × Appends (W.told wire.old).written (W.told wire.new).written went
+        × IsWritten (W.told wire.old).calls (W.told wire.new).calls went (goes turn)
         × Grows (S.heard serve.old) (S.heard serve.new) (bodies_in (fed ∷ []))
         × Grows (S.said serve.old) (S.said serve.new) said) }
-    ensures lost { W.lost wire.new ≡ W.lost wire.old }
-    ensures cut { MatchResult result (λ turn. W.cut wire.new ≡ cut_by turn (W.closed wire.old) (W.cut wire.old)) (λ _. W.cut wire.new ≡ W.cut wire.old) }
-    ensures given { W.given wire.new ≡ W.given wire.old }
-    ensures left { W.left wire.new ≡ W.left wire.old }
-    ensures closed { W.closed wire.new ≡ W.closed wire.old }
+    ensures lost { (W.told wire.new).read_failed ≡ (W.told wire.old).read_failed }
+    ensures cut { MatchResult result
+        (λ turn. (W.told wire.new).write_failed ≡ cut_by turn (W.told wire.old).closed (W.told wire.old).write_failed)
+        (λ _. (W.told wire.new).write_failed ≡ (W.told wire.old).write_failed) }
+    ensures given { (W.told wire.new).read ≡ (W.told wire.old).read }
+    ensures left { (W.told wire.new).unread ≡ (W.told wire.old).unread }
+    ensures closed { (W.told wire.new).closed ≡ (W.told wire.old).closed }
 {
     match reader.feed(piece)? {
         Fed::NotYet => Ok(Turn::Waits),
@@ -72,15 +74,17 @@ fn answer<W: Wire, S: Serve>(
 ) -> Result<Turn, AllocError>
     ensures answers { IfOk result (λ turn. (first : Said) × (went : List ℕ)
         × Answers first close went turn
-        × Appends (W.taken wire.old) (W.taken wire.new) went
-        × IsWritten (W.calls wire.old) (W.calls wire.new) went (goes turn)
+        × Appends (W.told wire.old).written (W.told wire.new).written went
+        × IsWritten (W.told wire.old).calls (W.told wire.new).calls went (goes turn)
         × Grows (S.heard serve.old) (S.heard serve.new) (body.now ∷ [])
         × Grows (S.said serve.old) (S.said serve.new) (first ∷ [])) }
-    ensures lost { W.lost wire.new ≡ W.lost wire.old }
-    ensures cut { MatchResult result (λ turn. W.cut wire.new ≡ cut_by turn (W.closed wire.old) (W.cut wire.old)) (λ _. W.cut wire.new ≡ W.cut wire.old) }
-    ensures given { W.given wire.new ≡ W.given wire.old }
-    ensures left { W.left wire.new ≡ W.left wire.old }
-    ensures closed { W.closed wire.new ≡ W.closed wire.old }
+    ensures lost { (W.told wire.new).read_failed ≡ (W.told wire.old).read_failed }
+    ensures cut { MatchResult result
+        (λ turn. (W.told wire.new).write_failed ≡ cut_by turn (W.told wire.old).closed (W.told wire.old).write_failed)
+        (λ _. (W.told wire.new).write_failed ≡ (W.told wire.old).write_failed) }
+    ensures given { (W.told wire.new).read ≡ (W.told wire.old).read }
+    ensures left { (W.told wire.new).unread ≡ (W.told wire.old).unread }
+    ensures closed { (W.told wire.new).closed ≡ (W.told wire.old).closed }
 {
     let said = serve.request(body)?;
     reply(alloc, wire, &said, close)
@@ -91,13 +95,15 @@ fn answer<W: Wire, S: Serve>(
 fn reply<W: Wire>(alloc: Global, wire: &mut W, said: &Said, close: bool) -> Result<Turn, AllocError>
     ensures answers { IfOk result (λ turn. (went : List ℕ)
         × Answers said.now close went turn
-        × Appends (W.taken wire.old) (W.taken wire.new) went
-        × IsWritten (W.calls wire.old) (W.calls wire.new) went (goes turn)) }
-    ensures lost { W.lost wire.new ≡ W.lost wire.old }
-    ensures cut { MatchResult result (λ turn. W.cut wire.new ≡ cut_by turn (W.closed wire.old) (W.cut wire.old)) (λ _. W.cut wire.new ≡ W.cut wire.old) }
-    ensures given { W.given wire.new ≡ W.given wire.old }
-    ensures left { W.left wire.new ≡ W.left wire.old }
-    ensures closed { W.closed wire.new ≡ W.closed wire.old }
+        × Appends (W.told wire.old).written (W.told wire.new).written went
+        × IsWritten (W.told wire.old).calls (W.told wire.new).calls went (goes turn)) }
+    ensures lost { (W.told wire.new).read_failed ≡ (W.told wire.old).read_failed }
+    ensures cut { MatchResult result
+        (λ turn. (W.told wire.new).write_failed ≡ cut_by turn (W.told wire.old).closed (W.told wire.old).write_failed)
+        (λ _. (W.told wire.new).write_failed ≡ (W.told wire.old).write_failed) }
+    ensures given { (W.told wire.new).read ≡ (W.told wire.old).read }
+    ensures left { (W.told wire.new).unread ≡ (W.told wire.old).unread }
+    ensures closed { (W.told wire.new).closed ≡ (W.told wire.old).closed }
 {
     match said {
         Said::Text(text) => respond(alloc, wire, OK, text.as_slice(), close),
@@ -116,13 +122,15 @@ fn respond<W: Wire>(
 ) -> Result<Turn, AllocError>
     ensures writes { IfOk result (λ turn. (went : List ℕ)
         × Writes (response status body.now close) (turn_behind close) went turn
-        × Appends (W.taken wire.old) (W.taken wire.new) went
-        × IsWritten (W.calls wire.old) (W.calls wire.new) went (goes turn)) }
-    ensures lost { W.lost wire.new ≡ W.lost wire.old }
-    ensures cut { MatchResult result (λ turn. W.cut wire.new ≡ cut_by turn (W.closed wire.old) (W.cut wire.old)) (λ _. W.cut wire.new ≡ W.cut wire.old) }
-    ensures given { W.given wire.new ≡ W.given wire.old }
-    ensures left { W.left wire.new ≡ W.left wire.old }
-    ensures closed { W.closed wire.new ≡ W.closed wire.old }
+        × Appends (W.told wire.old).written (W.told wire.new).written went
+        × IsWritten (W.told wire.old).calls (W.told wire.new).calls went (goes turn)) }
+    ensures lost { (W.told wire.new).read_failed ≡ (W.told wire.old).read_failed }
+    ensures cut { MatchResult result
+        (λ turn. (W.told wire.new).write_failed ≡ cut_by turn (W.told wire.old).closed (W.told wire.old).write_failed)
+        (λ _. (W.told wire.new).write_failed ≡ (W.told wire.old).write_failed) }
+    ensures given { (W.told wire.new).read ≡ (W.told wire.old).read }
+    ensures left { (W.told wire.new).unread ≡ (W.told wire.old).unread }
+    ensures closed { (W.told wire.new).closed ≡ (W.told wire.old).closed }
 {
     let bytes = response_bytes(alloc, status, body, close)?;
     Ok(write(wire, bytes.as_slice(), turn_behind(close)))
@@ -144,13 +152,14 @@ fn turn_behind(close: bool) -> Turn
 fn write<W: Wire>(wire: &mut W, text: &[u8], next: Turn) -> Turn
     ensures writes { (went : List ℕ)
         × Writes text.now next went result
-        × Appends (W.taken wire.old) (W.taken wire.new) went
-        × IsWritten (W.calls wire.old) (W.calls wire.new) went (goes result) }
-    ensures lost { W.lost wire.new ≡ W.lost wire.old }
-    ensures cut { cut_by next (W.closed wire.old) (W.cut wire.old) ≡ W.cut wire.old → W.cut wire.new ≡ cut_by result (W.closed wire.old) (W.cut wire.old) }
-    ensures given { W.given wire.new ≡ W.given wire.old }
-    ensures left { W.left wire.new ≡ W.left wire.old }
-    ensures closed { W.closed wire.new ≡ W.closed wire.old }
+        × Appends (W.told wire.old).written (W.told wire.new).written went
+        × IsWritten (W.told wire.old).calls (W.told wire.new).calls went (goes result) }
+    ensures lost { (W.told wire.new).read_failed ≡ (W.told wire.old).read_failed }
+    ensures cut { cut_by next (W.told wire.old).closed (W.told wire.old).write_failed ≡ (W.told wire.old).write_failed
+        → (W.told wire.new).write_failed ≡ cut_by result (W.told wire.old).closed (W.told wire.old).write_failed }
+    ensures given { (W.told wire.new).read ≡ (W.told wire.old).read }
+    ensures left { (W.told wire.new).unread ≡ (W.told wire.old).unread }
+    ensures closed { (W.told wire.new).closed ≡ (W.told wire.old).closed }
 {
     match write_all(wire, text) {
         Ok(()) => next,
@@ -162,14 +171,18 @@ fn write<W: Wire>(wire: &mut W, text: &[u8], next: Turn) -> Turn
 #[tactic(auto, using(crate::proofs::CallLemmas::nothing_written, crate::proofs::CallLemmas::written_still))]
 pub fn write_all<W: Wire>(wire: &mut W, bytes: &[u8]) -> Result<(), Failed>
     ensures writes { MatchResult result
-        (λ _. Appends (W.taken wire.old) (W.taken wire.new) bytes.now × IsWritten (W.calls wire.old) (W.calls wire.new) bytes.now true)
-        (λ _. (count : ℕ) × (count < length bytes.now) × Appends (W.taken wire.old) (W.taken wire.new) (take count bytes.now) × IsWritten (W.calls wire.old) (W.calls wire.new) (take count bytes.now) false) }
-    ensures lost { W.lost wire.new ≡ W.lost wire.old }
-    ensures cut { MatchResult result (λ _. W.cut wire.new ≡ W.cut wire.old) (λ _. W.cut wire.new ≡ (W.cut wire.old || not (W.closed wire.old))) }
-    ensures ended { W.ended wire.new ≡ W.ended wire.old }
-    ensures given { W.given wire.new ≡ W.given wire.old }
-    ensures left { W.left wire.new ≡ W.left wire.old }
-    ensures closed { W.closed wire.new ≡ W.closed wire.old }
+        (λ _. Appends (W.told wire.old).written (W.told wire.new).written bytes.now × IsWritten (W.told wire.old).calls (W.told wire.new).calls bytes.now true)
+        (λ _. (count : ℕ) × (count < length bytes.now)
+        × Appends (W.told wire.old).written (W.told wire.new).written (take count bytes.now)
+        × IsWritten (W.told wire.old).calls (W.told wire.new).calls (take count bytes.now) false) }
+    ensures lost { (W.told wire.new).read_failed ≡ (W.told wire.old).read_failed }
+    ensures cut { MatchResult result
+        (λ _. (W.told wire.new).write_failed ≡ (W.told wire.old).write_failed)
+        (λ _. (W.told wire.new).write_failed ≡ ((W.told wire.old).write_failed || not (W.told wire.old).closed)) }
+    ensures ended { (W.told wire.new).ended ≡ (W.told wire.old).ended }
+    ensures given { (W.told wire.new).read ≡ (W.told wire.old).read }
+    ensures left { (W.told wire.new).unread ≡ (W.told wire.old).unread }
+    ensures closed { (W.told wire.new).closed ≡ (W.told wire.old).closed }
 {
     let mut done = 0;
     while done < bytes.len() {

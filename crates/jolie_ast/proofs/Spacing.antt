@@ -1,5 +1,5 @@
 -- Laws of tokens one after another.
-use Rattle.std.proofs.Common.{◌≡◌, ℕ, ◌+◌, ◌-◌, ◌<◌, ◌≤◌, arith, drop, List, [], ◌∷◌, ◌++◌, map, length, get_or, take, Option, Some, None, refl, ap, sym, ◌∙◌, flat_map, append_assoc, append-nil}
+use Rattle.std.proofs.Common.{◌≡◌, ℕ, ◌+◌, ◌-◌, ◌<◌, ◌≤◌, OnOk, Result, arith, subst, drop, List, [], ◌∷◌, ◌++◌, map, length, get_or, take, Option, Some, None, refl, ap, sym, ◌∙◌, flat_map, append_assoc, append-nil}
 use Rattle.std.proofs.lemmas.List.{flat_map_more, take_all, take_more}
 use Rattle.jolie_ast.specs.Spacing.{Token, separated, spaced, text_of, with_token, after, ended}
 
@@ -66,3 +66,12 @@ pub all_behind : {X : Type 0} (f : X → List Token) (p0 p1 p2 : Option (List �
     → p2 ≡ after p1 (flat_map f (take i xs)) → length xs ≤ i → us ≡ ts ++ flat_map f xs → p2 ≡ after p0 us
 all_behind f p0 p1 p2 ts us xs i first rest ended whole =
     rest ∙ ap (λ ys. after p1 (flat_map f ys)) (take_all i xs ended) ∙ ap (λ p. after p (flat_map f xs)) first ∙ sym (after_append p0 ts (flat_map f xs)) ∙ ap (after p0) (sym whole)
+
+-- tokens that are those of a thing
+pub shown_as : {A E : Type 0} (r : Result A E) (s t : Option (List ℕ)) (ts us : List Token) → us ≡ ts → OnOk r (t ≡ after s ts) → OnOk r (t ≡ after s us)
+shown_as r s t ts us same shown = subst (λ xs. OnOk r (t ≡ after s xs)) (sym same) shown
+
+-- tokens behind others, which together are those of a thing
+pub shown_behind : {A E : Type 0} (r : Result A E) (s m t : Option (List ℕ)) (xs ts us : List Token) → m ≡ after s xs → us ≡ xs ++ ts → OnOk r (t ≡ after m ts) → OnOk r (t ≡ after s us)
+shown_behind r s m t xs ts us first same shown =
+    subst (λ (x : Option (List ℕ)). OnOk r (t ≡ x)) (ap (λ (p : Option (List ℕ)). after p ts) first ∙ sym (after_append s xs ts) ∙ ap (after s) (sym same)) shown

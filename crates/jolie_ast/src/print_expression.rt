@@ -62,7 +62,7 @@ impl Printer {
     }
 
     #[cycle(expression)]
-    #[tactic(auto, using(crate::proofs::Spacing::after_append, crate::proofs::PrintedExpressions::int_shown, crate::proofs::PrintedExpressions::long_shown, crate::proofs::PrintedExpressions::text_shown, crate::proofs::PrintedExpressions::truth_shown, crate::proofs::PrintedExpressions::path_form_shown, crate::proofs::PrintedExpressions::size_shown, crate::proofs::PrintedExpressions::defined_shown, crate::proofs::PrintedExpressions::cast_shown, crate::proofs::PrintedExpressions::literal_shown, crate::proofs::PrintedExpressions::minus_shown, crate::proofs::PrintedExpressions::not_shown, crate::proofs::PrintedExpressions::product_shown, crate::proofs::PrintedExpressions::sum_shown, crate::proofs::PrintedExpressions::compare_shown, crate::proofs::PrintedExpressions::and_shown, crate::proofs::PrintedExpressions::or_shown))]
+    #[tactic(auto, using(crate::proofs::Spacing::after_append, crate::proofs::PrintedExpressions::int_shown, crate::proofs::PrintedExpressions::long_shown, crate::proofs::PrintedExpressions::literal_shown, crate::proofs::PrintedExpressions::compare_shown))]
     fn form(&mut self, form: &ExprForm) -> Result<(), AllocError>
         ensures { OnOk result (self.new ≡ after self.old (form_shown form.now).tokens) }
     {
@@ -244,7 +244,6 @@ impl Printer {
 }
 
 /// Whether it has two or more operands.
-#[tactic(auto, using(crate::proofs::PrintedExpressions::int_shown, crate::proofs::PrintedExpressions::long_shown, crate::proofs::PrintedExpressions::text_shown, crate::proofs::PrintedExpressions::truth_shown, crate::proofs::PrintedExpressions::path_form_shown, crate::proofs::PrintedExpressions::size_shown, crate::proofs::PrintedExpressions::defined_shown, crate::proofs::PrintedExpressions::cast_shown, crate::proofs::PrintedExpressions::literal_shown, crate::proofs::PrintedExpressions::minus_shown, crate::proofs::PrintedExpressions::not_shown, crate::proofs::PrintedExpressions::product_shown, crate::proofs::PrintedExpressions::sum_shown, crate::proofs::PrintedExpressions::compare_shown, crate::proofs::PrintedExpressions::and_shown, crate::proofs::PrintedExpressions::or_shown))]
 fn is_operation(form: &ExprForm) -> bool
     ensures { result ≡ (form_shown form.now).several }
 {

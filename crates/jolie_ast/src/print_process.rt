@@ -163,8 +163,29 @@ impl Printer {
         self.for_step(step)
     }
 
+    /// A `for` before its body.
+    #[tactic(auto, using(crate::proofs::Spacing::after_append))]
+    fn for_head(
+        &mut self,
+        path: &Path,
+        first: &Expr,
+        test: &Expr,
+        stepped: &Path,
+        step: &ForStep,
+    ) -> Result<(), AllocError>
+        ensures { OnOk result (self.new ≡ after self.old (codes "for" ∷ in_parens (path_tokens path.now ++ codes "=" ∷ (expr_tokens first.now ++ codes "," ∷ (expr_tokens test.now ++ codes "," ∷ (path_tokens stepped.now ++ for_step_tokens step.now)))))) }
+    {
+        self.token("for")?;
+        self.token("(")?;
+        self.path_given(path, first)?;
+        self.token(",")?;
+        self.expr(test)?;
+        self.token(",")?;
+        self.path_stepped(stepped, step)?;
+        self.token(")")
+    }
+
     #[cycle(process)]
-    #[tactic(auto, using(crate::proofs::Spacing::after_append, crate::proofs::PrintedProcesses::nothing_shown, crate::proofs::PrintedProcesses::assign_shown, crate::proofs::PrintedProcesses::undef_shown, crate::proofs::PrintedProcesses::correlate_shown, crate::proofs::PrintedProcesses::conditional_shown, crate::proofs::PrintedProcesses::while_shown, crate::proofs::PrintedProcesses::for_shown, crate::proofs::PrintedProcesses::input_form_shown, crate::proofs::PrintedProcesses::choice_shown, crate::proofs::PrintedProcesses::output_shown, crate::proofs::PrintedProcesses::scope_shown, crate::proofs::PrintedProcesses::install_shown, crate::proofs::PrintedProcesses::throw_shown, crate::proofs::PrintedProcesses::compensate_shown, crate::proofs::PrintedProcesses::inner_handler_shown, crate::proofs::PrintedProcesses::block_form_shown, crate::proofs::PrintedProcesses::sequence_shown, crate::proofs::PrintedProcesses::parallel_shown))]
     pub fn process(&mut self, process: &Process) -> Result<(), AllocError>
         ensures { OnOk result (self.new ≡ after self.old (process_tokens process.now)) }
     {
@@ -198,14 +219,7 @@ impl Printer {
                 body,
                 ..
             } => {
-                self.token("for")?;
-                self.token("(")?;
-                self.path_given(path, first)?;
-                self.token(",")?;
-                self.expr(test)?;
-                self.token(",")?;
-                self.path_stepped(stepped, step)?;
-                self.token(")")?;
+                self.for_head(path, first, test, stepped, step)?;
                 self.block(body)
             }
             Process::Input(input) => self.input(input),

@@ -1,17 +1,16 @@
 //! What is wrong with a text, in words.
 
 ghost use Rattle.std.specs.Prelude.{◌≡◌, IfOk};
-ghost use Rattle.sink_writing.specs.Sinks.{taking};
 ghost use Rattle.explain_text.specs.Explained.{unreadable_line};
 ghost use Rattle.jolie_main.specs.Headline.{Explains, IsEmptyRecord, TellsOfFile};
 ghost use Rattle.jolie_main.specs.Outside.{IsWritten};
 
 use crate::say::{say, tell, without_record};
-use command_words::status::{FILE_FAILED, REFUSED};
-use command_words::{Action, Command};
 use explain_text::{explained, noted, unreadable};
-use line_run::Ended;
+use main_commands::status::{FILE_FAILED, REFUSED};
+use main_commands::{Action, Command};
 use outside_traits::Sink;
+use run_theorem::Ended;
 use std::alloc::{AllocError, Global};
 
 /// Says `ok` of a text that is a program, with its notes, or explains why it is none.
@@ -21,7 +20,7 @@ pub fn explain_text<K: Sink>(
     text: &[u8],
     output: &mut K,
 ) -> Result<Ended, AllocError>
-    ensures explains { IfOk result (λ ended. Explains file.now text.now ended.status (taking (K.taken output.old) (K.faults output.old)) (taking (K.taken output.new) (K.faults output.new))) }
+    ensures explains { IfOk result (λ ended. Explains file.now text.now ended.status (K.told output.old) (K.told output.new)) }
     ensures empty { IfOk result (λ ended. IsEmptyRecord ended.report) }
 {
     let refusal = match noted(alloc, file, text)? {
@@ -40,7 +39,7 @@ pub fn file_failed<K: Sink>(
     output: &mut K,
 ) -> Result<Ended, AllocError>
     ensures status { IfOk result (λ ended. ended.status ≡ 2) }
-    ensures told { IfOk result (λ ended. TellsOfFile command.now (taking (K.taken output.old) (K.faults output.old)) (taking (K.taken output.new) (K.faults output.new))) }
+    ensures told { IfOk result (λ ended. TellsOfFile command.now (K.told output.old) (K.told output.new)) }
     ensures empty { IfOk result (λ ended. IsEmptyRecord ended.report) }
 {
     match command.action {
@@ -55,7 +54,7 @@ pub fn file_failed<K: Sink>(
 /// Says that a file can't be read: the status is 2.
 fn explain_failed<K: Sink>(alloc: Global, file: &str, output: &mut K) -> Result<Ended, AllocError>
     ensures status { IfOk result (λ ended. ended.status ≡ 2) }
-    ensures written { IfOk result (λ ended. IsWritten (unreadable_line file.now) (taking (K.taken output.old) (K.faults output.old)) (taking (K.taken output.new) (K.faults output.new))) }
+    ensures written { IfOk result (λ ended. IsWritten (unreadable_line file.now) (K.told output.old) (K.told output.new)) }
     ensures empty { IfOk result (λ ended. IsEmptyRecord ended.report) }
 {
     let line = unreadable(alloc, file)?;

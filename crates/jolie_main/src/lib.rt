@@ -7,7 +7,7 @@ mod show;
 mod top;
 mod world;
 
-pub use file_verdicts::{Cause, Refusal, Stage, program_in};
-pub use line_run::Ended;
+pub use check_verdicts::{Cause, Refusal, Stage, program_in};
+pub use run_theorem::Ended;
 pub use top::run;
 pub use world::{Telling, World};

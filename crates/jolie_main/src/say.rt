@@ -1,24 +1,23 @@
 //! What goes out, apart from the answers of services.
 
 ghost use Rattle.std.specs.Prelude.{◌≡◌, IfOk};
-ghost use Rattle.sink_writing.specs.Sinks.{taking};
 ghost use Rattle.jolie_main.specs.Headline.{Says, IsEmptyRecord};
 ghost use Rattle.jolie_main.specs.Outside.{IsSaid, IsWritten};
-ghost use Rattle.file_verdicts.specs.RefusalLines.{refusal_line};
+ghost use Rattle.check_verdicts.specs.RefusalLines.{refusal_line};
 
-use command_words::status::{DONE, OUTPUT_FAILED, REFUSED, USAGE_ERROR};
-use file_verdicts::Refusal;
+use check_verdicts::Refusal;
 use jolie_trees::Bytes;
-use line_run::Ended;
+use main_commands::status::{DONE, OUTPUT_FAILED, REFUSED, USAGE_ERROR};
 use office_core::History;
 use outside_traits::{Failed, Sink};
 use run_record::Record;
+use run_theorem::Ended;
 use sqlite_items::Items;
 use std::alloc::{AllocError, Global};
 
 /// Writes a text. It says whether the output took all of it.
 pub fn say<K: Sink>(text: &[u8], output: &mut K) -> bool
-    ensures { IsSaid result text.now (taking (K.taken output.old) (K.faults output.old)) (taking (K.taken output.new) (K.faults output.new)) }
+    ensures { IsSaid result text.now (K.told output.old) (K.told output.new) }
 {
     let mut done = 0;
     while done < text.len() {
@@ -32,7 +31,7 @@ pub fn say<K: Sink>(text: &[u8], output: &mut K) -> bool
 
 /// Writes the text that was asked for: the status is 0, or 5 where the output failed.
 pub fn tell<K: Sink>(alloc: Global, text: &[u8], output: &mut K) -> Ended
-    ensures says { Says text.now result.status (taking (K.taken output.old) (K.faults output.old)) (taking (K.taken output.new) (K.faults output.new)) }
+    ensures says { Says text.now result.status (K.told output.old) (K.told output.new) }
     ensures empty { IsEmptyRecord result.report }
 {
     if say(text, output) {
@@ -49,7 +48,7 @@ pub fn refuse<K: Sink>(
     output: &mut K,
 ) -> Result<Ended, AllocError>
     ensures status { IfOk result (λ ended. ended.status ≡ 3) }
-    ensures written { IfOk result (λ ended. IsWritten (refusal_line refusal.now) (taking (K.taken output.old) (K.faults output.old)) (taking (K.taken output.new) (K.faults output.new))) }
+    ensures written { IfOk result (λ ended. IsWritten (refusal_line refusal.now) (K.told output.old) (K.told output.new)) }
     ensures empty { IfOk result (λ ended. IsEmptyRecord ended.report) }
 {
     let line = refusal.line(alloc)?;
@@ -60,7 +59,7 @@ pub fn refuse<K: Sink>(
 /// Writes a usage error: the status is 1, whether or not the standard error takes it.
 pub fn show_usage_error<N: Sink>(alloc: Global, text: &[u8], notes: &mut N) -> Ended
     ensures status { result.status ≡ 1 }
-    ensures written { IsWritten text.now (taking (N.taken notes.old) (N.faults notes.old)) (taking (N.taken notes.new) (N.faults notes.new)) }
+    ensures written { IsWritten text.now (N.told notes.old) (N.told notes.new) }
     ensures empty { IsEmptyRecord result.report }
 {
     say(text, notes);

@@ -2,18 +2,17 @@
 
 ghost use Rattle.std.specs.Prelude.{IfOk};
 ghost use Rattle.jolie_main.specs.Headline.{Checks, Prints, IsEmptyRecord};
-ghost use Rattle.sink_writing.specs.Sinks.{taking};
 
 use crate::say::{refuse, tell};
-use file_verdicts::{Verdict, program_in, verdict_of};
+use check_verdicts::{Verdict, program_in, verdict_of};
 use jolie_ast::print;
-use line_run::Ended;
 use outside_traits::Sink;
+use run_theorem::Ended;
 use std::alloc::{AllocError, Global};
 
 /// Says `ok` of a text that is a program.
 pub fn check_text<K: Sink>(alloc: Global, text: &[u8], output: &mut K) -> Result<Ended, AllocError>
-    ensures shows { IfOk result (λ ended. Checks text.now ended.status (taking (K.taken output.old) (K.faults output.old)) (taking (K.taken output.new) (K.faults output.new))) }
+    ensures shows { IfOk result (λ ended. Checks text.now ended.status (K.told output.old) (K.told output.new)) }
     ensures empty { IfOk result (λ ended. IsEmptyRecord ended.report) }
 {
     match program_in(alloc, text)? {
@@ -25,7 +24,7 @@ pub fn check_text<K: Sink>(alloc: Global, text: &[u8], output: &mut K) -> Result
 
 /// Prints the definitions of a text.
 pub fn print_text<K: Sink>(alloc: Global, text: &[u8], output: &mut K) -> Result<Ended, AllocError>
-    ensures shows { IfOk result (λ ended. Prints text.now ended.status (taking (K.taken output.old) (K.faults output.old)) (taking (K.taken output.new) (K.faults output.new))) }
+    ensures shows { IfOk result (λ ended. Prints text.now ended.status (K.told output.old) (K.told output.new)) }
     ensures empty { IfOk result (λ ended. IsEmptyRecord ended.report) }
 {
     let file = match verdict_of(alloc, text)? {

@@ -1,34 +1,30 @@
 //! What the words of the command line ask for is done.
 
-ghost use Rattle.std.specs.Prelude.{◌≡◌, ◌<◌, IfOk, drop, length, map};
-ghost use Rattle.command_words.specs.declared.words.Words.{Words as Said};
-ghost use Rattle.command_words.specs.Usage.{IsUnderstood, spelled};
+ghost use Rattle.std.specs.Prelude.{◌≡◌, ◌<◌, IfOk, [], drop, length, map};
+ghost use Rattle.main_commands.specs.declared.words.Words.{Words as Said};
+ghost use Rattle.main_commands.specs.Usage.{IsUnderstood, spelled};
 ghost use Rattle.behaviour_tree.specs.PartsView.{parts_of};
-ghost use Rattle.office_core.specs.Limits.{run_of};
-ghost use Rattle.outside_traits.specs.Told.{FilesTold};
-ghost use Rattle.sink_writing.specs.Sinks.{taking};
-ghost use Rattle.line_run.specs.Lined.{Giving, giving, outside as lines, task, IsLined};
-ghost use Rattle.http_connection.specs.Seen.{Line, failures_of, line_of};
-ghost use Rattle.door_run.specs.Used.{DoorsTold, doors_told};
-ghost use Rattle.door_run.specs.Doored.{outside as served, task as doors_task, IsDoored};
-ghost use Rattle.jolie_main.specs.Outside.{around, outside, FirstTravelled};
+ghost use Rattle.outside_traits.specs.Told.{FilesTold, SinkTold, SourceTold};
+ghost use Rattle.outside_doors.specs.Returns.{DoorsTold};
+ghost use Rattle.run_theorem.specs.Theorem.{IsDoored, IsLined};
+ghost use Rattle.jolie_main.specs.Outside.{ByFirst};
 ghost use Rattle.jolie_main.specs.Headline.{Obeys, Promises, Runs, Serves};
-ghost use Rattle.trip_laws.specs.Trips.{trips_told};
 
 use crate::explain::{explain_text, file_failed};
 use crate::say::{refuse, show_usage_error, tell};
 use crate::show::{check_text, print_text};
 use crate::world::{Telling, World};
 use behaviour_tree::Program;
-use command_words::{Action, Command, Words, understood};
-use door_run::run_doors;
-use file_verdicts::program_in;
-use line_run::{Ended, run_lines};
+use check_verdicts::program_in;
+use main_commands::{Action, Command, Words, understood};
 use outside_doors::Doors;
 use outside_links::Link;
 use outside_traits::{CallError, Files, Sink, Source};
+use run_doors::run_doors;
+use run_lines::run_lines;
+use run_theorem::Ended;
+use session_term_turns::Seated;
 use std::alloc::{AllocError, Global};
-use term_turn::Seated;
 
 /// The most bytes that are read of a file: one more than a text may have, so that one that is too long shows.
 const MOST: u64 = 1_048_577;
@@ -51,7 +47,7 @@ pub fn run<F: Files, S: Source, K: Sink, N: Sink, D: Doors, L: Link>(
     // The headline.
     ensures promises { IfOk result (λ ended. (said : Said) × IsUnderstood (spelled words.now) said
         × Promises ⟦<World<F, S, K, N, D, L> as Telling>⟧.made said (F.held world.old.files) ended
-        (around (⟦<World<F, S, K, N, D, L> as Telling>⟧.told world.old) (⟦<World<F, S, K, N, D, L> as Telling>⟧.told world.new))) }
+        (record { before = ⟦<World<F, S, K, N, D, L> as Telling>⟧.told world.old; now = ⟦<World<F, S, K, N, D, L> as Telling>⟧.told world.new })) }
     ensures others { drop 1 world.new.links.items ≡ drop 1 world.old.links.items }
 {
     match understood(alloc, words)? {
@@ -71,7 +67,7 @@ fn obey<F: Files, S: Source, K: Sink, N: Sink, D: Doors, L: Link>(
 ) -> Result<Ended, AllocError>
     requires link { 0 < length world.old.links.items }
     ensures obeyed { IfOk result (λ ended. Obeys ⟦<World<F, S, K, N, D, L> as Telling>⟧.made command.now (F.held world.old.files command.now.file) ended
-        (around (⟦<World<F, S, K, N, D, L> as Telling>⟧.told world.old) (⟦<World<F, S, K, N, D, L> as Telling>⟧.told world.new))) }
+        (record { before = ⟦<World<F, S, K, N, D, L> as Telling>⟧.told world.old; now = ⟦<World<F, S, K, N, D, L> as Telling>⟧.told world.new })) }
     ensures others { drop 1 world.new.links.items ≡ drop 1 world.old.links.items }
 {
     let text = match world.files.read(command.file.as_str(), MOST) {
@@ -115,9 +111,11 @@ fn run_text<S: Source, K: Sink, N: Sink, L: Link>(
     links: &mut Vec<L>,
 ) -> Result<Ended, AllocError>
     requires link { 0 < length links.old.items }
-    ensures runs { (files : FilesTold) (doors : DoorsTold) → IfOk result (λ ended. Runs command.now text.now ended (around
-        (outside files (lines (giving (S.left input.old) (S.faults input.old)) (taking (K.taken output.old) (K.faults output.old)) (taking (N.taken notes.old) (N.faults notes.old))) doors (map (λ l. trips_told (L.trips l) (L.faults l)) links.old.items))
-        (outside files (lines (giving (S.left input.new) (S.faults input.new)) (taking (K.taken output.new) (K.faults output.new)) (taking (N.taken notes.new) (N.faults notes.new))) doors (map (λ l. trips_told (L.trips l) (L.faults l)) links.new.items)))) }
+    ensures runs { (files : FilesTold) (doors : DoorsTold) → IfOk result (λ ended. Runs command.now text.now ended
+        (record {
+          before = record { files = files; input = S.told input.old; output = K.told output.old; notes = N.told notes.old; doors = doors; links = map (λ l. L.told l) links.old.items };
+          now = record { files = files; input = S.told input.new; output = K.told output.new; notes = N.told notes.new; doors = doors; links = map (λ l. L.told l) links.new.items };
+        })) }
     ensures others { drop 1 links.new.items ≡ drop 1 links.old.items }
 {
     let program = match program_in(alloc, text)? {
@@ -140,10 +138,12 @@ fn run_program<S: Source, K: Sink, N: Sink, L: Link>(
 ) -> Result<Ended, AllocError>
     requires some { 0 < length (parts_of program).services }
     requires link { 0 < length links.old.items }
-    ensures lined { IfOk result (IsLined (task (parts_of program) text.now command.now.budget command.now.picks)
-        (lines (giving (S.left input.old) (S.faults input.old)) (taking (K.taken output.old) (K.faults output.old)) (taking (N.taken notes.old) (N.faults notes.old)))
-        (lines (giving (S.left input.new) (S.faults input.new)) (taking (K.taken output.new) (K.faults output.new)) (taking (N.taken notes.new) (N.faults notes.new)))) }
-    ensures travelled { IfOk result (λ ended. FirstTravelled (run_of (parts_of program)) ended.report.history.entries.items (map (λ l. trips_told (L.trips l) (L.faults l)) links.old.items) (map (λ l. trips_told (L.trips l) (L.faults l)) links.new.items)) }
+    ensures lined { (files : FilesTold) (doors : DoorsTold) → IfOk result (λ ended. ByFirst
+        (λ run. IsLined (record { parts = parts_of program; text = text.now; budget = command.now.budget; picks = command.now.picks }) run ended)
+        (record {
+          before = record { files = files; input = S.told input.old; output = K.told output.old; notes = N.told notes.old; doors = doors; links = map (λ l. L.told l) links.old.items };
+          now = record { files = files; input = S.told input.new; output = K.told output.new; notes = N.told notes.new; doors = doors; links = map (λ l. L.told l) links.new.items };
+        })) }
     ensures others { drop 1 links.new.items ≡ drop 1 links.old.items }
 {
     run_lines::<Seated, S, K, N, L>(
@@ -170,9 +170,13 @@ fn serve_text<K: Sink, N: Sink, D: Doors, L: Link>(
     links: &mut Vec<L>,
 ) -> Result<Ended, AllocError>
     requires link { 0 < length links.old.items }
-    ensures serves { (files : FilesTold) (source : Giving) → IfOk result (λ ended. Serves (λ line. (wire : D.D.W) × (line ≡ line_of (D.D.W.given wire) (D.D.W.left wire) (D.D.W.taken wire) (failures_of (D.D.W.lost wire) (D.D.W.cut wire)) (D.D.W.closed wire))) command.now text.now ended (around
-        (outside files (lines source (taking (K.taken output.old) (K.faults output.old)) (taking (N.taken notes.old) (N.faults notes.old))) (doors_told (D.faults doors.old) (D.tally doors.old) (D.tries doors.old) (D.returned doors.old) (D.returned_doors doors.old)) (map (λ l. trips_told (L.trips l) (L.faults l)) links.old.items))
-        (outside files (lines source (taking (K.taken output.new) (K.faults output.new)) (taking (N.taken notes.new) (N.faults notes.new))) (doors_told (D.faults doors.new) (D.tally doors.new) (D.tries doors.new) (D.returned doors.new) (D.returned_doors doors.new)) (map (λ l. trips_told (L.trips l) (L.faults l)) links.new.items)))) }
+    ensures serves { (files : FilesTold) (input : SourceTold) → IfOk result (λ ended. Serves
+        (λ line. (wire : D.D.W) × (line ≡ D.D.W.told wire))
+        command.now text.now ended
+        (record {
+          before = record { files = files; input = input; output = K.told output.old; notes = N.told notes.old; doors = D.told doors.old; links = map (λ l. L.told l) links.old.items };
+          now = record { files = files; input = input; output = K.told output.new; notes = N.told notes.new; doors = D.told doors.new; links = map (λ l. L.told l) links.new.items };
+        })) }
     ensures others { drop 1 links.new.items ≡ drop 1 links.old.items }
 {
     let program = match program_in(alloc, text)? {
@@ -194,10 +198,14 @@ fn serve_program<N: Sink, D: Doors, L: Link>(
 ) -> Result<Ended, AllocError>
     requires some { 0 < length (parts_of program).services }
     requires link { 0 < length links.old.items }
-    ensures doored { IfOk result (IsDoored (λ line. (wire : D.D.W) × (line ≡ line_of (D.D.W.given wire) (D.D.W.left wire) (D.D.W.taken wire) (failures_of (D.D.W.lost wire) (D.D.W.cut wire)) (D.D.W.closed wire))) (doors_task (parts_of program) text.now command.now.budget command.now.connections)
-        (served (doors_told (D.faults doors.old) (D.tally doors.old) (D.tries doors.old) (D.returned doors.old) (D.returned_doors doors.old)) (taking (N.taken notes.old) (N.faults notes.old)))
-        (served (doors_told (D.faults doors.new) (D.tally doors.new) (D.tries doors.new) (D.returned doors.new) (D.returned_doors doors.new)) (taking (N.taken notes.new) (N.faults notes.new)))) }
-    ensures travelled { IfOk result (λ ended. FirstTravelled (run_of (parts_of program)) ended.report.history.entries.items (map (λ l. trips_told (L.trips l) (L.faults l)) links.old.items) (map (λ l. trips_told (L.trips l) (L.faults l)) links.new.items)) }
+    ensures doored { (files : FilesTold) (input : SourceTold) (output : SinkTold) → IfOk result (λ ended. ByFirst
+        (λ run. IsDoored
+        (λ line. (wire : D.D.W) × (line ≡ D.D.W.told wire))
+        command.now.connections (record { parts = parts_of program; text = text.now; budget = command.now.budget; picks = [] }) run ended)
+        (record {
+          before = record { files = files; input = input; output = output; notes = N.told notes.old; doors = D.told doors.old; links = map (λ l. L.told l) links.old.items };
+          now = record { files = files; input = input; output = output; notes = N.told notes.new; doors = D.told doors.new; links = map (λ l. L.told l) links.new.items };
+        })) }
     ensures others { drop 1 links.new.items ≡ drop 1 links.old.items }
 {
     run_doors::<Seated, D, N, L>(

@@ -1,4 +1,3 @@
 mod Codes
 mod Floats
 mod Params
-mod Places

@@ -80,32 +80,46 @@ fn response(
     match outcome {
         Outcome::Value(tree) => {
             let found = json_of(alloc, tree, ty, types)?;
-            let id = id_value(alloc, id)?;
-            json!(in alloc; {"jsonrpc": "2.0", "id": id, "result": found})
+            result_response(alloc, id, found)
         }
         Outcome::Fault { name, value } => {
             let detail = json_of(alloc, value, &TypeDef::Undefined, types)?;
-            let id = id_value(alloc, id)?;
-            json!(in alloc; {
-                "jsonrpc": "2.0",
-                "id": id,
-                "error": {"code": FAULT, "message": name.as_str(), "data": detail}
-            })
+            let error = fault_error(alloc, name.as_str(), detail)?;
+            error_response(alloc, id, error)
         }
         Outcome::Refused(reason) => refusal(alloc, id, reason.code(), reason.message()),
     }
+}
+
+/// A response with a result.
+fn result_response(alloc: Global, id: &Id, found: Value) -> Result<Value, AllocError>
+    ensures { IfOk result (λ value. view value ≡ spec.result_data (spec.id_data id.now) (view found)) }
+{
+    let id = id_value(alloc, id)?;
+    json!(in alloc; {"jsonrpc": "2.0", "id": id, "result": found})
+}
+
+/// A response with an error.
+fn error_response(alloc: Global, id: &Id, error: Value) -> Result<Value, AllocError>
+    ensures { IfOk result (λ value. view value ≡ spec.error_data (spec.id_data id.now) (view error)) }
+{
+    let id = id_value(alloc, id)?;
+    json!(in alloc; {"jsonrpc": "2.0", "id": id, "error": error})
+}
+
+/// The error of a fault, with its data.
+fn fault_error(alloc: Global, fault: &str, detail: Value) -> Result<Value, AllocError>
+    ensures { IfOk result (λ value. view value ≡ spec.full_error spec.fault_code (view detail) fault.now) }
+{
+    json!(in alloc; {"code": FAULT, "message": fault, "data": detail})
 }
 
 /// A response with an error without data.
 fn refusal(alloc: Global, id: &Id, code: i64, message: &str) -> Result<Value, AllocError>
     ensures { IfOk result (λ value. view value ≡ spec.error_data (spec.id_data id.now) (spec.bare_error code message.now)) }
 {
-    let id = id_value(alloc, id)?;
-    json!(in alloc; {
-        "jsonrpc": "2.0",
-        "id": id,
-        "error": {"code": code, "message": message}
-    })
+    let error = json!(in alloc; {"code": code, "message": message})?;
+    error_response(alloc, id, error)
 }
 
 /// An id as a value; an absent one is null.

@@ -1,4 +1,4 @@
-ghost use Rattle.office_core.specs.Laws.{AnswersOnce, GrowsByOne, NumbersCalls, SendsMessages, StaysLegal};
+ghost use Rattle.office_core.specs.Laws.{AcceptsByReply, AnswersOnce, GrowsByOne, NumbersCalls, SendsMessages, StaysLegal};
 
 /// Does nothing: its clauses say what holds of every legal history.
 pub fn legal_histories_answer_once()
@@ -19,4 +19,9 @@ pub fn legal_histories_send_messages()
 pub fn histories_grow_by_entries()
     ensures grows { GrowsByOne }
     ensures legal { StaysLegal }
+{}
+
+/// Does nothing: a legal entry accepts a message exactly where its reply says so.
+pub fn legal_entries_accept_by_reply()
+    ensures by_reply { AcceptsByReply }
 {}

@@ -11,8 +11,8 @@ mod post;
 pub use front::{CallIn, Posting};
 pub use history::{Act, Entry, History, Placed};
 pub use laws::{
-    histories_grow_by_entries, legal_histories_answer_once, legal_histories_number_calls,
-    legal_histories_send_messages,
+    histories_grow_by_entries, legal_entries_accept_by_reply, legal_histories_answer_once,
+    legal_histories_number_calls, legal_histories_send_messages,
 };
 pub use message::{Call, Message};
 pub use outgoing::{OutKind, Outgoing};

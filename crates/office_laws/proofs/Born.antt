@@ -17,12 +17,12 @@ use Rattle.office_core.specs.Boxes.{taken, box}
 use Rattle.office_core.specs.Route.{Way, to_session, to_new, refused_for, Asked, asked_of, route}
 use Rattle.office_core.specs.Accepted.{handed_in, origin_of, message_to, message_on, message_of, accepted_in, with_message, then_one, then_all, past_of}
 use Rattle.office_core.proofs.Unborn.{unborn_idle}
-use Rattle.office_kept.specs.Waits.{waiting_from, waiting_for}
-use Rattle.office_kept.proofs.Births.{none_at_end}
-use Rattle.office_kept.proofs.Lists.{same_of, none_not_some, not_eq}
-use Rattle.office_kept.proofs.Routed.{goes_to, comes}
-use Rattle.office_kept.proofs.Unseen.{last_there}
-use Rattle.office_kept.proofs.Waiting.{box_count}
+use Rattle.office_plain.specs.Waits.{waiting_from, waiting_for}
+use Rattle.office_plain.proofs.Births.{none_at_end}
+use Rattle.office_plain.proofs.Lists.{same_of, none_not_some, not_eq}
+use Rattle.office_plain.proofs.Routed.{goes_to, comes}
+use Rattle.office_plain.proofs.Unseen.{last_there}
+use Rattle.office_plain.proofs.Waiting.{box_count}
 use Rattle.office_laws.specs.Laws.{FindsRoom}
 use Rattle.office_laws.proofs.Found.{route_finds}
 

@@ -30,11 +30,11 @@ use Rattle.office_core.specs.Bound.{sets_with, was_written, written_then, held_i
 use Rattle.office_core.specs.Legal.{IsLegal}
 use Rattle.office_core.proofs.Longer.{some_same}
 use Rattle.office_core.proofs.Unborn.{unborn_idle}
-use Rattle.office_kept.proofs.Births.{none_at_end}
-use Rattle.office_kept.proofs.Idle.{unborn_writes}
-use Rattle.office_kept.proofs.Keyed.{AreNumbered, bound_values, given_at, given_to, in_all, numbered_all, or_else, value_of-append}
-use Rattle.office_kept.proofs.Lists.{eq_true, itself, none_not_some, not_eq, same_of, turned}
-use Rattle.office_kept.proofs.Unseen.{none_started, starts_it}
+use Rattle.office_plain.proofs.Births.{none_at_end}
+use Rattle.office_plain.proofs.Idle.{unborn_writes}
+use Rattle.office_plain.proofs.Keyed.{AreNumbered, bound_values, given_at, given_to, in_all, numbered_all, or_else, value_of-append}
+use Rattle.office_plain.proofs.Lists.{eq_true, itself, none_not_some, not_eq, same_of, turned}
+use Rattle.office_plain.proofs.Unseen.{none_started, starts_it}
 use Rattle.office_laws.specs.Laws.{AreBound, BindsFirst, brought_of, first_binding, first_entry, first_values}
 use Rattle.office_laws.proofs.Alike.{AreAlike, IsAlike, value_alike}
 

@@ -13,8 +13,8 @@ use Rattle.office_core.specs.Sessions.{births, service_of, has_ended}
 use Rattle.office_core.specs.Boxes.{box}
 use Rattle.office_core.specs.Keys.{first, Variable, sets_of, named_by, has_key, session_from, session_of, holder}
 use Rattle.office_core.specs.Route.{to_session, to_new, refused_for, Asked, asked_of, is_full, into_box, begins, named_in, named_session, is_starting, to_single, to_named, to_one, admitted, route}
-use Rattle.office_kept.proofs.Lists.{same_of, none_not_some}
-use Rattle.office_kept.proofs.Routed.{goes_to}
+use Rattle.office_plain.proofs.Lists.{same_of, none_not_some}
+use Rattle.office_plain.proofs.Routed.{goes_to}
 
 -- ---- sessions that are found
 

@@ -21,11 +21,11 @@ use Rattle.office_core.specs.Keys.{Variable, sets_of}
 use Rattle.office_core.specs.Keys as keys
 use Rattle.office_core.specs.Accepted.{past_of}
 use Rattle.office_core.specs.Route.{Asked}
-use Rattle.office_lookup.specs.SetNumbers.{numbered_from, numbered_sets, sets_before}
-use Rattle.office_kept.specs.Kept.{keyed_sessions}
-use Rattle.office_kept.proofs.Keyed.{all_there_same, holder_is, variables_at}
-use Rattle.office_kept.proofs.KeysCome.{next_unborn}
-use Rattle.office_kept.proofs.Lists.{eq_true, itself, none_not_some, same_of}
+use Rattle.office_plain.specs.SetNumbers.{numbered_from, numbered_sets, sets_before}
+use Rattle.office_plain.specs.Kept.{keyed_sessions}
+use Rattle.office_plain.proofs.Keyed.{all_there_same, holder_is, variables_at}
+use Rattle.office_plain.proofs.KeysCome.{next_unborn}
+use Rattle.office_plain.proofs.Lists.{eq_true, itself, none_not_some, same_of}
 use Rattle.office_laws.specs.Laws.{WritesFirst, first_values, started_with}
 use Rattle.office_laws.proofs.First.{Begins, has_number, is_first, is_started, not_held, starting}
 

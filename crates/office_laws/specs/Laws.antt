@@ -20,11 +20,11 @@ use Rattle.office_core.specs.Keys.{Variable, brought_by}
 use Rattle.office_core.specs.Accepted.{message_of, past_of, then_one}
 use Rattle.office_core.specs.Bound.{Binding, bind_reply}
 use Rattle.office_core.specs.Legal.{IsLegal}
-use Rattle.office_lookup.specs.SetNumbers.{numbered_sets}
-use Rattle.office_kept.specs.declared.kept.Kept.{Kept}
-use Rattle.office_kept.specs.Accepting.{written_into}
-use Rattle.office_kept.specs.Kept.{variables_of}
-use Rattle.office_kept.specs.Ties.{Ties}
+use Rattle.office_plain.specs.SetNumbers.{numbered_sets}
+use Rattle.office_plain.specs.declared.kept.Kept.{Kept}
+use Rattle.office_plain.specs.Accepting.{written_into}
+use Rattle.office_plain.specs.Kept.{variables_of}
+use Rattle.office_plain.specs.Ties.{Ties}
 
 -- ---- boxes
 

@@ -2,6 +2,7 @@
 use Rattle.std.specs.Prelude.{◌≡◌, ◌≤◌, ℕ, Bool, true, false, List, [], ◌∷◌, ◌++◌, Option, None, Some, IfSome}
 use Rattle.std.specs.Prelude.{Result, Ok, Err}
 use Rattle.outside_traits.specs.Causes.{Rose}
+use Rattle.outside_traits.specs.Told.{WireTold}
 use Rattle.outside_traits.specs.Wires.{CalmLine, ScriptedLine}
 use Rattle.outside_traits.specs.declared.calls.WireCall.{WireCall}
 
@@ -9,25 +10,39 @@ use Rattle.outside_traits.specs.declared.calls.WireCall.{WireCall}
 -- where it is told; whether a read failed, whether a write did before it was closed, and whether a read told the end of
 -- what comes in.
 pub record WireTraffic : Type 0 where
-  pub given : Option (List ℕ)
-  pub taken : Option (List ℕ)
+  pub read : Option (List ℕ)
+  pub written : Option (List ℕ)
   pub calls : Option (List WireCall)
-  pub lost : Bool
-  pub cut : Bool
+  pub read_failed : Bool
+  pub write_failed : Bool
   pub ended : Bool
 
--- what a wire tells of itself
-abbrev pub traffic : Option (List ℕ) → Option (List ℕ) → Option (List WireCall) → Bool → Bool → Bool → WireTraffic
-traffic given taken calls lost cut ended =
-    record { given = given; taken = taken; calls = calls; lost = lost; cut = cut; ended = ended }
+-- what was done with a wire that tells this
+abbrev pub traffic : WireTold → WireTraffic
+traffic wire = record {
+  read = wire.read;
+  written = wire.written;
+  calls = wire.calls;
+  read_failed = wire.read_failed;
+  write_failed = wire.write_failed;
+  ended = wire.ended;
+}
+
+-- What is told of a dialler: the locations that it dialled in order, where they are told; what was done with the last
+-- wire that came back, where it is told; and a number that rises where a call fails or a wire comes back that had
+-- failed, and stands else.
+pub record DialTold : Type 0 where
+  pub dialled : Option (List (List ℕ))
+  pub last : Option WireTraffic
+  pub faults : ℕ
 
 -- what is told of a wire with which nothing was done yet
 pub record IsNew (t : WireTraffic) : Type 0 where
-  pub given : IfSome t.given (λ bytes. bytes ≡ [])
-  pub taken : IfSome t.taken (λ bytes. bytes ≡ [])
+  pub read : IfSome t.read (λ bytes. bytes ≡ [])
+  pub written : IfSome t.written (λ bytes. bytes ≡ [])
   pub calls : IfSome t.calls (λ calls. calls ≡ [])
-  pub lost : t.lost ≡ false
-  pub cut : t.cut ≡ false
+  pub read_failed : t.read_failed ≡ false
+  pub write_failed : t.write_failed ≡ false
   pub ended : t.ended ≡ false
 
 -- What is told grows by a location, as long as it is told. A dialler that tells its locations no more never begins
@@ -52,7 +67,14 @@ pub record CountsWire (had_failed : Bool) (before now : ℕ) : Type 0 where
 
 -- what is told of a new wire in memory
 abbrev pub blank_in_memory : WireTraffic
-blank_in_memory = traffic (Some []) (Some []) (Some []) false false false
+blank_in_memory = record {
+  read = Some [];
+  written = Some [];
+  calls = Some [];
+  read_failed = false;
+  write_failed = false;
+  ended = false;
+}
 
 -- a wire in memory as it is made: nothing was done with it, no call of it failed or told an end, and it is open
 pub record IsFreshCalm (w : CalmLine) : Type 0 where
@@ -75,11 +97,25 @@ pub record IsFreshScripted (w : ScriptedLine) : Type 0 where
 
 -- what was done with a wire in memory
 abbrev pub calm_traffic : CalmLine → WireTraffic
-calm_traffic w = traffic (Some w.tape.given) (Some w.shelf.taken) w.calls false w.cut w.ended
+calm_traffic w = record {
+  read = Some w.tape.given;
+  written = Some w.shelf.taken;
+  calls = w.calls;
+  read_failed = false;
+  write_failed = w.cut;
+  ended = w.ended;
+}
 
 -- the same of a scripted one
 abbrev pub scripted_traffic : ScriptedLine → WireTraffic
-scripted_traffic w = traffic (Some w.tape.given) (Some w.shelf.taken) w.calls w.lost w.cut w.ended
+scripted_traffic w = record {
+  read = Some w.tape.given;
+  written = Some w.shelf.taken;
+  calls = w.calls;
+  read_failed = w.lost;
+  write_failed = w.cut;
+  ended = w.ended;
+}
 
 -- the wire that a call gave, none where it failed
 abbrev pub wire_given : {W E : Type 0} → Result W E → Option W

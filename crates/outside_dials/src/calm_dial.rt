@@ -67,11 +67,7 @@ impl Dial for CalmDial {
 
     ghost blank = { blank_in_memory };
 
-    ghost dialled = { λ d. d.dialled };
-
-    ghost last = { λ d. option_map calm_traffic d.last };
-
-    ghost faults = { λ d. d.faults };
+    ghost told = { λ d. record { dialled = d.dialled; last = option_map calm_traffic d.last; faults = d.faults } };
 
     fn dial(&mut self, location: &str) -> Result<CalmWire, Failed>
         ensures answer { wire_given result ≡ next_calm self.old.coming }

@@ -1,7 +1,6 @@
-ghost use Rattle.std.specs.Prelude.{◌≡◌, ◌||◌, ℕ, List, false, IfOk};
-ghost use Rattle.std.specs.declared.option.Option.{Option};
+ghost use Rattle.std.specs.Prelude.{◌≡◌, ◌||◌, false, IfOk};
 ghost use Rattle.outside_traits.specs.Causes.{HasCause};
-ghost use Rattle.outside_dials.specs.Dials.{CountsWire, Dials, IsNew, Tells, WireTraffic, traffic};
+ghost use Rattle.outside_dials.specs.Dials.{CountsWire, DialTold, Dials, IsNew, Tells, WireTraffic, traffic};
 
 use outside_traits::{Failed, Wire};
 
@@ -12,27 +11,21 @@ pub trait Dial {
     /// What is told of a wire before anything was done with it.
     ghost blank: { WireTraffic };
 
-    /// The locations that were dialled in order, where they are told.
-    ghost dialled: { Self → Option (List (List ℕ)) };
-
-    /// What was done with the last wire that came back, where it is told.
-    ghost last: { Self → Option WireTraffic };
-
-    /// A number that rises where a call fails or a wire comes back that had failed, and stands else.
-    ghost faults: { Self → ℕ };
+    /// What the dialler tells.
+    ghost told: { Self → DialTold };
 
     /// A new wire to a location.
     fn dial(&mut self, location: &str) -> Result<Self::W, Failed>
-        ensures dialled { Dials (dialled self.old) (dialled self.new) location.now }
-        ensures last { last self.new ≡ last self.old }
+        ensures dialled { Dials (told self.old).dialled (told self.new).dialled location.now }
+        ensures last { (told self.new).last ≡ (told self.old).last }
         ensures blank { IsNew blank }
-        ensures fresh { IfOk result (λ wire. traffic (Self.W.given wire) (Self.W.taken wire) (Self.W.calls wire) (Self.W.lost wire) (Self.W.cut wire) (Self.W.ended wire) ≡ blank) }
-        ensures open { IfOk result (λ wire. Self.W.closed wire ≡ false) }
-        ensures cause { HasCause (faults self.old) (faults self.new) result };
+        ensures fresh { IfOk result (λ wire. traffic (Self.W.told wire) ≡ blank) }
+        ensures open { IfOk result (λ wire. (Self.W.told wire).closed ≡ false) }
+        ensures cause { HasCause (told self.old).faults (told self.new).faults result };
 
     /// Takes a wire back, and closes it.
     fn back(&mut self, wire: Self::W)
-        ensures dialled { dialled self.new ≡ dialled self.old }
-        ensures last { Tells (last self.new) (traffic (Self.W.given wire) (Self.W.taken wire) (Self.W.calls wire) (Self.W.lost wire) (Self.W.cut wire) (Self.W.ended wire)) }
-        ensures counts { CountsWire (Self.W.lost wire || Self.W.cut wire) (faults self.old) (faults self.new) };
+        ensures dialled { (told self.new).dialled ≡ (told self.old).dialled }
+        ensures last { Tells (told self.new).last (traffic (Self.W.told wire)) }
+        ensures counts { CountsWire ((Self.W.told wire).read_failed || (Self.W.told wire).write_failed) (told self.old).faults (told self.new).faults };
 }

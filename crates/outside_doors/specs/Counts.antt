@@ -1,5 +1,6 @@
 -- What doors count.
 use Rattle.std.specs.Prelude.{ℕ, ◌+◌, ◌-◌, ◌^◌, min, Bool, false, not, ◌||◌, ◌==◌, if◌then◌else◌}
+use Rattle.outside_traits.specs.Told.{WireTold}
 
 -- a count to which so many are added; it stops at the last value of its type
 abbrev pub added : ℕ → ℕ → ℕ
@@ -85,10 +86,14 @@ with_door door tally = record tally {
 }
 
 -- a wire came back; a read of it had failed or not, a write had or not, and it had ended or not
-abbrev pub with_wire : Bool → Bool → Bool → Tally → Tally
-with_wire lost cut ended tally = record tally {
+abbrev pub with_return : Bool → Bool → Bool → Tally → Tally
+with_return read_failed write_failed ended tally = record tally {
   wires_back = added tally.wires_back 1;
-  wires_lost = added_if lost tally.wires_lost;
-  wires_cut = added_if cut tally.wires_cut;
+  wires_lost = added_if read_failed tally.wires_lost;
+  wires_cut = added_if write_failed tally.wires_cut;
   wires_ended = added_if ended tally.wires_ended;
 }
+
+-- a wire came back that told this
+abbrev pub with_wire : WireTold → Tally → Tally
+with_wire wire tally = with_return wire.read_failed wire.write_failed wire.ended tally

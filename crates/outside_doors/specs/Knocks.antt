@@ -1,9 +1,9 @@
 -- What a try at a door answers, and what a door tells then.
-use Rattle.std.specs.Prelude.{◌≡◌, ℕ, Bool, true, false, List, [], Option, IfSome, Result, Ok, Err}
+use Rattle.std.specs.Prelude.{◌≡◌, ℕ, Bool, true, false, [], Some, IfSome, Result, Ok, Err}
 use Rattle.outside_doors.specs.Counts.{added}
 use Rattle.outside_doors.specs.declared.traits.Knock.{Knock}
 use Rattle.outside_doors.specs.declared.traits.Knock.TheVariants.{Came, NotYet, Closed}
-use Rattle.outside_traits.specs.declared.calls.WireCall.{WireCall}
+use Rattle.outside_traits.specs.Told.{WireTold}
 
 -- P of the connection that came, where one came
 abbrev pub IfCame : {W E : Type 0} → Result (Knock W) E → (W → Type 0) → Type 0
@@ -33,9 +33,18 @@ closed_after (Ok NotYet) before = before
 closed_after (Ok Closed) before = true
 closed_after (Err cause) before = before
 
--- A connection as it comes: as far as it tells nothing was read or written on it, nor any call made; and it is open.
-pub record IsFresh (given taken : Option (List ℕ)) (calls : Option (List WireCall)) (closed : Bool) : Type 0 where
-  pub unread : IfSome given (λ bytes. bytes ≡ [])
-  pub unwritten : IfSome taken (λ bytes. bytes ≡ [])
-  pub uncalled : IfSome calls (λ made. made ≡ [])
-  pub is_open : closed ≡ false
+-- A connection as it comes: as far as it tells nothing was read or written on it, nor any call made; none has failed,
+-- no read has told an end, and it is open.
+pub record IsFresh (wire : WireTold) : Type 0 where
+  pub nothing_read : IfSome wire.read (λ bytes. bytes ≡ [])
+  pub unwritten : IfSome wire.written (λ bytes. bytes ≡ [])
+  pub uncalled : IfSome wire.calls (λ made. made ≡ [])
+  pub read_unfailed : wire.read_failed ≡ false
+  pub write_unfailed : wire.write_failed ≡ false
+  pub unended : wire.ended ≡ false
+  pub is_open : wire.closed ≡ false
+
+-- A connection as it comes at the door of this place, which it tells.
+pub record ComesAt (place : ℕ) (wire : WireTold) : Type 0 where
+  pub fresh : IsFresh wire
+  pub door : wire.door ≡ Some place

@@ -1,6 +1,7 @@
 -- What is told of the tries to open a door and of the wires that came back, and what doors keep of these and of the
 -- doors that came back.
-use Rattle.std.specs.Prelude.{ℕ, Bool, false, List, [], Option, Some}
+use Rattle.std.specs.Prelude.{ℕ, Bool, List, [], Option, Some}
+use Rattle.outside_traits.specs.Told.{WireTold}
 use Rattle.outside_doors.specs.Counts.{DoorTold, Tally, no_tally}
 
 -- a try to open a door: where, and whether it was opened
@@ -12,41 +13,31 @@ pub record TryTold : Type 0 where
 abbrev pub try_told : List ℕ → Bool → TryTold
 try_told location opened = record { location = location; opened = opened }
 
--- a wire that came back: the bytes that were read and those that were written, each where the wire tells them; whether
--- a read had failed, whether a write had before it was closed, and whether a read had told the end of what comes in
-pub record WireTold : Type 0 where
-  pub read : Option (List ℕ)
-  pub written : Option (List ℕ)
-  pub lost : Bool
-  pub cut : Bool
-  pub ended : Bool
-
--- the same by its parts
-abbrev pub wire_told : Option (List ℕ) → Option (List ℕ) → Bool → Bool → Bool → WireTold
-wire_told read written lost cut ended =
-    record { read = read; written = written; lost = lost; cut = cut; ended = ended }
-
--- a wire, whether a read of it has failed, whether a write has before it was closed, and whether a read has told the
--- end of what comes in
-pub record Counted (W : Type 0) : Type 0 where
+-- a wire that came at the door of a place
+pub record Placed (W : Type 0) : Type 0 where
   pub wire : W
-  pub lost : Bool
-  pub cut : Bool
-  pub ended : Bool
+  pub door : ℕ
 
--- a wire that was not called yet
-abbrev pub counted : {W : Type 0} → W → Counted W
-counted wire = record { wire = wire; lost = false; cut = false; ended = false }
+-- a wire, as it came at the door of this place
+abbrev pub placed : {W : Type 0} → ℕ → W → Placed W
+placed door wire = record { wire = wire; door = door }
 
--- What doors keep: their counts, how often one of their calls has failed, and, while there is room for them, the tries
--- to open a door, the wires that came back, and what each door told that came back.
-pub record BookTold : Type 0 where
-  pub tally : Tally
+-- What doors tell: a number that rises where a door fails to open or one comes back that had failed, and stands else;
+-- what is counted of what was opened and of what came back; and, where they are told, the tries to open a door in order,
+-- the wires that came back in order, closed, and what each door told that came back, in order.
+pub record DoorsTold : Type 0 where
   pub faults : ℕ
+  pub tally : Tally
   pub tries : Option (List TryTold)
-  pub wires : Option (List WireTold)
-  pub doors : Option (List DoorTold)
+  pub returned : Option (List WireTold)
+  pub returned_doors : Option (List DoorTold)
 
 -- before anything was opened
-abbrev pub no_book : BookTold
-no_book = record { tally = no_tally; faults = 0; tries = Some []; wires = Some []; doors = Some [] }
+abbrev pub none_told : DoorsTold
+none_told = record {
+  faults = 0;
+  tally = no_tally;
+  tries = Some [];
+  returned = Some [];
+  returned_doors = Some [];
+}

@@ -1,9 +1,9 @@
 //! What doors keep of what was opened and of what came back.
-ghost use Rattle.std.specs.Prelude.{◌≡◌, ◌≤◌, ◌==◌, [], ◌∷◌, true, false, not, IfSome};
+ghost use Rattle.std.specs.Prelude.{◌≡◌, ◌≤◌, ◌==◌, [], ◌∷◌, Some, true, false, not, IfSome};
 ghost use Rattle.outside_traits.specs.Causes.{Rose};
 ghost use Rattle.outside_doors.specs.Counts.{added, added_if, with_door, with_opened, with_wire};
-ghost use Rattle.outside_traits.specs.Told.{Lists};
-ghost use Rattle.outside_doors.specs.Returns.{no_book, try_told, wire_told};
+ghost use Rattle.outside_traits.specs.Told.{Lists, shut};
+ghost use Rattle.outside_doors.specs.Returns.{none_told, try_told};
 
 use crate::counted_wire::CountedWire;
 use crate::counts::{Counts, DoorCounts};
@@ -24,17 +24,23 @@ pub struct Book<W: Wire + Drop> {
 }
 
 impl<W: Wire + Drop> Model for Book<W> {
-    ghost use Rattle.outside_doors.specs.Returns.{BookTold};
+    ghost use Rattle.outside_doors.specs.Returns.{DoorsTold};
 
-    ghost Value = { BookTold };
+    ghost Value = { DoorsTold };
 
-    ghost view = { λ b. record { tally = b.counts; faults = b.faults; tries = b.tries; wires = b.returns; doors = b.doors } };
+    ghost view = { λ b. record {
+      faults = b.faults;
+      tally = b.counts;
+      tries = b.tries;
+      returned = b.returns;
+      returned_doors = b.doors;
+    } };
 }
 
 impl<W: Wire + Drop> Book<W> {
     /// The book before anything was opened.
     pub fn new(alloc: Global) -> Book<W>
-        ensures { result ≡ no_book }
+        ensures { result ≡ none_told }
     {
         Book {
             counts: Counts::new(),
@@ -57,8 +63,8 @@ impl<W: Wire + Drop> Book<W> {
         ensures tally { self.new.tally ≡ with_opened self.old.tally }
         ensures faults { self.new.faults ≡ self.old.faults }
         ensures tries { Lists self.old.tries self.new.tries (try_told location.now true ∷ []) }
-        ensures wires { self.new.wires ≡ self.old.wires }
-        ensures doors { self.new.doors ≡ self.old.doors }
+        ensures returned { self.new.returned ≡ self.old.returned }
+        ensures returned_doors { self.new.returned_doors ≡ self.old.returned_doors }
     {
         self.counts.add_opened();
         self.tries.keep(location, true);
@@ -71,8 +77,8 @@ impl<W: Wire + Drop> Book<W> {
         ensures rose { Rose self.old.faults self.new.faults }
         ensures later { self.old.faults ≤ self.new.faults }
         ensures tries { Lists self.old.tries self.new.tries (try_told location.now false ∷ []) }
-        ensures wires { self.new.wires ≡ self.old.wires }
-        ensures doors { self.new.doors ≡ self.old.doors }
+        ensures returned { self.new.returned ≡ self.old.returned }
+        ensures returned_doors { self.new.returned_doors ≡ self.old.returned_doors }
     {
         self.faults = self.faults.saturating_add(1);
         self.tries.keep(location, false);
@@ -80,11 +86,11 @@ impl<W: Wire + Drop> Book<W> {
 
     /// A wire came back.
     pub fn wire_back(&mut self, wire: CountedWire<W>)
-        ensures tally { self.new.tally ≡ with_wire wire.lost wire.cut wire.ended self.old.tally }
+        ensures tally { self.new.tally ≡ with_wire (record (W.told wire.wire) { door = Some wire.door }) self.old.tally }
         ensures faults { self.new.faults ≡ self.old.faults }
         ensures tries { self.new.tries ≡ self.old.tries }
-        ensures wires { Lists self.old.wires self.new.wires (wire_told (W.given wire.wire) (W.taken wire.wire) wire.lost wire.cut wire.ended ∷ []) }
-        ensures doors { self.new.doors ≡ self.old.doors }
+        ensures returned { Lists self.old.returned self.new.returned (shut (record (W.told wire.wire) { door = Some wire.door }) ∷ []) }
+        ensures returned_doors { self.new.returned_doors ≡ self.old.returned_doors }
     {
         self.counts
             .add_wire(wire.is_lost(), wire.is_cut(), wire.has_ended());
@@ -96,8 +102,8 @@ impl<W: Wire + Drop> Book<W> {
         ensures tally { self.new.tally ≡ with_door door.now self.old.tally }
         ensures faults { self.new.faults ≡ added_if (not (door.now.faults == 0)) self.old.faults }
         ensures tries { self.new.tries ≡ self.old.tries }
-        ensures wires { self.new.wires ≡ self.old.wires }
-        ensures doors { Lists self.old.doors self.new.doors (door.now ∷ []) }
+        ensures returned { self.new.returned ≡ self.old.returned }
+        ensures returned_doors { Lists self.old.returned_doors self.new.returned_doors (door.now ∷ []) }
     {
         self.counts.add_door(door);
         self.doors.keep(door);
@@ -129,14 +135,14 @@ impl<W: Wire + Drop> Book<W> {
 
     /// The wires that came back in order: all, where they are told.
     pub fn wires(&self) -> &[Return<W>]
-        ensures { IfSome self.now.wires (λ wires. result.now ≡ wires) }
+        ensures { IfSome self.now.returned (λ wires. result.now ≡ wires) }
     {
         self.returns.kept()
     }
 
     /// What each door counted that came back, in order: all, where they are told.
     pub fn doors(&self) -> &[DoorCounts]
-        ensures { IfSome self.now.doors (λ doors. result.now ≡ doors) }
+        ensures { IfSome self.now.returned_doors (λ doors. result.now ≡ doors) }
     {
         self.doors.kept()
     }

@@ -1,7 +1,7 @@
 //! The counts of a door, and those of what opens doors.
 ghost use Rattle.std.specs.Prelude.{◌≡◌, ◌≤◌, true};
 ghost use Rattle.outside_traits.specs.Causes.{Rose};
-ghost use Rattle.outside_doors.specs.Counts.{added, no_tally, rested, untried, with_door, with_opened, with_wire};
+ghost use Rattle.outside_doors.specs.Counts.{added, no_tally, rested, untried, with_door, with_opened, with_return};
 
 use std::marker::Model;
 
@@ -152,7 +152,17 @@ impl Model for Counts {
 
     ghost Value = { Tally };
 
-    ghost view = { λ c. record { opened = c.opened; doors_back = c.doors_back; doors_ended = c.doors_ended; wires_given = c.wires_given; wires_back = c.wires_back; wires_lost = c.wires_lost; wires_cut = c.wires_cut; wires_ended = c.wires_ended; waits = c.waits } };
+    ghost view = { λ c. record {
+      opened = c.opened;
+      doors_back = c.doors_back;
+      doors_ended = c.doors_ended;
+      wires_given = c.wires_given;
+      wires_back = c.wires_back;
+      wires_lost = c.wires_lost;
+      wires_cut = c.wires_cut;
+      wires_ended = c.wires_ended;
+      waits = c.waits;
+    } };
 }
 
 impl Counts {
@@ -257,7 +267,7 @@ impl Counts {
 
     /// Counts a wire that came back: whether a read of it had failed, whether a write had, and whether it had ended.
     pub fn add_wire(&mut self, is_lost: bool, is_cut: bool, has_ended: bool)
-        ensures { self.new ≡ with_wire is_lost is_cut has_ended self.old }
+        ensures { self.new ≡ with_return is_lost is_cut has_ended self.old }
     {
         self.wires_back = self.wires_back.saturating_add(1);
         if is_lost {

@@ -1,7 +1,7 @@
 //! What is kept of the tries to open a door and of the wires and doors that came back.
 ghost use Rattle.std.specs.Prelude.{◌≡◌, [], ◌∷◌, Some, true, IfOk, IfSome};
-ghost use Rattle.outside_traits.specs.Told.{Lists};
-ghost use Rattle.outside_doors.specs.Returns.{try_told, wire_told};
+ghost use Rattle.outside_traits.specs.Told.{Lists, shut};
+ghost use Rattle.outside_doors.specs.Returns.{try_told};
 
 use crate::counted_wire::CountedWire;
 use crate::counts::DoorCounts;
@@ -110,20 +110,20 @@ pub struct Return<W: Wire + Drop> {
 }
 
 impl<W: Wire + Drop> Model for Return<W> {
-    ghost use Rattle.std.specs.Prelude.{◌≡◌, true};
-    ghost use Rattle.outside_doors.specs.Returns.{WireTold};
+    ghost use Rattle.std.specs.Prelude.{◌≡◌, Some, true};
+    ghost use Rattle.outside_traits.specs.Told.{WireTold};
 
     ghost Value = { WireTold };
 
-    ghost view = { λ r. record { read = W.given r.wire.wire; written = W.taken r.wire.wire; lost = r.wire.lost; cut = r.wire.cut; ended = r.wire.ended } };
+    ghost view = { λ r. record (W.told r.wire.wire) { door = Some r.wire.door } };
 
-    ghost invariant = { λ r. W.closed r.wire.wire ≡ true };
+    ghost invariant = { λ r. (W.told r.wire.wire).closed ≡ true };
 }
 
 impl<W: Wire + Drop> Return<W> {
     /// Closes a wire that comes back.
     fn new(wire: CountedWire<W>) -> Return<W>
-        ensures { result ≡ wire_told (W.given wire.wire) (W.taken wire.wire) wire.lost wire.cut wire.ended }
+        ensures { result ≡ shut (record (W.told wire.wire) { door = Some wire.door }) }
     {
         let mut wire = wire;
         wire.close();
@@ -132,23 +132,29 @@ impl<W: Wire + Drop> Return<W> {
 
     /// The wire itself, which is closed.
     pub fn wire(&self) -> &W
-        ensures read { W.given result.now ≡ self.now.read }
-        ensures written { W.taken result.now ≡ self.now.written }
-        ensures closed { W.closed result.now ≡ true }
+        ensures told { record (W.told result.now) { door = self.now.door } ≡ self.now }
+        ensures closed { self.now.closed ≡ true }
     {
         self.wire.wire()
     }
 
+    /// At which door it came: how many doors had been opened before that.
+    pub fn door(&self) -> u64
+        ensures { Some result ≡ self.now.door }
+    {
+        self.wire.door()
+    }
+
     /// Whether a read had failed.
     pub fn is_lost(&self) -> bool
-        ensures { result ≡ self.now.lost }
+        ensures { result ≡ self.now.read_failed }
     {
         self.wire.is_lost()
     }
 
     /// Whether a write had failed before the wire was closed.
     pub fn is_cut(&self) -> bool
-        ensures { result ≡ self.now.cut }
+        ensures { result ≡ self.now.write_failed }
     {
         self.wire.is_cut()
     }
@@ -170,7 +176,7 @@ pub(crate) struct Returns<W: Wire + Drop> {
 
 impl<W: Wire + Drop> Model for Returns<W> {
     ghost use Rattle.std.specs.Prelude.{Option, None, Some, List, if◌then◌else◌};
-    ghost use Rattle.outside_doors.specs.Returns.{WireTold};
+    ghost use Rattle.outside_traits.specs.Told.{WireTold};
 
     ghost Value = { Option (List WireTold) };
 
@@ -196,7 +202,7 @@ impl<W: Wire + Drop> Returns<W> {
 
     /// Keeps one more wire.
     pub(crate) fn keep(&mut self, wire: CountedWire<W>)
-        ensures { Lists self.old self.new (wire_told (W.given wire.wire) (W.taken wire.wire) wire.lost wire.cut wire.ended ∷ []) }
+        ensures { Lists self.old self.new (shut (record (W.told wire.wire) { door = Some wire.door }) ∷ []) }
     {
         if self.kept.push(Return::new(wire)).is_err() {
             self.is_whole = false;

@@ -17,6 +17,14 @@ there_and_back location text bytes = record { location = location; text = text; 
 abbrev pub there_alone : List ℕ → List ℕ → Made
 there_alone location text = record { location = location; text = text; came = None }
 
+-- what is told of a link: the trips that it made in order, where they are told; what the next trips bring in order,
+-- where it is told, the bytes that come back, or none of one that fails; and how often a trip has failed, as far as a
+-- number of 64 bits goes
+pub record LinkTold : Type 0 where
+  pub trips : Option (List Made)
+  pub coming : Option (List (Option (List ℕ)))
+  pub faults : ℕ
+
 -- What a trip brought, bytes or none where it failed, is the first of what was told that the next trips bring, and what
 -- is told then is the rest. Behind the last of it a trip brings no bytes, without a failure.
 abbrev pub Brings : Option (List (Option (List ℕ))) → Option (List (Option (List ℕ))) → Option (List ℕ) → Type 0

@@ -49,11 +49,7 @@ impl CalmLink {
 }
 
 impl Link for CalmLink {
-    ghost trips = { λ l. l.trips };
-
-    ghost coming = { λ l. Some l.coming };
-
-    ghost faults = { λ l. l.faults };
+    ghost told = { λ l. record { trips = l.trips; coming = Some l.coming; faults = l.faults } };
 
     fn trip(&mut self, location: &str, text: &[u8]) -> Result<Vec<u8>, CallError>
         ensures calm { IsOk result }

@@ -29,11 +29,7 @@ impl NoLink {
 }
 
 impl Link for NoLink {
-    ghost trips = { λ _. None };
-
-    ghost coming = { λ _. None };
-
-    ghost faults = { λ faults. faults };
+    ghost told = { λ faults. record { trips = None; coming = None; faults = faults } };
 
     fn trip(&mut self, _location: &str, _text: &[u8]) -> Result<Vec<u8>, CallError>
         ensures always { IsErrOf result CallError.Failed }

@@ -51,11 +51,7 @@ impl ScriptedLink {
 }
 
 impl Link for ScriptedLink {
-    ghost trips = { λ l. l.trips };
-
-    ghost coming = { λ l. Some l.coming };
-
-    ghost faults = { λ l. l.faults };
+    ghost told = { λ l. record { trips = l.trips; coming = Some l.coming; faults = l.faults } };
 
     fn trip(&mut self, location: &str, text: &[u8]) -> Result<Vec<u8>, CallError>
         ensures scripted { IsOkUnless result CallError.Failed }
@@ -79,7 +75,8 @@ impl Link for ScriptedLink {
 
 /// What comes next, none where the trip fails: behind the last no bytes.
 fn next_reply(alloc: Global, coming: &mut Coming<Option<Vec<u8>>>) -> Option<Vec<u8>>
-    ensures { Brings (Some (map (option_map (λ v. v.items)) coming.old)) (Some (map (option_map (λ v. v.items)) coming.new)) (option_map (λ v. v.items) result) }
+    ensures { Brings (Some (map (option_map (λ v. v.items)) coming.old)) (Some (map (option_map (λ v. v.items)) coming.new))
+        (option_map (λ v. v.items) result) }
 {
     match coming.next() {
         None => Some(Vec::new(alloc)),

@@ -1,6 +1,5 @@
-ghost use Rattle.std.specs.Prelude.{◌≡◌, None, false, option_map};
-ghost use Rattle.outside_dials.specs.Dials.{traffic};
-ghost use Rattle.outside_sockets.specs.Sockets.{socket_traffic};
+ghost use Rattle.std.specs.Prelude.{◌≡◌, None, option_map};
+ghost use Rattle.outside_sockets.specs.Sockets.{new_socket, socket_traffic};
 
 use crate::allowance::Allowance;
 use crate::location::address_of;
@@ -52,17 +51,13 @@ impl<H: Net + Clock + Copy + Drop> SocketDial<H> {
 impl<H: Net + Clock + Copy + Drop> Dial for SocketDial<H> {
     type W = SocketWire<TimedStream<H::Stream, H>>;
 
-    ghost blank = { traffic None None None false false false };
+    ghost blank = { socket_traffic (new_socket None) };
 
-    ghost dialled = { λ _. None };
-
-    ghost last = { λ d. option_map socket_traffic d.last };
-
-    ghost faults = { λ d. d.faults };
+    ghost told = { λ d. record { dialled = None; last = option_map socket_traffic d.last; faults = d.faults } };
 
     fn dial(&mut self, location: &str) -> Result<SocketWire<TimedStream<H::Stream, H>>, Failed> {
         match connected(self.host, location, self.most) {
-            Some(stream) => Ok(SocketWire::new(stream)),
+            Some(stream) => Ok(SocketWire::new(stream, None)),
             None => {
                 self.faults = self.faults.saturating_add(1);
                 Err(Failed)

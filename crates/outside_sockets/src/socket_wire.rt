@@ -1,6 +1,7 @@
-ghost use Rattle.std.specs.Prelude.{◌≡◌, ◌<◌, false, None, IfOk, length};
+ghost use Rattle.std.specs.Prelude.{◌≡◌, ◌<◌, IfOk, length};
 ghost use Rattle.std.specs.Io.{ReadsAtMost, WritesAtMost};
 ghost use Rattle.std.specs.Io.KnownBytes.{ReadConsumes, WriteAppends};
+ghost use Rattle.outside_sockets.specs.Sockets.{new_socket, told_by_socket};
 
 use outside_traits::{Failed, Wire};
 use std::io::{ErrorKind, Read, Write};
@@ -14,6 +15,7 @@ pub struct SocketWire<S: Read + Write + OpenStream + Drop> {
     lost: bool,
     cut: bool,
     ended: bool,
+    door: Option<u64>,
 }
 
 impl<S: Read + Write + OpenStream + Drop> Model for SocketWire<S> {
@@ -22,35 +24,46 @@ impl<S: Read + Write + OpenStream + Drop> Model for SocketWire<S> {
 
     ghost Value = { SocketTold };
 
-    ghost view = { λ w. record { lost = w.lost; cut = w.cut; closed = is_none w.stream; ended = w.ended } };
+    ghost view = { λ w. record {
+      read_failed = w.lost;
+      write_failed = w.cut;
+      ended = w.ended;
+      closed = is_none w.stream;
+      door = w.door;
+    } };
 }
 
 impl<S: Read + Write + OpenStream + Drop> SocketWire<S> {
-    /// A connection over a stream, of which no call has failed.
-    pub fn new(stream: S) -> SocketWire<S>
-        ensures lost { result.lost ≡ false }
-        ensures cut { result.cut ≡ false }
-        ensures closed { result.closed ≡ false }
-        ensures ended { result.ended ≡ false }
+    /// A connection over a stream, of which no call has failed, and which came at the door behind so many others, or at none.
+    pub fn new(stream: S, door: Option<u64>) -> SocketWire<S>
+        ensures { result ≡ new_socket door }
     {
         SocketWire {
             stream: Some(stream),
             lost: false,
             cut: false,
             ended: false,
+            door,
         }
+    }
+
+    /// At which door it came, where it came at one: how many doors had been opened before that.
+    pub fn door(&self) -> Option<u64>
+        ensures { result ≡ self.now.door }
+    {
+        self.door
     }
 
     /// Whether a read has failed.
     pub fn is_lost(&self) -> bool
-        ensures { result ≡ self.now.lost }
+        ensures { result ≡ self.now.read_failed }
     {
         self.lost
     }
 
     /// Whether a write has failed before the wire was closed.
     pub fn is_cut(&self) -> bool
-        ensures { result ≡ self.now.cut }
+        ensures { result ≡ self.now.write_failed }
     {
         self.cut
     }
@@ -64,21 +77,7 @@ impl<S: Read + Write + OpenStream + Drop> SocketWire<S> {
 }
 
 impl<S: Read + Write + OpenStream + Drop> Wire for SocketWire<S> {
-    ghost given = { λ _. None };
-
-    ghost left = { λ _. None };
-
-    ghost taken = { λ _. None };
-
-    ghost calls = { λ _. None };
-
-    ghost lost = { λ w. w.lost };
-
-    ghost cut = { λ w. w.cut };
-
-    ghost closed = { λ w. w.closed };
-
-    ghost ended = { λ w. w.ended };
+    ghost told = { λ w. told_by_socket w };
 
     fn read(&mut self, into: &mut [u8]) -> Result<usize, Failed> {
         let has_room = !into.is_empty();

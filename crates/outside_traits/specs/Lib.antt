@@ -1,4 +1,3 @@
-pub mod Adapted
 pub mod Calls
 pub mod Causes
 pub mod Memory

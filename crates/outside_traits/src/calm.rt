@@ -35,9 +35,7 @@ impl CalmSource {
 }
 
 impl Source for CalmSource {
-    ghost left = { λ left. Some left };
-
-    ghost faults = { λ _. 0 };
+    ghost told = { λ left. record { unread = Some left; faults = 0 } };
 
     fn read(&mut self, into: &mut [u8]) -> Result<usize, Failed>
         ensures count { result ≡ Ok (min (length self.old) (length into.old)) }
@@ -83,9 +81,7 @@ impl CalmSink {
 }
 
 impl Sink for CalmSink {
-    ghost taken = { λ s. Some s.shelf.taken };
-
-    ghost faults = { λ s. s.faults };
+    ghost told = { λ s. record { written = Some s.shelf.taken; faults = s.faults } };
 
     fn write(&mut self, from: &[u8]) -> Result<usize, Failed>
         ensures full { IsErr result ↔ (room_left self.old.shelf ≡ 0) × (0 < length from.now) }
@@ -145,9 +141,7 @@ impl CalmFiles {
 impl Files for CalmFiles {
     ghost held = { λ f _. Some f.content };
 
-    ghost asked = { λ f. f.asked };
-
-    ghost faults = { λ _. 0 };
+    ghost told = { λ f. record { asked = f.asked; faults = 0 } };
 
     fn read(&mut self, name: &str, most: u64) -> Result<Vec<u8>, CallError> {
         self.asked.note(name)?;

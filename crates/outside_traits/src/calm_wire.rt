@@ -1,4 +1,4 @@
-ghost use Rattle.std.specs.Prelude.{◌≡◌, ◌<◌, ◌||◌, ◌↔◌, ◌⊎◌, [], ◌∷◌, true, false, not, Ok, Some, IsTrue, IsErr, IfOk, IfSome, MatchResult, length, min};
+ghost use Rattle.std.specs.Prelude.{◌≡◌, ◌<◌, ◌||◌, ◌↔◌, ◌⊎◌, [], ◌∷◌, true, false, not, Ok, None, Some, IsTrue, IsErr, IfOk, IfSome, MatchResult, length, min};
 ghost use Rattle.std.specs.Io.{ReadsAtMost, WritesAtMost};
 ghost use Rattle.std.specs.Io.KnownBytes.{ReadConsumes, WriteAppends};
 ghost use Rattle.outside_traits.specs.Calls.{moved, tells_end};
@@ -103,34 +103,30 @@ impl CalmWire {
 }
 
 impl Wire for CalmWire {
-    ghost given = { λ w. Some w.tape.given };
-
-    ghost left = { λ w. Some (readable w.closed w.tape) };
-
-    ghost taken = { λ w. Some w.shelf.taken };
-
-    ghost calls = { λ w. w.calls };
-
-    ghost lost = { λ _. false };
-
-    ghost cut = { λ w. w.cut };
-
-    ghost closed = { λ w. w.closed };
-
-    ghost ended = { λ w. w.ended };
+    ghost told = { λ w. record {
+      read = Some w.tape.given;
+      unread = Some (readable w.closed w.tape);
+      written = Some w.shelf.taken;
+      calls = w.calls;
+      read_failed = false;
+      write_failed = w.cut;
+      ended = w.ended;
+      closed = w.closed;
+      door = None;
+    } };
 
     fn read(&mut self, into: &mut [u8]) -> Result<usize, Failed>
         ensures count { result ≡ Ok (min (length (readable self.old.closed self.old.tape)) (length into.old)) }
         ensures shelf { self.new.shelf ≡ self.old.shelf }
         ensures bound { ReadsAtMost result into.new }
         ensures bytes { ReadConsumes (Some (readable self.old.closed self.old.tape)) (Some (readable self.new.closed self.new.tape)) result into.new }
-        ensures given { WriteAppends (Some self.old.tape.given) (Some self.new.tape.given) result into.new }
-        ensures taken { Some self.new.shelf.taken ≡ Some self.old.shelf.taken }
+        ensures read { WriteAppends (Some self.old.tape.given) (Some self.new.tape.given) result into.new }
+        ensures written { Some self.new.shelf.taken ≡ Some self.old.shelf.taken }
         ensures calls { Lists self.old.calls self.new.calls (Read (moved result) ∷ []) }
         ensures closed { self.new.closed ≡ self.old.closed }
         ensures ended { self.new.ended ≡ (self.old.ended || tells_end self.old.closed (length into.old) result) }
         ensures shut { IsTrue self.old.closed → result ≡ Ok 0 }
-        ensures cut { self.new.cut ≡ self.old.cut }
+        ensures write_failed { self.new.cut ≡ self.old.cut }
     {
         if self.closed {
             self.calls.note(WireCall::Read(0));
@@ -149,13 +145,13 @@ impl Wire for CalmWire {
         ensures bound { WritesAtMost result from.now }
         ensures some { IfOk result (λ count. 0 < length from.now → 0 < count) }
         ensures bytes { WriteAppends (Some self.old.shelf.taken) (Some self.new.shelf.taken) result from.now }
-        ensures given { Some self.new.tape.given ≡ Some self.old.tape.given }
-        ensures left { Some (readable self.new.closed self.new.tape) ≡ Some (readable self.old.closed self.old.tape) }
+        ensures read { Some self.new.tape.given ≡ Some self.old.tape.given }
+        ensures unread { Some (readable self.new.closed self.new.tape) ≡ Some (readable self.old.closed self.old.tape) }
         ensures calls { Lists self.old.calls self.new.calls (Wrote (moved result) ∷ []) }
         ensures closed { self.new.closed ≡ self.old.closed }
         ensures ended { self.new.ended ≡ self.old.ended }
         ensures shut { IsTrue self.old.closed → IsErr result }
-        ensures cut { MatchResult result (λ _. self.new.cut ≡ self.old.cut) (λ _. self.new.cut ≡ (self.old.cut || not self.old.closed)) }
+        ensures write_failed { MatchResult result (λ _. self.new.cut ≡ self.old.cut) (λ _. self.new.cut ≡ (self.old.cut || not self.old.closed)) }
     {
         if self.closed {
             return self.fail();

@@ -56,9 +56,7 @@ impl ScriptedSource {
 }
 
 impl Source for ScriptedSource {
-    ghost left = { λ s. Some s.left };
-
-    ghost faults = { λ s. s.script.faults };
+    ghost told = { λ s. record { unread = Some s.left; faults = s.script.faults } };
 
     fn read(&mut self, into: &mut [u8]) -> Result<usize, Failed>
         ensures scripted { IsErr result ↔ Contains self.old.script.failing self.old.script.call }
@@ -126,9 +124,7 @@ impl ScriptedSink {
 }
 
 impl Sink for ScriptedSink {
-    ghost taken = { λ s. Some s.shelf.taken };
-
-    ghost faults = { λ s. s.script.faults };
+    ghost told = { λ s. record { written = Some s.shelf.taken; faults = s.script.faults } };
 
     fn write(&mut self, from: &[u8]) -> Result<usize, Failed>
         ensures scripted { Contains self.old.script.failing self.old.script.call → IsErr result }
@@ -197,9 +193,7 @@ impl ScriptedFiles {
 impl Files for ScriptedFiles {
     ghost held = { λ f _. Some f.content };
 
-    ghost asked = { λ f. f.asked };
-
-    ghost faults = { λ f. f.script.faults };
+    ghost told = { λ f. record { asked = f.asked; faults = f.script.faults } };
 
     fn read(&mut self, name: &str, most: u64) -> Result<Vec<u8>, CallError>
         ensures scripted { IsErrOf result CallError.Failed ↔ Contains self.old.script.failing self.old.script.call }

@@ -1,4 +1,4 @@
-ghost use Rattle.std.specs.Prelude.{◌≡◌, ◌<◌, ◌||◌, ◌↔◌, ◌⊎◌, [], ◌∷◌, true, false, not, Ok, Some, IsTrue, IsErr, IfOk, IfSome, Contains, MatchResult, length, min};
+ghost use Rattle.std.specs.Prelude.{◌≡◌, ◌<◌, ◌||◌, ◌↔◌, ◌⊎◌, [], ◌∷◌, true, false, not, Ok, None, Some, IsTrue, IsErr, IfOk, IfSome, Contains, MatchResult, length, min};
 ghost use Rattle.std.specs.Io.{ReadsAtMost, WritesAtMost};
 ghost use Rattle.std.specs.Io.KnownBytes.{ReadConsumes, WriteAppends};
 ghost use Rattle.outside_traits.specs.Calls.{moved, tells_end};
@@ -36,7 +36,17 @@ impl Model for ScriptedWire {
 
     ghost Value = { ScriptedLine };
 
-    ghost view = { λ w. record { script = w.script; tape = w.tape; shelf = w.shelf; calls = w.calls; piece = w.piece; lost = w.lost; cut = w.cut; closed = w.closed; ended = w.ended } };
+    ghost view = { λ w. record {
+      script = w.script;
+      tape = w.tape;
+      shelf = w.shelf;
+      calls = w.calls;
+      piece = w.piece;
+      lost = w.lost;
+      cut = w.cut;
+      closed = w.closed;
+      ended = w.ended;
+    } };
 
     ghost invariant = { λ w. 0 < w.piece };
 }
@@ -133,21 +143,17 @@ impl ScriptedWire {
 }
 
 impl Wire for ScriptedWire {
-    ghost given = { λ w. Some w.tape.given };
-
-    ghost left = { λ w. Some (readable w.closed w.tape) };
-
-    ghost taken = { λ w. Some w.shelf.taken };
-
-    ghost calls = { λ w. w.calls };
-
-    ghost lost = { λ w. w.lost };
-
-    ghost cut = { λ w. w.cut };
-
-    ghost closed = { λ w. w.closed };
-
-    ghost ended = { λ w. w.ended };
+    ghost told = { λ w. record {
+      read = Some w.tape.given;
+      unread = Some (readable w.closed w.tape);
+      written = Some w.shelf.taken;
+      calls = w.calls;
+      read_failed = w.lost;
+      write_failed = w.cut;
+      ended = w.ended;
+      closed = w.closed;
+      door = None;
+    } };
 
     // A closed wire does nothing with its script.
     fn read(&mut self, into: &mut [u8]) -> Result<usize, Failed>
@@ -159,14 +165,14 @@ impl Wire for ScriptedWire {
         ensures piece { self.new.piece ≡ self.old.piece }
         ensures bound { ReadsAtMost result into.new }
         ensures bytes { ReadConsumes (Some (readable self.old.closed self.old.tape)) (Some (readable self.new.closed self.new.tape)) result into.new }
-        ensures given { WriteAppends (Some self.old.tape.given) (Some self.new.tape.given) result into.new }
-        ensures taken { Some self.new.shelf.taken ≡ Some self.old.shelf.taken }
+        ensures read { WriteAppends (Some self.old.tape.given) (Some self.new.tape.given) result into.new }
+        ensures written { Some self.new.shelf.taken ≡ Some self.old.shelf.taken }
         ensures calls { Lists self.old.calls self.new.calls (Read (moved result) ∷ []) }
         ensures closed { self.new.closed ≡ self.old.closed }
         ensures ended { self.new.ended ≡ (self.old.ended || tells_end self.old.closed (length into.old) result) }
         ensures shut { IsTrue self.old.closed → result ≡ Ok 0 }
-        ensures lost { MatchResult result (λ _. self.new.lost ≡ self.old.lost) (λ _. self.new.lost ≡ true) }
-        ensures cut { self.new.cut ≡ self.old.cut }
+        ensures read_failed { MatchResult result (λ _. self.new.lost ≡ self.old.lost) (λ _. self.new.lost ≡ true) }
+        ensures write_failed { self.new.cut ≡ self.old.cut }
     {
         if self.closed {
             self.calls.note(WireCall::Read(0));
@@ -185,7 +191,8 @@ impl Wire for ScriptedWire {
 
     fn write(&mut self, from: &[u8]) -> Result<usize, Failed>
         ensures scripted { Contains self.old.script.failing self.old.script.call → IsErr result }
-        ensures full { IsErr result → (IsTrue self.old.closed ⊎ Contains self.old.script.failing self.old.script.call) ⊎ ((room_left self.old.shelf ≡ 0) × (0 < length from.now)) }
+        ensures full { IsErr result → (IsTrue self.old.closed ⊎ Contains self.old.script.failing self.old.script.call)
+            ⊎ ((room_left self.old.shelf ≡ 0) × (0 < length from.now)) }
         ensures count { IfOk result (λ count. count ≡ min (room_left self.old.shelf) (min self.old.piece (length from.now))) }
         ensures room { self.new.shelf.room ≡ self.old.shelf.room }
         ensures script { self.old.closed ≡ false → IsNext self.old.script self.new.script }
@@ -193,14 +200,14 @@ impl Wire for ScriptedWire {
         ensures bound { WritesAtMost result from.now }
         ensures some { IfOk result (λ count. 0 < length from.now → 0 < count) }
         ensures bytes { WriteAppends (Some self.old.shelf.taken) (Some self.new.shelf.taken) result from.now }
-        ensures given { Some self.new.tape.given ≡ Some self.old.tape.given }
-        ensures left { Some (readable self.new.closed self.new.tape) ≡ Some (readable self.old.closed self.old.tape) }
+        ensures read { Some self.new.tape.given ≡ Some self.old.tape.given }
+        ensures unread { Some (readable self.new.closed self.new.tape) ≡ Some (readable self.old.closed self.old.tape) }
         ensures calls { Lists self.old.calls self.new.calls (Wrote (moved result) ∷ []) }
         ensures closed { self.new.closed ≡ self.old.closed }
         ensures ended { self.new.ended ≡ self.old.ended }
         ensures shut { IsTrue self.old.closed → IsErr result }
-        ensures lost { self.new.lost ≡ self.old.lost }
-        ensures cut { MatchResult result (λ _. self.new.cut ≡ self.old.cut) (λ _. self.new.cut ≡ (self.old.cut || not self.old.closed)) }
+        ensures read_failed { self.new.lost ≡ self.old.lost }
+        ensures write_failed { MatchResult result (λ _. self.new.cut ≡ self.old.cut) (λ _. self.new.cut ≡ (self.old.cut || not self.old.closed)) }
     {
         if self.closed || self.script.fails() {
             return self.note_failed_write();

@@ -18,16 +18,16 @@ pub struct Inputs<R: Read + Drop> {
 }
 
 impl<R: Read + Drop> Model for Inputs<R> {
-    ghost use Rattle.outside_traits.specs.Adapted.{Adapted};
+    ghost use Rattle.outside_traits.specs.Told.{SourceTold};
 
-    ghost Value = { Adapted };
+    ghost Value = { SourceTold };
 
-    ghost view = { λ s. record { told = R.remaining s.reader; faults = s.faults } };
+    ghost view = { λ s. record { unread = R.remaining s.reader; faults = s.faults } };
 }
 
 impl<R: Read + Drop> Inputs<R> {
     pub fn new(reader: R) -> Inputs<R>
-        ensures told { result.told ≡ R.remaining reader }
+        ensures unread { result.unread ≡ R.remaining reader }
         ensures faults { result.faults ≡ 0 }
     {
         Inputs { reader, faults: 0 }
@@ -35,9 +35,7 @@ impl<R: Read + Drop> Inputs<R> {
 }
 
 impl<R: Read + Drop> Source for Inputs<R> {
-    ghost left = { λ s. s.told };
-
-    ghost faults = { λ s. s.faults };
+    ghost told = { λ s. s };
 
     fn read(&mut self, into: &mut [u8]) -> Result<usize, Failed> {
         let answer = read_uninterrupted(&mut self.reader, into);
@@ -74,16 +72,16 @@ pub struct Outputs<W: Write + Drop> {
 }
 
 impl<W: Write + Drop> Model for Outputs<W> {
-    ghost use Rattle.outside_traits.specs.Adapted.{Adapted};
+    ghost use Rattle.outside_traits.specs.Told.{SinkTold};
 
-    ghost Value = { Adapted };
+    ghost Value = { SinkTold };
 
-    ghost view = { λ s. record { told = W.contents s.writer; faults = s.faults } };
+    ghost view = { λ s. record { written = W.contents s.writer; faults = s.faults } };
 }
 
 impl<W: Write + Drop> Outputs<W> {
     pub fn new(writer: W) -> Outputs<W>
-        ensures told { result.told ≡ W.contents writer }
+        ensures written { result.written ≡ W.contents writer }
         ensures faults { result.faults ≡ 0 }
     {
         Outputs { writer, faults: 0 }
@@ -91,9 +89,7 @@ impl<W: Write + Drop> Outputs<W> {
 }
 
 impl<W: Write + Drop> Sink for Outputs<W> {
-    ghost taken = { λ s. s.told };
-
-    ghost faults = { λ s. s.faults };
+    ghost told = { λ s. s };
 
     fn write(&mut self, from: &[u8]) -> Result<usize, Failed> {
         let answer = write_uninterrupted(&mut self.writer, from);
@@ -168,9 +164,7 @@ impl<H: rt::Files + Drop> Storage<H> {
 impl<H: rt::Files + Drop> Files for Storage<H> {
     ghost held = { λ _ _. None };
 
-    ghost asked = { λ s. s.asked };
-
-    ghost faults = { λ s. s.faults };
+    ghost told = { λ s. s };
 
     fn read(&mut self, name: &str, most: u64) -> Result<Vec<u8>, CallError> {
         self.asked.note(name)?;
@@ -202,7 +196,7 @@ const CHUNK: usize = 4096;
 /// The first `most` bytes of a source, or all of them where it has fewer.
 fn read_front<S: Source>(alloc: Global, source: &mut S, most: u64) -> Result<Vec<u8>, CallError>
     ensures most { IfOk result (λ bytes. length bytes.items ≤ most) }
-    ensures bytes { IfOk result (λ bytes. IfSome (S.left source.old) (λ all. bytes.items ≡ take most all)) }
+    ensures bytes { IfOk result (λ bytes. IfSome (S.told source.old).unread (λ all. bytes.items ≡ take most all)) }
 {
     let mut bytes = Vec::new(alloc);
     let mut chunk = [0; CHUNK];

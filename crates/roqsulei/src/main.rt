@@ -3,23 +3,31 @@
 
 ghost use Rattle.std.specs.Prelude.{◌<◌, IfOk, length};
 
-use command_words::status::{OUT_OF_MEMORY, USAGE_ERROR};
 use http_link::HttpLink;
 use jolie_main::{World, run};
+use main_commands::status::{FILE_FAILED, OUT_OF_MEMORY, OUTPUT_FAILED, USAGE_ERROR};
+use main_commands::{Words, understood};
+use outside_socket_doors::{Patience, SocketDoors};
 use outside_sockets::SocketDial;
 use outside_traits::{Inputs, Outputs, Storage};
-use socket_doors::{Patience, SocketDoors};
 use std::alloc::{AllocError, Global};
+use std::io::Read;
 use std::net::Net;
 use std::process::ExitCode;
 use std::rt::Clock;
 use std::time::Duration;
-use std::{env, io};
+use std::{env, fs, io};
 
 /// What is wrong with words of which one is no UTF-8.
 const NOT_UTF8: &str = "error: invalid UTF-8 was detected in one or more arguments\n\n\
     Usage: roqsulei <COMMAND>\n\n\
     For more information, try '--help'.";
+
+/// The status of a run whose input failed.
+const INPUT_FAILED: u8 = 4;
+
+/// The status of a run of which a location could not be listened at, or a door failed.
+const DOOR_FAILED: u8 = 7;
 
 /// How many seconds a call to a service elsewhere may take.
 const LONGEST_TRIP: u64 = 30;
@@ -32,7 +40,7 @@ fn main(rt: HostRuntime) -> ExitCode {
     };
     let links = match links(alloc, &rt) {
         Ok(links) => links,
-        Err(_) => return ExitCode::from(OUT_OF_MEMORY),
+        Err(_) => return ended(&rt, &words, OUT_OF_MEMORY),
     };
     let mut world = World {
         files: Storage::new(alloc, &rt),
@@ -43,9 +51,51 @@ fn main(rt: HostRuntime) -> ExitCode {
         links,
     };
     match run(alloc, &words, &mut world) {
-        Ok(ended) => ExitCode::from(ended.status),
-        Err(_) => ExitCode::from(OUT_OF_MEMORY),
+        Ok(run) => ended(&rt, &words, run.status),
+        Err(_) => ended(&rt, &words, OUT_OF_MEMORY),
     }
+}
+
+/// The end of the program with a status. Where nothing else says why, standard error does, in one line.
+fn ended(rt: &HostRuntime, words: &[String], status: u8) -> ExitCode {
+    // The status is the same where standard error takes nothing.
+    let _ = say_why(rt, words, status);
+    ExitCode::from(status)
+}
+
+/// Says why the program ends with a status, where no line did.
+fn say_why(rt: &HostRuntime, words: &[String], status: u8) -> io::Result<()> {
+    match status {
+        FILE_FAILED => say_why_unread(rt, words),
+        INPUT_FAILED => eprintln!(rt; "roqsulei: the standard input failed"),
+        OUTPUT_FAILED => eprintln!(rt;
+            "roqsulei: the standard output or the standard error failed"
+        ),
+        DOOR_FAILED => {
+            eprintln!(rt; "roqsulei: a location could not be listened at, or its door failed")
+        }
+        OUT_OF_MEMORY => eprintln!(rt; "roqsulei: out of memory"),
+        _ => Ok(()),
+    }
+}
+
+/// Says why the file can't be read: what the system says where it is asked again.
+fn say_why_unread(rt: &HostRuntime, words: &[String]) -> io::Result<()> {
+    let Ok(Words::Command(command)) = understood(rt.alloc(), words) else {
+        return eprintln!(rt; "roqsulei: the file cannot be read");
+    };
+    let file = command.file.as_str();
+    match begun(rt, file) {
+        Ok(_) => eprintln!(rt; "roqsulei: {file}: cannot be read"),
+        Err(error) => eprintln!(rt; "roqsulei: {file}: {error}"),
+    }
+}
+
+/// Opens a file and reads its first byte.
+fn begun(rt: &HostRuntime, file: &str) -> io::Result<usize> {
+    let mut opened = fs::open(rt, file)?;
+    let mut first = [0; 1];
+    opened.read(&mut first)
 }
 
 /// How long those who come in at a door are waited for: each is read in its turn, so that one who says nothing holds up

@@ -12,20 +12,21 @@ use Rattle.office_core.specs.Past.{closes}
 use Rattle.office_core.specs.Accepted.{past_of}
 use Rattle.office_core.specs.Calls.{outgoing}
 use Rattle.office_core.specs.Legal.{IsLegal}
-use Rattle.office_front.specs.Dealings.{Dealings, Told}
-use Rattle.quiet_laws.specs.Ends.{CameThrough, Ended, is_by_worker, is_close, is_collect, stop_entry}
-use Rattle.quiet_laws.proofs.Ending.{Looked, spent_exact}
-use Rattle.quiet_laws.proofs.Finished.{is_run}
+use Rattle.run_theorem.specs.Dealings.{Dealings, Told}
+use Rattle.run_quiet_laws.specs.Ends.{CameThrough, Ended, is_by_worker, is_close, is_collect, stop_entry}
+use Rattle.run_quiet_laws.proofs.Ending.{Looked, spent_exact}
+use Rattle.run_quiet_laws.proofs.Finished.{is_run}
 use Rattle.run_record.specs.Order.{order_alone}
 use Rattle.run_record.specs.Outside.{note_of, notes}
-use Rattle.run_record.specs.Quiet.{unbrought}
-use Rattle.trip_laws.specs.Going.{AreSettled, NotedSoFar, is_inward, is_silent}
-use Rattle.trip_laws.proofs.Settling.{all_noted, brought_over, noted_on, over_all, quiet_none, settled_on}
-use Rattle.trip_laws.proofs.Touring.{void_is}
+use Rattle.run_record.specs.Quiet.{outstanding}
+use Rattle.run_trip_laws.specs.Going.{AreSettled, NotedSoFar, is_inward, is_silent}
+use Rattle.run_trip_laws.proofs.Settling.{all_noted, brought_over, noted_on, over_all, quiet_none, settled_on}
+use Rattle.run_trip_laws.proofs.Touring.{void_is}
 use Rattle.run_posts.specs.Fates.{Wait}
 use Rattle.run_posts.proofs.Ending.{told_each}
 use Rattle.run_posts.proofs.Opening.{IsOpen}
-use Rattle.run_alone.specs.Ran.{AreNotes, IsOver, GaveNone, NotedBefore, SawFinished, ToldBefore, Ran, Rules}
+use Rattle.run_record.specs.Collected.{AreCollected}
+use Rattle.run_alone.specs.Ran.{AreNotes, CollectedBefore, IsOver, LeavesNone, GaveNone, NotedBefore, SawFinished, ToldBefore, Ran, Rules}
 use Rattle.run_alone.specs.declared.worker.Finished.{Finished}
 use Rattle.run_alone.proofs.Stepping.{all_append, all_weaker}
 
@@ -81,8 +82,8 @@ module _ {h now : List Entry} (x : Ended h now) where
 -- ---- the run
 
 -- What one worker has at the end of a run, of a history h before its end.
-pub record HasEnded (r : Rules) (h : List Entry) (xs : List Wait) (d : Dealings) (finished : Finished) : Type 0 where
-  pub came : CameThrough r.setting r.budget d.said.muted h finished.report.sessions
+pub record HasEnded (r : Rules) (h : List Entry) (xs : List Wait) (new d : Dealings) (finished : Finished) : Type 0 where
+  pub came : CameThrough r.setting r.budget d.said.notes_failed h finished.report.sessions
   pub end : Ended h finished.report.history.entries.items
   pub legal : IsLegal r.setting finished.report.history.entries.items
   pub opens : IsOpen r.setting finished.report.history.entries.items d.brought.given d.said.told xs
@@ -91,17 +92,20 @@ pub record HasEnded (r : Rules) (h : List Entry) (xs : List Wait) (d : Dealings)
   pub settled : AreSettled r.setting h
   pub noted : NotedSoFar r.setting h d.said.noted
   pub over : IsOver d
+  pub left : LeavesNone new d
   pub asked : length d.brought.seens ≡ length d.brought.given
   pub told_before : ToldBefore r.setting finished.report.history.entries.items d
+  pub gathered : AreCollected r.setting finished.report.history.entries.items
+  pub collected : CollectedBefore r.setting finished.report.history.entries.items d
   pub seen : GaveNone d → SawFinished r.setting finished.report.history.entries.items d
   pub noted_then : NotedBefore r.setting finished.report.history.entries.items d
   pub looked : Looked r.setting r.budget h finished.report.sessions finished.spent
   pub traffic : finished.report.traffic ≡ []
 
-notes_of : (r : Rules) (h : List Entry) (xs : List Wait) (d : Dealings) (finished : Finished)
-    → HasEnded r h xs d finished
-    → AreNotes d.said.muted d.said.noted (notes r.setting finished.report.history.entries.items)
-notes_of r h xs d finished x = (
+notes_of : (r : Rules) (h : List Entry) (xs : List Wait) (new d : Dealings) (finished : Finished)
+    → HasEnded r h xs new d finished
+    → AreNotes d.said.notes_failed d.said.noted (notes r.setting finished.report.history.entries.items)
+notes_of r h xs new d finished x = (
   (
     flat_map note_of (outgoing r.setting (past_of r.setting finished.report.history.entries.items) kind.Console),
     sym (noted_end x.end r.setting d.said.noted x.legal x.noted),
@@ -109,16 +113,16 @@ notes_of r h xs d finished x = (
   λ calm.
       all_noted r.setting finished.report.history.entries.items d.said.noted
       (quiet_none r.setting finished.report.history.entries.items kind.Console (settled_end x.end r.setting x.legal x.settled)
-      (subst (λ (l : List Entry). unbrought (past_of r.setting l) ≡ []) (added_is x.end)
+      (subst (λ (l : List Entry). outstanding (past_of r.setting l) ≡ []) (added_is x.end)
       (brought_over r.setting h (added x.end) (silent_end x.end) (subst (IsLegal r.setting) (sym (added_is x.end)) x.legal)
       x.settled (x.came.quiet calm).brought)))
       (noted_end x.end r.setting d.said.noted x.legal x.noted),
 )
 
-pub ran : (r : Rules) (text : List ℕ) (h : List Entry) (xs : List Wait) (d : Dealings) (finished : Finished)
-    → finished.report.program ≡ text → HasEnded r h xs d finished → Ran r text d finished
-ran r text h xs d finished program x = record {
-  run = is_run {h = h} x.came x.end x.legal x.opens.posted.hands x.opens.posted.together;
+pub ran : (r : Rules) (text : List ℕ) (h : List Entry) (xs : List Wait) (new d : Dealings) (finished : Finished)
+    → finished.report.program ≡ text → HasEnded r h xs new d finished → Ran r text new d finished
+ran r text h xs new d finished program x = record {
+  run = is_run {h = h} x.came x.end x.legal x.opens.posted.hands x.opens.posted.together x.gathered;
   program = program;
   traffic = x.traffic;
   dealt = record {
@@ -128,10 +132,12 @@ ran r text h xs d finished program x = record {
     told = λ t c.
         told_each r.setting (past_of r.setting finished.report.history.entries.items) d.brought.given d.said.told t
         x.opens.told c;
-    noted = notes_of r h xs d finished x;
+    noted = notes_of r h xs new d finished x;
     over = x.over;
+    left = x.left;
     asked = x.asked;
     told_before = x.told_before;
+    collected = x.collected;
     seen = x.seen;
     noted_then = x.noted_then;
   };

@@ -5,14 +5,14 @@ use Rattle.std.proofs.lemmas.Bool.{false≢true, lt-ltb}
 use Rattle.std.proofs.lemmas.List.{append-nil}
 use Rattle.std.proofs.lemmas.Option.{slice_get_within}
 use Rattle.behaviour_tree.specs.declared.words.Event.{Event}
-use Rattle.calculus.specs.After.{HasEvent, after}
+use Rattle.session_calculus.specs.After.{HasEvent, after}
 use Rattle.office_core.specs.declared.history.Entry.{Entry}
 use Rattle.office_core.specs.Sessions.{was_adopted}
 use Rattle.office_core.specs.Accepted.{past_of}
 use Rattle.run_record.specs.Agrees.{IsSession}
 use Rattle.run_record.specs.Quiet.{CanAct}
-use Rattle.quiet_laws.proofs.Acting.{acted, ended_cannot_act, idle_cannot_act, passed_not}
-use Rattle.quiet_laws.proofs.Once.{of_service, same_of}
+use Rattle.run_quiet_laws.proofs.Acting.{acted, ended_cannot_act, idle_cannot_act, passed_not}
+use Rattle.run_quiet_laws.proofs.Once.{of_service, same_of}
 use Rattle.session_turn.specs.declared.turn.Turn.{Turn}
 use Rattle.session_turn.specs.Lives.{Kept, Moment}
 use Rattle.session_turn.specs.Seen.{Seat}
@@ -22,7 +22,7 @@ use Rattle.session_turn.proofs.Telling.{is_told}
 use Rattle.run_cells.specs.Crews.{State, Team, moment_at, seat_at}
 use Rattle.run_cells.specs.Turns.{IsTurn, Spot, Turned, is_did, play, spot}
 use Rattle.run_cells.specs.Turns.{did as was_did, ended as was_ended, idle as was_idle, spent as was_spent}
-use Rattle.run_alone.specs.Picks.{CanActBy, Chose, HasStrands, TakenTurn, strand_at}
+use Rattle.run_theorem.specs.Picks.{CanActBy, Chose, HasStrands, TakenTurn, strand_at}
 use Rattle.run_alone.specs.Ran.{Rules}
 
 -- ---- an event that was chosen

@@ -11,7 +11,7 @@ use Rattle.office_core.specs.declared.history.Act.TheVariants as act
 use Rattle.office_core.specs.declared.history.Entry.{Entry}
 use Rattle.office_core.specs.Sessions.{service_of}
 use Rattle.office_core.specs.Accepted.{past_of}
-use Rattle.run_record.specs.Quiet.{unbrought}
+use Rattle.run_record.specs.Quiet.{outstanding}
 use Rattle.run_record.specs.Steps.{is_call_of}
 use Rattle.session_turn.specs.declared.turn.Turn.{Turn}
 use Rattle.run_cells.specs.Crews.{Stand, State, Stays, Team, events_of}
@@ -23,7 +23,7 @@ use Rattle.run_cells.proofs.Going.{team_comes, team_turns}
 use Rattle.run_cells.proofs.Stilling.{event_at, idle_turn_same}
 use Rattle.run_cells.proofs.Teams.{OwnCame, turn_came}
 use Rattle.run_sweep.specs.Courses.{Goes, adopts, round, stays, works}
-use Rattle.run_alone.specs.Picks.{EndsRound, Follows, TakenTurn, TookTurns, again, events_by, next}
+use Rattle.run_theorem.specs.Picks.{EndsRound, Follows, TakenTurn, TookTurns, again, events_by, next}
 use Rattle.run_alone.specs.Ran.{Rules}
 use Rattle.run_alone.proofs.Choosing.{CameOf, came_of, rules_at, turn_at, turn_now}
 use Rattle.run_alone.proofs.Places.{Grows, count_set, drop_get, get_born, get_set, grows_born, grows_not, grows_set}
@@ -284,7 +284,7 @@ course_on {r} {picks} u (round mid new moved goes team brought turns) =
     let v : BehindRound r picks mid = course_on u goes in
     round_on team
     (stands_so (IsBefore r.setting mid.history 0) v
-    (before_round v.stands (coe 0 1 (i. unbrought (past_of (v.rules i).setting mid.history) ≡ []) brought))) turns
+    (before_round v.stands (coe 0 1 (i. outstanding (past_of (v.rules i).setting mid.history) ≡ []) brought))) turns
 course_on u (adopts mid new goes a) = behind_later (course_on u goes) (by_adoption a)
 course_on u (works mid new more goes x each) = behind_later (course_on u goes) (by_stays x)
 

@@ -3,7 +3,7 @@ use Rattle.std.proofs.Common.{◌≡◌, ◌≤◌, ◌⊎◌, ℕ, zero, suc, L
 use Rattle.std.specs.Prelude.{slice_get}
 use Rattle.std.proofs.lemmas.List.{length-append, length_push, take-append-le, take_all}
 use Rattle.std.proofs.lemmas.Option.{slice_get_within}
-use Rattle.office_front.specs.Dealings.{Dealings, Said, Told}
+use Rattle.run_theorem.specs.Dealings.{Dealings, Said, Told}
 use Rattle.run_cells.specs.Crews.{State}
 use Rattle.run_posts.specs.Fates.{Wait}
 use Rattle.run_posts.specs.Open.{StandsInOrder, told_places}
@@ -18,7 +18,7 @@ some_same : {A : Type 0} (x y : A) → Some x ≡ Some y → x ≡ y
 some_same x y e = cc
 
 -- with one count more each is one of those before, or the last
-one_of_more : (counts : List ℕ) (count j k : ℕ) → slice_get (counts ++ count ∷ []) j ≡ Some k
+pub one_of_more : (counts : List ℕ) (count j k : ℕ) → slice_get (counts ++ count ∷ []) j ≡ Some k
     → (slice_get counts j ≡ Some k) ⊎ ((j ≡ length counts) × (k ≡ count))
 one_of_more [] count zero k e = inr (refl, some_same k count (sym e))
 one_of_more [] count (suc j) k e = absurd (none_some k e)

@@ -1,7 +1,7 @@
 -- What one worker has once it did what was left to do, stopped the run and told what was open.
 use Rattle.std.proofs.Common.{◌≡◌, ◌↔◌, ◌<◌, ◌≤◌, ◌-◌, ℕ, Bool, true, false, List, [], ◌∷◌, ◌++◌, map, length, take, flat_map, inl, inr, refl, sym, ap, subst, ◌∙◌, append_assoc, le_refl}
 use Rattle.std.specs.Prelude.{slice_get}
-use Rattle.std.specs.List.{filter, list_all}
+use Rattle.std.specs.List.{filter, list_all, list_any}
 use Rattle.std.proofs.lemmas.Bool.{false≢true}
 use Rattle.std.proofs.lemmas.List.{take_at}
 use Rattle.behaviour_tree.specs.declared.words.Event.{Event}
@@ -13,10 +13,13 @@ use Rattle.office_core.specs.Limits.{Limits, Setting, first_worker}
 use Rattle.office_core.specs.Past.{closes, some_entry, stops}
 use Rattle.office_core.specs.Accepted.{past_of}
 use Rattle.office_core.specs.Legal.{IsLegal}
-use Rattle.office_front.specs.Dealings.{Brought, Dealings, Told}
-use Rattle.office_front.specs.Calls.{most_postings}
-use Rattle.quiet_laws.specs.Ends.{CameThrough, Ended, is_adoption, is_collect, stop_entry}
-use Rattle.quiet_laws.proofs.Ending.{Looked}
+use Rattle.run_theorem.specs.Dealings.{Brought, Dealings, Told}
+use Rattle.run_theorem.specs.Calls.{most_postings}
+use Rattle.run_quiet_laws.specs.Ends.{CameThrough, Ended, is_adoption, is_collect, stop_entry}
+use Rattle.run_quiet_laws.proofs.Ending.{Looked, before_the_stop}
+use Rattle.run_record.specs.Collected.{AreCollected}
+use Rattle.run_record.specs.Quiet.{before_stop}
+use Rattle.run_record.specs.Run.{alone, is_of_hand}
 use Rattle.run_record.specs.Order.{finished_there, numbers_from, order_alone}
 use Rattle.run_cells.specs.Crews.{State, Stays, Team, closing, events_of, past_in}
 use Rattle.run_cells.specs.Rounds.{Adopted, HasSpent, IsQuietAt, IsStillAt}
@@ -25,18 +28,23 @@ use Rattle.run_posts.specs.Fates.{Wait, all_collected, is_finished, is_open, set
 use Rattle.run_posts.specs.Telling.{AreExpected, TellsAll}
 use Rattle.run_posts.proofs.Ending.{StandsInOrder, open_expected}
 use Rattle.run_posts.proofs.Opening.{IsOpen, is_between, told_places}
-use Rattle.trip_laws.specs.Going.{AreSettled, NotedSoFar, is_inward}
-use Rattle.trip_laws.proofs.Settling.{noted_on, over_all, settled_on}
+use Rattle.run_trip_laws.specs.Going.{AreSettled, NotedSoFar, is_inward}
+use Rattle.run_trip_laws.proofs.Settling.{noted_on, over_all, settled_on}
 use Rattle.session_turn.proofs.Histories.{some_of}
-use Rattle.run_alone.specs.Between.{Passed}
-use Rattle.run_alone.specs.Overs.{IsOver, GaveNone}
-use Rattle.branch_workers.specs.Lines.{finished_before, noted_before, IsFront}
+use Rattle.run_alone.specs.Between.{IsGathered, Passed}
+use Rattle.run_alone.specs.Ran.{CollectedBefore}
+use Rattle.run_alone.specs.Overs.{IsOver, LeavesNone, GaveNone}
+use Rattle.run_theorem.specs.Lines.{finished_before, noted_before, IsPrefix}
 use Rattle.run_alone.specs.declared.worker.Finished.{Finished}
 use Rattle.run_alone.proofs.Assembling.{HasEnded}
 use Rattle.run_alone.proofs.Finishing.{CanEnd, adoptions_add, adoptions_between, adoptions_silent, at_end, closed_by, closing_adds, closing_between, closing_by, closing_closes, closing_silent, earlier_end, early_end, open_end, open_gathered, order_end, settled_waits, stop_gathers}
+use Rattle.run_alone.proofs.Looks.{left_then}
 use Rattle.run_alone.proofs.Noting.{noted_end}
+use Rattle.run_alone.proofs.Collecting.{none_append, told_more}
 use Rattle.run_alone.proofs.Stepping.{all_weaker, collected_all}
+use Rattle.run_alone.proofs.Stopping.{collected_end, told_before_end}
 use Rattle.run_alone.proofs.Taking.{runs, still_halted}
+use Rattle.run_alone.proofs.Waiting.{none_are}
 
 -- How a run was ended: what was left to do was done, or not where the front halted; the sessions that were born were
 -- adopted; the run was stopped, and the answers were collected.
@@ -45,6 +53,7 @@ pub record Finishes (s0 s1 s2 s3 s4 : State) (xs0 xs1 : List Wait) : Type 0 wher
   pub swept : List Entry
   pub history_1 : s1.history ≡ s0.history ++ swept
   pub between : list_all is_between swept ≡ true
+  pub unclosed : list_any closes swept ≡ false
   pub settled : AreSettled s1.setting s1.history
   pub adopt : Adopted s1 s2
   pub stop : Stays s2 s3 (closing (past_in s2) ++ stop_entry ∷ [])
@@ -152,12 +161,28 @@ module _ {s0 s1 s2 s3 s4 : State} {xs0 xs1 : List Wait} (f : Finishes s0 s1 s2 s
           (earlier_end w s0.history all xs0 f.swept adoptions (closing_by was_closed) ts can j k within are)
 
       -- what was noted before the last posting is the same
-      pub noted_at_end : (noted : List ℕ) → IsFront (noted_before w s0.history (length all - 1)) noted
-          → IsFront (noted_before s4.setting s4.history (length all - 1)) noted
+      pub noted_at_end : (noted : List ℕ) → IsPrefix (noted_before w s0.history (length all - 1)) noted
+          → IsPrefix (noted_before s4.setting s4.history (length all - 1)) noted
       noted_at_end noted was =
-          coe 1 0 (i. IsFront (noted_before (setting_4 i) (history_4 i) (length all - 1)) noted)
+          coe 1 0 (i. IsPrefix (noted_before (setting_4 i) (history_4 i) (length all - 1)) noted)
           (noted_end w s0.history all xs0 f.swept adoptions (closing_by was_closed) ts can
           (adoptions_silent adoptions f.adopt.adoptions.only) (closing_silent was_closed) noted was)
+
+      -- all that was posted was collected
+      pub collected_at_end : IsGathered w s0.history xs0 → before_stop s4.history ≡ s2.history ++ closing_by was_closed
+          → list_all (is_of_hand alone) s4.history ≡ true → AreCollected s4.setting s4.history
+      collected_at_end g cut hands =
+          coe 1 0 (i. AreCollected (setting_4 i) (history_4 i))
+          (collected_end w s0.history all xs0 f.swept adoptions (closing_by was_closed) ts can g
+          (ap before_stop (sym history_4) ∙ cut ∙ ap (λ (l : List Entry). l ++ closing_by was_closed) history_2)
+          (ap (list_all (is_of_hand alone)) (sym history_4) ∙ hands))
+
+      -- and what had been told before
+      pub told_before_at_end : IsGathered w s0.history xs0 → (d : Dealings) → CollectedBefore w s0.history d
+          → CollectedBefore s4.setting s4.history d
+      told_before_at_end g d before =
+          coe 1 0 (i. CollectedBefore (setting_4 i) (history_4 i) d)
+          (told_before_end w s0.history all xs0 f.swept adoptions (closing_by was_closed) ts can g d before)
 
       -- the front expects to be told of what is open
       pub expected_end : (d : Dealings) → d.brought.given ≡ all → d.said.told ≡ ts → AreExpected xs1 d
@@ -168,18 +193,49 @@ module _ {s0 s1 s2 s3 s4 : State} {xs0 xs1 : List Wait} (f : Finishes s0 s1 s2 s
           (stop_gathers w s0.history all xs0 f.swept adoptions (closing_by was_closed) ts can)
           (open_gathered w s0.history all xs0 f.swept adoptions (closing_by was_closed) ts can)))
 
+  -- the input was open up to the end
+  adoption_open : (n : ℕ) (a : Act) → is_adoption (record { actor = n; act = a }) ≡ true
+      → closes (record { actor = n; act = a }) ≡ false
+  adoption_open n (act.Adopt d) h = refl
+  adoption_open n a h = absurd (false≢true h)
+
+  open_2 : IsGathered w s0.history xs0 → was_closed ≡ false
+  open_2 g =
+      some_of s2.setting s2.history closes ∙ ap (list_any closes) history_2
+      ∙ none_append closes (s0.history ++ f.swept) adoptions
+      (none_append closes s0.history f.swept g.unclosed f.unclosed)
+      (none_are is_adoption closes (λ e is. adoption_open e.actor e.act is) adoptions f.adopt.adoptions.only)
+
+  -- the history before the stop, and behind it
+  stop_is : s4.history
+      ≡ (s2.history ++ closing_by was_closed) ++ stop_entry ∷ all_collected s3.setting (past_in s3) xs0
+  stop_is =
+      f.collect.history
+      ∙ ap (λ (l : List Entry). l ++ all_collected s3.setting (past_in s3) xs0)
+      (f.stop.history ∙ sym (append_assoc s2.history (closing_by was_closed) (stop_entry ∷ [])))
+      ∙ append_assoc (s2.history ++ closing_by was_closed) (stop_entry ∷ []) (all_collected s3.setting (past_in s3) xs0)
+
+  running_2 : list_any stops s2.history ≡ false
+  running_2 = sym (some_of s2.setting s2.history stops) ∙ runs s2.setting s2.history team2.running
+
+  closing_runs : (b : Bool) → list_any stops (closing_by b) ≡ false
+  closing_runs true = refl
+  closing_runs false = refl
+
+  pub cut_at_stop : before_stop s4.history ≡ s2.history ++ closing_by was_closed
+  cut_at_stop =
+      ap before_stop stop_is
+      ∙ before_the_stop (s2.history ++ closing_by was_closed) (all_collected s3.setting (past_in s3) xs0) stop_entry
+      (none_append stops s2.history (closing_by was_closed) running_2 (closing_runs was_closed)) refl
+
   -- the history before the end, and at it
-  pub ended : Ended s2.history s4.history
-  ended = record {
+  pub ended : IsGathered w s0.history xs0 → Ended s2.history s4.history
+  ended g = record {
     closing = closing_by was_closed;
     collects = all_collected s3.setting (past_in s3) xs0;
-    is =
-        f.collect.history
-        ∙ ap (λ (l : List Entry). l ++ all_collected s3.setting (past_in s3) xs0)
-        (f.stop.history ∙ sym (append_assoc s2.history (closing_by was_closed) (stop_entry ∷ [])))
-        ∙ append_assoc (s2.history ++ closing_by was_closed) (stop_entry ∷ []) (all_collected s3.setting (past_in s3) xs0);
-    running = sym (some_of s2.setting s2.history stops) ∙ runs s2.setting s2.history team2.running;
-    closed = closed_by s2.history was_closed (sym (some_of s2.setting s2.history closes));
+    is = stop_is;
+    running = running_2;
+    closed = closed_by s2.history was_closed (open_2 g);
     closing_are = closing_closes was_closed;
     collects_are = collected_all is_collect (λ m o. refl) s3.setting (past_in s3) xs0;
   }
@@ -243,12 +299,13 @@ pub record Leaves (s2 s4 : State) (finished : Finished) : Type 0 where
 module _ {s0 s1 s2 s3 s4 : State} {xs0 xs1 : List Wait} {n : ℕ} (f : Finishes s0 s1 s2 s3 s4 xs0 xs1) (team0 : Team s0)
     (team2 : Team s2) (legal : IsLegal s4.setting s4.history) where
   -- so it has ended
-  pub has_ended : (before mid now : Dealings) (finished : Finished) → Passed s0 xs0 n before → IsOver before
+  pub has_ended : (new before mid now : Dealings) (finished : Finished) → IsGathered s0.setting s0.history xs0
+      → Passed s0 xs0 n before → IsOver before → LeavesNone new before
       → (GaveNone before → before.brought.seen ≡ length before.said.told)
       → SaidAll s1 xs1 before mid now → Leaves s2 s4 finished → (0 < n → f.swept ≡ [])
-      → (mid.said.muted ≡ false → IsQuietAt s2) → IsStillAt s2
-      → HasEnded (record { setting = s2.setting; budget = s2.budget }) s2.history (filter is_open xs1) now finished
-  has_ended before mid now finished passed over saw said left calm quiet still =
+      → (mid.said.notes_failed ≡ false → IsQuietAt s2) → IsStillAt s2
+      → HasEnded (record { setting = s2.setting; budget = s2.budget }) s2.history (filter is_open xs1) new now finished
+  has_ended new before mid now finished g passed over none_left saw said left calm quiet still =
       let brought : now.brought ≡ before.brought = said.tells.brought ∙ said.brought_mid in
       let told : now.said.told ≡ before.said.told ++ map told_of (filter is_finished xs1)
       = said.tells.told ∙ ap (λ (ts : List Told). ts ++ map told_of (filter is_finished xs1)) said.told_mid in
@@ -259,10 +316,10 @@ module _ {s0 s1 s2 s3 s4 : State} {xs0 xs1 : List Wait} {n : ℕ} (f : Finishes 
       let setting : s4.setting ≡ s2.setting = f.collect.setting ∙ f.stop.setting in
       record {
         came =
-            subst (λ (ss : List (List Event)). CameThrough s2.setting s2.budget now.said.muted s2.history ss) (sym left.sessions)
+            subst (λ (ss : List (List Event)). CameThrough s2.setting s2.budget now.said.notes_failed s2.history ss) (sym left.sessions)
             (came_through s2 team2 (subst (λ (l : Limits). l.sessions ≤ first_worker) (sym team2.limits) (le_refl first_worker))
-            f.adopt.born (λ e. quiet (sym said.tells.muted ∙ e)) still);
-        end = subst (λ (l : List Entry). Ended s2.history l) (sym left.history) (ended f team0 team2 legal);
+            f.adopt.born (λ e. quiet (sym said.tells.notes_failed ∙ e)) still);
+        end = subst (λ (l : List Entry). Ended s2.history l) (sym left.history) (ended f team0 team2 legal g);
         legal = coe 1 0 (i. IsLegal (sym setting i) (left.history i)) legal;
         opens =
             coe 1 0 (i. IsOpen (sym setting i) (left.history i) (brought i).given (told i) (filter is_open xs1))
@@ -276,6 +333,7 @@ module _ {s0 s1 s2 s3 s4 : State} {xs0 xs1 : List Wait} {n : ℕ} (f : Finishes 
             subst (λ (t : List ℕ). NotedSoFar s2.setting s2.history t) (sym said.tells.noted)
             (noted_2 f team0 team2 legal mid.said.noted said.noted);
         over = over_then before now brought (λ e. said.halted_mid (said.tells.halts.calm e).0) over;
+        left = left_then new before now brought (λ e. said.halted_mid (said.tells.halts.calm e).0) none_left;
         asked = ap (λ (b : Brought). length b.seens) brought ∙ passed.asked
             ∙ sym (ap (λ (b : Brought). length b.given) brought ∙ passed.count);
         told_before = λ j k at.
@@ -284,6 +342,17 @@ module _ {s0 s1 s2 s3 s4 : State} {xs0 xs1 : List Wait} {n : ℕ} (f : Finishes 
             (i. told_places (take k (told i)) ≡ finished_before (sym setting i) (left.history i) (length (brought i).given) j)
             (earlier_at_end f team0 team2 legal before.brought.given before.said.told idle passed.opens order j k was.within
             (was.are ∙ ap (λ (m : ℕ). finished_before s0.setting s0.history m j) (sym passed.count)));
+        gathered =
+            coe 1 0 (i. AreCollected (sym setting i) (left.history i))
+            (collected_at_end f team0 team2 legal before.brought.given before.said.told idle passed.opens order g
+            (cut_at_stop f team0 team2 legal)
+            (opens_end f team0 team2 legal before.brought.given before.said.told idle passed.opens order).posted.hands);
+        collected =
+            coe 1 0 (i. CollectedBefore (sym setting i) (left.history i) now)
+            (told_more s4.setting s4.history before now (map told_of (filter is_finished xs1)) brought told
+            (λ j k at. (passed.earlier j k at).within)
+            (told_before_at_end f team0 team2 legal before.brought.given before.said.told idle passed.opens order g before
+            passed.collected_before));
         seen = λ none.
             coe 1 0
             (i. map (λ (t : Told). t.place) (take (brought i).seen (told i))
@@ -293,9 +362,9 @@ module _ {s0 s1 s2 s3 s4 : State} {xs0 xs1 : List Wait} {n : ℕ} (f : Finishes 
             ∙ early_at_end f team0 team2 legal before.brought.given before.said.told idle passed.opens order);
         noted_then =
             coe 1 0
-            (i. IsFront (noted_before (sym setting i) (left.history i) (length (brought i).given - 1)) (brought i).noted)
+            (i. IsPrefix (noted_before (sym setting i) (left.history i) (length (brought i).given - 1)) (brought i).noted)
             (noted_at_end f team0 team2 legal before.brought.given before.said.told idle passed.opens order before.brought.noted
-            (subst (λ (m : ℕ). IsFront (noted_before s0.setting s0.history (m - 1)) before.brought.noted) (sym passed.count)
+            (subst (λ (m : ℕ). IsPrefix (noted_before s0.setting s0.history (m - 1)) before.brought.noted) (sym passed.count)
             passed.noted_then));
         looked =
             subst (λ (ss : List (List Event)). Looked s2.setting s2.budget s2.history ss finished.spent) (sym left.sessions)

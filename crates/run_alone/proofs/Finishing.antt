@@ -1,5 +1,5 @@
 -- The end of a run: what is open is stopped, collected and told, and that is the order of the record.
-use Rattle.std.proofs.Common.{◌≡◌, ◌<◌, ◌≤◌, ℕ, Bool, true, false, List, [], ◌∷◌, ◌++◌, map, length, take, Option, None, Some, nat_lt, refl, sym, ap, subst, ◌∙◌, append_assoc, append-nil, lt_of_lt_of_le, le_trans, flat_map}
+use Rattle.std.proofs.Common.{◌≡◌, ◌<◌, ◌≤◌, ℕ, Bool, true, false, List, [], ◌∷◌, ◌++◌, map, length, take, Option, None, Some, nat_lt, refl, sym, ap, subst, ◌∙◌, append_assoc, lt_of_lt_of_le, le_trans, flat_map}
 use Rattle.std.specs.Prelude.{if◌then◌else◌, option_map}
 use Rattle.std.specs.List.{filter, list_all, list_any}
 use Rattle.std.proofs.lemmas.Bool.{and_from, and_parts, false≢true, lt-ltb, or_left, or_right}
@@ -14,21 +14,21 @@ use Rattle.office_core.specs.Past.{Past, closes, some_entry, stops}
 use Rattle.office_core.specs.Sessions.{births, service_of}
 use Rattle.office_core.specs.Accepted.{past_of}
 use Rattle.office_core.specs.Legal.{IsLegal, replied}
-use Rattle.office_front.specs.Dealings.{Told}
-use Rattle.order_laws.specs.Entries.{adds_none, cuts, is_other, posts_over}
-use Rattle.order_laws.specs.Ordering.{Grows}
-use Rattle.order_laws.proofs.Growing.{legal_front, legal_rest}
-use Rattle.order_laws.proofs.Ordering.{before_ends, calm_at_stop, calm_behind}
-use Rattle.quiet_laws.specs.Ends.{is_adoption, is_close, stop_entry}
-use Rattle.quiet_laws.proofs.Within.{births_within}
+use Rattle.run_theorem.specs.Dealings.{Told}
+use Rattle.run_order_laws.specs.Entries.{adds_none, cuts, is_other, posts_over}
+use Rattle.run_order_laws.specs.Ordering.{Grows}
+use Rattle.run_order_laws.proofs.Growing.{legal_front, legal_rest}
+use Rattle.run_order_laws.proofs.Ordering.{before_ends, calm_at_stop, calm_behind}
+use Rattle.run_quiet_laws.specs.Ends.{is_adoption, is_close, stop_entry}
+use Rattle.run_quiet_laws.proofs.Within.{births_within}
 use Rattle.run_record.specs.Order.{before_first, finished_there, numbers_from, order_alone}
-use Rattle.run_record.specs.Run.{alone, is_hand, is_of_hand}
+use Rattle.run_record.specs.Run.{alone, ends_with, is_hand, is_of_hand}
 use Rattle.session_turn.proofs.Histories.{some_of}
 use Rattle.run_posts.specs.Fates.{Wait, all_collected, is_finished, is_open, settled_in, told_of}
 use Rattle.run_posts.proofs.Ending.{StandsInOrder, all_finished, open_collected, open_told, other_all, settled_collected, stands_early, stands_ended}
 use Rattle.run_posts.proofs.Opening.{IsOpen, is_between, open_between, told_places}
-use Rattle.trip_laws.specs.Going.{is_silent}
-use Rattle.branch_workers.specs.Lines.{finished_before}
+use Rattle.run_trip_laws.specs.Going.{is_silent}
+use Rattle.run_theorem.specs.Lines.{finished_before}
 use Rattle.run_alone.proofs.Earlier.{first_told}
 use Rattle.run_alone.proofs.Stepping.{all_append, all_weaker, between_other, other_over, places_settled}
 
@@ -107,11 +107,15 @@ pub closing_closes : (b : Bool) → list_all is_close (closing_by b) ≡ true
 closing_closes true = refl
 closing_closes false = refl
 
--- the input is closed then
-pub closed_by : (h : List Entry) (b : Bool) → list_any closes h ≡ b → list_any closes (h ++ closing_by b) ≡ true
-closed_by h true e = ap (list_any closes) (append-nil h) ∙ e
-closed_by h false e =
-    list_any-append closes h (closing_by false) ∙ or_right (list_any closes h) (list_any closes (closing_by false)) refl
+-- it is the last entry then
+ends_last : (h : List Entry) (e : Entry) → closes e ≡ true → ends_with closes (h ++ e ∷ []) ≡ true
+ends_last [] e is = is
+ends_last (x ∷ []) e is = is
+ends_last (x ∷ y ∷ h) e is = ends_last (y ∷ h) e is
+
+pub closed_by : (h : List Entry) (b : Bool) → b ≡ false → ends_with closes (h ++ closing_by b) ≡ true
+closed_by h true e = absurd (false≢true (sym e))
+closed_by h false e = ends_last h (record { actor = first_worker; act = act.Close }) refl
 
 -- ---- the end
 
@@ -156,22 +160,22 @@ module _ (w : Setting) (h : List Entry) (all : List Posting) (xs : List Wait) (s
     legal_stop = legal_front w after_stop gathered (subst (IsLegal w) (sym stop_gathers) can.legal)
 
     -- all that comes before the collects
-    abbrev rest : List Entry
+    abbrev pub rest : List Entry
     rest = swept ++ (adoptions ++ (closing ++ stop_entry ∷ []))
 
-    rest_is : h ++ rest ≡ after_stop
+    pub rest_is : h ++ rest ≡ after_stop
     rest_is =
         sym (append_assoc h swept (adoptions ++ (closing ++ stop_entry ∷ [])))
         ∙ sym (append_assoc (h ++ swept) adoptions (closing ++ stop_entry ∷ []))
         ∙ sym (append_assoc before_end closing (stop_entry ∷ []))
 
-    between_rest : list_all is_between rest ≡ true
+    pub between_rest : list_all is_between rest ≡ true
     between_rest =
         all_append is_between swept (adoptions ++ (closing ++ stop_entry ∷ [])) can.between
         (all_append is_between adoptions (closing ++ stop_entry ∷ []) can.adopted
         (all_append is_between closing (stop_entry ∷ []) can.ends refl))
 
-    open_stop : IsOpen w after_stop all ts xs
+    pub open_stop : IsOpen w after_stop all ts xs
     open_stop =
         subst (λ (l : List Entry). IsOpen w l all ts xs) rest_is
         (open_between w h rest all ts xs (subst (IsLegal w) (sym rest_is) legal_stop) between_rest can.opens)
@@ -185,7 +189,7 @@ module _ (w : Setting) (h : List Entry) (all : List Posting) (xs : List Wait) (s
         subst (λ (l : List Entry). IsOpen w l all said_all (filter is_open settled_waits)) stop_gathers
         (open_told w (after_stop ++ gathered) all ts settled_waits open_gathered)
 
-    stopped_end : some_entry (past_of w (after_stop ++ gathered)) stops ≡ true
+    pub stopped_end : some_entry (past_of w (after_stop ++ gathered)) stops ≡ true
     stopped_end =
         some_of w (after_stop ++ gathered) stops ∙ ap (list_any stops) stop_gathers
         ∙ list_any-append stops (before_end ++ closing) (stop_entry ∷ gathered)

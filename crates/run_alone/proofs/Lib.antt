@@ -2,6 +2,7 @@ pub mod Asking
 pub mod Assembling
 pub mod Between
 pub mod Choosing
+pub mod Collecting
 pub mod Courses
 pub mod Earlier
 pub mod Ended
@@ -14,6 +15,8 @@ pub mod Quitting
 pub mod Rests
 pub mod Starting
 pub mod Stepping
+pub mod Stopping
 pub mod Taking
 pub mod Touring
 pub mod Turns
+pub mod Waiting

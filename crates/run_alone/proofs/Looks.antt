@@ -1,28 +1,31 @@
 -- Look by look at the front: how it stands, and when no posting is asked for any more.
 use Rattle.std.specs.Prelude.{not, ◌&&◌, nat_lt}
-use Rattle.std.proofs.Common.{◌≡◌, ◌≤◌, ◌<◌, ◌+◌, ◌-◌, ◌*◌, ◌⊎◌, ℕ, suc, Bool, true, false, List, length, inl, inr, refl, sym, ap, subst, ◌∙◌, arith, ltb-true, ltb-false}
+use Rattle.std.proofs.Common.{◌≡◌, ◌≤◌, ◌<◌, ◌+◌, ◌-◌, ◌*◌, ◌⊎◌, ℕ, suc, Bool, true, false, List, [], length, None, Some, inl, inr, ⊎_elim, refl, sym, ap, subst, ◌∙◌, arith, le_refl, le_trans, ltb-true, ltb-false}
 use Rattle.std.proofs.lemmas.Bool.{and_parts, false≢true}
 use Rattle.behaviour_tree.specs.Data.{ProgramParts}
 use Rattle.office_core.specs.declared.front.Posting.{Posting}
-use Rattle.office_front.specs.declared.front.Next.{Next}
-use Rattle.office_front.specs.declared.front.Next.TheVariants as next
-use Rattle.office_front.specs.Calls.{After, Asks, IsQuiet, most_postings}
-use Rattle.office_front.specs.Dealings.{Dealings, IsNew, Said}
+use Rattle.run_theorem.specs.declared.front.Next.{Next}
+use Rattle.run_theorem.specs.declared.front.Next.TheVariants as next
+use Rattle.outside_traits.specs.Causes.{Rose}
+use Rattle.run_theorem.specs.Calls.{After, Asks, IsQuiet, NoLongerTold, most_postings}
+use Rattle.run_theorem.specs.Calls.{IsOver as Over, failed, most, none_left}
+use Rattle.run_theorem.specs.Dealings.{Brought, Dealings, IsNew, Said}
 use Rattle.run_cells.specs.Crews.{State}
 use Rattle.run_posts.specs.Fates.{Wait}
 use Rattle.run_posts.specs.Telling.{TellsOn}
 use Rattle.run_alone.specs.Between.{Answered, Between, Brings, Closed, Passed}
-use Rattle.run_alone.specs.Overs.{IsOver, GaveNone, asks, most_waits}
+use Rattle.run_alone.specs.Overs.{IsOver, LeavesNone, GaveNone, asks, most_waits}
 use Rattle.run_alone.proofs.Asking.{brings_next, ends_next, taken_looks, waits_next}
 use Rattle.run_alone.proofs.Taking.{still_halted}
 
--- What passed with a front until a look at it, before which so many in a row found no posting.
-pub record IsAt (s : State) (xs : List Wait) (n : ℕ) (calm : Bool) (looks : ℕ) (d : Dealings) : Type 0 where
+-- What passed with a front since it was new until a look at it, before which so many in a row found no posting.
+pub record IsAt (new : Dealings) (s : State) (xs : List Wait) (n : ℕ) (calm : Bool) (looks : ℕ) (d : Dealings) : Type 0 where
   pub passed : Passed s xs n d
+  pub since : new.brought.faults ≤ d.brought.faults
   pub waits : d.brought.waits ≡ looks
   pub few : looks ≤ most_waits
   pub going : d.brought.ended ≡ false
-  pub muted : calm ≡ false → d.said.muted ≡ true
+  pub notes_failed : calm ≡ false → d.said.notes_failed ≡ true
   pub seen : 0 < looks → d.brought.seen ≡ length d.said.told
 
 -- what a front has when it is asked for a posting
@@ -38,33 +41,90 @@ tells_under dealt old now xs P e t = coe 0 1 (i. TellsOn (dealt (e i)) old now x
 
 -- what passed with a front since some call, where something passed before
 abbrev pub Looked : {F : Type 0} → (ProgramParts → F → F → Dealings → Type 0) → ProgramParts → F → F
-    → (Dealings → Type 0) → (Dealings → Type 0) → Type 0
+    → (Dealings → Type 0) → (Dealings → Dealings → Type 0) → Type 0
 Looked {F} dealt parts old now Was Is =
     (first : F) (before : Dealings) → dealt parts first old before → IsNew before → Was before
-    → After (dealt parts first now) Is
+    → After (dealt parts first now) (Is before)
 
 -- before the first look
-pub at_first : {s : State} {xs : List Wait} {n : ℕ} (d : Dealings) → Passed s xs n d → IsNew d → IsAt s xs n true 0 d
+pub at_first : {s : State} {xs : List Wait} {n : ℕ} (d : Dealings) → Passed s xs n d → IsNew d → IsAt d s xs n true 0 d
 at_first d passed new = record {
   passed = passed;
+  since = le_refl d.brought.faults;
   waits = new.waits;
   few = omega arith;
   going = new.open_yet;
-  muted = λ e. absurd (false≢true (sym e));
+  notes_failed = λ e. absurd (false≢true (sym e));
   seen = λ some. absurd (omega (arith, some));
 }
 
 -- a look after which nothing was told
-pub quiet_at : {s : State} {xs : List Wait} {n : ℕ} {calm : Bool} {looks : ℕ} {d : Dealings} → IsAt s xs n calm looks d → IsQuiet d
+pub quiet_at : {new : Dealings} {s : State} {xs : List Wait} {n : ℕ} {calm : Bool} {looks : ℕ} {d : Dealings}
+    → IsAt new s xs n calm looks d → IsQuiet d
 quiet_at x some = x.seen (subst (λ m. 0 < m) x.waits some)
 
-module _ {s : State} {xs : List Wait} {n : ℕ} {calm : Bool} {looks : ℕ} {before : Dealings}
-    (x : IsAt s xs n calm looks before) {parts : ProgramParts} (dealt : Dealings → Type 0) where
+-- ---- what is left
+
+rose_since : (a b c : ℕ) → a ≤ b → Rose b c → Rose a c
+rose_since a b c less rose = omega (arith, less, rose)
+
+-- what is told to be left no more is none
+no_longer : (before now : Brought) → NoLongerTold before now → (ps : List Posting) → now.left ≡ Some ps → ⊥
+no_longer before now gone ps is = none_some ps (sym gone.0 ∙ is)
+  where
+    none_some : (qs : List Posting) → None ≡ Some qs → ⊥
+    none_some qs e = cc
+
+-- of a front that has none any more
+ends_left : {parts : ProgramParts} (new before now : Dealings) → new.brought.faults ≤ before.brought.faults
+    → Asks parts next.End before now → LeavesNone new now
+ends_left new before now since asked ps is =
+    ⊎_elim
+    (λ (same : now.brought.left ≡ before.brought.left). by (sym same ∙ is) (asked.came).over)
+    (λ (gone : NoLongerTold before.brought now.brought). absurd (no_longer before.brought now.brought gone ps is))
+    (asked.came).none.left
+  where
+    by : before.brought.left ≡ Some ps → Over before.brought now.brought
+        → (ps ≡ []) ⊎ (now.said.halted ≡ true) ⊎ (now.brought.waits ≡ most_waits)
+        ⊎ (most_postings ≤ length now.brought.given) ⊎ Rose new.brought.faults now.brought.faults
+    by was (none_left all) = inl (all ps was)
+    by was (failed rose) =
+        inr (inr (inr (inr (rose_since new.brought.faults before.brought.faults now.brought.faults since rose))))
+    by was (most many) =
+        inr (inr (inr (inl (subst (λ (given : List Posting). most_postings ≤ length given) (sym (asked.came).none.given) many))))
+
+-- of one that was asked no more
+over_left : (new d : Dealings) → d.brought.ended ≡ false → IsOver d → LeavesNone new d
+over_left new d going (inl ended) ps is = absurd (false≢true (sym going ∙ ended))
+over_left new d going (inr (inl halted)) ps is = inr (inl halted)
+over_left new d going (inr (inr (inl waits))) ps is = inr (inr (inl waits))
+over_left new d going (inr (inr (inr many))) ps is = inr (inr (inr (inl many)))
+
+-- once more was said to it
+pub left_then : (new before now : Dealings) → now.brought ≡ before.brought
+    → (now.said.halted ≡ false → before.said.halted ≡ false) → LeavesNone new before → LeavesNone new now
+left_then new before now same calm left ps is =
+    by (left ps (ap (λ (b : Brought). b.left) (sym same) ∙ is))
+  where
+    by : (ps ≡ []) ⊎ (before.said.halted ≡ true) ⊎ (before.brought.waits ≡ most_waits)
+        ⊎ (most_postings ≤ length before.brought.given) ⊎ Rose new.brought.faults before.brought.faults
+        → (ps ≡ []) ⊎ (now.said.halted ≡ true) ⊎ (now.brought.waits ≡ most_waits)
+        ⊎ (most_postings ≤ length now.brought.given) ⊎ Rose new.brought.faults now.brought.faults
+    by (inl none) = inl none
+    by (inr (inl halted)) = inr (inl (still_halted before.said.halted now.said.halted calm halted))
+    by (inr (inr (inl waits))) = inr (inr (inl (ap (λ (b : Brought). b.waits) same ∙ waits)))
+    by (inr (inr (inr (inl many)))) =
+        inr (inr (inr (inl (subst (λ (b : Brought). most_postings ≤ length b.given) (sym same) many))))
+    by (inr (inr (inr (inr rose)))) =
+        inr (inr (inr (inr (subst (λ (b : Brought). Rose new.brought.faults b.faults) (sym same) rose))))
+
+module _ {new : Dealings} {s : State} {xs : List Wait} {n : ℕ} {calm : Bool} {looks : ℕ} {before : Dealings}
+    (x : IsAt new s xs n calm looks before) {parts : ProgramParts} (dealt : Dealings → Type 0) where
   -- a posting was given, and taken in
   pub at_posting : {t : State} {ys : List Wait} {m : ℕ} {after : Bool} (p : Posting) (dealt_now : Dealings → Type 0)
       → before.said.halted ≡ false → After dealt (Asks parts (next.Posting p) before)
       → ((mid : Dealings) → dealt mid → Brings s xs n p mid → After dealt_now (Answered t ys m after mid))
-      → After dealt_now (IsAt t ys m after 0)
+      → After dealt_now (IsAt new t ys m after 0)
   at_posting p dealt_now running asked take =
       let taken = take asked.0 asked.1 (brings_next x.passed running asked.2) in
       let looked = taken_looks (taken.2).said (asked.2).came.waits (asked.2).came.ended in (
@@ -72,16 +132,18 @@ module _ {s : State} {xs : List Wait} {n : ℕ} {calm : Bool} {looks : ℕ} {bef
         taken.1,
         record {
           passed = (taken.2).passed;
+          since = subst (λ (b : Brought). new.brought.faults ≤ b.faults) (sym (taken.2).said.brought)
+              (le_trans x.since (asked.2).came.faults);
           waits = looked.0;
           few = omega arith;
           going = looked.1;
-          muted = (taken.2).muted;
+          notes_failed = (taken.2).notes_failed;
           seen = λ some. absurd (omega (arith, some));
         },
       )
 
   -- none yet
-  pub at_wait : looks < most_waits → After dealt (Asks parts next.NotYet before) → After dealt (IsAt s xs n calm (looks + 1))
+  pub at_wait : looks < most_waits → After dealt (Asks parts next.NotYet before) → After dealt (IsAt new s xs n calm (looks + 1))
   at_wait few asked =
       let one : suc looks ≡ looks + 1 = omega arith in
       let w = waits_next x.passed asked.2 in (
@@ -89,52 +151,59 @@ module _ {s : State} {xs : List Wait} {n : ℕ} {calm : Bool} {looks : ℕ} {bef
         asked.1,
         record {
           passed = w.0;
+          since = le_trans x.since (asked.2).came.none.faults;
           waits = w.1 ∙ ap (λ m. suc m) x.waits ∙ one;
           few = omega (arith, few);
           going = w.2;
-          muted = λ e. ap (λ (d : Said). d.muted) (asked.2).silent ∙ x.muted e;
+          notes_failed = λ e. ap (λ (d : Said). d.notes_failed) (asked.2).silent ∙ x.notes_failed e;
           seen = λ some. (asked.2).seen ∙ ap (λ (d : Said). length d.told) (sym (asked.2).silent);
         },
       )
 
   -- none any more
-  pub at_end : After dealt (Asks parts next.End before) → After dealt (Closed s xs n calm)
+  pub at_end : After dealt (Asks parts next.End before) → After dealt (λ now. Closed s xs n calm now × LeavesNone new now)
   at_end asked =
       let w = ends_next x.passed asked.2 in (
         asked.0,
         asked.1,
-        record {
-          passed = w.0;
-          over = w.1;
-          muted = λ e. ap (λ (d : Said). d.muted) (asked.2).silent ∙ x.muted e;
-          seen = λ none. (asked.2).seen ∙ ap (λ (d : Said). length d.told) (sym (asked.2).silent);
-        },
+        (
+          record {
+            passed = w.0;
+            over = w.1;
+            notes_failed = λ e. ap (λ (d : Said). d.notes_failed) (asked.2).silent ∙ x.notes_failed e;
+            seen = λ none. (asked.2).seen ∙ ap (λ (d : Said). length d.told) (sym (asked.2).silent);
+          },
+          ends_left new before asked.0 x.since asked.2,
+        ),
       )
 
 -- no look is left, and there were none too many
 all_looks : (looks : ℕ) → most_waits ≤ looks → looks ≤ most_waits → looks ≡ most_waits
-all_looks looks least most = omega (arith, least, most)
+all_looks looks least few = omega (arith, least, few)
 
 -- why none is asked for
 abbrev pub Stops : ℕ → Bool → ℕ → Dealings → Type 0
 Stops n calm looks d =
     (calm ≡ false) ⊎ (d.said.halted ≡ true) ⊎ (most_waits ≤ looks) ⊎ (most_postings ≤ n)
 
-pub at_stop : {s : State} {xs : List Wait} {n : ℕ} {calm : Bool} {looks : ℕ} (d : Dealings) → IsAt s xs n calm looks d
-    → Stops n calm looks d → Closed s xs n calm d
-at_stop {n = n} {calm = calm} {looks = looks} d x stops = record {
-  passed = x.passed;
-  over = over stops;
-  muted = x.muted;
-  seen = seen;
-}
+pub at_stop : {new : Dealings} {s : State} {xs : List Wait} {n : ℕ} {calm : Bool} {looks : ℕ} (d : Dealings)
+    → IsAt new s xs n calm looks d → Stops n calm looks d → Closed s xs n calm d × LeavesNone new d
+at_stop {new = new} {n = n} {calm = calm} {looks = looks} d x stops = (
+  record {
+    passed = x.passed;
+    over = over stops;
+    notes_failed = x.notes_failed;
+    seen = seen;
+  },
+  over_left new d x.going (over stops),
+)
   where
     seen : GaveNone d → d.brought.seen ≡ length d.said.told
     seen (inl e) = absurd (false≢true (sym x.going ∙ e))
     seen (inr some) = quiet_at x some
 
     over : Stops n calm looks d → IsOver d
-    over (inl e) = inr (inl (still_halted d.said.muted d.said.halted x.passed.mutes (x.muted e)))
+    over (inl e) = inr (inl (still_halted d.said.notes_failed d.said.halted x.passed.mutes (x.notes_failed e)))
     over (inr (inl e)) = inr (inl e)
     over (inr (inr (inl e))) = inr (inr (inl (x.waits ∙ all_looks looks e x.few)))
     over (inr (inr (inr e))) = inr (inr (inr (subst (λ (m : ℕ). most_postings ≤ m) (sym x.passed.count) e)))
@@ -188,9 +257,9 @@ pub calm_between : {s : State} {xs : List Wait} {n : ℕ} {calm : Bool} → calm
 calm_between {s} {xs} {n} e b = subst (λ (x : Bool). Between s xs n x) e b
 
 -- none is asked for, or none came
-pub closes_at : {s : State} {xs : List Wait} {n : ℕ} {calm : Bool} {looks : ℕ} {dealt : Dealings → Type 0} (halted going : Bool)
+pub closes_at : {new : Dealings} {s : State} {xs : List Wait} {n : ℕ} {calm : Bool} {looks : ℕ} {dealt : Dealings → Type 0} (halted going : Bool)
     → ((d : Dealings) → dealt d → halted ≡ d.said.halted) → going ≡ asks calm halted looks n → going ≡ false
-    → After dealt (IsAt s xs n calm looks) → After dealt (Closed s xs n calm)
+    → After dealt (IsAt new s xs n calm looks) → After dealt (λ now. Closed s xs n calm now × LeavesNone new now)
 closes_at halted going said is none at =
     (at.0, at.1, at_stop at.0 at.2 (stops_by at.0 halted going (said at.0 at.1) is none))
 
@@ -201,9 +270,10 @@ pub asks_so : (n looks : ℕ) (calm halted going : Bool) (m : ℕ) → m ≡ n �
 asks_so n looks calm halted going m e is so =
     asks_by n looks calm halted going (subst (λ (k : ℕ). going ≡ asks calm halted looks k) e is) so
 
-pub closes_so : {s : State} {xs : List Wait} {n : ℕ} {calm : Bool} {looks : ℕ} {dealt : Dealings → Type 0} (halted going : Bool)
+pub closes_so : {new : Dealings} {s : State} {xs : List Wait} {n : ℕ} {calm : Bool} {looks : ℕ} {dealt : Dealings → Type 0} (halted going : Bool)
     (m : ℕ) → m ≡ n → ((d : Dealings) → dealt d → halted ≡ d.said.halted) → going ≡ asks calm halted looks m
-    → going ≡ false → After dealt (IsAt s xs n calm looks) → After dealt (Closed s xs n calm)
+    → going ≡ false → After dealt (IsAt new s xs n calm looks)
+    → After dealt (λ now. Closed s xs n calm now × LeavesNone new now)
 closes_so {calm = calm} {looks = looks} halted going m e said is none at =
     closes_at halted going said (subst (λ (k : ℕ). going ≡ asks calm halted looks k) e is) none at
 

@@ -14,19 +14,19 @@ use Rattle.office_core.specs.Past.{Past, some_entry, stops}
 use Rattle.office_core.specs.Accepted.{past_of}
 use Rattle.office_core.specs.Calls.{sent_in}
 use Rattle.office_core.specs.Legal.{IsLegal}
-use Rattle.office_front.specs.Dealings.{Told}
-use Rattle.order_laws.specs.Entries.{posts_under}
-use Rattle.order_laws.proofs.Growing.{entries_past, legal_front}
-use Rattle.order_laws.proofs.Ordering.{before_none, before_cut, before_uncut, cut_at, whole_past}
-use Rattle.quiet_laws.specs.Ends.{stop_entry}
+use Rattle.run_theorem.specs.Dealings.{Told}
+use Rattle.run_order_laws.specs.Entries.{posts_under}
+use Rattle.run_order_laws.proofs.Growing.{entries_past, legal_front}
+use Rattle.run_order_laws.proofs.Ordering.{before_none, before_cut, before_uncut, cut_at, whole_past}
+use Rattle.run_quiet_laws.specs.Ends.{stop_entry}
 use Rattle.run_record.specs.Order.{before_first}
 use Rattle.run_record.specs.Outside.{note_of, notes, console_calls}
 use Rattle.run_posts.specs.Fates.{Wait}
 use Rattle.run_posts.proofs.Opening.{all_posts_of}
-use Rattle.trip_laws.specs.Going.{goes_to, is_silent}
-use Rattle.trip_laws.proofs.Growing.{consoles_on, legal_parts}
-use Rattle.trip_laws.proofs.Settling.{over_all}
-use Rattle.branch_workers.specs.Lines.{noted_before, IsFront}
+use Rattle.run_trip_laws.specs.Going.{goes_to, is_silent}
+use Rattle.run_trip_laws.proofs.Growing.{consoles_on, legal_parts}
+use Rattle.run_trip_laws.proofs.Settling.{over_all}
+use Rattle.run_theorem.specs.Lines.{noted_before, IsPrefix}
 use Rattle.run_alone.proofs.Stepping.{CanStep, after_step, after_sweep, all_append, collected_all, gathered, in_one, posted, waiting}
 use Rattle.run_alone.proofs.Finishing.{CanEnd, at_end, more as at_end_more, more_is}
 use Rattle.run_alone.proofs.Finishing.{gathered as at_end_gathered}
@@ -34,16 +34,16 @@ use Rattle.run_alone.proofs.Finishing.{gathered as at_end_gathered}
 -- ---- fronts
 
 -- all stands at its front
-pub front_all : (xs ys : List ℕ) → xs ≡ ys → IsFront xs ys
+pub front_all : (xs ys : List ℕ) → xs ≡ ys → IsPrefix xs ys
 front_all xs ys e = ([], append-nil xs ∙ e)
 
 -- a front of a front
-pub front_longer : (xs ys zs : List ℕ) → IsFront xs ys → IsFront ys zs → IsFront xs zs
+pub front_longer : (xs ys zs : List ℕ) → IsPrefix xs ys → IsPrefix ys zs → IsPrefix xs zs
 front_longer xs ys zs f g = (f.0 ++ g.0, sym (append_assoc xs f.0 g.0) ∙ ap (λ l. l ++ g.0) f.1 ∙ g.1)
 
 -- before the first posting nothing is noted
-pub noted_none : (w : Setting) (h : List Entry) (n : ℕ) (noted : List ℕ) → n ≡ 0 → IsFront (noted_before w h n) noted
-noted_none w h n noted e = subst (λ (k : ℕ). IsFront (noted_before w h k) noted) (sym e) (noted, refl)
+pub noted_none : (w : Setting) (h : List Entry) (n : ℕ) (noted : List ℕ) → n ≡ 0 → IsPrefix (noted_before w h n) noted
+noted_none w h n noted e = subst (λ (k : ℕ). IsPrefix (noted_before w h k) noted) (sym e) (noted, refl)
 
 -- ---- the entries before the first of a kind
 
@@ -148,7 +148,7 @@ noted_so_far w h count i most under running =
 -- what was noted before it was asked for
 pub noted_step : (w : Setting) (h : List Entry) (all : List Posting) (xs : List Wait) (p : Posting) (swept : List Entry) (ts : List Told)
     → CanStep w h all xs p swept ts → (noted : List ℕ) → notes w h ≡ noted
-    → IsFront (noted_before w (after_step w h all xs p swept) (length all)) noted
+    → IsPrefix (noted_before w (after_step w h all xs p swept) (length all)) noted
 noted_step w h all xs p swept ts can noted is = by (length all) refl
   where
     rest : List Entry
@@ -184,7 +184,7 @@ noted_step w h all xs p swept ts can noted is = by (length all) refl
         (silent_before (cut_at k) (gathered w h all xs p swept)
         (collected_all is_silent (λ m o. refl) w (past_of w (after_sweep w h all xs p swept)) (waiting w h all xs p swept))))
 
-    by : (m : ℕ) → length all ≡ m → IsFront (noted_before w (after_step w h all xs p swept) m) noted
+    by : (m : ℕ) → length all ≡ m → IsPrefix (noted_before w (after_step w h all xs p swept) m) noted
     by zero e = (noted, refl)
     by (suc k) e =
         front_all (noted_before w (after_step w h all xs p swept) (suc k)) noted
@@ -198,8 +198,8 @@ noted_step w h all xs p swept ts can noted is = by (length all) refl
 -- it is the same at the end
 pub noted_end : (w : Setting) (h : List Entry) (all : List Posting) (xs : List Wait) (swept adoptions closing : List Entry)
     (ts : List Told) → CanEnd w h all xs swept adoptions closing ts → list_all is_silent adoptions ≡ true
-    → list_all is_silent closing ≡ true → (noted : List ℕ) → IsFront (noted_before w h (length all - 1)) noted
-    → IsFront (noted_before w (at_end w h all xs swept adoptions closing) (length all - 1)) noted
+    → list_all is_silent closing ≡ true → (noted : List ℕ) → IsPrefix (noted_before w h (length all - 1)) noted
+    → IsPrefix (noted_before w (at_end w h all xs swept adoptions closing) (length all - 1)) noted
 noted_end w h all xs swept adoptions closing ts can adopts closes noted was = by (length all - 1) refl was
   where
     some : (i : ℕ) → length all - 1 ≡ suc i → 0 < length all
@@ -216,11 +216,11 @@ noted_end w h all xs swept adoptions closing ts can adopts closes noted was = by
         (stop_entry ∷ at_end_gathered w h all xs swept adoptions closing)
         (all_append is_silent adoptions closing adopts closes) refl)
 
-    by : (m : ℕ) → length all - 1 ≡ m → IsFront (noted_before w h m) noted
-        → IsFront (noted_before w (at_end w h all xs swept adoptions closing) m) noted
+    by : (m : ℕ) → length all - 1 ≡ m → IsPrefix (noted_before w h m) noted
+        → IsPrefix (noted_before w (at_end w h all xs swept adoptions closing) m) noted
     by zero e f = (noted, refl)
     by (suc i) e f =
-        subst (λ (l : List ℕ). IsFront l noted)
+        subst (λ (l : List ℕ). IsPrefix l noted)
         (sym (ap (λ (l : List Entry). noted_before w l (suc i)) (sym (more_is w h all xs swept adoptions closing ts can))
         ∙ noted_goes_on w h (at_end_more w h all xs swept adoptions closing ts can) i
         (subst (IsLegal w) (sym (more_is w h all xs swept adoptions closing ts can)) can.legal) (silent i e)))

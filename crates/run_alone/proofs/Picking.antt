@@ -6,8 +6,8 @@ use Rattle.std.proofs.lemmas.List.Folds.{list_any-append}
 use Rattle.office_core.specs.declared.front.CallIn.{CallIn}
 use Rattle.office_core.specs.declared.history.Entry.{Entry}
 use Rattle.office_core.specs.Past.{closes, some_entry, stops}
-use Rattle.quiet_laws.specs.Ends.{stop_entry}
-use Rattle.quiet_laws.proofs.Ending.{before_the_stop}
+use Rattle.run_quiet_laws.specs.Ends.{stop_entry}
+use Rattle.run_quiet_laws.proofs.Ending.{before_the_stop}
 use Rattle.run_record.specs.declared.record.Record.{Record}
 use Rattle.run_record.specs.Quiet.{before_stop}
 use Rattle.run_sweep.specs.Courses.{Goes, adopts, is_by_worker, round, stays, works}
@@ -19,7 +19,7 @@ use Rattle.run_posts.proofs.Opening.{all_posts_of}
 use Rattle.run_sweep.specs.Swept.{Swept}
 use Rattle.session_turn.proofs.Histories.{some_of}
 use Rattle.run_alone.specs.Between.{GoesTo, Rested}
-use Rattle.run_alone.specs.Picks.{TookPicks, TookTurns}
+use Rattle.run_theorem.specs.Picks.{TookPicks, TookTurns}
 use Rattle.run_alone.specs.Ran.{Rules}
 use Rattle.run_alone.proofs.Courses.{begins, course_begins, course_on, course_took}
 use Rattle.run_alone.proofs.Finishing.{closing_by}

@@ -1,27 +1,29 @@
 -- The end of a run, put together for one call.
-use Rattle.std.proofs.Common.{◌≡◌, ◌<◌, ◌≤◌, ℕ, Bool, true, false, List, [], ◌∷◌, ◌++◌, map, length, refl, sym, ap, subst, ◌∙◌, append-nil, le_refl}
+use Rattle.std.proofs.Common.{◌≡◌, ◌↔◌, ◌<◌, ◌≤◌, ℕ, Bool, true, false, List, [], ◌∷◌, ◌++◌, map, length, refl, sym, ap, subst, ◌∙◌, append-nil, le_refl}
 use Rattle.std.specs.List.{filter, list_all}
 use Rattle.office_core.specs.declared.front.Posting.{Posting}
 use Rattle.office_core.specs.declared.history.Entry.{Entry}
 use Rattle.office_core.specs.Limits.{Limits, first_worker}
 use Rattle.office_core.specs.Past.{closes, some_entry}
 use Rattle.office_core.specs.Legal.{IsLegal}
-use Rattle.office_front.specs.Calls.{After}
-use Rattle.office_front.specs.Dealings.{Brought, Dealings, Told}
-use Rattle.order_laws.proofs.Growing.{legal_rest}
-use Rattle.quiet_laws.specs.Ends.{stop_entry}
-use Rattle.run_cells.specs.Crews.{State, Stays, Team, closing, past_in}
-use Rattle.run_cells.specs.Rounds.{Adopted}
+use Rattle.run_theorem.specs.Calls.{After}
+use Rattle.run_theorem.specs.Dealings.{Brought, Dealings, Told}
+use Rattle.run_order_laws.proofs.Growing.{legal_rest}
+use Rattle.run_quiet_laws.specs.Ends.{stop_entry}
+use Rattle.run_cells.specs.Crews.{State, Stays, Team, closing, events_of, past_in}
+use Rattle.run_cells.specs.Rounds.{Adopted, HasSpent}
 use Rattle.run_posts.specs.declared.pending.Pendings.{Pendings}
 use Rattle.run_posts.specs.Fates.{Wait, all_collected, is_finished, is_open, settled_in, told_of, waits}
 use Rattle.run_posts.specs.Open.{IsOpen, StandsInOrder}
 use Rattle.run_posts.proofs.Opening.{is_between, open_between}
 use Rattle.run_posts.specs.Telling.{AreExpected, TellsAll}
-use Rattle.run_alone.specs.Between.{Between, Closed, LeftQuiet, Rested}
+use Rattle.run_alone.specs.Between.{Between, Closed, IsLeft, LeftQuiet, Rested}
+use Rattle.run_record.specs.declared.record.Record.{Record}
+use Rattle.run_alone.specs.Overs.{LeavesNone}
 use Rattle.run_alone.specs.Ran.{Ran}
 use Rattle.run_alone.specs.declared.worker.Finished.{Finished}
 use Rattle.run_alone.proofs.Assembling.{ran}
-use Rattle.run_alone.proofs.Between.{swept_between}
+use Rattle.run_alone.proofs.Between.{swept_between, swept_unclosed}
 use Rattle.run_alone.proofs.Ended.{Finishes, Leaves, expected_end, has_ended}
 use Rattle.run_alone.proofs.Finishing.{adoptions_between, closing_between}
 use Rattle.run_alone.proofs.Rests.{quiet_adopted}
@@ -75,6 +77,11 @@ module _ {calm : Bool} {s0 s1 s2 s3 s4 : State} {xs0 xs1 : List Wait} {n : ℕ} 
         (legal_rest s0.setting s0.history q.rest.more
         (coe 0 1 (i. IsLegal (q.rest.setting i) (q.rest.history i)) q.team1.legal))
         q.rest.each;
+    unclosed =
+        swept_unclosed s0.setting (past_in s0) q.rest.more
+        (legal_rest s0.setting s0.history q.rest.more
+        (coe 0 1 (i. IsLegal (q.rest.setting i) (q.rest.history i)) q.team1.legal))
+        q.rest.each;
     settled = q.rest.settled;
     adopt = q.adopt;
     stop = q.stop;
@@ -82,13 +89,13 @@ module _ {calm : Bool} {s0 s1 s2 s3 s4 : State} {xs0 xs1 : List Wait} {n : ℕ} 
     waits = q.waits;
   }
 
-  pub quits : (text : List ℕ) (finished : Finished) (dealt_mid dealt_now : Dealings → Type 0) (before : Dealings)
+  pub quits : (text : List ℕ) (finished : Finished) (dealt_mid dealt_now : Dealings → Type 0) (new before : Dealings)
       → finished.report.program ≡ text → Leaves s2 s4 finished
-      → Closed s0 xs0 n calm before → After dealt_mid (LeftQuiet s0 s1 before)
+      → Closed s0 xs0 n calm before → LeavesNone new before → After dealt_mid (LeftQuiet s0 s1 before)
       → ((mid : Dealings) → dealt_mid mid → AreExpected xs1 mid
       → After dealt_now (TellsAll (map told_of (filter is_finished xs1)) mid))
-      → After dealt_now (λ d. Ran (record { setting = s2.setting; budget = s2.budget }) text d finished)
-  quits text finished dealt_mid dealt_now before program leaves closed rest tell =
+      → After dealt_now (λ d. Ran (record { setting = s2.setting; budget = s2.budget }) text new d finished)
+  quits text finished dealt_mid dealt_now new before program leaves closed none_left rest tell =
       let mid : Dealings = rest.0 in
       let left : LeftQuiet s0 s1 before mid = rest.2 in
       let idle : 0 < length before.brought.given → q.rest.more ≡ []
@@ -98,8 +105,9 @@ module _ {calm : Bool} {s0 s1 s2 s3 s4 : State} {xs0 xs1 : List Wait} {n : ℕ} 
       (in_order closed) mid (ap (λ (x : Brought). x.given) left.noted.said.brought) left.noted.told) in (
         told.0,
         told.1,
-        ran (record { setting = s2.setting; budget = s2.budget }) text s2.history (filter is_open xs1) told.0 finished program
-            (has_ended finishes q.team0 q.team2 q.legal before mid told.0 finished closed.passed closed.over closed.seen
+        ran (record { setting = s2.setting; budget = s2.budget }) text s2.history (filter is_open xs1) new told.0 finished program
+            (has_ended finishes q.team0 q.team2 q.legal new before mid told.0 finished b.gathered closed.passed closed.over none_left
+            closed.seen
             (record {
               told_mid = left.noted.told;
               brought_mid = left.noted.said.brought;
@@ -117,17 +125,17 @@ module _ {calm : Bool} {s0 s1 s2 s3 s4 : State} {xs0 xs1 : List Wait} {n : ℕ} 
       in_order c = subst (λ (m : ℕ). StandsInOrder s0.setting s0.history m before.said.told xs0) (sym c.passed.count) c.passed.order
 
   -- the same under the rules that the run began with
-  pub quits_first : (text : List ℕ) (finished : Finished) (dealt_mid dealt_now : Dealings → Type 0) (before : Dealings)
+  pub quits_first : (text : List ℕ) (finished : Finished) (dealt_mid dealt_now : Dealings → Type 0) (new before : Dealings)
       → finished.report.program ≡ text → Leaves s2 s4 finished
-      → Closed s0 xs0 n calm before → After dealt_mid (LeftQuiet s0 s1 before)
+      → Closed s0 xs0 n calm before → LeavesNone new before → After dealt_mid (LeftQuiet s0 s1 before)
       → ((mid : Dealings) → dealt_mid mid → AreExpected xs1 mid
       → After dealt_now (TellsAll (map told_of (filter is_finished xs1)) mid))
-      → After dealt_now (λ d. Ran (record { setting = s0.setting; budget = s0.budget }) text d finished)
-  quits_first text finished dealt_mid dealt_now before program leaves closed rest tell =
+      → After dealt_now (λ d. Ran (record { setting = s0.setting; budget = s0.budget }) text new d finished)
+  quits_first text finished dealt_mid dealt_now new before program leaves closed none_left rest tell =
       let setting : s2.setting ≡ s0.setting = q.adopt.setting ∙ q.rest.setting in
       let budget : s2.budget ≡ s0.budget = q.adopt.budget ∙ q.rest.budget in
-      coe 0 1 (i. After dealt_now (λ d. Ran (record { setting = setting i; budget = budget i }) text d finished))
-      (quits text finished dealt_mid dealt_now before program leaves closed rest tell)
+      coe 0 1 (i. After dealt_now (λ d. Ran (record { setting = setting i; budget = budget i }) text new d finished))
+      (quits text finished dealt_mid dealt_now new before program leaves closed none_left rest tell)
 
 -- ---- what is open once the run was stopped
 
@@ -170,3 +178,20 @@ between_under {s} {calm} p q e b = coe 1 0 (i. Between s (waits (e i)) (e i).pos
 pub closed_under : {s : State} {calm : Bool} {d : Dealings} (p q : Pendings) → q ≡ p → Closed s (waits p) p.postings calm d
     → Closed s (waits q) q.postings calm d
 closed_under {s} {calm} {d} p q e b = coe 1 0 (i. Closed s (waits (e i)) (e i).postings calm d) b
+
+-- whether a session was spent, under another name
+pub spent_as : {a b : Bool} {s : State} → a ≡ b → ((b ≡ true) ↔ HasSpent s) → (a ≡ true) ↔ HasSpent s
+spent_as {s = s} e x = coe 1 0 (i. (e i ≡ true) ↔ HasSpent s) x
+
+-- a record of all of a state, and that it was spent, are left of it
+pub left_by : {text : List ℕ} {spent : Bool} {s : State} {report : Record} → report.program ≡ text
+    → report.history.entries.items ≡ s.history → report.sessions ≡ events_of s.stands → report.traffic ≡ []
+    → IsLegal s.setting s.history → IsLeft text spent s (record { report = report; spent = spent })
+left_by program history sessions traffic legal = record {
+  program = program;
+  history = history;
+  sessions = sessions;
+  traffic = traffic;
+  spent = refl;
+  legal = legal;
+}

@@ -6,8 +6,8 @@ use Rattle.std.proofs.lemmas.Option.{slice_get-get_or, slice_get_within}
 use Rattle.behaviour_tree.specs.declared.words.Event.{Event}
 use Rattle.office_core.specs.Sessions.{births}
 use Rattle.office_core.specs.Accepted.{past_of}
-use Rattle.office_front.specs.Calls.{After}
-use Rattle.office_front.specs.Dealings.{Dealings}
+use Rattle.run_theorem.specs.Calls.{After}
+use Rattle.run_theorem.specs.Dealings.{Dealings}
 use Rattle.run_record.specs.Quiet.{IsQuiet}
 use Rattle.run_sweep.specs.Courses.{stays}
 use Rattle.run_cells.specs.Crews.{Stand, State, Team, events_of, past_in}
@@ -15,7 +15,7 @@ use Rattle.run_cells.specs.Rounds.{Adopted, IsQuietAt}
 use Rattle.run_cells.proofs.Resting.{stands_at}
 use Rattle.run_cells.proofs.Stilling.{event_at}
 use Rattle.run_sweep.specs.Swept.{NotesBy, Swept, StaysQuiet}
-use Rattle.trip_laws.specs.Going.{AreSettled, NotedSoFar}
+use Rattle.run_trip_laws.specs.Going.{AreSettled, NotedSoFar}
 use Rattle.run_posts.specs.Fates.{Wait}
 use Rattle.run_alone.specs.Between.{Between, Closed, LeftQuiet, Rested}
 use Rattle.run_alone.proofs.Taking.{calm_quiet}
@@ -38,10 +38,10 @@ rested_not s settled = record {
 
 -- it was not calm, so that a note failed; or an answer halted the front, and nothing was left to do before that
 quiet_by : {s : State} {xs : List Wait} {n : ℕ} {before : Dealings} (calm stops : Bool) → Between s xs n calm
-    → Closed s xs n calm before → stops ≡ before.said.halted → (not calm || stops) ≡ true → before.said.muted ≡ false
+    → Closed s xs n calm before → stops ≡ before.said.halted → (not calm || stops) ≡ true → before.said.notes_failed ≡ false
     → IsQuietAt s
-quiet_by {s = s} {n = n} true stops b closed e h unmuted = calm_quiet s n (closed.passed.some (sym e ∙ h)) (b.quiet refl)
-quiet_by false stops b closed e h unmuted = absurd (false≢true (sym unmuted ∙ closed.muted refl))
+quiet_by {s = s} {n = n} true stops b closed e h notes_unfailed = calm_quiet s n (closed.passed.some (sym e ∙ h)) (b.quiet refl)
+quiet_by false stops b closed e h notes_unfailed = absurd (false≢true (sym notes_unfailed ∙ closed.notes_failed refl))
 
 pub quiet_not : {s : State} {xs : List Wait} {n : ℕ} {calm stops : Bool} (dealt : Dealings → Type 0) (before : Dealings)
     → Between s xs n calm → dealt before → Closed s xs n calm before → stops ≡ before.said.halted
@@ -61,7 +61,7 @@ running_by true stops h = h
 running_by false stops h = absurd (false≢true (sym h))
 
 pub mutes_by : {s : State} {xs : List Wait} {n : ℕ} {calm stops : Bool} {before : Dealings} → Closed s xs n calm before
-    → stops ≡ before.said.halted → (not calm || stops) ≡ false → before.said.muted ≡ before.said.halted
+    → stops ≡ before.said.halted → (not calm || stops) ≡ false → before.said.notes_failed ≡ before.said.halted
 mutes_by {calm = calm} {stops = stops} {before = before} closed e h =
     let running : before.said.halted ≡ false = sym e ∙ running_by calm stops h in
     closed.passed.mutes running ∙ sym running
@@ -110,10 +110,10 @@ quiet_swept {old} {new} went dealt before setting noted quiet halted = (
 )
   where
     by : (b : Bool) → (b ≡ true → IsQuietAt new)
-        → (b ≡ false → (now : Dealings) → dealt now → now.said.halted ≡ true) → (noted.0).said.muted ≡ false
+        → (b ≡ false → (now : Dealings) → dealt now → now.said.halted ≡ true) → (noted.0).said.notes_failed ≡ false
         → IsQuietAt new
     by true q h e = q refl
-    by false q h e = absurd (false≢true (sym e ∙ (noted.2.0).notes.muted ∙ h refl noted.0 noted.1))
+    by false q h e = absurd (false≢true (sym e ∙ (noted.2.0).notes.notes_failed ∙ h refl noted.0 noted.1))
 
 -- ---- adoptions
 

@@ -1,14 +1,17 @@
 -- Before the first posting.
 use Rattle.std.proofs.Common.{◌≡◌, ◌-◌, ℕ, true, List, [], length, map, Option, refl, sym, ap, subst, ◌∙◌, arith}
+use Rattle.outside_links.specs.Trips.{LinkTold}
 use Rattle.std.proofs.lemmas.Bool.{false≢true}
 use Rattle.behaviour_tree.specs.Data.{ProgramParts}
 use Rattle.office_core.specs.declared.front.Posting.{Posting}
 use Rattle.office_core.specs.declared.history.Entry.{Entry}
-use Rattle.office_core.specs.Limits.{run_of}
-use Rattle.office_front.specs.Calls.{After}
-use Rattle.office_front.specs.Dealings.{Dealings, IsNew}
-use Rattle.order_laws.proofs.Ordering.{none_told}
-use Rattle.quiet_laws.proofs.Still.{still_first}
+use Rattle.office_core.specs.Limits.{Setting, run_of}
+use Rattle.office_core.specs.Accepted.{past_of}
+use Rattle.run_theorem.specs.Calls.{After}
+use Rattle.run_theorem.specs.Dealings.{Dealings, IsNew}
+use Rattle.run_order_laws.proofs.Ordering.{none_told}
+use Rattle.run_quiet_laws.proofs.Begun.{well_first}
+use Rattle.run_quiet_laws.proofs.Still.{still_first}
 use Rattle.run_record.specs.Quiet.{IsStill}
 use Rattle.run_cells.specs.Crews.{State, events_of}
 use Rattle.run_posts.specs.declared.pending.Pendings.{Pendings}
@@ -16,15 +19,25 @@ use Rattle.run_posts.specs.Fates.{Wait, wait_of, waits}
 use Rattle.run_posts.specs.Open.{IsOpen, StandsInOrder}
 use Rattle.run_posts.proofs.Opening.{nothing_open}
 use Rattle.run_sweep.specs.Swept.{ToursBy}
-use Rattle.trip_laws.specs.Going.{AreSettled, NotedSoFar}
-use Rattle.trip_laws.specs.Trips.{TripsTold, Travelled}
-use Rattle.trip_laws.proofs.Settling.{noted_first, settled_first}
-use Rattle.run_alone.specs.Between.{Between, Passed}
-use Rattle.run_alone.specs.Ran.{Ran}
+use Rattle.run_trip_laws.specs.Going.{AreSettled, NotedSoFar}
+use Rattle.run_theorem.specs.Trips.{Travelled}
+use Rattle.run_trip_laws.proofs.Settling.{noted_first, settled_first}
+use Rattle.run_alone.specs.Between.{Between, IsGathered, Passed}
+use Rattle.run_alone.specs.Ran.{AllCollected, Ran}
 use Rattle.run_alone.specs.declared.worker.Finished.{Finished}
+use Rattle.run_alone.proofs.Collecting.{CollectedThere}
 use Rattle.run_alone.proofs.Earlier.{none_asked}
 use Rattle.run_alone.proofs.Noting.{front_all, noted_none}
 use Rattle.run_alone.proofs.Touring.{travelled_all}
+
+-- nothing was posted yet, and the input is open
+nothing_gathered : (w : Setting) → IsGathered w [] []
+nothing_gathered w = record {
+  unclosed = refl;
+  begun = well_first (CollectedThere w);
+  waiting = λ n post uncollected. absurd (false≢true post);
+  unanswered = λ n there. absurd (false≢true there);
+}
 
 module _ (s : State) (xs : List Wait) (empty : s.history ≡ []) (none : xs ≡ []) where
   pub between_first : Between s xs 0 true
@@ -37,6 +50,7 @@ module _ (s : State) (xs : List Wait) (empty : s.history ≡ []) (none : xs ≡ 
     opens = coe 1 0 (i. IsOpen s.setting (empty i) [] [] (none i)) (nothing_open s.setting);
     order = coe 1 0 (i. StandsInOrder s.setting (empty i) 0 [] (none i)) (none_told s.setting []);
     count = refl;
+    gathered = coe 1 0 (i. IsGathered s.setting (empty i) (none i)) (nothing_gathered s.setting);
     quiet = λ e. empty;
   }
 
@@ -48,11 +62,13 @@ module _ (s : State) (xs : List Wait) (empty : s.history ≡ []) (none : xs ≡ 
     count = ap (λ (ps : List Posting). length ps) new.given;
     asked = ap (λ (ks : List ℕ). length ks) new.unasked;
     earlier = λ j k at. absurd (none_asked d.brought.seens j k new.unasked at);
+    collected = subst (AllCollected (past_of s.setting s.history)) (sym new.told) refl;
+    collected_before = λ j before later e p begins k at. absurd (none_asked d.brought.seens j k new.unasked at);
     noted = coe 1 0 (i. NotedSoFar s.setting (empty i) (new.noted i)) (noted_first s.setting);
     noted_then = noted_none s.setting s.history (0 - 1) d.brought.noted (omega arith);
     noted_since = front_all d.brought.noted d.said.noted (new.unnoted ∙ sym new.noted);
     some = λ e. absurd (false≢true (sym new.writes ∙ e));
-    mutes = λ e. new.unmuted;
+    mutes = λ e. new.notes_unfailed;
   }
 
 -- with the postings of a run that begins
@@ -69,13 +85,14 @@ module _ (s : State) (p : Pendings) (empty : s.history ≡ []) (count : p.postin
 -- ---- under the program that the run was given
 
 pub ran_as : {F : Type 0} (dealt : ProgramParts → F → F → Dealings → Type 0) {p q : ProgramParts} {a b : ℕ} (first front : F)
-    (text : List ℕ) (finished : Finished) → p ≡ q → a ≡ b
-    → After (dealt p first front) (λ d. Ran (record { setting = run_of p; budget = a }) text d finished)
-    → After (dealt q first front) (λ d. Ran (record { setting = run_of q; budget = b }) text d finished)
-ran_as dealt first front text finished e f x =
-    coe 0 1 (i. After (dealt (e i) first front) (λ d. Ran (record { setting = run_of (e i); budget = f i }) text d finished)) x
+    (text : List ℕ) (new : Dealings) (finished : Finished) → p ≡ q → a ≡ b
+    → After (dealt p first front) (λ d. Ran (record { setting = run_of p; budget = a }) text new d finished)
+    → After (dealt q first front) (λ d. Ran (record { setting = run_of q; budget = b }) text new d finished)
+ran_as dealt first front text new finished e f x =
+    coe 0 1
+    (i. After (dealt (e i) first front) (λ d. Ran (record { setting = run_of (e i); budget = f i }) text new d finished)) x
 
-pub travelled_as : {p q r : ProgramParts} {g h k : List Entry} {before mid now : TripsTold} → r ≡ q → q ≡ p → g ≡ []
+pub travelled_as : {p q r : ProgramParts} {g h k : List Entry} {before mid now : LinkTold} → r ≡ q → q ≡ p → g ≡ []
     → ToursBy (run_of q) g h before mid → ToursBy (run_of r) h k mid now → Travelled (run_of p) k before now
 travelled_as {p} {q} {r} {g} {h} {k} {before} {mid} {now} e f none one two =
     coe 0 1 (i. Travelled (run_of (f i)) k before now)

@@ -13,11 +13,11 @@ use Rattle.office_core.specs.Past.{Past, some_entry, stops}
 use Rattle.office_core.specs.Accepted.{past_of}
 use Rattle.office_core.specs.Answers.{answers}
 use Rattle.office_core.specs.Legal.{IsLegal}
-use Rattle.office_front.specs.Dealings.{Told}
-use Rattle.order_laws.specs.Entries.{adds_none, cuts, is_other, posts_over, posts_under}
-use Rattle.order_laws.specs.Ordering.{Grows}
-use Rattle.order_laws.proofs.Growing.{legal_front}
-use Rattle.order_laws.proofs.Ordering.{before_goes_on, calm_at_post, calm_behind}
+use Rattle.run_theorem.specs.Dealings.{Told}
+use Rattle.run_order_laws.specs.Entries.{adds_none, cuts, is_other, posts_over, posts_under}
+use Rattle.run_order_laws.specs.Ordering.{Grows}
+use Rattle.run_order_laws.proofs.Growing.{legal_front}
+use Rattle.run_order_laws.proofs.Ordering.{before_goes_on, calm_at_post, calm_behind}
 use Rattle.run_record.specs.Order.{before_first}
 use Rattle.run_posts.specs.declared.pending.Fate.{Fate}
 use Rattle.run_posts.specs.declared.pending.Fate.TheVariants.{Message, Known}
@@ -25,7 +25,7 @@ use Rattle.run_posts.specs.Fates.{Wait, all_collected, collected, collected_in, 
 use Rattle.run_posts.proofs.Settling.{none_of_all}
 use Rattle.run_posts.proofs.Ending.{AreSettled, StandsInOrder, open_collected, open_told, other_all, settled_collected, stands_next}
 use Rattle.run_posts.proofs.Opening.{IsOpen, all_posts_of, is_between, next_wait, open_between, open_posts, places, told_places}
-use Rattle.branch_workers.specs.Lines.{finished_before}
+use Rattle.run_theorem.specs.Lines.{finished_before}
 use Rattle.run_alone.proofs.Earlier.{first_told}
 
 -- ---- entries
@@ -199,6 +199,14 @@ module _ (w : Setting) (h : List Entry) (all : List Posting) (xs : List Wait) (p
           (sym (can.calm some none))
           (calm_none (length all) gathered (none_of_all w (past_of w after_sweep) waiting)));
     }
+
+    -- each posting is finished exactly where its answers are there
+    pub settled_step : AreSettled w (past_of w after_step) settled_waits
+    settled_step = settled_collected w after_sweep (all ++ p ∷ []) ts waiting open_swept
+
+    -- what comes is of this posting or a later one
+    pub over_step : list_all (posts_over (length all)) (posted ++ (swept ++ gathered)) ≡ true
+    over_step = grows.over
 
     -- and in which order they were told
     pub order_step : StandsInOrder w after_step (suc (length all)) said_now (filter is_open settled_waits)

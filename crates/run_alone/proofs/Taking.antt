@@ -9,17 +9,17 @@ use Rattle.office_core.specs.declared.history.Act.TheVariants as act
 use Rattle.office_core.specs.declared.history.Entry.{Entry}
 use Rattle.office_core.specs.declared.outgoing.OutKind.TheVariants as kind
 use Rattle.office_core.specs.Limits.{Limits, Setting, first_worker}
-use Rattle.office_core.specs.Past.{is_running, some_entry, stops}
+use Rattle.office_core.specs.Past.{closes, is_running, some_entry, stops}
 use Rattle.office_core.specs.Accepted.{past_of}
 use Rattle.office_core.specs.Legal.{IsLegal}
-use Rattle.office_front.specs.Dealings.{Brought, Dealings, Told}
-use Rattle.office_front.specs.Calls.{After}
-use Rattle.order_laws.proofs.Growing.{legal_front, legal_rest}
-use Rattle.quiet_laws.specs.Ends.{is_by_worker}
-use Rattle.quiet_laws.proofs.Aside.{is_aside}
-use Rattle.quiet_laws.proofs.Workers.{quiet_by_answers, still_by_others, still_by_posts}
+use Rattle.run_theorem.specs.Dealings.{Brought, Dealings, Told}
+use Rattle.run_theorem.specs.Calls.{After}
+use Rattle.run_order_laws.proofs.Growing.{legal_front, legal_rest}
+use Rattle.run_quiet_laws.specs.Ends.{is_by_worker}
+use Rattle.run_quiet_laws.proofs.Aside.{is_aside}
+use Rattle.run_quiet_laws.proofs.Workers.{quiet_by_answers, still_by_others, still_by_posts}
 use Rattle.run_record.specs.Outside.{notes}
-use Rattle.run_record.specs.Quiet.{IsQuiet, IsStill, posts, posts_for, unbrought}
+use Rattle.run_record.specs.Quiet.{IsQuiet, IsStill, posts, posts_for, outstanding}
 use Rattle.run_cells.specs.Crews.{Stand, State, Stays, Team, events_of, past_in}
 use Rattle.run_cells.specs.Rounds.{IsQuietAt, IsStillAt}
 use Rattle.run_cells.proofs.Ends.{few, made_calls}
@@ -28,11 +28,13 @@ use Rattle.run_posts.specs.Telling.{AreExpected, TellsAll}
 use Rattle.run_posts.proofs.Ending.{StandsInOrder, open_expected}
 use Rattle.run_posts.proofs.Opening.{IsOpen, all_posts_of, next_wait, open_between, open_posts, told_places}
 use Rattle.run_sweep.specs.Swept.{NotesBy, StaysQuiet, Swept}
-use Rattle.trip_laws.specs.Going.{AreSettled, NotedSoFar, is_inward, is_silent}
-use Rattle.trip_laws.proofs.Settling.{all_noted, brought_over, noted_on, over_all, quiet_none, settled_on}
-use Rattle.run_alone.specs.Between.{Answered, Between, Brings, MayBeginAt, Passed, SaidMore, WasTold}
-use Rattle.branch_workers.specs.Lines.{finished_before, noted_before, IsFront}
-use Rattle.run_alone.proofs.Between.{swept_between}
+use Rattle.run_trip_laws.specs.Going.{AreSettled, NotedSoFar, is_inward, is_silent}
+use Rattle.run_trip_laws.proofs.Settling.{all_noted, brought_over, noted_on, over_all, quiet_none, settled_on}
+use Rattle.run_alone.specs.Between.{Answered, Between, Brings, IsGathered, MayBeginAt, Passed, SaidMore, WasTold}
+use Rattle.run_alone.specs.Ran.{AllCollected, CollectedBefore}
+use Rattle.run_theorem.specs.Lines.{finished_before, noted_before, IsPrefix}
+use Rattle.run_alone.proofs.Between.{swept_between, swept_unclosed}
+use Rattle.run_alone.proofs.Collecting.{gathered_step, told_before_step, told_more, told_step}
 use Rattle.run_alone.proofs.Earlier.{asked_within, longer_told}
 use Rattle.run_alone.proofs.Noting.{noted_step}
 use Rattle.run_alone.proofs.Stepping.{CanStep, after_step, after_sweep, collected_all, earlier_step, longer, open_gathered, open_step, order_step, posted, settled_waits, waiting}
@@ -70,8 +72,8 @@ calm_quiet s zero some empty = absurd (not_below some)
 calm_quiet s (suc n) some quiet = quiet
 
 -- each call that went out has its outcome where a posting may begin
-calm_brought : (s : State) (n : ℕ) → MayBeginAt n s → unbrought (past_in s) ≡ []
-calm_brought s zero empty = ap (λ (h : List Entry). unbrought (past_of s.setting h)) empty
+calm_brought : (s : State) (n : ℕ) → MayBeginAt n s → outstanding (past_in s) ≡ []
+calm_brought s zero empty = ap (λ (h : List Entry). outstanding (past_of s.setting h)) empty
 calm_brought s (suc n) quiet = quiet.brought
 
 pub runs : (w : Setting) (h : List Entry) → is_running (past_of w h) ≡ true → some_entry (past_of w h) stops ≡ false
@@ -174,10 +176,35 @@ module _ {s0 s1 s2 s3 : State} {xs0 xs1 xs2 xs3 : List Wait} {n : ℕ} {p : Post
         (are ∙ ap (λ (m : ℕ). finished_before w s0.history m j) (sym count)))
 
     -- and what was noted before it was asked for
-    pub noted_then : (noted : List ℕ) → notes w s0.history ≡ noted → IsFront (noted_before s3.setting s3.history n) noted
+    pub noted_then : (noted : List ℕ) → notes w s0.history ≡ noted → IsPrefix (noted_before s3.setting s3.history n) noted
     noted_then noted is =
-        coe 1 0 (i. IsFront (noted_before (setting_3 i) (history_3 i) (sym count i)) noted)
+        coe 1 0 (i. IsPrefix (noted_before (setting_3 i) (history_3 i) (sym count i)) noted)
         (noted_step w s0.history all xs0 p swept ts can noted is)
+
+    -- and what was collected
+    unclosed_then : list_any closes swept ≡ false
+    unclosed_then =
+        swept_unclosed w (past_of w (s0.history ++ posted w s0.history all xs0 p swept)) swept
+        (legal_rest w (s0.history ++ posted w s0.history all xs0 p swept) swept legal_2) took.sweep.each
+
+    pub gathered_then : IsGathered w s0.history xs0 → IsGathered s3.setting s3.history xs3
+    gathered_then g =
+        coe 1 0 (i. IsGathered (setting_3 i) (history_3 i) (waits_3 i))
+        (gathered_step w s0.history all xs0 p swept can.between unclosed_then g)
+
+    -- what was told then was collected
+    pub told_then : IsGathered w s0.history xs0 → AllCollected (past_of w s0.history) ts
+        → AllCollected (past_of s3.setting s3.history) (ts ++ map told_of (filter is_finished xs2))
+    told_then g was =
+        coe 1 0 (i. AllCollected (past_of (setting_3 i) (history_3 i)) (ts ++ map told_of (filter is_finished (waits_2 i))))
+        (told_step w s0.history all xs0 p swept ts can unclosed_then g was)
+
+    -- and what had been told before
+    pub told_before_then : (d : Dealings) → d.said.told ≡ ts → AllCollected (past_of w s0.history) ts
+        → CollectedBefore w s0.history d → CollectedBefore s3.setting s3.history d
+    told_before_then d told was before =
+        coe 1 0 (i. CollectedBefore (setting_3 i) (history_3 i) d)
+        (told_before_step w s0.history all xs0 p swept ts can d told was before)
 
     -- the front expects to be told of them
     pub expected_then : (d : Dealings) → d.brought.given ≡ all ++ p ∷ [] → d.said.told ≡ ts → AreExpected xs2 d
@@ -260,6 +287,7 @@ module _ {s0 s1 s2 s3 : State} {xs0 xs1 xs2 xs3 : List Wait} {n : ℕ} {p : Post
     opens = opens_then took b.all b.count team0 team3 (b.quiet refl) b.said b.opens b.order;
     order = order_then took b.all b.count team0 team3 (b.quiet refl) b.said b.opens b.order;
     count = longer b.all p ∙ ap suc b.count;
+    gathered = gathered_then took b.all b.count team0 team3 (b.quiet refl) b.said b.opens b.order b.gathered;
     quiet = λ e. quiet_collected s2 s3 xs1 team3 took.collect (quiet e);
   }
 
@@ -280,9 +308,9 @@ module _ {s0 s1 s2 s3 : State} {xs0 xs1 xs2 xs3 : List Wait} {n : ℕ} {p : Post
 
   -- what passed with the front then: it was noted to in the sweep, and then told
   pub passed_then : (before mid now : Dealings) → IsLegal s1.setting s1.history → MayBeginAt n s0 → AreSettled s0.setting s0.history
-      → Brings s0 xs0 n p before → NotesBy s1.setting s1.history s2.history before mid
+      → IsGathered s0.setting s0.history xs0 → Brings s0 xs0 n p before → NotesBy s1.setting s1.history s2.history before mid
       → TellsAll (map told_of (filter is_finished xs2)) mid now → Passed s3 xs3 (suc n) now × SaidMore before now
-  passed_then before mid now legal calm settled b noting tells =
+  passed_then before mid now legal calm settled g b noting tells =
       let brought : now.brought ≡ before.brought = tells.brought ∙ (noting.0).notes.brought in
       let given : now.brought.given ≡ b.all ++ p ∷ [] = ap (λ (x : Brought). x.given) brought ∙ b.given in
       let told : now.said.told ≡ before.said.told ++ map told_of (filter is_finished xs2)
@@ -304,11 +332,19 @@ module _ {s0 s1 s2 s3 : State} {xs0 xs1 xs2 xs3 : List Wait} {n : ℕ} {p : Post
                 are = earlier_then took b.all b.count team0 team3 calm before.said.told b.opens b.order j k
                     (asked_within before.brought.seens j k n b.asked there) was.within was.are;
               });
+          collected =
+              subst (AllCollected (past_of s3.setting s3.history)) (sym told)
+              (told_then took b.all b.count team0 team3 calm before.said.told b.opens b.order g b.collected);
+          collected_before =
+              told_more s3.setting s3.history before now (map told_of (filter is_finished xs2)) brought told
+              (λ j k at. (b.earlier j k at).within)
+              (told_before_then took b.all b.count team0 team3 calm before.said.told b.opens b.order before refl b.collected
+              b.collected_before);
           noted = subst (λ (t : List ℕ). NotedSoFar s3.setting s3.history t) (sym tells.noted)
               (noted_collected mid.said.noted
               (coe 0 1 (i. NotedSoFar (sym took.sweep.setting i) s2.history mid.said.noted)
               (noting.1 (noted_posted before.said.noted b.noted legal))));
-          noted_then = subst (λ (m : ℕ). IsFront (noted_before s3.setting s3.history m) now.brought.noted) (one_less n)
+          noted_then = subst (λ (m : ℕ). IsPrefix (noted_before s3.setting s3.history m) now.brought.noted) (one_less n)
               (noted_then took b.all b.count team0 team3 calm before.said.told b.opens b.order now.brought.noted
               (sym (all_noted s0.setting s0.history before.said.noted
               (quiet_none s0.setting s0.history kind.Console settled (calm_brought s0 n calm)) b.noted)
@@ -319,7 +355,7 @@ module _ {s0 s1 s2 s3 : State} {xs0 xs1 xs2 xs3 : List Wait} {n : ℕ} {p : Post
                 ∙ sym (noting.0).notes.noted ∙ sym tells.noted,
           );
           some = λ e. some_below n;
-          mutes = λ e. tells.muted ∙ (noting.0).notes.muted ∙ (tells.halts.calm e).0;
+          mutes = λ e. tells.notes_failed ∙ (noting.0).notes.notes_failed ∙ (tells.halts.calm e).0;
         },
         record { brought = brought; halted = λ e. ((noting.0).notes.halts.calm (tells.halts.calm e).0).0 },
       )
@@ -363,22 +399,22 @@ settled_posted s0 s1 n cs stays legal settled =
     (coe 0 1 (i. IsLegal (stays.setting i) (stays.history i)) legal) settled)
 
 pub between_brought : {s : State} {xs : List Wait} {n : ℕ} {calm : Bool} → calm ≡ true → Between s xs n calm
-    → unbrought (past_in s) ≡ []
+    → outstanding (past_in s) ≡ []
 between_brought {s} {xs} {n} e b = calm_brought s n (b.quiet e)
 
 -- and still once a posting was posted
 pub brought_posted : (s0 s1 : State) (n : ℕ) (cs : List CallIn)
     → Stays s0 s1 (posted_entries s0.setting (past_in s0) (n, 0) cs) → IsLegal s1.setting s1.history
-    → AreSettled s0.setting s0.history → unbrought (past_in s0) ≡ [] → unbrought (past_in s1) ≡ []
+    → AreSettled s0.setting s0.history → outstanding (past_in s0) ≡ [] → outstanding (past_in s1) ≡ []
 brought_posted s0 s1 n cs stays legal settled none =
-    (λ i. unbrought (past_of (stays.setting i) (stays.history i)))
+    (λ i. outstanding (past_of (stays.setting i) (stays.history i)))
     ∙ brought_over s0.setting s0.history (posted_entries s0.setting (past_in s0) (n, 0) cs)
     (all_posts_of s0.setting (past_in s0) (n, 0) cs is_silent (λ i q r. refl))
     (coe 0 1 (i. IsLegal (stays.setting i) (stays.history i)) legal) settled none
 
 pub brought_then : (s0 s1 : State) (xs : List Wait) (n : ℕ) (cs : List CallIn)
     → Stays s0 s1 (posted_entries s0.setting (past_in s0) (n, 0) cs) → IsLegal s1.setting s1.history
-    → Between s0 xs n true → unbrought (past_in s1) ≡ []
+    → Between s0 xs n true → outstanding (past_in s1) ≡ []
 brought_then s0 s1 xs n cs stays legal b =
     brought_posted s0 s1 n cs stays legal b.settled (between_brought {s = s0} {xs = xs} {n = n} refl b)
 
@@ -423,12 +459,12 @@ module _ {s0 s1 s2 s3 : State} {xs0 xs1 xs2 xs3 : List Wait} {n : ℕ} (p : Post
       let told = tell mid noted.1
       (expected_then took_so brings.all brings.count team0 team3 (b.quiet refl) before.said.told brings.opens brings.order mid given
       (noted.2.0).notes.told) in
-      let all = passed_then took_so team0 team3 before mid told.0 team1.legal (b.quiet refl) b.settled brings noted.2 told.2 in (
+      let all = passed_then took_so team0 team3 before mid told.0 team1.legal (b.quiet refl) b.settled b.gathered brings noted.2 told.2 in (
         told.0,
         told.1,
         record {
           passed = subst (λ (k : ℕ). Passed s3 xs3 k told.0) (sym e) all.0;
           said = all.1;
-          muted = λ stopped. (told.2).muted ∙ (noted.2.0).notes.muted ∙ halted stopped mid noted.1;
+          notes_failed = λ stopped. (told.2).notes_failed ∙ (noted.2.0).notes.notes_failed ∙ halted stopped mid noted.1;
         },
       )

@@ -1,5 +1,6 @@
 -- The trips of a run are those of its calls that went out: what is not a sweep makes none.
 use Rattle.std.proofs.Common.{◌≡◌, ℕ, Bool, true, false, List, [], ◌∷◌, ◌++◌, Option, refl, sym, subst, ◌∙◌, if◌then◌else◌}
+use Rattle.outside_links.specs.Trips.{LinkTold}
 use Rattle.std.specs.List.{list_all}
 use Rattle.std.proofs.lemmas.Bool.{false≢true}
 use Rattle.office_core.specs.declared.front.CallIn.{CallIn}
@@ -9,23 +10,23 @@ use Rattle.office_core.specs.declared.history.Entry.{Entry}
 use Rattle.office_core.specs.Limits.{Setting, first_worker}
 use Rattle.office_core.specs.Legal.{IsLegal}
 use Rattle.office_core.specs.Past.{closes, some_entry}
-use Rattle.quiet_laws.specs.Ends.{is_adoption, stop_entry}
+use Rattle.run_quiet_laws.specs.Ends.{is_adoption, stop_entry}
 use Rattle.run_cells.specs.Crews.{State, Stays, closing, past_in}
 use Rattle.run_cells.specs.Rounds.{Adopted}
 use Rattle.run_posts.specs.Fates.{Wait, all_collected, posted_entries}
 use Rattle.run_posts.proofs.Opening.{all_posts_of}
 use Rattle.run_sweep.specs.Swept.{Swept, ToursBy}
-use Rattle.trip_laws.specs.Going.{Toured, is_inward}
-use Rattle.trip_laws.specs.Trips.{TripsTold, Travelled}
-use Rattle.trip_laws.proofs.Settling.{over_all}
-use Rattle.trip_laws.proofs.Touring.{toured_first, toured_on, travelled}
+use Rattle.run_trip_laws.specs.Going.{Toured, is_inward}
+use Rattle.run_theorem.specs.Trips.{Travelled}
+use Rattle.run_trip_laws.proofs.Settling.{over_all}
+use Rattle.run_trip_laws.proofs.Touring.{toured_first, toured_on, travelled}
 use Rattle.run_alone.specs.Between.{Rested}
 use Rattle.run_alone.proofs.Stepping.{all_append, all_weaker}
 use Rattle.run_alone.proofs.Stepping.{collected_all}
 
 -- entries came that fetch no call and bring no outcome
 toured_all : (s t : State) (more : List Entry) → t.setting ≡ s.setting → t.history ≡ s.history ++ more
-    → list_all is_inward more ≡ true → IsLegal t.setting t.history → (now : TripsTold)
+    → list_all is_inward more ≡ true → IsLegal t.setting t.history → (now : LinkTold)
     → ToursBy s.setting s.history t.history now now
 toured_all s t more setting history inward legal now first toured =
     subst (λ (h : List Entry). Toured s.setting h first now) (sym history)
@@ -33,12 +34,12 @@ toured_all s t more setting history inward legal now first toured =
     (coe 0 1 (i. IsLegal (setting i) (history i)) legal) toured)
 
 -- under the same setting
-tours_under : {v w : Setting} → v ≡ w → (g h : List Entry) (before now : TripsTold) → ToursBy v g h before now
+tours_under : {v w : Setting} → v ≡ w → (g h : List Entry) (before now : LinkTold) → ToursBy v g h before now
     → ToursBy w g h before now
 tours_under e g h before now t = coe 0 1 (i. ToursBy (e i) g h before now) t
 
 -- a posting is taken in
-pub toured_taken : {s0 s1 s2 s3 : State} (xs : List Wait) (n : ℕ) (cs : List CallIn) {before now : TripsTold}
+pub toured_taken : {s0 s1 s2 s3 : State} (xs : List Wait) (n : ℕ) (cs : List CallIn) {before now : LinkTold}
     → Stays s0 s1 (posted_entries s0.setting (past_in s0) (n, 0) cs) → Swept s1 s2
     → Stays s2 s3 (all_collected s2.setting (past_in s2) xs) → IsLegal s1.setting s1.history
     → IsLegal s3.setting s3.history → ToursBy s1.setting s1.history s2.history before now
@@ -65,7 +66,7 @@ inward_closing true = refl
 inward_closing false = refl
 
 -- what comes at the end
-pub toured_ended : {s0 s1 s2 s3 s4 : State} {calm : Bool} (xs : List Wait) {before now : TripsTold}
+pub toured_ended : {s0 s1 s2 s3 s4 : State} {calm : Bool} (xs : List Wait) {before now : LinkTold}
     → Rested calm s0 s1 → Adopted s1 s2 → Stays s2 s3 (closing (past_in s2) ++ stop_entry ∷ [])
     → Stays s3 s4 (all_collected s3.setting (past_in s3) xs) → IsLegal s2.setting s2.history
     → IsLegal s3.setting s3.history → IsLegal s4.setting s4.history → ToursBy s0.setting s0.history s1.history before now
@@ -86,22 +87,22 @@ toured_ended {s0} {s1} {s2} {s3} {s4} xs {before} {now} rest adopt stop collect 
     first (mid first toured)))
 
 -- of the same history
-pub tours_into : {w : Setting} {g h k : List Entry} {before now : TripsTold} → k ≡ h → ToursBy w g h before now
+pub tours_into : {w : Setting} {g h k : List Entry} {before now : LinkTold} → k ≡ h → ToursBy w g h before now
     → ToursBy w g k before now
 tours_into {w} {g} {before = before} {now = now} e t = coe 1 0 (i. ToursBy w g (e i) before now) t
 
 -- nothing came
-pub toured_still : (s : State) (now : TripsTold) → ToursBy s.setting s.history s.history now now
+pub toured_still : (s : State) (now : LinkTold) → ToursBy s.setting s.history s.history now now
 toured_still s now first toured = toured
 
 -- one after the other, under one setting
-pub toured_both : {v w : Setting} {g h k : List Entry} {before mid now : TripsTold} → v ≡ w
+pub toured_both : {v w : Setting} {g h k : List Entry} {before mid now : LinkTold} → v ≡ w
     → ToursBy w g h before mid → ToursBy v h k mid now → ToursBy w g k before now
 toured_both {h = h} {k = k} {mid = mid} {now = now} e one two first toured =
     tours_under e h k mid now two first (one first toured)
 
 -- from nothing on
-pub travelled_all : {w : Setting} {g h k : List Entry} {before mid now : TripsTold} → g ≡ []
+pub travelled_all : {w : Setting} {g h k : List Entry} {before mid now : LinkTold} → g ≡ []
     → ToursBy w g h before mid → ToursBy w h k mid now → Travelled w k before now
 travelled_all {w} {g} {k = k} {before = before} {now = now} none one two =
     travelled w k before now

@@ -14,11 +14,11 @@ use Rattle.office_core.specs.Limits.{Setting}
 use Rattle.office_core.specs.Sessions.{service_of, was_adopted}
 use Rattle.office_core.specs.Accepted.{past_of}
 use Rattle.run_record.specs.Agrees.{IsSession}
-use Rattle.run_record.specs.Quiet.{CanAct, unbrought}
-use Rattle.quiet_laws.proofs.Aside.{is_aside, leaves, unbrought_aside}
+use Rattle.run_record.specs.Quiet.{CanAct, outstanding}
+use Rattle.run_quiet_laws.proofs.Aside.{is_aside, leaves, outstanding_aside}
 use Rattle.session_turn.proofs.Histories.{stays_there}
 use Rattle.run_cells.proofs.Teams.{one_more}
-use Rattle.run_alone.specs.Picks.{AreTheirs, Chose, EndsRound, Follows, TakenTurn, WasHad, again, anew, events_by, next}
+use Rattle.run_theorem.specs.Picks.{AreTheirs, Chose, EndsRound, Follows, TakenTurn, WasHad, again, anew, events_by, next}
 use Rattle.run_alone.specs.Ran.{Rules}
 use Rattle.run_alone.proofs.Choosing.{CameOf, turn_at}
 use Rattle.run_alone.proofs.Places.{Grows, first_more, get_last, le_more, pairs_more}
@@ -124,9 +124,9 @@ theirs_later h a b more l theirs =
     ∙ theirs
 
 -- what was not brought after all entries of a history
-unbrought_whole : (w : Setting) (h : List Entry) → unbrought (past_of w (take (length h) h)) ≡ unbrought (past_of w h)
-unbrought_whole w h =
-    ap (λ (es : List Entry). unbrought (past_of w es)) (take_all (length h) h (le_refl (length h)))
+outstanding_whole : (w : Setting) (h : List Entry) → outstanding (past_of w (take (length h) h)) ≡ outstanding (past_of w h)
+outstanding_whole w h =
+    ap (λ (es : List Entry). outstanding (past_of w es)) (take_all (length h) h (le_refl (length h)))
 
 pub follows_later : {w : Setting} {h : List Entry} {a b : TakenTurn} (more : List Entry) → a.entries ≤ length h
     → b.entries ≤ length h → Follows w h a b → Follows w (h ++ more) a b
@@ -134,7 +134,7 @@ follows_later {w} {h} {a} {b} more l m (again e is theirs) = again e is (theirs_
 follows_later {w} {h} {a} {b} more l m (next e is theirs) = next e is (theirs_later h a b more m theirs)
 follows_later {w} {h} {a} {b} more l m (anew ends is brought) =
     anew (ends_later h more l ends) is
-    (ap (λ (es : List Entry). unbrought (past_of w es)) (take-append-le b.entries h more m) ∙ brought)
+    (ap (λ (es : List Entry). outstanding (past_of w es)) (take-append-le b.entries h more m) ∙ brought)
 
 -- the turn that session n would take behind one more entry of its own
 theirs_more : (h : List Entry) (a : TakenTurn) (n : ℕ) (e : Entry) → e.actor ≡ n → a.entries ≤ length h
@@ -167,7 +167,7 @@ follows_more {w} {h} {a} n pick did e actor aside l (again d is theirs) =
 follows_more {w} {h} {a} n pick did e actor aside l (next d is theirs) = next d is (theirs_more h a n e actor l theirs)
 follows_more {w} {h} {a} n pick did e actor aside l (anew ends is brought) =
     anew (ends_later h (e ∷ []) l ends) is
-    (unbrought_whole w (h ++ e ∷ []) ∙ unbrought_aside w h (leaves e aside) ∙ sym (unbrought_whole w h) ∙ brought)
+    (outstanding_whole w (h ++ e ∷ []) ∙ outstanding_aside w h (leaves e aside) ∙ sym (outstanding_whole w h) ∙ brought)
 
 -- between a turn and the end of the history stand such entries
 pub theirs_since : (is_it : Entry → Bool) (old own new : List Entry) → new ≡ old ++ own → list_all is_it own ≡ true
@@ -199,11 +199,11 @@ pub record IsBefore (w : Setting) (h : List Entry) (n : ℕ) (turns : List Taken
   pub ends : service_of w (past_of w h) n ≡ None → AtEnd w h turns
 
 pub before_round : {w : Setting} {h : List Entry} {turns : List TakenTurn} → AtEnd w h turns
-    → unbrought (past_of w h) ≡ [] → IsBefore w h 0 turns
+    → outstanding (past_of w h) ≡ [] → IsBefore w h 0 turns
 before_round {w} {h} ends brought = record {
   may = record {
     first = λ e. refl;
-    follows = λ a pick did at. anew (ends a at) refl (unbrought_whole w h ∙ brought);
+    follows = λ a pick did at. anew (ends a at) refl (outstanding_whole w h ∙ brought);
   };
   ends = λ unborn. ends;
 }

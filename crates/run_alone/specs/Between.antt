@@ -1,29 +1,58 @@
 -- These definitions serve the proofs alone: no promise speaks of them.
 -- Where a run stands between two postings.
 use Rattle.std.specs.Prelude.{◌≡◌, ◌≤◌, ◌<◌, ℕ, suc, ◌-◌, Bool, true, false, List, []}
-use Rattle.std.specs.Prelude.{◌∷◌, ◌++◌, length, take, Some, slice_get}
-use Rattle.std.specs.List.{list_all}
+use Rattle.std.specs.Prelude.{◌∷◌, ◌++◌, length, take, None, Some, nat_eq, slice_get}
+use Rattle.std.specs.List.{list_all, list_any}
 use Rattle.office_core.specs.declared.front.Posting.{Posting}
 use Rattle.office_core.specs.declared.history.Entry.{Entry}
-use Rattle.office_front.specs.Dealings.{Dealings, Told}
+use Rattle.office_core.specs.Limits.{Setting, first_worker}
+use Rattle.office_core.specs.Past.{closes}
+use Rattle.office_core.specs.Keys.{first}
+use Rattle.office_core.specs.Accepted.{past_of}
+use Rattle.office_core.specs.Answers.{answers}
+use Rattle.office_core.specs.Legal.{IsLegal, collects, posts_as}
+use Rattle.run_theorem.specs.Dealings.{Dealings, Told}
 use Rattle.run_record.specs.declared.record.Record.{Record}
 use Rattle.run_record.specs.Quiet.{MayBegin, before_stop}
+use Rattle.run_record.specs.Collected.{CollectsFirst}
 use Rattle.run_sweep.specs.Courses.{Goes}
 use Rattle.run_cells.specs.Crews.{State, events_of}
 use Rattle.run_cells.specs.Rounds.{IsQuietAt, IsStillAt}
-use Rattle.run_posts.specs.Fates.{Wait}
+use Rattle.run_posts.specs.Fates.{Wait, messages_of}
 use Rattle.run_posts.specs.Open.{IsOpen, StandsInOrder, told_places}
 use Rattle.run_sweep.specs.Swept.{StaysQuiet, is_swept}
-use Rattle.trip_laws.specs.Going.{AreSettled, NotedSoFar}
+use Rattle.run_trip_laws.specs.Going.{AreSettled, NotedSoFar}
 use Rattle.run_alone.specs.Overs.{IsOver, GaveNone}
-use Rattle.branch_workers.specs.Lines.{finished_before, noted_before, IsFront}
+use Rattle.run_alone.specs.declared.worker.Finished.{Finished}
+use Rattle.run_alone.specs.Ran.{AllCollected, CollectedBefore}
+use Rattle.run_theorem.specs.Lines.{finished_before, noted_before, IsPrefix}
+
+-- what was posted and not collected waits
+abbrev pub AllWait : List Entry → List Wait → Type 0
+AllWait h xs =
+    (n : ℕ) → list_any (posts_as first_worker n) h ≡ true → list_any (collects n) h ≡ false
+    → list_any (nat_eq n) (messages_of xs) ≡ true
+
+-- no message that waits has an answer
+abbrev pub NoneIsAnswered : Setting → List Entry → List Wait → Type 0
+NoneIsAnswered w h xs =
+    (n : ℕ) → list_any (nat_eq n) (messages_of xs) ≡ true → first (answers w (past_of w h) n) ≡ None
+
+-- Between two postings the input is open, each posting began behind collects, and what is not collected waits and has no
+-- answer.
+pub record IsGathered (w : Setting) (h : List Entry) (xs : List Wait) : Type 0 where
+  pub unclosed : list_any closes h ≡ false
+  pub begun : CollectsFirst w h
+  pub waiting : AllWait h xs
+  pub unanswered : NoneIsAnswered w h xs
 
 -- posting n may begin
 abbrev pub MayBeginAt : ℕ → State → Type 0
 MayBeginAt n s = MayBegin s.setting s.budget n s.history (events_of s.stands)
 
--- Between two postings, so many of which were taken in: how it stands with the calls that went out, and with postings
--- that wait and that were told; that each posting began where it may; and if it is calm, that the next one may begin.
+-- Between two postings, so many of which were taken in: how it stands with the calls that went out, with postings that
+-- wait and that were told, and with collects; that each posting began where it may; and if it is calm, that the next one
+-- may begin.
 pub record Between (s : State) (xs : List Wait) (n : ℕ) (calm : Bool) : Type 0 where
   pub settled : AreSettled s.setting s.history
   pub still : IsStillAt s
@@ -32,6 +61,7 @@ pub record Between (s : State) (xs : List Wait) (n : ℕ) (calm : Bool) : Type 0
   pub opens : IsOpen s.setting s.history all said xs
   pub order : StandsInOrder s.setting s.history n said xs
   pub count : length all ≡ n
+  pub gathered : IsGathered s.setting s.history xs
   pub quiet : calm ≡ true → MayBeginAt n s
 
 -- Of what was told the first k are the postings, among so many, that are finished before posting j.
@@ -43,19 +73,21 @@ pub record WasTold (s : State) (n : ℕ) (told : List Told) (j k : ℕ) : Type 0
 abbrev pub WereTold : State → ℕ → Dealings → Type 0
 WereTold s n d = (j k : ℕ) → slice_get d.brought.seens j ≡ Some k → WasTold s n d.said.told j k
 
--- What passed with a front until then: what is noted before the last posting had been noted when it was asked last; it
--- halted only where a posting was taken in, and no note failed unless it halted.
+-- What passed with a front until then: what it was told was collected; what is noted before the last posting had been
+-- noted when it was asked last; it halted only where a posting was taken in, and no note failed unless it halted.
 pub record Passed (s : State) (xs : List Wait) (n : ℕ) (d : Dealings) : Type 0 where
   pub opens : IsOpen s.setting s.history d.brought.given d.said.told xs
   pub order : StandsInOrder s.setting s.history n d.said.told xs
   pub count : length d.brought.given ≡ n
   pub asked : length d.brought.seens ≡ n
   pub earlier : WereTold s n d
+  pub collected : AllCollected (past_of s.setting s.history) d.said.told
+  pub collected_before : CollectedBefore s.setting s.history d
   pub noted : NotedSoFar s.setting s.history d.said.noted
-  pub noted_then : IsFront (noted_before s.setting s.history (n - 1)) d.brought.noted
-  pub noted_since : IsFront d.brought.noted d.said.noted
+  pub noted_then : IsPrefix (noted_before s.setting s.history (n - 1)) d.brought.noted
+  pub noted_since : IsPrefix d.brought.noted d.said.noted
   pub some : d.said.halted ≡ true → 0 < n
-  pub mutes : d.said.halted ≡ false → d.said.muted ≡ false
+  pub mutes : d.said.halted ≡ false → d.said.notes_failed ≡ false
 
 -- The same, and then it gave a posting that was not taken in yet; no answer halted it.
 pub record Brings (s : State) (xs : List Wait) (n : ℕ) (p : Posting) (d : Dealings) : Type 0 where
@@ -66,9 +98,11 @@ pub record Brings (s : State) (xs : List Wait) (n : ℕ) (p : Posting) (d : Deal
   pub count : length all ≡ n
   pub asked : length d.brought.seens ≡ suc n
   pub earlier : WereTold s n d
+  pub collected : AllCollected (past_of s.setting s.history) d.said.told
+  pub collected_before : CollectedBefore s.setting s.history d
   pub noted : NotedSoFar s.setting s.history d.said.noted
   pub noted_now : d.brought.noted ≡ d.said.noted
-  pub mutes : d.said.muted ≡ d.said.halted
+  pub mutes : d.said.notes_failed ≡ d.said.halted
 
 -- Something more passed with a front: nothing was brought, and it halted no less.
 pub record SaidMore (before now : Dealings) : Type 0 where
@@ -107,16 +141,26 @@ pub record NotedOn (old new : State) (before now : Dealings) : Type 0 where
 pub record Answered (s : State) (xs : List Wait) (n : ℕ) (calm : Bool) (before now : Dealings) : Type 0 where
   pub passed : Passed s xs n now
   pub said : SaidMore before now
-  pub muted : calm ≡ false → now.said.muted ≡ true
+  pub notes_failed : calm ≡ false → now.said.notes_failed ≡ true
 
 -- What passed with a front when no posting is asked for any more.
 pub record Closed (s : State) (xs : List Wait) (n : ℕ) (calm : Bool) (now : Dealings) : Type 0 where
   pub passed : Passed s xs n now
   pub over : IsOver now
-  pub muted : calm ≡ false → now.said.muted ≡ true
+  pub notes_failed : calm ≡ false → now.said.notes_failed ≡ true
   pub seen : GaveNone now → now.brought.seen ≡ length now.said.told
 
 -- What passed with a front when what was left to do was done: unless a note failed nothing is left.
 pub record LeftQuiet (old new : State) (before now : Dealings) : Type 0 where
   pub noted : NotedOn old new before now
-  pub quiet : now.said.muted ≡ false → IsQuietAt new
+  pub quiet : now.said.notes_failed ≡ false → IsQuietAt new
+
+-- What a run leaves of the state to which it came, for a program of this text: its history and the events of its
+-- sessions, and whether a session was spent.
+pub record IsLeft (text : List ℕ) (was_spent : Bool) (s : State) (finished : Finished) : Type 0 where
+  pub program : finished.report.program ≡ text
+  pub history : finished.report.history.entries.items ≡ s.history
+  pub sessions : finished.report.sessions ≡ events_of s.stands
+  pub traffic : finished.report.traffic ≡ []
+  pub spent : finished.spent ≡ was_spent
+  pub legal : IsLegal s.setting s.history

@@ -1,4 +1,3 @@
 pub mod Between
 pub mod Overs
-pub mod Picks
 pub mod Ran

@@ -1,11 +1,10 @@
 -- Why a run asks its front for no posting any more.
-use Rattle.std.specs.Prelude.{◌≡◌, ◌⊎◌, ℕ, ◌<◌, ◌≤◌, Bool, true, not, ◌&&◌, length, nat_lt}
-use Rattle.branch_workers.specs.Lines.{most_postings}
-use Rattle.office_front.specs.Dealings.{Dealings}
-
--- the most looks in a row that find no posting
-abbrev pub most_waits : ℕ
-most_waits = 1000000
+use Rattle.std.specs.Prelude.{◌≡◌, ◌⊎◌, ℕ, ◌<◌, ◌≤◌, Bool, true, not, ◌&&◌, List, [], length, nat_lt, Some}
+use Rattle.outside_traits.specs.Causes.{Rose}
+use Rattle.office_core.specs.declared.front.Posting.{Posting}
+use Rattle.run_theorem.specs.Lines.{most_postings}
+pub use Rattle.run_theorem.specs.Lines.{most_waits}
+use Rattle.run_theorem.specs.Dealings.{Dealings}
 
 -- why no posting was asked for any more: the front had none, it halted, it had none for too long, or there were the
 -- most
@@ -13,6 +12,14 @@ abbrev pub IsOver : Dealings → Type 0
 IsOver d =
     (d.brought.ended ≡ true) ⊎ (d.said.halted ≡ true) ⊎ (d.brought.waits ≡ most_waits)
     ⊎ (most_postings ≤ length d.brought.given)
+
+-- Of the postings that a front tells to be left there is none at the end, unless it halted, had none for too long, gave
+-- the most, or what it reads failed since it was new.
+abbrev pub LeavesNone : Dealings → Dealings → Type 0
+LeavesNone new d =
+    (ps : List Posting) → d.brought.left ≡ Some ps
+    → (ps ≡ []) ⊎ (d.said.halted ≡ true) ⊎ (d.brought.waits ≡ most_waits) ⊎ (most_postings ≤ length d.brought.given)
+    ⊎ Rose new.brought.faults d.brought.faults
 
 -- the front gave no posting when it was asked last
 abbrev pub GaveNone : Dealings → Type 0

@@ -1,5 +1,5 @@
 -- What one worker that runs a program alone leaves: the record, and what its front was told.
-use Rattle.std.specs.Prelude.{◌≡◌, ◌↔◌, ℕ, ◌-◌, Bool, true, false, List, [], length, map, take}
+use Rattle.std.specs.Prelude.{◌≡◌, ◌↔◌, ℕ, ◌-◌, Bool, true, false, List, [], ◌∷◌, ◌++◌, length, map, take}
 use Rattle.std.specs.Prelude.{Some, Contains, slice_get}
 use Rattle.std.specs.List.{list_all}
 use Rattle.office_core.specs.declared.front.Posting.{Posting}
@@ -9,18 +9,17 @@ use Rattle.office_core.specs.Past.{Past}
 use Rattle.office_core.specs.Accepted.{past_of}
 use Rattle.run_record.specs.Postings.{posts_by, posts_of, told}
 use Rattle.run_record.specs.Order.{order_alone}
+use Rattle.run_record.specs.Quiet.{begins_posting}
+use Rattle.run_record.specs.Collected.{was_collected}
 use Rattle.run_record.specs.Outside.{notes}
 use Rattle.run_record.specs.Run.{alone, IsRun, IsSpent}
-use Rattle.branch_workers.specs.Lines.{is_by_first, finished_before, noted_before, IsFront}
-use Rattle.office_front.specs.Dealings.{Told, Dealings}
-pub use Rattle.trip_laws.specs.Trips.{AreVoid, Travelled}
-pub use Rattle.run_alone.specs.Overs.{IsOver, GaveNone, most_waits}
+use Rattle.run_theorem.specs.Lines.{is_by_first, finished_before, noted_before, IsPrefix}
+pub use Rattle.run_theorem.specs.Lines.{finished_early}
+use Rattle.run_theorem.specs.Dealings.{Told, Dealings}
+pub use Rattle.run_theorem.specs.Trips.{AreVoid, Travelled}
+pub use Rattle.run_theorem.specs.Picks.{Rules}
+pub use Rattle.run_alone.specs.Overs.{IsOver, LeavesNone, GaveNone, most_waits}
 use Rattle.run_alone.specs.declared.worker.Finished.{Finished}
-
--- what a run is under: what it works by, and how many events a session may have
-pub record Rules : Type 0 where
-  pub setting : Setting
-  pub budget : ℕ
 
 -- ---- the front
 
@@ -31,11 +30,7 @@ IsTold w past given t =
 
 -- What was noted is what the history notes; where a note failed it is the front of that.
 abbrev pub AreNotes : Bool → List ℕ → List ℕ → Type 0
-AreNotes muted noted all = IsFront noted all × (muted ≡ false → noted ≡ all)
-
--- the postings, among so many, that are finished before the end, in the order in which they are answered
-abbrev pub finished_early : Setting → List Entry → ℕ → List ℕ
-finished_early w h count = finished_before w h count count
+AreNotes notes_failed noted all = IsPrefix noted all × (notes_failed ≡ false → noted ≡ all)
 
 -- When posting j was asked for, the front had been told of the postings that are finished at an earlier one, in order,
 -- and of no other.
@@ -50,22 +45,35 @@ SawFinished w h d =
 
 -- When the front was asked last, all had been noted to it that the history notes before the last posting.
 abbrev pub NotedBefore : Setting → List Entry → Dealings → Type 0
-NotedBefore w h d = IsFront (noted_before w h (length d.brought.given - 1)) d.brought.noted
+NotedBefore w h d = IsPrefix (noted_before w h (length d.brought.given - 1)) d.brought.noted
 
--- What passed between a run of this history and its front: each posting that was given was posted, in order, and was
+-- the answers of all calls of what was told were collected
+abbrev pub AllCollected : Past → List Told → Type 0
+AllCollected past ts = list_all (λ (t : Told). was_collected past first_worker t.place) ts ≡ true
+
+-- What the front had been told when posting j was asked for had been collected before that was posted.
+abbrev pub CollectedBefore : Setting → List Entry → Dealings → Type 0
+CollectedBefore w h d =
+    (j : ℕ) (before later : List Entry) (e : Entry) → h ≡ before ++ e ∷ later → begins_posting j before e ≡ true
+    → (n : ℕ) → slice_get d.brought.seens j ≡ Some n → AllCollected (past_of w before) (take n d.said.told)
+
+-- What passed between a run of this history and its front since that was new: each posting that was given was posted, in order, and was
 -- answered once, in order, with what its calls came to; and what the history notes was noted. When a posting was asked
--- for, the front had been told of what is finished before that one; and where it gave none when it was asked last, it
--- had been told by then of what is finished before the end. By then what the history notes before the last posting had
--- been noted.
-pub record Dealt (w : Setting) (h : List Entry) (d : Dealings) : Type 0 where
+-- for, the front had been told of what is finished before that one, and this was collected by then; and where it gave
+-- none when it was asked last, it had been told by then of what is finished before the end. By then what the history
+-- notes before the last posting had been noted. A front that tells what is left has none left, but for the reasons of
+-- `LeavesNone`.
+pub record Dealt (w : Setting) (h : List Entry) (new d : Dealings) : Type 0 where
   pub posted : posts_by first_worker h ≡ posts_of 0 d.brought.given
   pub posters : list_all is_by_first h ≡ true
   pub order : map (λ (t : Told). t.place) d.said.told ≡ order_alone w h first_worker (length d.brought.given)
   pub told : (t : Told) → Contains d.said.told t → IsTold w (past_of w h) d.brought.given t
-  pub noted : AreNotes d.said.muted d.said.noted (notes w h)
+  pub noted : AreNotes d.said.notes_failed d.said.noted (notes w h)
   pub over : IsOver d
+  pub left : LeavesNone new d
   pub asked : length d.brought.seens ≡ length d.brought.given
   pub told_before : ToldBefore w h d
+  pub collected : CollectedBefore w h d
   pub seen : GaveNone d → SawFinished w h d
   pub noted_then : NotedBefore w h d
 
@@ -74,10 +82,10 @@ pub record Dealt (w : Setting) (h : List Entry) (d : Dealings) : Type 0 where
 -- A run of one worker that works alone: its record is that of a run, of this text; its front was dealt with as the
 -- history says, its console calls came to void; and it tells whether a session used its whole budget and could act all
 -- the same.
-pub record Ran (r : Rules) (text : List ℕ) (d : Dealings) (finished : Finished) : Type 0 where
-  pub run : IsRun r.setting r.budget alone d.said.muted finished.report
+pub record Ran (r : Rules) (text : List ℕ) (new d : Dealings) (finished : Finished) : Type 0 where
+  pub run : IsRun r.setting r.budget alone d.said.notes_failed finished.report
   pub program : finished.report.program ≡ text
   pub traffic : finished.report.traffic ≡ []
-  pub dealt : Dealt r.setting finished.report.history.entries.items d
+  pub dealt : Dealt r.setting finished.report.history.entries.items new d
   pub consoles : AreVoid r.setting (past_of r.setting finished.report.history.entries.items)
   pub spent : (finished.spent ≡ true) ↔ IsSpent r.setting r.budget finished.report

@@ -1,21 +1,20 @@
 //! A run under way, and how a posting is taken in.
 ghost use Rattle.std.specs.Prelude.{◌≡◌, ◌<◌, suc, true, IfOk, OnOk};
 ghost use Rattle.behaviour_tree.specs.PartsView.{parts_of};
-ghost use Rattle.office_front.specs.Calls.{After, most_postings};
-ghost use Rattle.office_front.specs.Dealings.{Dealings};
+ghost use Rattle.run_theorem.specs.Calls.{After, most_postings};
+ghost use Rattle.run_theorem.specs.Dealings.{Dealings};
 ghost use Rattle.run_sweep.specs.Courses.{Goes};
 ghost use Rattle.run_cells.specs.Crews.{AtWork, state_of};
 ghost use Rattle.run_posts.specs.Fates.{waits};
 ghost use Rattle.run_sweep.specs.Swept.{ToursBy};
 ghost use Rattle.run_alone.specs.Between.{Answered, Between, Brings};
-ghost use Rattle.trip_laws.specs.Trips.{trips_told};
 
 use office_core::Posting;
-use office_front::Front;
 use outside_links::Link;
 use run_cells::{Cells, Crewed};
 use run_posts::Pendings;
 use run_sweep::sweep;
+use run_theorem::Front;
 use session_turn::{Seating, Session};
 use std::alloc::{AllocError, Global};
 
@@ -45,7 +44,7 @@ impl<S: Seating> Alone<'_, S> {
         ensures goes { OnOk result (Goes (state_of (⟦<Cells<'static, S> as Crewed>⟧.crew self.old.cells)) (state_of (⟦<Cells<'static, S> as Crewed>⟧.crew self.new.cells))) }
         ensures count { OnOk result (self.new.pendings.postings ≡ suc self.old.pendings.postings) }
         ensures between { IfOk result (Between (state_of (⟦<Cells<'static, S> as Crewed>⟧.crew self.new.cells)) (waits self.new.pendings) self.new.pendings.postings) }
-        ensures toured { OnOk result (ToursBy (state_of (⟦<Cells<'static, S> as Crewed>⟧.crew self.old.cells)).setting (state_of (⟦<Cells<'static, S> as Crewed>⟧.crew self.old.cells)).history (state_of (⟦<Cells<'static, S> as Crewed>⟧.crew self.new.cells)).history (trips_told (L.trips link.old) (L.faults link.old)) (trips_told (L.trips link.new) (L.faults link.new))) }
+        ensures toured { OnOk result (ToursBy (state_of (⟦<Cells<'static, S> as Crewed>⟧.crew self.old.cells)).setting (state_of (⟦<Cells<'static, S> as Crewed>⟧.crew self.old.cells)).history (state_of (⟦<Cells<'static, S> as Crewed>⟧.crew self.new.cells)).history (L.told link.old) (L.told link.new)) }
         ensures passed { IfOk result (λ calm. (first : F) (before : Dealings) → F.dealt (parts_of self.old.cells.program) first front.old before
             → Brings (state_of (⟦<Cells<'static, S> as Crewed>⟧.crew self.old.cells)) (waits self.old.pendings) self.old.pendings.postings posting.now before
             → After (F.dealt (parts_of self.old.cells.program) first front.new)

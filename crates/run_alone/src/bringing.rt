@@ -1,20 +1,19 @@
 //! Postings are brought in until no more comes.
 ghost use Rattle.std.specs.Prelude.{◌≡◌, ◌<◌, true, IfOk, OnOk, length};
 ghost use Rattle.behaviour_tree.specs.PartsView.{parts_of};
-ghost use Rattle.office_front.specs.Calls.{After};
-ghost use Rattle.office_front.specs.Dealings.{Dealings, IsNew};
+ghost use Rattle.run_theorem.specs.Calls.{After};
+ghost use Rattle.run_theorem.specs.Dealings.{Dealings, IsNew};
 ghost use Rattle.run_sweep.specs.Courses.{Goes};
 ghost use Rattle.run_cells.specs.Crews.{AtWork, state_of};
 ghost use Rattle.run_posts.specs.Fates.{waits};
 ghost use Rattle.run_sweep.specs.Swept.{ToursBy};
 ghost use Rattle.run_alone.specs.Between.{Between, Closed, Passed};
-ghost use Rattle.run_alone.specs.Overs.{asks};
-ghost use Rattle.trip_laws.specs.Trips.{trips_told};
+ghost use Rattle.run_alone.specs.Overs.{LeavesNone, asks};
 
 use crate::alone::Alone;
-use office_front::{Front, Next};
 use outside_links::Link;
 use run_cells::{Cells, Crewed};
+use run_theorem::{Front, Next};
 use session_turn::Seating;
 use std::alloc::AllocError;
 
@@ -37,12 +36,13 @@ impl<S: Seating> Alone<'_, S> {
         ensures work { OnOk result (AtWork (⟦<Cells<'static, S> as Crewed>⟧.crew self.new.cells)) }
         ensures goes { OnOk result (Goes (state_of (⟦<Cells<'static, S> as Crewed>⟧.crew self.old.cells)) (state_of (⟦<Cells<'static, S> as Crewed>⟧.crew self.new.cells))) }
         ensures between { IfOk result (Between (state_of (⟦<Cells<'static, S> as Crewed>⟧.crew self.new.cells)) (waits self.new.pendings) self.new.pendings.postings) }
-        ensures toured { OnOk result (ToursBy (state_of (⟦<Cells<'static, S> as Crewed>⟧.crew self.old.cells)).setting (state_of (⟦<Cells<'static, S> as Crewed>⟧.crew self.old.cells)).history (state_of (⟦<Cells<'static, S> as Crewed>⟧.crew self.new.cells)).history (trips_told (L.trips link.old) (L.faults link.old)) (trips_told (L.trips link.new) (L.faults link.new))) }
+        ensures toured { OnOk result (ToursBy (state_of (⟦<Cells<'static, S> as Crewed>⟧.crew self.old.cells)).setting (state_of (⟦<Cells<'static, S> as Crewed>⟧.crew self.old.cells)).history (state_of (⟦<Cells<'static, S> as Crewed>⟧.crew self.new.cells)).history (L.told link.old) (L.told link.new)) }
         ensures passed { IfOk result (λ calm. (first : F) (before : Dealings) → F.dealt (parts_of self.old.cells.program) first front.old before
             → IsNew before
             → Passed (state_of (⟦<Cells<'static, S> as Crewed>⟧.crew self.old.cells)) (waits self.old.pendings) self.old.pendings.postings before
             → After (F.dealt (parts_of self.old.cells.program) first front.new)
-            (Closed (state_of (⟦<Cells<'static, S> as Crewed>⟧.crew self.new.cells)) (waits self.new.pendings) self.new.pendings.postings calm)) }
+            (λ now. Closed (state_of (⟦<Cells<'static, S> as Crewed>⟧.crew self.new.cells)) (waits self.new.pendings) self.new.pendings.postings calm now
+            × LeavesNone before now)) }
     {
         let mut looks = 0;
         let mut calm = true;

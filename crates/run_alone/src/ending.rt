@@ -1,25 +1,26 @@
 //! The end of a run.
-ghost use Rattle.std.specs.Prelude.{◌≡◌, ◌||◌, true, false, not, [], IfOk, OnOk};
+ghost use Rattle.std.specs.Prelude.{◌≡◌, ◌||◌, ℕ, List, true, false, not, [], IfOk, OnOk};
 ghost use Rattle.behaviour_tree.specs.Data.{ProgramParts};
 ghost use Rattle.behaviour_tree.specs.PartsView.{parts_of};
 ghost use Rattle.office_core.specs.Legal.{IsLegal};
-ghost use Rattle.office_front.specs.Calls.{After};
-ghost use Rattle.office_front.specs.Dealings.{Dealings};
+ghost use Rattle.run_theorem.specs.Calls.{After};
+ghost use Rattle.run_theorem.specs.Dealings.{Dealings};
 ghost use Rattle.run_cells.specs.Crews.{AtWork, IsOurs, events_of, state_of};
 ghost use Rattle.run_posts.specs.Fates.{waits};
 ghost use Rattle.run_sweep.specs.Swept.{ToursBy};
-ghost use Rattle.run_alone.specs.Between.{Between, Closed, GoesTo, LeftQuiet, Rested};
+ghost use Rattle.run_alone.specs.Between.{Between, Closed, GoesTo, IsLeft, LeftQuiet, Rested};
+ghost use Rattle.run_alone.specs.Overs.{LeavesNone};
 ghost use Rattle.run_alone.specs.Ran.{Ran};
-ghost use Rattle.trip_laws.specs.Trips.{trips_told};
+ghost use Rattle.run_alone.specs.declared.worker.Finished.{Finished as Left};
 
 use crate::alone::Alone;
 use crate::worker::Finished;
 use jolie_trees::Bytes;
-use office_front::Front;
 use outside_links::Link;
 use run_cells::{Cells, Crewed};
 use run_record::Record;
 use run_sweep::sweep;
+use run_theorem::Front;
 use session_turn::Seating;
 use sqlite_items::Items;
 use std::alloc::{AllocError, Global};
@@ -35,23 +36,55 @@ impl<S: Seating> Alone<'_, S> {
     ) -> Result<Finished, AllocError>
         requires work { AtWork (⟦<Cells<'static, S> as Crewed>⟧.crew self.cells) }
         requires between { Between (state_of (⟦<Cells<'static, S> as Crewed>⟧.crew self.cells)) (waits self.pendings) self.pendings.postings calm }
-        ensures ran { IfOk result (λ finished. (first : F) (before : Dealings) → F.dealt (parts_of self.entry.cells.program) first front.old before
+        ensures ran { IfOk result (λ finished. (first : F) (new before : Dealings) → F.dealt (parts_of self.entry.cells.program) first front.old before
             → Closed (state_of (⟦<Cells<'static, S> as Crewed>⟧.crew self.entry.cells)) (waits self.entry.pendings) self.entry.pendings.postings calm before
+            → LeavesNone new before
             → After (F.dealt (parts_of self.entry.cells.program) first front.new)
-            (λ d. Ran (record { setting = (state_of (⟦<Cells<'static, S> as Crewed>⟧.crew self.entry.cells)).setting; budget = (state_of (⟦<Cells<'static, S> as Crewed>⟧.crew self.entry.cells)).budget }) text.now d finished)) }
+            (λ d. Ran (record { setting = (state_of (⟦<Cells<'static, S> as Crewed>⟧.crew self.entry.cells)).setting; budget = (state_of (⟦<Cells<'static, S> as Crewed>⟧.crew self.entry.cells)).budget }) text.now new d finished)) }
         ensures goes { IfOk result (λ finished. GoesTo (state_of (⟦<Cells<'static, S> as Crewed>⟧.crew self.entry.cells)) finished.report) }
-        ensures toured { IfOk result (λ finished. ToursBy (state_of (⟦<Cells<'static, S> as Crewed>⟧.crew self.entry.cells)).setting (state_of (⟦<Cells<'static, S> as Crewed>⟧.crew self.entry.cells)).history finished.report.history.entries.items (trips_told (L.trips link.old) (L.faults link.old)) (trips_told (L.trips link.new) (L.faults link.new))) }
+        ensures toured { IfOk result (λ finished. ToursBy (state_of (⟦<Cells<'static, S> as Crewed>⟧.crew self.entry.cells)).setting (state_of (⟦<Cells<'static, S> as Crewed>⟧.crew self.entry.cells)).history finished.report.history.entries.items (L.told link.old) (L.told link.new)) }
+    {
+        match self.quit(front, link, calm) {
+            Ok(spent) => {
+                let report = record_of(self.alloc, text, self.cells)?;
+                Ok(Finished { report, spent })
+            }
+            Err(error) => {
+                drop(self);
+                Err(error)
+            }
+        }
+    }
+
+    /// Does what is left to do, unless the front halted, stops the run, and answers what is still open. It says whether
+    /// some session used its whole budget and could act all the same.
+    fn quit<F: Front, L: Link>(
+        &mut self,
+        front: &mut F,
+        link: &mut L,
+        calm: bool,
+    ) -> Result<bool, AllocError>
+        requires work { AtWork (⟦<Cells<'static, S> as Crewed>⟧.crew self.old.cells) }
+        requires between { Between (state_of (⟦<Cells<'static, S> as Crewed>⟧.crew self.old.cells)) (waits self.old.pendings) self.old.pendings.postings calm }
+        ensures ours { OnOk result (IsOurs (⟦<Cells<'static, S> as Crewed>⟧.crew self.new.cells)) }
+        ensures ran { IfOk result (λ spent. (text : List ℕ) (left : Left) → IsLeft text spent (state_of (⟦<Cells<'static, S> as Crewed>⟧.crew self.new.cells)) left
+            → (first : F) (new before : Dealings) → F.dealt (parts_of self.old.cells.program) first front.old before
+            → Closed (state_of (⟦<Cells<'static, S> as Crewed>⟧.crew self.old.cells)) (waits self.old.pendings) self.old.pendings.postings calm before
+            → LeavesNone new before
+            → After (F.dealt (parts_of self.old.cells.program) first front.new)
+            (λ d. Ran (record { setting = (state_of (⟦<Cells<'static, S> as Crewed>⟧.crew self.old.cells)).setting; budget = (state_of (⟦<Cells<'static, S> as Crewed>⟧.crew self.old.cells)).budget }) text new d left)) }
+        ensures goes { IfOk result (λ spent. (text : List ℕ) (left : Left) → IsLeft text spent (state_of (⟦<Cells<'static, S> as Crewed>⟧.crew self.new.cells)) left
+            → GoesTo (state_of (⟦<Cells<'static, S> as Crewed>⟧.crew self.old.cells)) left.report) }
+        ensures toured { IfOk result (λ spent. (text : List ℕ) (left : Left) → IsLeft text spent (state_of (⟦<Cells<'static, S> as Crewed>⟧.crew self.new.cells)) left
+            → ToursBy (state_of (⟦<Cells<'static, S> as Crewed>⟧.crew self.old.cells)).setting (state_of (⟦<Cells<'static, S> as Crewed>⟧.crew self.old.cells)).history left.report.history.entries.items (L.told link.old) (L.told link.new)) }
     {
         self.rest(front, link, calm)?;
-        let mut cells = self.cells;
-        let mut pendings = self.pendings;
-        cells.adopt_all()?;
-        let spent = cells.is_spent()?;
-        cells.stop();
-        pendings.collect_all(&mut cells)?;
-        pendings.tell_finished(cells.program(), front)?;
-        let report = record_of(self.alloc, text, cells)?;
-        Ok(Finished { report, spent })
+        self.cells.adopt_all()?;
+        let spent = self.cells.is_spent()?;
+        self.cells.stop();
+        self.pendings.collect_all(&mut self.cells)?;
+        self.pendings.tell_finished(self.cells.program(), front)?;
+        Ok(spent)
     }
 
     /// Does what is left to do, unless the front halted.
@@ -67,7 +100,7 @@ impl<S: Seating> Alone<'_, S> {
         ensures pendings { self.new.pendings ≡ self.old.pendings }
         ensures work { OnOk result (AtWork (⟦<Cells<'static, S> as Crewed>⟧.crew self.new.cells)) }
         ensures rested { OnOk result (Rested calm (state_of (⟦<Cells<'static, S> as Crewed>⟧.crew self.old.cells)) (state_of (⟦<Cells<'static, S> as Crewed>⟧.crew self.new.cells))) }
-        ensures toured { OnOk result (ToursBy (state_of (⟦<Cells<'static, S> as Crewed>⟧.crew self.old.cells)).setting (state_of (⟦<Cells<'static, S> as Crewed>⟧.crew self.old.cells)).history (state_of (⟦<Cells<'static, S> as Crewed>⟧.crew self.new.cells)).history (trips_told (L.trips link.old) (L.faults link.old)) (trips_told (L.trips link.new) (L.faults link.new))) }
+        ensures toured { OnOk result (ToursBy (state_of (⟦<Cells<'static, S> as Crewed>⟧.crew self.old.cells)).setting (state_of (⟦<Cells<'static, S> as Crewed>⟧.crew self.old.cells)).history (state_of (⟦<Cells<'static, S> as Crewed>⟧.crew self.new.cells)).history (L.told link.old) (L.told link.new)) }
         ensures noted { OnOk result ((parts : ProgramParts) (first : F) (before : Dealings) → F.dealt parts first front.old before
             → Closed (state_of (⟦<Cells<'static, S> as Crewed>⟧.crew self.old.cells)) (waits self.old.pendings) self.old.pendings.postings calm before
             → After (F.dealt parts first front.new)
@@ -103,9 +136,9 @@ fn record_of<S: Seating>(
     ensures traffic { IfOk result (λ report. report.traffic ≡ []) }
     ensures legal { OnOk result (IsLegal (state_of (⟦<Cells<'static, S> as Crewed>⟧.crew cells.entry)).setting (state_of (⟦<Cells<'static, S> as Crewed>⟧.crew cells.entry)).history) }
 {
+    let (history, sessions) = cells.into_parts()?;
     let program = Bytes::from_slice(alloc, text)?;
     let traffic = Items::new(alloc);
-    let (history, sessions) = cells.into_parts()?;
     Ok(Record {
         program,
         history,

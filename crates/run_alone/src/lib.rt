@@ -6,4 +6,4 @@ mod bringing;
 mod ending;
 mod worker;
 
-pub use worker::{Finished, Worker, run_alone, run_over};
+pub use worker::{Finished, run_over};

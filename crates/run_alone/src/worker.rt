@@ -2,28 +2,20 @@
 ghost use Rattle.std.specs.Prelude.{◌<◌, IfOk, length};
 ghost use Rattle.behaviour_tree.specs.PartsView.{parts_of};
 ghost use Rattle.office_core.specs.Limits.{run_of};
-ghost use Rattle.office_front.specs.Calls.{After};
-ghost use Rattle.office_front.specs.Dealings.{Dealings, IsNew};
-ghost use Rattle.run_alone.specs.Picks.{TookPicks};
+ghost use Rattle.run_theorem.specs.Calls.{After};
+ghost use Rattle.run_theorem.specs.Dealings.{Dealings, IsNew};
+ghost use Rattle.run_theorem.specs.Picks.{TookPicks};
 ghost use Rattle.run_alone.specs.Ran.{Ran, Travelled};
-ghost use Rattle.trip_laws.specs.Trips.{trips_told};
 
 use crate::alone::Alone;
 use behaviour_tree::Program;
-use office_front::Front;
 use outside_links::Link;
 use run_cells::Cells;
 use run_posts::Pendings;
 use run_record::Record;
+use run_theorem::Front;
 use session_turn::Seating;
 use std::alloc::{AllocError, Global};
-
-/// Who works at a run: the side on which its postings come in, and the link to services elsewhere.
-#[derive(Drop)]
-pub struct Worker<F, L> {
-    pub front: F,
-    pub link: L,
-}
 
 /// A run that came to its end: its record, and whether some session used its whole budget and could act all the same.
 #[derive(Drop)]
@@ -47,9 +39,9 @@ pub fn run_over<S: Seating, F: Front, L: Link>(
     requires some { 0 < length (parts_of program).services }
     ensures ran { IfOk result (λ finished. (first : F) (before : Dealings) → F.dealt (parts_of program) first front.old before
         → IsNew before → After (F.dealt (parts_of program) first front.new)
-        (λ d. Ran (record { setting = run_of (parts_of program); budget = budget }) text.now d finished)) }
+        (λ d. Ran (record { setting = run_of (parts_of program); budget = budget }) text.now before d finished)) }
     ensures picks { IfOk result (λ finished. TookPicks (record { setting = run_of (parts_of program); budget = budget }) picks.now finished.report) }
-    ensures trips { IfOk result (λ finished. Travelled (run_of (parts_of program)) finished.report.history.entries.items (trips_told (L.trips link.old) (L.faults link.old)) (trips_told (L.trips link.new) (L.faults link.new))) }
+    ensures trips { IfOk result (λ finished. Travelled (run_of (parts_of program)) finished.report.history.entries.items (L.told link.old) (L.told link.new)) }
 {
     let cells: Cells<'_, S> = Cells::new(alloc, program, budget, picks)?;
     let pendings = Pendings::new(alloc);
@@ -61,31 +53,4 @@ pub fn run_over<S: Seating, F: Front, L: Link>(
     let calm = run.bring_in(front, link)?;
     let finished = run.finish(front, link, text, calm)?;
     Ok(finished)
-}
-
-/// The same for a worker.
-pub fn run_alone<S: Seating, F: Front, L: Link>(
-    alloc: Global,
-    program: Program,
-    text: &[u8],
-    worker: &mut Worker<F, L>,
-    budget: u32,
-    picks: &[u32],
-) -> Result<Finished, AllocError>
-    requires some { 0 < length (parts_of program).services }
-    ensures ran { IfOk result (λ finished. (first : F) (before : Dealings) → F.dealt (parts_of program) first worker.old.front before
-        → IsNew before → After (F.dealt (parts_of program) first worker.new.front)
-        (λ d. Ran (record { setting = run_of (parts_of program); budget = budget }) text.now d finished)) }
-    ensures picks { IfOk result (λ finished. TookPicks (record { setting = run_of (parts_of program); budget = budget }) picks.now finished.report) }
-    ensures trips { IfOk result (λ finished. Travelled (run_of (parts_of program)) finished.report.history.entries.items (trips_told (L.trips worker.old.link) (L.faults worker.old.link)) (trips_told (L.trips worker.new.link) (L.faults worker.new.link))) }
-{
-    run_over::<S, F, L>(
-        alloc,
-        program,
-        text,
-        &mut worker.front,
-        &mut worker.link,
-        budget,
-        picks,
-    )
 }

@@ -6,9 +6,9 @@ use Rattle.std.proofs.lemmas.List.{length-append, length-map}
 use Rattle.std.proofs.lemmas.List.Edits.{length-remove}
 use Rattle.std.proofs.lemmas.Option.{none-some, slice_get-get_or, slice_get_within}
 use Rattle.behaviour_tree.specs.PartsView.{parts_of}
-use Rattle.calculus.specs.After.{Config}
+use Rattle.session_calculus.specs.After.{Config}
 use Rattle.office_core.specs.Limits.{run_of}
-use Rattle.plain_office.specs.View.{entries_of}
+use Rattle.office_plain.specs.View.{entries_of}
 use Rattle.session_turn.specs.Lives.{Kept}
 use Rattle.session_turn.specs.declared.turn.Turn.{Turn}
 use Rattle.session_turn.specs.declared.turn.Turn.TheVariants as turn

@@ -10,12 +10,12 @@ use Rattle.office_core.specs.Sessions.{births}
 use Rattle.run_record.specs.Agrees.{HasSessions, IsSession}
 use Rattle.run_record.specs.Quiet.{CanAct}
 use Rattle.session_turn.proofs.Walking.{born_here}
-use Rattle.quiet_laws.proofs.Cutting.{MadeAll, made_all}
-use Rattle.quiet_laws.proofs.Ending.{Looked, found, found_none}
-use Rattle.quiet_laws.proofs.Finished.{CameThrough}
-use Rattle.quiet_laws.proofs.Sessions.{has_sessions, is_session}
-use Rattle.quiet_laws.proofs.Still.{HaveMadeAll}
-use Rattle.quiet_laws.proofs.Within.{births_within}
+use Rattle.run_quiet_laws.proofs.Cutting.{MadeAll, made_all}
+use Rattle.run_quiet_laws.proofs.Ending.{Looked, found, found_none}
+use Rattle.run_quiet_laws.proofs.Finished.{CameThrough}
+use Rattle.run_quiet_laws.proofs.Sessions.{has_sessions, is_session}
+use Rattle.run_quiet_laws.proofs.Still.{HaveMadeAll}
+use Rattle.run_quiet_laws.proofs.Within.{births_within}
 use Rattle.run_cells.specs.Crews.{Stand, State, Team, events_of, past_in}
 use Rattle.run_cells.specs.Rounds.{CouldAct, HasSpent, IsQuietAt, IsStillAt}
 use Rattle.run_cells.proofs.Resting.{all_adopted, stands_at}
@@ -73,10 +73,10 @@ module _ (s : State) (team : Team s) where
       sessions_agree
 
   -- it came through
-  pub came_through : {muted : Bool} → s.setting.limits.sessions ≤ first_worker
+  pub came_through : {notes_failed : Bool} → s.setting.limits.sessions ≤ first_worker
       → length (births s.setting (past_in s)) ≤ length s.stands
-      → (muted ≡ false → IsQuietAt s) → IsStillAt s
-      → CameThrough s.setting s.budget muted s.history (events_of s.stands)
+      → (notes_failed ≡ false → IsQuietAt s) → IsStillAt s
+      → CameThrough s.setting s.budget notes_failed s.history (events_of s.stands)
   came_through limit all quiet still = record {
     few = few limit;
     sessions = sessions_all all;

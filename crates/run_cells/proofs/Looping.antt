@@ -310,11 +310,15 @@ count_above f items count k e l =
 -- ---- what is left
 
 -- where no session is left, the events are those of all
-pub parts_end : {X : Type 0} (f : X → Stand) (sessions : List (List Event)) (xs rest : List X)
-    → sessions ++ map (λ x. (f x).events) rest ≡ map (λ x. (f x).events) xs → rest ≡ []
-    → sessions ≡ events_of (map f xs)
-parts_end {X} f sessions xs rest e none_left =
-    sym (append_nil sessions) ∙ ap (λ (r : List X). sessions ++ map (λ x. (f x).events) r) (sym none_left) ∙ e ∙ go xs
+pub events_end : {X : Type 0} (f : X → List Event) (sessions : List (List Event)) (xs rest : List X)
+    → sessions ++ map f rest ≡ map f xs → rest ≡ [] → sessions ≡ map f xs
+events_end {X} f sessions xs rest e none_left =
+    sym (append_nil sessions) ∙ ap (λ (r : List X). sessions ++ map f r) (sym none_left) ∙ e
+
+-- so they are those of where the sessions stand
+pub parts_all : {X : Type 0} (f : X → Stand) (sessions : List (List Event)) (xs : List X)
+    → sessions ≡ map (λ x. (f x).events) xs → sessions ≡ events_of (map f xs)
+parts_all {X} f sessions xs e = e ∙ go xs
   where
     go : (ys : List X) → map (λ x. (f x).events) ys ≡ events_of (map f ys)
     go [] = refl

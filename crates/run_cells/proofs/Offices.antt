@@ -21,11 +21,11 @@ use Rattle.office_core.specs.Past.{Past, closes, is_running, some_entry, stops}
 use Rattle.office_core.specs.Sessions.{service_of, was_adopted}
 use Rattle.office_core.specs.Accepted.{past_of}
 use Rattle.office_core.specs.Legal.{IsLegal, is_at_work}
-use Rattle.office_kept.specs.Entries.{collect_entry, entry, fetch_entry, post_entry}
-use Rattle.office_kept.specs.Replies.{birth_of}
-use Rattle.plain_desk.specs.Passes.{IsReady}
-use Rattle.plain_office.specs.declared.office.Office.{Office}
-use Rattle.plain_office.specs.View.{Adds, entries_of, with_entry}
+use Rattle.office_plain.specs.Entries.{collect_entry, entry, fetch_entry, post_entry}
+use Rattle.office_plain.specs.Replies.{birth_of}
+use Rattle.session_turn.specs.Passes.{IsReady}
+use Rattle.office_plain.specs.declared.office.Office.{Office}
+use Rattle.office_plain.specs.View.{Adds, entries_of, with_entry}
 use Rattle.run_cells.specs.Crews.{AtWork, Crew, IsOurs, Stand, Stays, Team, closing, crew_by, list_of, past_in, state_of}
 use Rattle.run_cells.specs.Crews.{with_awake}
 use Rattle.run_cells.specs.Turns.{Adopts, IsAdoption, IsTurn, Turned, adoption, fresh as first_stand, none, spot}

@@ -8,11 +8,11 @@ use Rattle.behaviour_tree.specs.declared.words.Need.{Need}
 use Rattle.office_core.specs.declared.history.Entry.{Entry}
 use Rattle.office_core.specs.Sessions.{births, service_of, was_adopted}
 use Rattle.office_core.specs.Accepted.{past_of}
-use Rattle.run_record.specs.Quiet.{IsQuiet, is_given, unbrought}
-use Rattle.quiet_laws.proofs.Acting.{ended_cannot_act}
-use Rattle.quiet_laws.proofs.Once.{same_of}
-use Rattle.quiet_laws.proofs.Quiet.{IsIdle, quiet_at_end}
-use Rattle.quiet_laws.proofs.Since.{given_before, idle_since}
+use Rattle.run_record.specs.Quiet.{IsQuiet, is_given, outstanding}
+use Rattle.run_quiet_laws.proofs.Acting.{ended_cannot_act}
+use Rattle.run_quiet_laws.proofs.Once.{same_of}
+use Rattle.run_quiet_laws.proofs.Quiet.{IsIdle, quiet_at_end}
+use Rattle.run_quiet_laws.proofs.Since.{given_before, idle_since}
 use Rattle.run_cells.specs.Crews.{Stand, State, Team, events_of, moment_at, past_in}
 use Rattle.run_cells.specs.Rounds.{IsAtRest, IsResting, OnlyAdoptions, Rests, ended, idle, spent}
 
@@ -61,7 +61,7 @@ module _ (s : State) (team : Team s) where
           enabled none same)
 
   -- where each rests and each call has its outcome, nothing is left to do
-  pub rests_quiet : IsAtRest s → unbrought (past_in s) ≡ [] → IsQuiet s.setting s.budget s.history (events_of s.stands)
+  pub rests_quiet : IsAtRest s → outstanding (past_in s) ≡ [] → IsQuiet s.setting s.budget s.history (events_of s.stands)
   rests_quiet rest brought =
       quiet_at_end s.setting s.budget s.history (events_of s.stands) (all_adopted rest.born) brought
       (λ n es e.

@@ -10,8 +10,8 @@ use Rattle.office_core.specs.Limits.{Setting}
 use Rattle.office_core.specs.Sessions.{was_adopted}
 use Rattle.run_record.specs.Quiet.{IsStill}
 use Rattle.session_turn.specs.declared.turn.Turn.{Turn}
-use Rattle.quiet_laws.proofs.Quiet.{no_more}
-use Rattle.quiet_laws.proofs.Still.{IsChanged, still_by_adoption, still_by_turn}
+use Rattle.run_quiet_laws.proofs.Quiet.{no_more}
+use Rattle.run_quiet_laws.proofs.Still.{IsChanged, still_by_adoption, still_by_turn}
 use Rattle.run_cells.specs.Crews.{Stand, State, Team, events_of, moment_at, past_in}
 use Rattle.run_cells.specs.Rounds.{IsQuietAt, IsStillAt}
 use Rattle.run_cells.specs.Turns.{IsAdoption, IsTurn, Spot, Turned, adoption, did, ended, idle, is_did, play, seat_of, spent, spot}

@@ -9,8 +9,8 @@ use Rattle.std.proofs.lemmas.List.Folds.{list_any-append}
 use Rattle.std.proofs.lemmas.Option.{slice_get_within}
 use Rattle.behaviour_tree.specs.Data.{ServicePart, behaviour_of}
 use Rattle.behaviour_tree.specs.declared.words.Event.{Event}
-use Rattle.calculus.specs.After.{Config, first_config}
-use Rattle.calculus.specs.Runs.{start_of}
+use Rattle.session_calculus.specs.After.{Config, first_config}
+use Rattle.session_calculus.specs.Runs.{start_of}
 use Rattle.office_core.specs.declared.history.Act.{Act}
 use Rattle.office_core.specs.declared.history.Act.TheVariants as act
 use Rattle.office_core.specs.declared.history.Entry.{Entry}

@@ -5,7 +5,7 @@ use Rattle.std.specs.declared.alloc.AllocError.{AllocError}
 use Rattle.std.proofs.lemmas.Bool.{false≢true}
 use Rattle.std.proofs.lemmas.Bool.Decides.{nat_tests}
 use Rattle.behaviour_tree.specs.declared.words.Event.{Event}
-use Rattle.calculus.specs.After.{Config}
+use Rattle.session_calculus.specs.After.{Config}
 use Rattle.session_turn.specs.Lives.{Moment}
 use Rattle.session_turn.specs.Turns.{AreEnabled, FirstDone, NoneAllowed, from_pick}
 use Rattle.session_turn.specs.declared.turn.Turn.{Turn}

@@ -4,7 +4,7 @@ use Rattle.std.specs.Prelude.{if◌then◌else◌, slice_get}
 use Rattle.behaviour_tree.specs.declared.program.Program.{Program}
 use Rattle.behaviour_tree.specs.declared.words.Event.{Event}
 use Rattle.behaviour_tree.specs.PartsView.{parts_of}
-use Rattle.calculus.specs.After.{Config}
+use Rattle.session_calculus.specs.After.{Config}
 use Rattle.office_core.specs.declared.history.Act.TheVariants as act
 use Rattle.office_core.specs.declared.history.Entry.{Entry}
 use Rattle.office_core.specs.Limits.{Setting, first_worker, run_limits, run_of}
@@ -12,9 +12,9 @@ use Rattle.office_core.specs.Past.{Past, closes, is_running, some_entry}
 use Rattle.office_core.specs.Sessions.{was_adopted}
 use Rattle.office_core.specs.Accepted.{past_of}
 use Rattle.office_core.specs.Legal.{IsLegal}
-use Rattle.plain_desk.specs.Passes.{IsReady}
-use Rattle.plain_office.specs.declared.office.Office.{Office}
-use Rattle.plain_office.specs.View.{entries_of}
+use Rattle.session_turn.specs.Passes.{IsReady}
+use Rattle.office_plain.specs.declared.office.Office.{Office}
+use Rattle.office_plain.specs.View.{entries_of}
 use Rattle.session_turn.specs.Seen.{Seat}
 use Rattle.session_turn.specs.Lives.{Kept, Moment, moment}
 

@@ -2,8 +2,8 @@
 use Rattle.std.specs.Prelude.{◌≡◌, ℕ, suc, ◌≤◌, ◌<◌, Bool, true, false, ◌||◌, List, [], ◌∷◌, ◌++◌, length, drop}
 use Rattle.std.specs.Prelude.{None, Some, slice_get, slice_set, unwrap_or}
 use Rattle.behaviour_tree.specs.declared.words.Event.{Event}
-use Rattle.calculus.specs.After.{Config}
-use Rattle.calculus.specs.Runs.{start_of}
+use Rattle.session_calculus.specs.After.{Config}
+use Rattle.session_calculus.specs.Runs.{start_of}
 use Rattle.office_core.specs.declared.history.Act.TheVariants as act
 use Rattle.office_core.specs.declared.history.Entry.{Entry}
 use Rattle.office_core.specs.Limits.{Setting}

@@ -6,7 +6,7 @@ ghost use Rattle.run_cells.specs.Turns.{Adopts, fresh};
 
 use behaviour_tree::{Events, Program};
 use office_core::Birth;
-use plain_office::Office;
+use office_plain::Office;
 use session_turn::{Seating, Session};
 use sqlite_items::Items;
 use std::alloc::{AllocError, Global};

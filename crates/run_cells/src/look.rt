@@ -2,17 +2,16 @@
 ghost use Rattle.std.specs.Prelude.{◌≡◌, ◌<◌, ◌↔◌, true, IfOk, OnOk, length};
 ghost use Rattle.behaviour_tree.specs.PartsView.{parts_of};
 ghost use Rattle.office_core.specs.Limits.{run_of};
-ghost use Rattle.plain_desk.specs.Passes.{IsReady};
-ghost use Rattle.plain_office.specs.View.{entries_of};
+ghost use Rattle.session_turn.specs.Passes.{IsReady};
+ghost use Rattle.office_plain.specs.View.{entries_of};
 ghost use Rattle.run_record.specs.Quiet.{CanAct};
 ghost use Rattle.session_turn.specs.Lives.{Kept, moment};
 ghost use Rattle.run_cells.specs.Crews.{AtWork, seat_at, state_of};
 ghost use Rattle.run_cells.specs.Rounds.{CouldAct, HasSpent};
 
 use crate::cells::{Cell, Cells, Crewed};
-use plain_desk::PlainDesk;
-use plain_office::Office;
-use session_turn::{Player, Seating, Session, may_act};
+use office_plain::Office;
+use session_turn::{PlainDesk, Player, Seating, Session, may_act};
 use std::alloc::AllocError;
 
 impl<S: Seating> Cells<'_, S> {

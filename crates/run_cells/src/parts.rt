@@ -1,13 +1,13 @@
 //! What is left of a run.
-ghost use Rattle.std.specs.Prelude.{◌≡◌, IfOk};
+ghost use Rattle.std.specs.Prelude.{◌≡◌, map, IfOk};
 ghost use Rattle.run_cells.specs.Crews.{events_of, state_of};
 
-use crate::cells::{Cells, Crewed};
+use crate::cells::{Cell, Cells, Crewed};
 use behaviour_tree::Events;
 use office_core::History;
 use session_turn::Seating;
 use sqlite_items::Items;
-use std::alloc::AllocError;
+use std::alloc::{AllocError, Global};
 
 impl<S: Seating> Cells<'_, S> {
     /// The history, and the events of each session by its number.
@@ -15,10 +15,18 @@ impl<S: Seating> Cells<'_, S> {
         ensures history { IfOk result (λ parts. parts.0.entries.items ≡ (state_of (⟦<Cells<'static, S> as Crewed>⟧.crew self.entry)).history) }
         ensures sessions { IfOk result (λ parts. parts.1 ≡ events_of (⟦<Cells<'static, S> as Crewed>⟧.crew self.entry).stands) }
     {
-        let mut sessions = Items::new(self.alloc);
-        for cell in self.cells {
-            sessions.push(cell.events)?;
-        }
+        let sessions = events_in(self.alloc, self.cells)?;
         Ok((self.office.into_history(), sessions))
     }
+}
+
+/// The events of each session.
+fn events_in<S: Seating>(alloc: Global, cells: Vec<Cell<S>>) -> Result<Items<Events>, AllocError>
+    ensures { IfOk result (λ sessions. sessions ≡ map (λ d. d.events) cells.items) }
+{
+    let mut sessions = Items::new(alloc);
+    for cell in cells {
+        sessions.push(cell.events)?;
+    }
+    Ok(sessions)
 }

@@ -6,8 +6,8 @@ ghost use Rattle.office_core.specs.Keys.{first};
 ghost use Rattle.office_core.specs.Legal.{IsLegal, is_collectable, is_fetched};
 ghost use Rattle.office_core.specs.Limits.{first_worker};
 ghost use Rattle.office_core.specs.Route.{post_reply, route};
-ghost use Rattle.office_kept.specs.Entries.{collect_entry, entry, fetch_entry, post_entry};
-ghost use Rattle.office_kept.specs.Replies.{is_port, next_outgoing};
+ghost use Rattle.office_plain.specs.Entries.{collect_entry, entry, fetch_entry, post_entry};
+ghost use Rattle.office_plain.specs.Replies.{is_port, next_outgoing};
 ghost use Rattle.run_cells.specs.Crews.{AtWork, IsOurs, Stays, closing, list_of, past_in, state_of};
 
 use crate::cells::{Cells, Crewed};

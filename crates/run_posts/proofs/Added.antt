@@ -11,10 +11,10 @@ use Rattle.office_core.specs.declared.post.Posted.{Posted}
 use Rattle.office_core.specs.declared.post.PostReply.{PostReply}
 use Rattle.office_core.specs.Limits.{first_worker}
 use Rattle.office_core.specs.Accepted.{then_all, past_of}
-use Rattle.office_kept.specs.Entries.{post_entry}
-use Rattle.office_lookup.proofs.Paths.{next_of}
-use Rattle.order_laws.proofs.Lists.{append_nil, append_assoc}
-use Rattle.order_laws.proofs.Growing.{past_then}
+use Rattle.office_plain.specs.Entries.{post_entry}
+use Rattle.office_plain.proofs.Paths.{next_of}
+use Rattle.run_order_laws.proofs.Lists.{append_nil, append_assoc}
+use Rattle.run_order_laws.proofs.Growing.{past_then}
 use Rattle.run_cells.specs.Crews.{State, Stays, list_of, past_in}
 use Rattle.run_posts.specs.declared.pending.Fate.{Fate}
 use Rattle.run_posts.specs.Fates.{call_entries, call_fate, fate_of, fates_of, posted_entries, reply_to}

@@ -15,20 +15,20 @@ use Rattle.office_core.specs.Keys.{first}
 use Rattle.office_core.specs.Accepted.{then_all, past_of}
 use Rattle.office_core.specs.Answers.{answers}
 use Rattle.office_core.specs.Legal.{AreLegal, IsLegal}
-use Rattle.office_front.specs.Dealings.{Told, Dealings}
-use Rattle.office_front.specs.Calls.{Fit}
+use Rattle.run_theorem.specs.Dealings.{Told, Dealings}
+use Rattle.run_theorem.specs.Calls.{Fit}
 use Rattle.run_record.specs.Order.{messages_for, finished_there, numbers_from, order_alone}
 use Rattle.run_record.specs.Postings.{outcomes_from}
 use Rattle.office_core.specs.Keys.{all_there}
 use Rattle.office_core.proofs.OneAnswer.{answers_once}
-use Rattle.order_laws.specs.Uncollected.{AreUncollected}
-use Rattle.order_laws.proofs.Lists.{left_true, right_true, both_true, false_left, false_right, turned, append_nil}
-use Rattle.order_laws.proofs.Lists.{append_assoc, any_append, all_weaker, there}
-use Rattle.order_laws.proofs.Growing.{past_then, legal_rest}
-use Rattle.order_laws.proofs.Staying.{answers_same_all}
-use Rattle.order_laws.proofs.Posting.{is_other, posts_under, posted_others}
-use Rattle.order_laws.proofs.Accepting.{posted_there}
-use Rattle.order_laws.proofs.Ordering.{Grows, InOrder, is_answered, order_goes_on, order_early, order_ends}
+use Rattle.run_order_laws.specs.Uncollected.{AreUncollected}
+use Rattle.run_order_laws.proofs.Lists.{left_true, right_true, both_true, false_left, false_right, turned, append_nil}
+use Rattle.run_order_laws.proofs.Lists.{append_assoc, any_append, all_weaker, there}
+use Rattle.run_order_laws.proofs.Growing.{past_then, legal_rest}
+use Rattle.run_order_laws.proofs.Staying.{answers_same_all}
+use Rattle.run_order_laws.proofs.Posting.{is_other, posts_under, posted_others}
+use Rattle.run_order_laws.proofs.Accepting.{posted_there}
+use Rattle.run_order_laws.proofs.Ordering.{Grows, InOrder, is_answered, order_goes_on, order_early, order_ends}
 use Rattle.run_posts.specs.declared.pending.Fate.{Fate}
 pub use Rattle.run_posts.specs.Open.{StandsInOrder}
 use Rattle.run_posts.specs.Fates.{Wait, messages_in, messages_of, collection, collected, collected_in, all_collected}

@@ -4,9 +4,9 @@ use Rattle.std.proofs.Common.{subst, ◌∙◌, IsErrAnd}
 use Rattle.std.specs.Prelude.{nat_eq, slice_get, MatchResult, Result, Ok, Err}
 use Rattle.std.specs.List.{list_any, filter}
 use Rattle.behaviour_tree.specs.declared.words.Outcome.{Outcome}
-use Rattle.office_front.specs.Dealings.{Told, Dealings}
-use Rattle.office_front.specs.Calls.{After, Tells, IsDue}
-use Rattle.order_laws.proofs.Lists.{false_left, false_right, turned, append_nil, append_assoc, any_append}
+use Rattle.run_theorem.specs.Dealings.{Told, Dealings}
+use Rattle.run_theorem.specs.Calls.{After, Tells, IsDue}
+use Rattle.run_order_laws.proofs.Lists.{false_left, false_right, turned, append_nil, append_assoc, any_append}
 use Rattle.run_posts.specs.declared.pending.Pending.{Pending}
 use Rattle.run_posts.specs.Fates.{Wait, is_finished, is_open, outcomes_in, told_of, wait_of}
 use Rattle.run_posts.specs.Telling.{Answers, AnswersNone, AreExpected, TellsAll, TellsOn, TellsSome}
@@ -63,7 +63,7 @@ telling_starts all d h = record {
   tells = record {
     told = sym (append_nil d.said.told);
     noted = refl;
-    muted = refl;
+    notes_failed = refl;
     halts = halts_not d.said;
     brought = refl;
   };
@@ -124,7 +124,7 @@ telling_turn all rest x before now next h t s = record {
         t.told ∙ ap (λ l. l ++ told_of x ∷ []) s.tells.told
         ∙ append_assoc before.said.told s.said (told_of x ∷ []);
     noted = t.noted ∙ s.tells.noted;
-    muted = t.muted ∙ s.tells.muted;
+    notes_failed = t.notes_failed ∙ s.tells.notes_failed;
     halts = halts_on before.said now.said next.said s.tells.halts t.halts;
     brought = t.brought ∙ s.tells.brought;
   };

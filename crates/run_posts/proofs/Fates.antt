@@ -18,14 +18,14 @@ use Rattle.office_core.specs.Keys.{first, all_there}
 use Rattle.office_core.specs.Accepted.{then_one, then_all}
 use Rattle.office_core.specs.Answers.{answers}
 use Rattle.office_core.specs.Legal.{IsLegalEntry, AreLegal}
-use Rattle.office_front.specs.Calls.{Fit, IsOutcome}
+use Rattle.run_theorem.specs.Calls.{Fit, IsOutcome}
 use Rattle.run_record.specs.Order.{accepted_as, message_in as accepted_by, messages_for}
 use Rattle.run_record.specs.Postings.{reply_in, outcome_by, outcome_of, outcomes_from}
-use Rattle.order_laws.proofs.Lists.{itself, not_eq, append_nil, append_assoc}
-use Rattle.order_laws.proofs.Lists.{given_append, same_of, there}
-use Rattle.order_laws.proofs.Growing.{kept_by_all}
-use Rattle.order_laws.proofs.Staying.{answer_stays}
-use Rattle.order_laws.proofs.Telling.{reply_of, reply_stays, outcome_stays, joined}
+use Rattle.run_order_laws.proofs.Lists.{itself, not_eq, append_nil, append_assoc}
+use Rattle.run_order_laws.proofs.Lists.{given_append, same_of, there}
+use Rattle.run_order_laws.proofs.Growing.{kept_by_all}
+use Rattle.run_order_laws.proofs.Staying.{answer_stays}
+use Rattle.run_order_laws.proofs.Telling.{reply_of, reply_stays, outcome_stays, joined}
 use Rattle.run_posts.specs.declared.pending.Fate.{Fate}
 pub use Rattle.run_posts.specs.Open.{IsPostedAs, answered_if, Numbered, IsFate, AreFates, calls_of, numbers_of}
 use Rattle.run_posts.specs.declared.pending.Fate.TheVariants.{Message, Known}

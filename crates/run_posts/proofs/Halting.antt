@@ -1,8 +1,8 @@
 -- A front halts in one call or in the next.
 use Rattle.std.proofs.Common.{◌≡◌, ◌⊎◌, ℕ, ◌≤◌, true, refl, ◌∙◌, inl, inr, le_refl, arith}
 use Rattle.outside_traits.specs.Causes.{Rose}
-use Rattle.office_front.specs.Dealings.{Said}
-use Rattle.office_front.specs.Calls.{Halts}
+use Rattle.run_theorem.specs.Dealings.{Said}
+use Rattle.run_theorem.specs.Calls.{Halts}
 
 rose_later : (a b c : ℕ) → Rose a b → b ≤ c → Rose a c
 rose_later a b c h g = omega arith

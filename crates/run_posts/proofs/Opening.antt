@@ -17,19 +17,19 @@ use Rattle.office_core.specs.Limits.{Setting, first_worker}
 use Rattle.office_core.specs.Past.{Past}
 use Rattle.office_core.specs.Accepted.{then_one, then_all, past_of}
 use Rattle.office_core.specs.Legal.{collects, IsLegalEntry, AreLegal, IsLegal}
-use Rattle.office_front.specs.Dealings.{Told}
+use Rattle.run_theorem.specs.Dealings.{Told}
 use Rattle.run_record.specs.Order.{accepted_as, message_in as accepted_by, messages_for}
 use Rattle.run_record.specs.Postings.{reply_in}
-use Rattle.order_laws.specs.Uncollected.{IsUncollected, AreUncollected}
-use Rattle.order_laws.proofs.Lists.{left_true, right_true, both_true, false_left, false_right, eq_true, itself}
-use Rattle.order_laws.proofs.Lists.{not_eq, turned, append_nil, append_assoc, all_append, all_weaker, none_given}
-use Rattle.order_laws.proofs.Lists.{given_append, any_append, stays_there}
-use Rattle.order_laws.proofs.Growing.{past_then, entries_past, legal_front, legal_rest}
-use Rattle.order_laws.proofs.Staying.{is_collect}
-use Rattle.order_laws.proofs.Telling.{told_stays}
-use Rattle.order_laws.proofs.Posting.{is_other, posts_under, ArePosted, IsPosting, posting_begins, posting_goes_on}
-use Rattle.order_laws.proofs.Posting.{posting_passes, posting_ends, posted_others}
-use Rattle.order_laws.proofs.Accepting.{AreOther, all_uncollected_still, uncollected_first, post_accepted}
+use Rattle.run_order_laws.specs.Uncollected.{IsUncollected, AreUncollected}
+use Rattle.run_order_laws.proofs.Lists.{left_true, right_true, both_true, false_left, false_right, eq_true, itself}
+use Rattle.run_order_laws.proofs.Lists.{not_eq, turned, append_nil, append_assoc, all_append, all_weaker, none_given}
+use Rattle.run_order_laws.proofs.Lists.{given_append, any_append, stays_there}
+use Rattle.run_order_laws.proofs.Growing.{past_then, entries_past, legal_front, legal_rest}
+use Rattle.run_order_laws.proofs.Staying.{is_collect}
+use Rattle.run_order_laws.proofs.Telling.{told_stays}
+use Rattle.run_order_laws.proofs.Posting.{is_other, posts_under, ArePosted, IsPosting, posting_begins, posting_goes_on}
+use Rattle.run_order_laws.proofs.Posting.{posting_passes, posting_ends, posted_others}
+use Rattle.run_order_laws.proofs.Accepting.{AreOther, all_uncollected_still, uncollected_first, post_accepted}
 pub use Rattle.run_posts.specs.Open.{IsWaiting, AreWaiting, IsTold, AreTold, AreApart, places, told_places, IsOpen}
 use Rattle.run_posts.specs.Fates.{Wait, message_in, messages_in, messages_of, fate_of, reply_to, call_entries}
 use Rattle.run_posts.specs.Fates.{call_fate, posted_entries, fates_of}

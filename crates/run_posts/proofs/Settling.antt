@@ -12,11 +12,11 @@ use Rattle.office_core.specs.Keys.{first}
 use Rattle.office_core.specs.Accepted.{then_one, then_all}
 use Rattle.office_core.specs.Answers.{answers}
 use Rattle.office_core.specs.Legal.{is_collectable}
-use Rattle.office_kept.specs.Entries.{collect_entry}
-use Rattle.order_laws.specs.Uncollected.{AreUncollected}
-use Rattle.order_laws.proofs.Lists.{false_left, false_right, any_append, append_nil, append_assoc, all_append}
-use Rattle.order_laws.proofs.Staying.{adds_none, answers_same_all}
-use Rattle.order_laws.proofs.Accepting.{all_uncollected_still, uncollected_still, others_of, collectable}
+use Rattle.office_plain.specs.Entries.{collect_entry}
+use Rattle.run_order_laws.specs.Uncollected.{AreUncollected}
+use Rattle.run_order_laws.proofs.Lists.{false_left, false_right, any_append, append_nil, append_assoc, all_append}
+use Rattle.run_order_laws.proofs.Staying.{adds_none, answers_same_all}
+use Rattle.run_order_laws.proofs.Accepting.{all_uncollected_still, uncollected_still, others_of, collectable}
 use Rattle.run_cells.specs.Crews.{State, Stays, list_of, past_in}
 use Rattle.run_posts.specs.declared.pending.Fate.{Fate}
 use Rattle.run_posts.specs.declared.pending.Fate.TheVariants.{Message, Known}

@@ -18,7 +18,7 @@ use Rattle.office_core.specs.Keys.{first}
 use Rattle.office_core.specs.Accepted.{then_all}
 use Rattle.office_core.specs.Answers.{answers}
 use Rattle.office_core.specs.Route.{route, post_reply}
-use Rattle.office_front.specs.Dealings.{Told}
+use Rattle.run_theorem.specs.Dealings.{Told}
 use Rattle.run_posts.specs.declared.pending.Fate.{Fate}
 use Rattle.run_posts.specs.declared.pending.Fate.TheVariants.{Message, Known}
 use Rattle.run_posts.specs.declared.pending.Pending.{Pending}

@@ -14,12 +14,12 @@ use Rattle.office_core.specs.Past.{Past}
 use Rattle.office_core.specs.Keys.{first}
 use Rattle.office_core.specs.Accepted.{past_of}
 use Rattle.office_core.specs.Answers.{answers}
-use Rattle.office_front.specs.Dealings.{Told}
+use Rattle.run_theorem.specs.Dealings.{Told}
 use Rattle.run_record.specs.Order.{messages_for}
 use Rattle.run_record.specs.Postings.{outcome_of, told}
-use Rattle.order_laws.specs.Uncollected.{AreUncollected}
-use Rattle.order_laws.specs.Posting.{ArePosted, reply_of}
-use Rattle.order_laws.specs.Ordering.{InOrder}
+use Rattle.run_order_laws.specs.Uncollected.{AreUncollected}
+use Rattle.run_order_laws.specs.Posting.{ArePosted, reply_of}
+use Rattle.run_order_laws.specs.Ordering.{InOrder}
 use Rattle.run_posts.specs.declared.pending.Fate.{Fate}
 use Rattle.run_posts.specs.declared.pending.Fate.TheVariants.{Message, Known}
 use Rattle.run_posts.specs.Fates.{Wait, messages_of}

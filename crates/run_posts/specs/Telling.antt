@@ -3,8 +3,8 @@
 use Rattle.std.specs.Prelude.{◌≡◌, true, false, List, [], ◌∷◌, ◌++◌, nat_eq, Some, slice_get}
 use Rattle.std.specs.List.{list_any}
 use Rattle.office_core.specs.declared.front.Posting.{Posting}
-use Rattle.office_front.specs.Dealings.{Told, Dealings}
-use Rattle.office_front.specs.Calls.{After, Fit, Halts, IsDue, Tells}
+use Rattle.run_theorem.specs.Dealings.{Told, Dealings}
+use Rattle.run_theorem.specs.Calls.{After, Fit, Halts, IsDue, Tells}
 use Rattle.run_posts.specs.Fates.{Wait, is_finished, outcomes_in}
 
 -- A posting was given and not told, and the outcomes, once all are known, are those of its calls.
@@ -24,7 +24,7 @@ AreExpected (x ∷ xs) d =
 pub record TellsAll (ts : List Told) (before now : Dealings) : Type 0 where
   pub told : now.said.told ≡ before.said.told ++ ts
   pub noted : now.said.noted ≡ before.said.noted
-  pub muted : now.said.muted ≡ before.said.muted
+  pub notes_failed : now.said.notes_failed ≡ before.said.notes_failed
   pub halts : Halts before.said now.said
   pub brought : now.brought ≡ before.brought
 

@@ -1,7 +1,7 @@
 //! The answers of messages are collected as far as they are there.
 
 ghost use Rattle.std.specs.Prelude.{◌≡◌, ◌∷◌, [], IfOk, OnOk, map};
-ghost use Rattle.order_laws.specs.Uncollected.{AreUncollected};
+ghost use Rattle.run_order_laws.specs.Uncollected.{AreUncollected};
 ghost use Rattle.run_cells.specs.Crews.{AtWork, IsOurs, Stays, past_in, state_of};
 ghost use Rattle.run_posts.specs.Fates.{
   all_collected,

@@ -4,8 +4,8 @@ ghost use Rattle.office_core.specs.Keys.{first};
 ghost use Rattle.office_core.specs.Legal.{is_collectable};
 ghost use Rattle.office_core.specs.Limits.{first_worker};
 ghost use Rattle.office_core.specs.Route.{post_reply, route};
-ghost use Rattle.office_kept.specs.Entries.{collect_entry, post_entry};
-ghost use Rattle.office_kept.specs.Replies.{is_port};
+ghost use Rattle.office_plain.specs.Entries.{collect_entry, post_entry};
+ghost use Rattle.office_plain.specs.Replies.{is_port};
 ghost use Rattle.run_cells.specs.Crews.{AtWork, Crew, IsOurs, Stays, list_of, past_in, state_of};
 
 use behaviour_tree::Outcome;

@@ -1,7 +1,7 @@
 //! Postings are posted, call by call.
 
 ghost use Rattle.std.specs.Prelude.{◌≡◌, ◌∷◌, ◌++◌, ◌<◌, [], suc, IfOk, OnOk};
-ghost use Rattle.office_front.specs.Calls.{most_postings};
+ghost use Rattle.run_theorem.specs.Calls.{most_postings};
 ghost use Rattle.run_cells.specs.Crews.{AtWork, Stays, past_in, state_of};
 ghost use Rattle.run_posts.specs.Fates as specs;
 ghost use Rattle.run_posts.specs.Fates.{call_entries, call_fate, fates_of, posted_entries, waits};
@@ -10,7 +10,7 @@ use crate::counter::Counter;
 use crate::pending::{Fate, Pending, Pendings};
 use behaviour_tree::Outcome;
 use office_core::{CallIn, PostReply, Posted, Posting};
-use office_lookup::numbered;
+use office_plain::numbered;
 use reqresp_book::Origin;
 use std::alloc::{AllocError, Global};
 

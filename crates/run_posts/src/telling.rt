@@ -9,7 +9,7 @@ ghost use Rattle.run_posts.specs.Telling.{Answers, AnswersNone, TellsAll, TellsO
 
 use crate::pending::{Fate, Pending, Pendings};
 use behaviour_tree::{Outcome, Program};
-use office_front::Front;
+use run_theorem::Front;
 use std::alloc::{AllocError, Global};
 use std::mem;
 

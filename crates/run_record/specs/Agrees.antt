@@ -5,8 +5,8 @@ use Rattle.behaviour_tree.specs.declared.words.Event.{Event}
 use Rattle.behaviour_tree.specs.declared.words.Need.{Need}
 use Rattle.behaviour_tree.specs.declared.words.Need.TheVariants as need
 use Rattle.behaviour_tree.specs.Data.{ProgramParts}
-use Rattle.calculus.specs.After.{Config, Done, after}
-use Rattle.calculus.specs.Runs.{TakenStep, start_of, RunsTo}
+use Rattle.session_calculus.specs.After.{Config, Done, after}
+use Rattle.session_calculus.specs.Runs.{TakenStep, start_of, RunsTo}
 use Rattle.office_core.specs.declared.history.Act.{Act}
 use Rattle.office_core.specs.declared.history.Act.TheVariants as act
 use Rattle.office_core.specs.declared.history.Entry.{Entry}

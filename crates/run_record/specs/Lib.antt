@@ -5,4 +5,5 @@ pub mod Answered
 pub mod Postings
 pub mod Order
 pub mod Outside
+pub mod Collected
 pub mod Run

@@ -6,7 +6,7 @@ use Rattle.behaviour_tree.specs.declared.words.Event.{Event}
 use Rattle.behaviour_tree.specs.declared.words.Need.{Need}
 use Rattle.behaviour_tree.specs.declared.words.Need.TheVariants as need
 use Rattle.behaviour_tree.specs.declared.words.Given.{Given}
-use Rattle.calculus.specs.After.{Config, Done, after}
+use Rattle.session_calculus.specs.After.{Config, Done, after}
 use Rattle.office_core.specs.declared.history.Act.TheVariants as act
 use Rattle.office_core.specs.declared.history.Entry.{Entry}
 use Rattle.office_core.specs.Limits.{Setting}
@@ -44,14 +44,14 @@ pub record CanAct (w : Setting) (h : List Entry) (s : ℕ) (events : List Event)
 -- ---- a record
 
 -- the calls that went out and whose outcome nobody brought
-abbrev pub unbrought : Past → List Call
-unbrought past = filter (λ c. goes_out c && not (some_entry past (brings c))) (calls past)
+abbrev pub outstanding : Past → List Call
+outstanding past = filter (λ c. goes_out c && not (some_entry past (brings c))) (calls past)
 
 -- Nothing is left to do, after the entries of h and these events: each session that was born was adopted, each call
 -- that went out has its outcome, and a session that could still act used its whole budget.
 pub record IsQuiet (w : Setting) (budget : ℕ) (h : List Entry) (sessions : List (List Event)) : Type 0 where
   pub adopted : (s service : ℕ) → service_of w (past_of w h) s ≡ Some service → was_adopted (past_of w h) s ≡ true
-  pub brought : unbrought (past_of w h) ≡ []
+  pub brought : outstanding (past_of w h) ≡ []
   pub idle : (s : ℕ) (events : List Event) → slice_get sessions s ≡ Some events
       → CanAct w h s events → length events ≡ budget
 

@@ -6,7 +6,7 @@ use Rattle.behaviour_tree.specs.declared.words.Kind.{Kind}
 use Rattle.behaviour_tree.specs.declared.words.Kind.TheVariants as kind
 use Rattle.behaviour_tree.specs.declared.words.Given.{Given}
 use Rattle.behaviour_tree.specs.declared.words.Given.TheVariants as given
-use Rattle.calculus.specs.Runs.{TakenStep}
+use Rattle.session_calculus.specs.Runs.{TakenStep}
 use Rattle.correlation.specs.declared.bind_reply.BindReply.{BindReply}
 use Rattle.correlation.specs.declared.bind_reply.BindReply.TheVariants as reply
 use Rattle.office_core.specs.declared.history.Act.{Act}

@@ -1,5 +1,6 @@
 -- Calls of a kind go out and come back, one after the other.
 use Rattle.std.proofs.Common.{◌≡◌, ◌<◌, ℕ, Bool, true, false, not, ◌&&◌, List, [], ◌∷◌, ◌++◌, length, refl, sym, ap}
+use Rattle.outside_links.specs.Trips.{LinkTold}
 use Rattle.std.proofs.Common.{subst, ◌∙◌, Option, None, Some, true≢false, append_assoc, append-nil, nat_eq}
 use Rattle.std.proofs.lemmas.List.Folds.{list_all-append}
 use Rattle.jolie_trees.specs.Trees.{void_tree, root_of}
@@ -13,22 +14,22 @@ use Rattle.office_core.specs.Limits.{Setting, first_worker}
 use Rattle.office_core.specs.Accepted.{past_of}
 use Rattle.office_core.specs.Calls.{same_kind, outgoing}
 use Rattle.office_core.specs.Legal.{IsLegal, is_fetched}
-use Rattle.office_kept.specs.Entries.{fetch_entry}
-use Rattle.office_kept.specs.Replies.{next_outgoing}
-use Rattle.office_kept.proofs.Lists.{none_not_some, itself}
-use Rattle.office_front.specs.Dealings.{Dealings}
-use Rattle.office_front.specs.Calls.{Notes}
+use Rattle.office_plain.specs.Entries.{fetch_entry}
+use Rattle.office_plain.specs.Replies.{next_outgoing}
+use Rattle.office_plain.proofs.Lists.{none_not_some, itself}
+use Rattle.run_theorem.specs.Dealings.{Dealings}
+use Rattle.run_theorem.specs.Calls.{Notes}
 use Rattle.outside_traits.specs.Told.{Lists}
 use Rattle.outside_links.specs.Trips.{Made}
 use Rattle.jsonrpc_calls.specs.Console.{console_line}
 use Rattle.run_cells.specs.Crews.{State, Stays, Team, list_of, past_in}
-use Rattle.trip_laws.specs.Going.{fetch_of, answer_of, went_out, AreSettled, NotedSoFar, Toured, IsHeard}
-use Rattle.trip_laws.proofs.Settling.{legal_front, fetched_is, settled_back, waits_less, waits_else, noted_console}
-use Rattle.trip_laws.proofs.Settling.{noted_remote, none_waits, none_next}
-use Rattle.trip_laws.proofs.Touring.{toured_console, toured_remote}
+use Rattle.run_trip_laws.specs.Going.{fetch_of, answer_of, went_out, AreSettled, NotedSoFar, Toured, IsHeard}
+use Rattle.run_trip_laws.proofs.Settling.{legal_front, fetched_is, settled_back, waits_less, waits_else, noted_console}
+use Rattle.run_trip_laws.proofs.Settling.{noted_remote, none_waits, none_next}
+use Rattle.run_trip_laws.proofs.Touring.{toured_console, toured_remote}
 use Rattle.run_sweep.specs.Swept.{is_errand, NotesBy, ToursBy, Errands, Cleared}
 use Rattle.run_sweep.proofs.Notes.{notes_one, notes_on}
-use Rattle.trip_laws.specs.Trips.{TripsTold, HasCounted}
+use Rattle.run_theorem.specs.Trips.{HasCounted}
 
 -- none went out yet
 pub errands_none : (w : Setting) (k : OutKind) (s : State) → AreSettled w s.history → Errands w k s s false
@@ -164,7 +165,7 @@ noted_same w mid new out noted x so =
     (noted_remote w mid.history first_worker out x.answer noted (was_legal x) x.next so)
 
 -- no trip is made for a call to the console
-pub toured_same : (w : Setting) (old : List Entry) (mid new : State) (out : Outgoing) (before now : TripsTold)
+pub toured_same : (w : Setting) (old : List Entry) (mid new : State) (out : Outgoing) (before now : LinkTold)
     → Errand w kind.Console mid new out → ToursBy w old mid.history before now → ToursBy w old new.history before now
 toured_same w old mid new out before now x so first t =
     subst (λ h. Toured w h first now) (sym (went x))
@@ -172,7 +173,7 @@ toured_same w old mid new out before now x so first t =
 
 -- the trip of a call to a service elsewhere is made
 pub toured_more : (w : Setting) (old : List Entry) (mid new : State) (out : Outgoing) (m : Made)
-    (before now later : TripsTold)
+    (before now later : LinkTold)
     → (x : Errand w kind.Remote mid new out) → AreSettled w mid.history → IsHeard w.parts out m x.answer
     → Lists now.trips later.trips (m ∷ []) → HasCounted now.faults later.faults (m ∷ [])
     → ToursBy w old mid.history before now → ToursBy w old new.history before later
@@ -293,7 +294,7 @@ less_of k old mid new out m n x =
 
 -- the trip of a call that was fetched is made
 pub toured_of : (old mid one new : State) (out : Outgoing) (o : Outcome) (moved : Bool) (m : Made)
-    (before now later : TripsTold) → Errands old.setting kind.Remote old mid moved
+    (before now later : LinkTold) → Errands old.setting kind.Remote old mid moved
     → IsFetched kind.Remote mid one out → Stays one new (answer_of first_worker out o ∷ []) → Team new
     → IsHeard old.setting.parts out m o
     → Lists now.trips later.trips (m ∷ []) → HasCounted now.faults later.faults (m ∷ [])

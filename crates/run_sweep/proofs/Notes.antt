@@ -4,8 +4,8 @@ use Rattle.std.proofs.Common.{ap, ◌∙◌, inl, inr, le_refl, append_assoc, ap
 use Rattle.std.proofs.Common.{MatchResult, IsErrAnd}
 use Rattle.outside_traits.specs.Causes.{Rose}
 use Rattle.behaviour_tree.specs.Data.{ProgramParts}
-use Rattle.office_front.specs.Dealings.{Said, Dealings}
-use Rattle.office_front.specs.Calls.{Halts, Notes}
+use Rattle.run_theorem.specs.Dealings.{Said, Dealings}
+use Rattle.run_theorem.specs.Calls.{Halts, Notes}
 use Rattle.office_core.specs.declared.history.Entry.{Entry}
 use Rattle.office_core.specs.Limits.{Setting}
 use Rattle.run_sweep.specs.Swept.{PassedOn, NotesBy, NotesMore}
@@ -38,14 +38,14 @@ halts_on a b c x y =
     before (inr g) = inr (rose_later a.faults b.faults c.faults g y.faults)
 
 -- nothing was noted
-pub notes_none : (d : Dealings) → d.said.muted ≡ d.said.halted → NotesMore d d
-notes_none d muted =
+pub notes_none : (d : Dealings) → d.said.notes_failed ≡ d.said.halted → NotesMore d d
+notes_none d notes_failed =
     record {
       text = [];
       notes = record {
         told = refl;
         noted = sym (append-nil d.said.noted);
-        muted = muted;
+        notes_failed = notes_failed;
         halts = halts_not d.said;
         brought = refl;
       };
@@ -63,7 +63,7 @@ notes_on a b c x y =
       notes = record {
         told = y.notes.told ∙ x.notes.told;
         noted = y.notes.noted ∙ ap (λ n. n ++ y.text) x.notes.noted ∙ append_assoc a.said.noted x.text y.text;
-        muted = y.notes.muted;
+        notes_failed = y.notes.notes_failed;
         halts = halts_on a.said b.said c.said x.notes.halts y.notes.halts;
         brought = y.notes.brought ∙ x.notes.brought;
       };
@@ -71,22 +71,22 @@ notes_on a b c x y =
 
 -- then no answer halted it
 pub notes_mute : (w : Setting) (old new : List Entry) (a b : Dealings) → NotesBy w old new a b
-    → b.said.muted ≡ b.said.halted
-notes_mute w old new a b n = (n.0).notes.muted
+    → b.said.notes_failed ≡ b.said.halted
+notes_mute w old new a b n = (n.0).notes.notes_failed
 
 -- nothing passed
 pub passed_none : {F : Type 0} (dealt : ProgramParts → F → F → Dealings → Type 0) (front : F)
     (P : Dealings → Dealings → Type 0)
-    → ((d : Dealings) → d.said.muted ≡ d.said.halted → P d d) → PassedOn dealt front front P
-passed_none dealt front P none parts first before d muted = (before, d, none before muted)
+    → ((d : Dealings) → d.said.notes_failed ≡ d.said.halted → P d d) → PassedOn dealt front front P
+passed_none dealt front P none parts first before d notes_failed = (before, d, none before notes_failed)
 
 -- what passed first, by which no answer halted it, and then
 pub passed_on : {F : Type 0} (dealt : ProgramParts → F → F → Dealings → Type 0) (old mid new : F)
     (P Q R : Dealings → Dealings → Type 0)
-    → PassedOn dealt old mid P → PassedOn dealt mid new Q → ((a b : Dealings) → P a b → b.said.muted ≡ b.said.halted)
+    → PassedOn dealt old mid P → PassedOn dealt mid new Q → ((a b : Dealings) → P a b → b.said.notes_failed ≡ b.said.halted)
     → ((a b c : Dealings) → P a b → Q b c → R a c) → PassedOn dealt old new R
-passed_on dealt old mid new P Q R x y keeps join parts first before d muted =
-    let one = x parts first before d muted in
+passed_on dealt old mid new P Q R x y keeps join parts first before d notes_failed =
+    let one = x parts first before d notes_failed in
     let two = y parts first one.0 one.1 (keeps before one.0 one.2) in
     (two.0, two.1, join before one.0 two.0 one.2 two.2)
 
@@ -94,8 +94,8 @@ passed_on dealt old mid new P Q R x y keeps join parts first before d muted =
 pub passed_as : {F : Type 0} (dealt : ProgramParts → F → F → Dealings → Type 0) (old new : F)
     (P Q : Dealings → Dealings → Type 0)
     → PassedOn dealt old new P → ((a b : Dealings) → P a b → Q a b) → PassedOn dealt old new Q
-passed_as dealt old new P Q x imply parts first before d muted =
-    let one = x parts first before d muted in
+passed_as dealt old new P Q x imply parts first before d notes_failed =
+    let one = x parts first before d notes_failed in
     (one.0, one.1, imply before one.0 one.2)
 
 -- what holds both where a call succeeds and where it fails

@@ -1,5 +1,6 @@
 -- What a round of a sweep does: the sessions have their turns, and then calls go out and come back.
 use Rattle.std.proofs.Common.{if◌then◌else◌, ◌≡◌, ◌<◌, ◌+◌, ◌-◌, ◌*◌, ℕ, Bool, true, false, not, ◌&&◌, ◌||◌}
+use Rattle.outside_links.specs.Trips.{LinkTold}
 use Rattle.std.proofs.Common.{List, [], ◌∷◌}
 use Rattle.std.proofs.Common.{◌++◌, length, refl, sym, ap, subst, ◌∙◌, true≢false, append_assoc}
 use Rattle.std.proofs.Common.{append-nil, nat_eq}
@@ -14,23 +15,22 @@ use Rattle.office_core.specs.Limits.{first_worker}
 use Rattle.office_core.specs.Accepted.{past_of}
 use Rattle.office_core.specs.Calls.{outgoing}
 use Rattle.office_core.specs.Legal.{IsLegal}
-use Rattle.office_kept.specs.Entries.{entry}
-use Rattle.office_kept.proofs.Acting.{left as left_of, right as right_of}
-use Rattle.office_front.specs.Dealings.{Dealings}
-use Rattle.run_record.specs.Quiet.{IsQuiet, IsStill, posts, unbrought}
-use Rattle.quiet_laws.proofs.Workers.{still_by_others}
+use Rattle.office_plain.specs.Entries.{entry}
+use Rattle.office_plain.proofs.Acting.{left as left_of, right as right_of}
+use Rattle.run_theorem.specs.Dealings.{Dealings}
+use Rattle.run_record.specs.Quiet.{IsQuiet, IsStill, posts, outstanding}
+use Rattle.run_quiet_laws.proofs.Workers.{still_by_others}
 use Rattle.run_cells.specs.Crews.{State, Stays, Team, events_of, past_in}
 use Rattle.run_cells.specs.Rounds.{Went, IsQuietAt, IsStillAt, is_by_session, is_adoption, left, events_left}
 use Rattle.run_cells.proofs.Resting.{rests_quiet}
-use Rattle.trip_laws.specs.Going.{is_inward, is_silent, AreSettled, NotedSoFar, Toured}
-use Rattle.trip_laws.proofs.Settling.{settled_over, noted_over, none_over, none_unbrought, quiet_none}
-use Rattle.trip_laws.proofs.Touring.{toured_over}
+use Rattle.run_trip_laws.specs.Going.{is_inward, is_silent, AreSettled, NotedSoFar, Toured}
+use Rattle.run_trip_laws.proofs.Settling.{settled_over, noted_over, none_over, none_outstanding, quiet_none}
+use Rattle.run_trip_laws.proofs.Touring.{toured_over}
 use Rattle.run_sweep.specs.Courses.{Goes, stays, round, adopts, works, is_by_worker}
 use Rattle.run_sweep.specs.declared.sweeping.Round.{Round}
 use Rattle.run_sweep.specs.declared.sweeping.Round.TheVariants as end
 use Rattle.run_sweep.specs.Swept.{is_errand, is_swept, NotesBy, ToursBy, Errands, Cleared, Swept, StaysQuiet}
 use Rattle.run_sweep.proofs.Notes.{notes_on}
-use Rattle.trip_laws.specs.Trips.{TripsTold}
 
 -- ---- entries
 
@@ -147,7 +147,7 @@ pub record Turns (old one : State) (turned : Bool) : Type 0 where
   pub went : Went old one turned
   pub team : Team one
   pub settled : AreSettled old.setting old.history
-  pub start : unbrought (past_in old) ≡ []
+  pub start : outstanding (past_in old) ≡ []
 
 pub legal_then : {old one : State} {turned : Bool} → Turns old one turned → IsLegal old.setting one.history
 legal_then {old} {one} {turned} x = subst (λ w. IsLegal w one.history) x.went.setting x.team.legal
@@ -169,7 +169,7 @@ noted_then {old} {one} {turned} x noted so =
     (noted_over old.setting noted old.history x.went.more (legal_more x) x.went.sessions so)
 
 -- and make no trip
-pub toured_then : {old one : State} {turned : Bool} (x : Turns old one turned) (now : TripsTold)
+pub toured_then : {old one : State} {turned : Bool} (x : Turns old one turned) (now : LinkTold)
     → ToursBy old.setting old.history one.history now now
 toured_then {old} {one} {turned} x now first t =
     subst (λ h. Toured old.setting h first now) (sym x.went.history)
@@ -232,9 +232,9 @@ travelled_not {old} {one} {two} {three} {turned} {noted} {travelled} r off =
 -- at the end of a round each call has its outcome
 brought_by : {old one two three : State} {turned noted travelled : Bool}
     → WholeRound old one two three turned noted travelled
-    → unbrought (past_of old.setting three.history) ≡ []
+    → outstanding (past_of old.setting three.history) ≡ []
 brought_by {old} {one} {two} {three} {turned} {noted} {travelled} r =
-    none_unbrought old.setting three.history r.remotes.errands.settled
+    none_outstanding old.setting three.history r.remotes.errands.settled
     (r.remotes.errands.others kind.Console refl ∙ r.consoles.none)
     r.remotes.none
 
@@ -245,9 +245,9 @@ setting_then r = r.remotes.errands.stays.setting ∙ r.consoles.errands.stays.se
 
 pub round_brought : {old one two three : State} {turned noted travelled : Bool}
     → WholeRound old one two three turned noted travelled
-    → unbrought (past_in three) ≡ []
+    → outstanding (past_in three) ≡ []
 round_brought {old} {one} {two} {three} {turned} {noted} {travelled} r =
-    ap (λ w. unbrought (past_of w three.history)) (setting_then r) ∙ brought_by r
+    ap (λ w. outstanding (past_of w three.history)) (setting_then r) ∙ brought_by r
 
 left_then : {old one two three : State} {turned noted travelled : Bool}
     → WholeRound old one two three turned noted travelled
@@ -293,9 +293,9 @@ round_quiet {old} {one} {two} {three} {turned} {noted} {travelled} r off =
     same = r.remotes.errands.unmoved (travelled_not r still)
         ∙ r.consoles.errands.unmoved (noted_not r.turns r.consoles still)
 
-    none : unbrought (past_in one) ≡ []
+    none : outstanding (past_in one) ≡ []
     none =
-        (λ i. unbrought (past_of (r.turns.went.setting i) (sym same i)))
+        (λ i. outstanding (past_of (r.turns.went.setting i) (sym same i)))
         ∙ brought_by r
 
 -- a round where nothing was left to do does nothing
@@ -321,13 +321,13 @@ round_still {old} {one} {two} {three} {turned} {noted} {travelled} r q =
 -- ---- a round as the calls of sessions tell it
 
 turns_of : {old one : State} {turned : Bool} → Went old one turned → Team one → AreSettled old.setting old.history
-    → unbrought (past_in old) ≡ [] → Turns old one turned
+    → outstanding (past_in old) ≡ [] → Turns old one turned
 turns_of went team settled start = record { went = went; team = team; settled = settled; start = start }
 
 -- all is settled behind the turns
 pub settled_one : {old one : State} {turned : Bool} → Went old one turned → Team one
     → AreSettled old.setting old.history
-    → unbrought (past_in old) ≡ [] → AreSettled one.setting one.history
+    → outstanding (past_in old) ≡ [] → AreSettled one.setting one.history
 settled_one {old} {one} {turned} went team settled start =
     subst (λ w. AreSettled w one.history) (sym went.setting) (settled_then (turns_of went team settled start))
 
@@ -344,7 +344,7 @@ pub half_of : {old one two : State} {turned noted : Bool} → Went old one turne
 half_of {old} {one} {two} {turned} {noted} went c = subst (λ w. Cleared w kind.Console one two noted) went.setting c
 
 pub round_of : {old one two three : State} {turned noted travelled : Bool} → Went old one turned → Team one
-    → AreSettled old.setting old.history → unbrought (past_in old) ≡ [] → Cleared one.setting kind.Console one two noted
+    → AreSettled old.setting old.history → outstanding (past_in old) ≡ [] → Cleared one.setting kind.Console one two noted
     → Cleared two.setting kind.Remote two three travelled → WholeRound old one two three turned noted travelled
 round_of {old} {one} {two} {three} {turned} {noted} {travelled} went team settled start c d =
     record {
@@ -354,7 +354,7 @@ round_of {old} {one} {two} {three} {turned} {noted} {travelled} went team settle
     }
 
 pub half_swept : {old one two : State} {turned noted : Bool} → Team old → Went old one turned → Team one
-    → AreSettled old.setting old.history → unbrought (past_in old) ≡ [] → Cleared one.setting kind.Console one two noted
+    → AreSettled old.setting old.history → outstanding (past_in old) ≡ [] → Cleared one.setting kind.Console one two noted
     → Swept old two
 half_swept {old} {one} {two} {turned} {noted} before went team settled start c =
     swept_errands old one two kind.Console noted (swept_then before (turns_of went team settled start))
@@ -369,13 +369,13 @@ round_swept {old} {one} {two} {three} {turned} {noted} {travelled} team r =
     r.remotes.errands
 
 pub still_half : {old one two : State} {turned noted : Bool} → Went old one turned → Team one
-    → AreSettled old.setting old.history → unbrought (past_in old) ≡ [] → Cleared one.setting kind.Console one two noted
+    → AreSettled old.setting old.history → outstanding (past_in old) ≡ [] → Cleared one.setting kind.Console one two noted
     → StaysQuiet old two
 still_half went team settled start c = half_still (turns_of went team settled start) (half_of went c)
 
 -- what was noted in the first half of a round
 pub half_notes : {old one : State} {turned : Bool} (h : List Entry) → Went old one turned → Team one
-    → AreSettled old.setting old.history → unbrought (past_in old) ≡ []
+    → AreSettled old.setting old.history → outstanding (past_in old) ≡ []
     → (a b : Dealings) → NotesBy one.setting one.history h a b → NotesBy old.setting old.history h a b
 half_notes {old} {one} {turned} h went team settled start a b n = (
   n.0,
@@ -400,16 +400,16 @@ round_notes {old} {one} {two} {three} r trips a b n = (
     here = r.consoles.errands.stays.setting ∙ r.turns.went.setting
 
 -- the trips of the first half: none
-pub half_tours : {old one : State} {turned : Bool} (h : List Entry) (now : TripsTold) → Went old one turned
+pub half_tours : {old one : State} {turned : Bool} (h : List Entry) (now : LinkTold) → Went old one turned
     → Team one
-    → AreSettled old.setting old.history → unbrought (past_in old) ≡ []
+    → AreSettled old.setting old.history → outstanding (past_in old) ≡ []
     → ToursBy one.setting one.history h now now → ToursBy old.setting old.history h now now
 half_tours {old} {one} {turned} h now went team settled start t first x =
     subst (λ w. Toured w h first now) went.setting
     (t first (subst (λ w. Toured w one.history first now) (sym went.setting)
     (toured_then (turns_of went team settled start) now first x)))
 
-pub round_tours : {old one two three : State} {turned noted travelled : Bool} (now later : TripsTold)
+pub round_tours : {old one two three : State} {turned noted travelled : Bool} (now later : LinkTold)
     → WholeRound old one two three turned noted travelled
     → ToursBy old.setting old.history two.history now now → ToursBy two.setting two.history three.history now later
     → ToursBy old.setting old.history three.history now later
@@ -432,7 +432,7 @@ notes_then old mid new here a b c x y = (
       (y.1 (subst (λ w. NotedSoFar w mid.history b.said.noted) (sym here) (x.1 so))),
 )
 
-pub tours_then : (old mid new : State) (a b c : TripsTold) → mid.setting ≡ old.setting
+pub tours_then : (old mid new : State) (a b c : LinkTold) → mid.setting ≡ old.setting
     → ToursBy old.setting old.history mid.history a b → ToursBy mid.setting mid.history new.history b c
     → ToursBy old.setting old.history new.history a c
 tours_then old mid new a b c here f g first x =

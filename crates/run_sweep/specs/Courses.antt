@@ -4,7 +4,7 @@ use Rattle.std.specs.Prelude.{◌≡◌, Bool, true, List, [], nat_eq}
 use Rattle.std.specs.List.{list_all}
 use Rattle.office_core.specs.declared.history.Entry.{Entry}
 use Rattle.office_core.specs.Limits.{first_worker}
-use Rattle.run_record.specs.Quiet.{unbrought}
+use Rattle.run_record.specs.Quiet.{outstanding}
 use Rattle.run_cells.specs.Crews.{State, Stays, Team, past_in}
 use Rattle.run_cells.specs.Turns.{IsAdoption, RoundFrom}
 
@@ -16,7 +16,7 @@ is_by_worker e = nat_eq first_worker e.actor
 -- the next pick; or one that was born is adopted, or the worker makes entries of its own, which leave the picks.
 pub data Goes (old : State) : State → Type 0 where
   stays : Goes old old
-  round : (mid new : State) (moved : Bool) → Goes old mid → Team mid → unbrought (past_in mid) ≡ []
+  round : (mid new : State) (moved : Bool) → Goes old mid → Team mid → outstanding (past_in mid) ≡ []
       → RoundFrom 0 mid new moved
       → Goes old new
   adopts : (mid new : State) → Goes old mid → IsAdoption mid new → Goes old new

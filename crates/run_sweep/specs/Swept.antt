@@ -1,5 +1,6 @@
 -- What a sweep does to a run, to its front and to its link.
 use Rattle.std.specs.Prelude.{◌≡◌, ℕ, Bool, true, false, not, ◌&&◌, ◌||◌, List, [], ◌++◌, nat_eq}
+use Rattle.outside_links.specs.Trips.{LinkTold}
 use Rattle.std.specs.List.{list_all}
 use Rattle.behaviour_tree.specs.Data.{ProgramParts}
 use Rattle.office_core.specs.declared.history.Entry.{Entry}
@@ -7,13 +8,12 @@ use Rattle.office_core.specs.declared.outgoing.OutKind.{OutKind}
 use Rattle.office_core.specs.Limits.{Setting, first_worker}
 use Rattle.office_core.specs.Accepted.{past_of}
 use Rattle.office_core.specs.Calls.{same_kind, outgoing}
-use Rattle.office_front.specs.Dealings.{Dealings}
-use Rattle.office_front.specs.Calls.{After, Notes}
+use Rattle.run_theorem.specs.Dealings.{Dealings}
+use Rattle.run_theorem.specs.Calls.{After, Notes}
 use Rattle.run_cells.specs.Crews.{State, Stays}
 use Rattle.run_cells.specs.Rounds.{is_by_session, IsQuietAt, IsStillAt}
-use Rattle.trip_laws.specs.Going.{is_inward, AreSettled, NotedSoFar, Toured}
+use Rattle.run_trip_laws.specs.Going.{is_inward, AreSettled, NotedSoFar, Toured}
 use Rattle.run_sweep.specs.Courses.{Goes}
-use Rattle.trip_laws.specs.Trips.{TripsTold}
 
 -- ---- entries
 
@@ -33,7 +33,7 @@ abbrev pub PassedOn : {F : Type 0} → (ProgramParts → F → F → Dealings �
     → (Dealings → Dealings → Type 0) → Type 0
 PassedOn {F} dealt old new IsSo =
     (parts : ProgramParts) (first : F) (before : Dealings) → dealt parts first old before
-    → before.said.muted ≡ before.said.halted → After (dealt parts first new) (IsSo before)
+    → before.said.notes_failed ≡ before.said.halted → After (dealt parts first new) (IsSo before)
 
 -- the front halted
 abbrev pub HasHalted : {F : Type 0} → (ProgramParts → F → F → Dealings → Type 0) → F → Type 0
@@ -56,8 +56,8 @@ NotesBy w old new before now =
     NotesMore before now × (NotedSoFar w old before.said.noted → NotedSoFar w new now.said.noted)
 
 -- the trips that a link made are those of the history now, where they were those of the history before
-abbrev pub ToursBy : Setting → List Entry → List Entry → TripsTold → TripsTold → Type 0
-ToursBy w old new before now = (first : TripsTold) → Toured w old first before → Toured w new first now
+abbrev pub ToursBy : Setting → List Entry → List Entry → LinkTold → LinkTold → Type 0
+ToursBy w old new before now = (first : LinkTold) → Toured w old first before → Toured w new first now
 
 -- ---- the run
 

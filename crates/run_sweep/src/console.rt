@@ -1,25 +1,25 @@
 //! Output to the console.
 ghost use Rattle.std.specs.Prelude.{◌≡◌, [], ◌∷◌, true, List, IfOk, OnOk, MatchResult};
+ghost use Rattle.outside_links.specs.Trips.{LinkTold};
 ghost use Rattle.std.specs.declared.option.Option.{Option};
 ghost use Rattle.jolie_trees.specs.Trees.{root_of, void_tree};
 ghost use Rattle.behaviour_tree.specs.declared.words.Outcome.TheVariants as outcome;
 ghost use Rattle.office_core.specs.declared.outgoing.OutKind.TheVariants as kind;
 ghost use Rattle.office_core.specs.Limits.{first_worker};
 ghost use Rattle.office_core.specs.Legal.{is_fetched};
-ghost use Rattle.office_front.specs.Calls.{Notes};
+ghost use Rattle.run_theorem.specs.Calls.{Notes};
 ghost use Rattle.jsonrpc_calls.specs.Console as lines;
 ghost use Rattle.run_cells.specs.Crews.{AtWork, Stays, past_in, state_of};
-ghost use Rattle.trip_laws.specs.Going.{AreSettled, answer_of};
+ghost use Rattle.run_trip_laws.specs.Going.{AreSettled, answer_of};
 ghost use Rattle.outside_links.specs.Trips.{Made};
 ghost use Rattle.run_sweep.specs.Swept.{Cleared, NotesBy, NotesMore, PassedOn, ToursBy};
-ghost use Rattle.trip_laws.specs.Trips.{TripsTold};
 
 use crate::sessions::Sessions;
 use behaviour_tree::Outcome;
 use jolie_trees::Tree;
 use jsonrpc_calls::console_line;
 use office_core::{OutKind, Outgoing};
-use office_front::Front;
+use run_theorem::Front;
 use std::alloc::{AllocError, Global};
 
 /// Notes all output to the console that waits; it says whether there was any.
@@ -36,7 +36,7 @@ pub(crate) fn note_all<C: Sessions, F: Front>(
         (λ moved. Cleared (state_of (C.crew cells.old)).setting kind.Console (state_of (C.crew cells.old))
         (state_of (C.crew cells.new)) moved) }
     ensures toured { OnOk result
-        ((now : TripsTold)
+        ((now : LinkTold)
         → ToursBy (state_of (C.crew cells.old)).setting (state_of (C.crew cells.old)).history
         (state_of (C.crew cells.new)).history now now) }
     ensures noted { MatchResult result

@@ -6,9 +6,9 @@ ghost use Rattle.office_core.specs.declared.outgoing.OutKind.TheVariants as kind
 ghost use Rattle.outside_traits.specs.Told.{Lists};
 ghost use Rattle.outside_links.specs.Trips.{Made};
 ghost use Rattle.run_cells.specs.Crews.{AtWork, state_of};
-ghost use Rattle.trip_laws.specs.Going.{AreSettled, IsHeard, NotedSoFar};
+ghost use Rattle.run_trip_laws.specs.Going.{AreSettled, IsHeard, NotedSoFar};
 ghost use Rattle.run_sweep.specs.Swept.{Cleared, ToursBy};
-ghost use Rattle.trip_laws.specs.Trips.{HasCounted, trips_told};
+ghost use Rattle.run_theorem.specs.Trips.{HasCounted};
 
 use crate::sessions::Sessions;
 use behaviour_tree::{Outcome, Program};
@@ -33,7 +33,7 @@ pub(crate) fn trip_all<C: Sessions, L: Link>(
         (state_of (C.crew cells.new)) moved) }
     ensures toured { OnOk result
         (ToursBy (state_of (C.crew cells.old)).setting (state_of (C.crew cells.old)).history
-        (state_of (C.crew cells.new)).history (trips_told (L.trips link.old) (L.faults link.old)) (trips_told (L.trips link.new) (L.faults link.new))) }
+        (state_of (C.crew cells.new)).history (L.told link.old) (L.told link.new)) }
     ensures noted { OnOk result
         ((noted : List ℕ) → NotedSoFar (state_of (C.crew cells.old)).setting
         (state_of (C.crew cells.old)).history noted
@@ -57,8 +57,8 @@ fn trip<L: Link>(
 ) -> Result<Outcome, AllocError>
     ensures { IfOk result
         (λ o. (m : Made) × (IsHeard (parts_of program.now) out.now m o)
-        × (Lists (L.trips link.old) (L.trips link.new) (m ∷ []))
-        × (HasCounted (L.faults link.old) (L.faults link.new) (m ∷ []))) }
+        × (Lists (L.told link.old).trips (L.told link.new).trips (m ∷ []))
+        × (HasCounted (L.told link.old).faults (L.told link.new).faults (m ∷ []))) }
 {
     let text = call_text(alloc, out, program)?;
     let location = location_called(program, out);

@@ -2,8 +2,8 @@ ghost use Rattle.std.specs.Prelude.{◌≡◌, ◌∷◌, [], true, IfOk, OnOk};
 ghost use Rattle.office_core.specs.declared.history.Act.TheVariants as act;
 ghost use Rattle.office_core.specs.Legal.{is_fetched};
 ghost use Rattle.office_core.specs.Limits.{first_worker};
-ghost use Rattle.office_kept.specs.Entries.{entry, fetch_entry};
-ghost use Rattle.office_kept.specs.Replies.{next_outgoing};
+ghost use Rattle.office_plain.specs.Entries.{entry, fetch_entry};
+ghost use Rattle.office_plain.specs.Replies.{next_outgoing};
 ghost use Rattle.run_cells.specs.Crews.{AtWork, Crew, Stays, list_of, past_in, state_of};
 ghost use Rattle.run_cells.specs.Rounds.{Went};
 

@@ -1,17 +1,16 @@
 //! All that can be done is done.
 ghost use Rattle.std.specs.Prelude.{◌≡◌, ◌<◌, ◌||◌, [], true, false, IfOk, OnOk, MatchResult, if◌then◌else◌};
-ghost use Rattle.run_record.specs.Quiet.{unbrought};
+ghost use Rattle.run_record.specs.Quiet.{outstanding};
 ghost use Rattle.run_cells.specs.Crews.{AtWork, past_in, state_of};
 ghost use Rattle.run_cells.specs.Rounds.{IsQuietAt, left};
-ghost use Rattle.trip_laws.specs.Going.{AreSettled};
+ghost use Rattle.run_trip_laws.specs.Going.{AreSettled};
 ghost use Rattle.run_sweep.specs.Swept.{NotesBy, NotesMore, PassedOn, StaysQuiet, Swept, ToursBy, HasHalted, HasNotHalted};
-ghost use Rattle.trip_laws.specs.Trips.{trips_told};
 
 use crate::console::note_all;
 use crate::elsewhere::trip_all;
 use crate::sessions::Sessions;
-use office_front::Front;
 use outside_links::Link;
+use run_theorem::Front;
 use std::alloc::{AllocError, Global};
 
 /// What a round of a sweep came to: something was done, nothing was left to do, or the front halted.
@@ -31,13 +30,13 @@ pub fn sweep<C: Sessions, F: Front, L: Link>(
 ) -> Result<bool, AllocError>
     requires work { AtWork (C.crew cells.old) }
     requires settled { AreSettled (state_of (C.crew cells.old)).setting (state_of (C.crew cells.old)).history }
-    requires brought { unbrought (past_in (state_of (C.crew cells.old))) ≡ [] }
+    requires brought { outstanding (past_in (state_of (C.crew cells.old))) ≡ [] }
     ensures program { (C.crew cells.new).program ≡ (C.crew cells.old).program }
     ensures work { OnOk result (AtWork (C.crew cells.new)) }
     ensures swept { OnOk result (Swept (state_of (C.crew cells.old)) (state_of (C.crew cells.new))) }
     ensures toured { OnOk result
         (ToursBy (state_of (C.crew cells.old)).setting (state_of (C.crew cells.old)).history
-        (state_of (C.crew cells.new)).history (trips_told (L.trips link.old) (L.faults link.old)) (trips_told (L.trips link.new) (L.faults link.new))) }
+        (state_of (C.crew cells.new)).history (L.told link.old) (L.told link.new)) }
     ensures noted { MatchResult result
         (λ _. PassedOn F.dealt front.old front.new
         (NotesBy (state_of (C.crew cells.old)).setting (state_of (C.crew cells.old)).history
@@ -66,20 +65,20 @@ fn go_round<C: Sessions, F: Front, L: Link>(
 ) -> Result<Round, AllocError>
     requires work { AtWork (C.crew cells.old) }
     requires settled { AreSettled (state_of (C.crew cells.old)).setting (state_of (C.crew cells.old)).history }
-    requires brought { unbrought (past_in (state_of (C.crew cells.old))) ≡ [] }
+    requires brought { outstanding (past_in (state_of (C.crew cells.old))) ≡ [] }
     ensures program { (C.crew cells.new).program ≡ (C.crew cells.old).program }
     ensures work { OnOk result (AtWork (C.crew cells.new)) }
     ensures swept { OnOk result (Swept (state_of (C.crew cells.old)) (state_of (C.crew cells.new))) }
     ensures toured { OnOk result
         (ToursBy (state_of (C.crew cells.old)).setting (state_of (C.crew cells.old)).history
-        (state_of (C.crew cells.new)).history (trips_told (L.trips link.old) (L.faults link.old)) (trips_told (L.trips link.new) (L.faults link.new))) }
+        (state_of (C.crew cells.new)).history (L.told link.old) (L.told link.new)) }
     ensures noted { MatchResult result
         (λ _. PassedOn F.dealt front.old front.new
         (NotesBy (state_of (C.crew cells.old)).setting (state_of (C.crew cells.old)).history
         (state_of (C.crew cells.new)).history))
         (λ _. PassedOn F.dealt front.old front.new NotesMore) }
     ensures again { IfOk result (λ r. r ≡ Round.Again
-        → (unbrought (past_in (state_of (C.crew cells.new))) ≡ [])
+        → (outstanding (past_in (state_of (C.crew cells.new))) ≡ [])
         × (left (state_of (C.crew cells.new)) < left (state_of (C.crew cells.old)))) }
     ensures calm { IfOk result (λ r. r ≡ Round.Calm → IsQuietAt (state_of (C.crew cells.new))) }
     ensures halted { IfOk result (λ r. r ≡ Round.Halted → HasHalted F.dealt front.new) }

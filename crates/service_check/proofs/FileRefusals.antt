@@ -6,9 +6,9 @@ use Rattle.jolie_ast.specs.declared.interface.Interface.{Interface}
 use Rattle.check_base.specs.declared.refusal.Refusal.{Refusal}
 use Rattle.check_base.specs.Least.{joined}
 use Rattle.check_base.specs.Files.{types_of, interfaces_of, service_in, services_of}
-use Rattle.type_checks.specs.TypeRules.{type_refused}
-use Rattle.type_checks.specs.InterfaceRules.{interface_refused}
-use Rattle.port_checks.specs.PortRules.{input_locations}
+use Rattle.check_types.specs.TypeRules.{type_refused}
+use Rattle.check_types.specs.InterfaceRules.{interface_refused}
+use Rattle.check_ports.specs.PortRules.{input_locations}
 use Rattle.service_check.specs.ServiceRules.{service_refused}
 use Rattle.service_check.specs.Clauses.{definition_refused}
 use Rattle.service_check.specs.Refusals.{no_service, names_refused, refusals, refusal_of}

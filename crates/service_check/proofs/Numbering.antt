@@ -9,7 +9,7 @@ use Rattle.jolie_ast.specs.declared.service.Clause.{Clause}
 use Rattle.jolie_ast.specs.declared.service.Port.{Port}
 use Rattle.jolie_ast.specs.declared.service.Service.{Service}
 use Rattle.service_check.specs.declared.sides.SidedPort.{SidedPort}
-use Rattle.process_lowering.specs.Behaviours.{NumberedPort, Numbering}
+use Rattle.lower_processes.specs.Behaviours.{NumberedPort, Numbering}
 use Rattle.check_base.specs.Files.{Operation, Sided, each_once, input_operations, input_port_in, operations_among, port_in, texts_of, variables_of}
 use Rattle.check_base.specs.Repeated.{with_texts}
 use Rattle.service_check.specs.KeptPorts.{sided, input_operations_among, port_texts}

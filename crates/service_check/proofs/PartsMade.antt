@@ -7,13 +7,13 @@ use Rattle.jolie_ast.specs.declared.service.Service.{Service}
 use Rattle.jolie_ast.specs.declared.tree.Definition.{Definition}
 use Rattle.behaviour_tree.specs.declared.program.Execution.{Execution}
 use Rattle.behaviour_tree.specs.Data.{Proc, TypeTree, InterfacePart, PortPart, ProgramParts, ServicePart, SetPart}
-use Rattle.process_lowering.specs.Behaviours.{lowered_if_there}
+use Rattle.lower_processes.specs.Behaviours.{lowered_if_there}
 use Rattle.check_base.specs.Files.{Sided, execution_of, first_there, init_in, interfaces_of, main_in, place_in, port_in, services_of, sets_of, types_of, type_names, interface_names}
 use Rattle.service_check.specs.Mentioned.{names_of}
 use Rattle.service_check.specs.KeptPorts.{texts_in}
-use Rattle.type_lowering.specs.LoweredTypes.{lowered_definition}
+use Rattle.lower_types.specs.LoweredTypes.{lowered_definition}
 use Rattle.service_check.specs.Programs.{lowered_execution, lowered_port_part, lowered_service, lowered_set, numbering, program_of}
-use Rattle.type_lowering.specs.LoweredInterfaces.{lowered_interface}
+use Rattle.lower_types.specs.LoweredInterfaces.{lowered_interface}
 use Rattle.check_base.proofs.Loops.{mapped_twice}
 
 -- a port of its pieces

@@ -21,17 +21,17 @@ use Rattle.jolie_ast.specs.Formed.{each, option_all, path_formed, process_formed
 use Rattle.behaviour_tree.specs.Data as plain
 use Rattle.behaviour_tree.specs.Data.{Proc}
 use Rattle.behaviour_tree.specs.View.{HandlerView, BranchView, ReplyView}
-use Rattle.process_lowering.specs.Behaviours as means
-use Rattle.process_lowering.specs.Behaviours.{Numbering, AnswerView, InputView, branch_after, key_of, lowered_process, lowered_conditional, lowered_otherwise, lowered_input, lowered_reply, lowered_branch, lowered_answer, lowered_handler, lowered_block}
-use Rattle.process_lowering.specs.Expressions.{lowered_expr, lowered_path}
+use Rattle.lower_processes.specs.Behaviours as means
+use Rattle.lower_processes.specs.Behaviours.{Numbering, AnswerView, InputView, branch_after, key_of, lowered_process, lowered_conditional, lowered_otherwise, lowered_input, lowered_reply, lowered_branch, lowered_answer, lowered_handler, lowered_block}
+use Rattle.lower_processes.specs.Expressions.{lowered_expr, lowered_path}
 use Rattle.service_check.specs.Mentioned as named
 use Rattle.check_base.specs.Repeated.{Texts}
 use Rattle.service_check.specs.Mentioned.{key_texts, process_texts, conditional_texts, otherwise_texts, input_texts, reply_texts, branch_texts, answer_texts, handler_texts, block_texts}
-use Rattle.process_checks.specs.ProcessRules as rules
-use Rattle.process_checks.specs.Surroundings.{Surroundings}
-use Rattle.process_checks.specs.ProcessRules.{Found, InputFound, HandlerFound, used, wrong_if_written, process_refused, block_refused}
-use Rattle.process_checks.specs.ProcessParts.{answer_handlers_refused, answer_refused, branch_refused, conditional_refused, handler_refused, input_refused, otherwise_refused, reply_if_written, reply_refused}
-use Rattle.process_checks.proofs.ProcessForms as forms
+use Rattle.check_processes.specs.ProcessRules as rules
+use Rattle.check_processes.specs.Surroundings.{Surroundings}
+use Rattle.check_processes.specs.ProcessRules.{Found, InputFound, HandlerFound, used, wrong_if_written, process_refused, block_refused}
+use Rattle.check_processes.specs.ProcessParts.{answer_handlers_refused, answer_refused, branch_refused, conditional_refused, handler_refused, input_refused, otherwise_refused, reply_if_written, reply_refused}
+use Rattle.check_processes.proofs.ProcessForms as forms
 
 -- ---- what is refused
 

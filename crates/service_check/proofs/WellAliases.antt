@@ -27,13 +27,13 @@ use Rattle.check_base.specs.declared.refusal.CheckName.TheVariants.{UnknownType}
 use Rattle.check_base.specs.Files.{place_in, type_named, type_names, body_of, name_in}
 use Rattle.check_base.specs.TypeNames.{next_body, is_no_name, behind_names}
 use Rattle.behaviour_tree.proofs.Leading.{from_there}
-use Rattle.port_checks.proofs.Behind.{behind, behind_by}
-use Rattle.port_checks.specs.SetRules.{is_once, field_named, is_value_kind, fields_in, is_value, once_in, leads_to_value, alias_type, wrong_alias}
-use Rattle.type_lowering.specs.LoweredTypes.{natural, lowered_kind, lowered_body, lowered_field, lowered_definition}
-use Rattle.type_lowering.specs.FieldBounds.{least_of, most_of}
+use Rattle.check_ports.proofs.Behind.{behind, behind_by}
+use Rattle.check_ports.specs.SetRules.{is_once, field_named, is_value_kind, fields_in, is_value, once_in, leads_to_value, alias_type, wrong_alias}
+use Rattle.lower_types.specs.LoweredTypes.{natural, lowered_kind, lowered_body, lowered_field, lowered_definition}
+use Rattle.lower_types.specs.FieldBounds.{least_of, most_of}
 use Rattle.service_check.specs.Programs.{lowered_alias}
 use Rattle.service_check.proofs.Emptied.{holds}
-use Rattle.type_lowering.proofs.LoweredTypes.{root_lowered, named_lowered, undefined_lowered, field_is}
+use Rattle.lower_types.proofs.LoweredTypes.{root_lowered, named_lowered, undefined_lowered, field_is}
 use Rattle.service_check.proofs.WellTypes.{lowered_types, type_is_there}
 
 -- ---- fields that stand once

@@ -38,16 +38,16 @@ use Rattle.check_base.specs.declared.refusal.Refusal.{Refusal}
 use Rattle.check_base.specs.Least.{refused, refused_if}
 use Rattle.check_base.specs.Repeated.{repeated, Texts}
 use Rattle.check_base.specs.Files.{place_in}
-use Rattle.process_lowering.specs.Behaviours.{AnswerView, InputView, Numbering, alone, in_turn, key_of, lowered_answer, lowered_assignment, lowered_block, lowered_branch, lowered_conditional, lowered_for, lowered_handler, lowered_input, lowered_otherwise, lowered_port, lowered_process, lowered_reply, lowered_step, sent}
-use Rattle.process_lowering.specs.Expressions.{lowered_expr, lowered_if_written, lowered_path}
+use Rattle.lower_processes.specs.Behaviours.{AnswerView, InputView, Numbering, alone, in_turn, key_of, lowered_answer, lowered_assignment, lowered_block, lowered_branch, lowered_conditional, lowered_for, lowered_handler, lowered_input, lowered_otherwise, lowered_port, lowered_process, lowered_reply, lowered_step, sent}
+use Rattle.lower_processes.specs.Expressions.{lowered_expr, lowered_if_written, lowered_path}
 use Rattle.service_check.specs.Mentioned.{key_texts, process_texts, conditional_texts, otherwise_texts, input_texts, reply_texts, branch_texts, answer_texts, handler_texts, block_texts}
-use Rattle.process_checks.specs.Surroundings.{Surroundings}
-use Rattle.process_checks.specs.ProcessRules.{lacks_variable, sends, used, wrong_if_written, block_refused, process_refused}
-use Rattle.process_checks.specs.ProcessParts.{answer_refused, bodies_refused, branch_operation, branch_refused, branches_refused, choice_refused, conditional_refused, handler_name, handler_refused, handlers_refused, input_refused, otherwise_refused, processes_refused, reply_if_written, reply_refused}
+use Rattle.check_processes.specs.Surroundings.{Surroundings}
+use Rattle.check_processes.specs.ProcessRules.{lacks_variable, sends, used, wrong_if_written, block_refused, process_refused}
+use Rattle.check_processes.specs.ProcessParts.{answer_refused, bodies_refused, branch_operation, branch_refused, branches_refused, choice_refused, conditional_refused, handler_name, handler_refused, handlers_refused, input_refused, otherwise_refused, processes_refused, reply_if_written, reply_refused}
 use Rattle.service_check.proofs.Emptied.{all_four, has_place, holds, left_empty, names_differ, right_empty}
-use Rattle.process_lowering.proofs.LoweredProcesses as means
+use Rattle.lower_processes.proofs.LoweredProcesses as means
 use Rattle.service_check.proofs.Mentions as mentions
-use Rattle.process_checks.proofs.ProcessForms as forms
+use Rattle.check_processes.proofs.ProcessForms as forms
 use Rattle.service_check.proofs.RolledProcesses as rolled
 use Rattle.service_check.proofs.RolledProcesses.{shape_of}
 use Rattle.service_check.proofs.WellExpressions.{expr_well, path_well, written_well}

@@ -20,8 +20,8 @@ use Rattle.jolie_ast.proofs.Formed.{factor_forms, member_forms, placed_forms, te
 use Rattle.behaviour_tree.specs.Data.{Exp, PathTree}
 use Rattle.behaviour_tree.specs.View.{StepView, SumPartView, MulPartView, MemberView, path_of, step_of, exps_of, sum_parts_of, mul_parts_of, member_list_of}
 use Rattle.behaviour_tree.specs.FormedExpressions.{is_exp, is_path, are_exps, are_two_exps, are_sum_parts, are_mul_parts, are_members}
-use Rattle.process_lowering.specs.Expressions as means
-use Rattle.process_lowering.specs.Expressions.{lowered_expr, lowered_path, lowered_form, lowered_factor, lowered_member, lowered_place, lowered_term, lowered_if_written}
+use Rattle.lower_processes.specs.Expressions as means
+use Rattle.lower_processes.specs.Expressions.{lowered_expr, lowered_path, lowered_form, lowered_factor, lowered_member, lowered_place, lowered_term, lowered_if_written}
 
 -- ---- one level of each
 

@@ -25,15 +25,15 @@ use Rattle.behaviour_tree.specs.FormedBehaviours.{is_behaviour, parallel_members
 use Rattle.behaviour_tree.specs.FormedServices.{are_ports, has_few_members, has_start, is_init, is_service, runs_well}
 use Rattle.behaviour_tree.specs.WellFormed.{are_interfaces, are_names, are_services, is_well_formed}
 use Rattle.check_base.specs.declared.refusal.Refusal.{Refusal}
-use Rattle.process_lowering.specs.Behaviours.{Numbering, lowered_if_there}
+use Rattle.lower_processes.specs.Behaviours.{Numbering, lowered_if_there}
 use Rattle.check_base.specs.Files.{first_there, init_in, input_operations, interfaces_of, main_in, services_of, types_of, type_names, interface_names}
 use Rattle.service_check.specs.Mentioned.{clause_texts, definition_texts, names_of}
-use Rattle.port_checks.specs.PortRules.{input_locations}
-use Rattle.type_lowering.specs.LoweredInterfaces.{lowered_interface, lowered_operation}
+use Rattle.check_ports.specs.PortRules.{input_locations}
+use Rattle.lower_types.specs.LoweredInterfaces.{lowered_interface, lowered_operation}
 use Rattle.service_check.specs.Programs.{lowered_service, numbering, program_of}
 use Rattle.service_check.specs.Refusals.{no_service, refusal_of}
 use Rattle.service_check.specs.ServiceRules.{service_refused}
-use Rattle.process_checks.specs.Surroundings.{surroundings}
+use Rattle.check_processes.specs.Surroundings.{surroundings}
 use Rattle.service_check.proofs.Emptied.{left_empty, right_empty}
 use Rattle.service_check.proofs.WellBehaviours.{Meets}
 use Rattle.service_check.proofs.WellParts.{NothingRefused, part_by_part, program_interfaces, program_names, program_types}

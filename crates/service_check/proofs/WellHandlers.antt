@@ -15,12 +15,12 @@ use Rattle.check_base.specs.declared.refusal.CheckName.TheVariants.{DuplicateNam
 use Rattle.check_base.specs.Least.{refused}
 use Rattle.check_base.specs.Repeated.{repeated}
 use Rattle.check_base.specs.Files.{place_in}
-use Rattle.process_lowering.specs.Behaviours.{Numbering, key_of, lowered_handler, lowered_process}
+use Rattle.lower_processes.specs.Behaviours.{Numbering, key_of, lowered_handler, lowered_process}
 use Rattle.service_check.specs.Mentioned.{key_texts}
-use Rattle.process_checks.specs.ProcessParts.{handler_name}
-use Rattle.process_checks.specs.ProcessRules.{key_name}
+use Rattle.check_processes.specs.ProcessParts.{handler_name}
+use Rattle.check_processes.specs.ProcessRules.{key_name}
 use Rattle.service_check.proofs.Emptied.{names_differ}
-use Rattle.process_lowering.proofs.LoweredProcesses as means
+use Rattle.lower_processes.proofs.LoweredProcesses as means
 use Rattle.service_check.proofs.WellInterfaces.{all_in, places_differ}
 use Rattle.check_base.proofs.Loops.{mapped_twice}
 

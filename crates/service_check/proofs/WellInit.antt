@@ -25,15 +25,15 @@ use Rattle.behaviour_tree.specs.View.{procs_of}
 use Rattle.behaviour_tree.specs.FormedServices.{all_assign_alone, assigns_alone, is_init}
 use Rattle.check_base.specs.declared.refusal.CheckName.TheVariants.{InitNotAssignment}
 use Rattle.check_base.specs.Files.{first_there, init_in, main_in}
-use Rattle.process_lowering.specs.Behaviours.{Numbering, lowered_assignment, lowered_block, lowered_if_there, lowered_process}
-use Rattle.process_lowering.specs.Expressions.{lowered_path}
-use Rattle.process_checks.specs.Surroundings.{Surroundings}
-use Rattle.process_checks.specs.ProcessRules.{block_refused}
-use Rattle.process_checks.specs.InitParts.{no_assignment}
-use Rattle.process_checks.specs.InitRules.{assigns, init_refused, process_place, statements_of}
+use Rattle.lower_processes.specs.Behaviours.{Numbering, lowered_assignment, lowered_block, lowered_if_there, lowered_process}
+use Rattle.lower_processes.specs.Expressions.{lowered_path}
+use Rattle.check_processes.specs.Surroundings.{Surroundings}
+use Rattle.check_processes.specs.ProcessRules.{block_refused}
+use Rattle.check_processes.specs.InitParts.{no_assignment}
+use Rattle.check_processes.specs.InitRules.{assigns, init_refused, process_place, statements_of}
 use Rattle.service_check.specs.ServiceRules.{clause_refused}
 use Rattle.service_check.proofs.Emptied.{holds, left_empty, right_empty}
-use Rattle.process_lowering.proofs.LoweredProcesses as means
+use Rattle.lower_processes.proofs.LoweredProcesses as means
 
 -- ---- assignments
 

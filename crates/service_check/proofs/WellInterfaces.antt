@@ -22,14 +22,14 @@ use Rattle.check_base.specs.declared.refusal.Refusal.{Refusal}
 use Rattle.check_base.specs.Least.{refused}
 use Rattle.check_base.specs.Repeated.{repeated}
 use Rattle.check_base.specs.Files.{Operation, operations_in, interfaces_of, place_in, type_names}
-use Rattle.type_checks.specs.TypeRules.{unknown_type_name}
-use Rattle.type_checks.specs.InterfaceRules.{unknown_if_written, fault_refused, operation_refused, interface_refused}
+use Rattle.check_types.specs.TypeRules.{unknown_type_name}
+use Rattle.check_types.specs.InterfaceRules.{unknown_if_written, fault_refused, operation_refused, interface_refused}
 use Rattle.service_check.specs.Mentioned.{thrown_by, definition_texts}
 use Rattle.service_check.specs.MentionedParts.{fault_text}
-use Rattle.type_lowering.specs.LoweredTypes.{lowered_type, lowered_data}
-use Rattle.type_lowering.specs.LoweredInterfaces.{lowered_fault, lowered_operation, lowered_interface}
+use Rattle.lower_types.specs.LoweredTypes.{lowered_type, lowered_data}
+use Rattle.lower_types.specs.LoweredInterfaces.{lowered_fault, lowered_operation, lowered_interface}
 use Rattle.service_check.proofs.Emptied.{left_empty, right_empty, has_place, names_differ}
-use Rattle.type_checks.proofs.Leading.{same_place}
+use Rattle.check_types.proofs.Leading.{same_place}
 use Rattle.service_check.proofs.WellTypes.{known_type, place_is_found}
 use Rattle.check_base.proofs.Loops.{mapped_twice}
 

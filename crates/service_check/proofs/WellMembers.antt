@@ -28,10 +28,10 @@ use Rattle.behaviour_tree.specs.Data as plain
 use Rattle.behaviour_tree.specs.Data.{PathTree, Proc, Branches}
 use Rattle.behaviour_tree.specs.View.{BranchView, HandlerView, ReplyView, branch_of, branches_of, handlers_of, procs_of}
 use Rattle.behaviour_tree.specs.FormedBehaviours.{count_of, members_of_branches, members_of_handlers, members_within, parallel_members}
-use Rattle.process_lowering.specs.Behaviours.{AnswerView, InputView, Numbering, alone, lowered_answer, lowered_assignment, lowered_block, lowered_branch, lowered_conditional, lowered_for, lowered_handler, lowered_input, lowered_otherwise, lowered_port, lowered_process, lowered_reply, lowered_step, sent}
-use Rattle.process_lowering.specs.Expressions.{lowered_expr, lowered_if_written, lowered_path}
+use Rattle.lower_processes.specs.Behaviours.{AnswerView, InputView, Numbering, alone, lowered_answer, lowered_assignment, lowered_block, lowered_branch, lowered_conditional, lowered_for, lowered_handler, lowered_input, lowered_otherwise, lowered_port, lowered_process, lowered_reply, lowered_step, sent}
+use Rattle.lower_processes.specs.Expressions.{lowered_expr, lowered_if_written, lowered_path}
 use Rattle.check_base.specs.Files.{place_in}
-use Rattle.process_lowering.proofs.LoweredProcesses as means
+use Rattle.lower_processes.proofs.LoweredProcesses as means
 use Rattle.service_check.proofs.RolledProcesses as rolled
 
 -- ---- what is known of each part

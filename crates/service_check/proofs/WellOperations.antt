@@ -19,14 +19,14 @@ use Rattle.behaviour_tree.specs.FormedServices.{sent_to}
 use Rattle.check_base.specs.declared.refusal.CheckName.TheVariants.{DuplicateName, UnknownOperation, UnknownPort, WrongKind}
 use Rattle.check_base.specs.declared.refusal.Refusal.{Refusal}
 use Rattle.check_base.specs.Least.{refused, refused_if}
-use Rattle.process_lowering.specs.Behaviours.{NumberedPort, port_among}
+use Rattle.lower_processes.specs.Behaviours.{NumberedPort, port_among}
 use Rattle.check_base.specs.Files.{Operation, each_once, operation_named, operations_named, output_port_in, place_in, port_in, port_operations, texts_of, interface_names}
-use Rattle.port_checks.specs.PortRules.{brought, operations_repeated}
-use Rattle.process_checks.specs.ProcessRules.{agree, outlet_named, used}
-use Rattle.type_lowering.specs.LoweredInterfaces.{lowered_interface, lowered_operation}
-use Rattle.type_lowering.specs.LoweredTypes.{lowered_type}
+use Rattle.check_ports.specs.PortRules.{brought, operations_repeated}
+use Rattle.check_processes.specs.ProcessRules.{agree, outlet_named, used}
+use Rattle.lower_types.specs.LoweredInterfaces.{lowered_interface, lowered_operation}
+use Rattle.lower_types.specs.LoweredTypes.{lowered_type}
 use Rattle.service_check.specs.Programs.{numbered_from}
-use Rattle.process_checks.specs.Surroundings.{outlet}
+use Rattle.check_processes.specs.Surroundings.{outlet}
 use Rattle.service_check.proofs.Emptied.{holds, left_empty, names_differ, right_empty}
 use Rattle.service_check.proofs.OnceEach.{new_taken}
 use Rattle.service_check.proofs.WellPorts.{brought_texts, operations_behind, port_names, ports_of}

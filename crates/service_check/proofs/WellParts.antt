@@ -15,14 +15,14 @@ use Rattle.check_base.specs.declared.refusal.Refusal.{Refusal}
 use Rattle.check_base.specs.Least.{refused}
 use Rattle.check_base.specs.Repeated.{as_name, repeated}
 use Rattle.check_base.specs.Files.{types_of, interfaces_of, services_of, input_ports, type_names}
-use Rattle.type_checks.specs.InterfaceRules.{interface_refused}
+use Rattle.check_types.specs.InterfaceRules.{interface_refused}
 use Rattle.service_check.specs.Mentioned.{names_of}
-use Rattle.port_checks.specs.PortRules.{input_locations}
-use Rattle.type_lowering.specs.LoweredTypes.{lowered_definition}
+use Rattle.check_ports.specs.PortRules.{input_locations}
+use Rattle.lower_types.specs.LoweredTypes.{lowered_definition}
 use Rattle.service_check.specs.Programs.{program_of}
 use Rattle.service_check.specs.Refusals.{no_service, names_refused, refusals, refusal_of}
 use Rattle.service_check.specs.ServiceRules.{service_refused}
-use Rattle.type_checks.specs.TypeRules.{type_refused}
+use Rattle.check_types.specs.TypeRules.{type_refused}
 use Rattle.service_check.proofs.Emptied.{least_empty, left_empty, right_empty, names_differ}
 use Rattle.service_check.proofs.WellInterfaces.{all_thrown, interfaces_formed}
 use Rattle.service_check.proofs.WellNames.{names_formed, all_named}

@@ -25,10 +25,10 @@ use Rattle.check_base.specs.Least.{refused, refused_if}
 use Rattle.check_base.specs.Repeated.{repeated}
 use Rattle.check_base.specs.OnceEach.{firsts_after}
 use Rattle.check_base.specs.Files.{Operation, each_once, interface_named, operations_in, operations_named, place_in, port_in, input_port_in, output_port_in, texts_of, interface_names}
-use Rattle.port_checks.specs.PortRules.{unknown_interface, operation_at, brought_by, brought, brought_in, operations_repeated, wrong_location, wrong_protocol, port_refused, sided_refused, unmet}
-use Rattle.port_checks.specs.PortParts.{brought_unless}
+use Rattle.check_ports.specs.PortRules.{unknown_interface, operation_at, brought_by, brought, brought_in, operations_repeated, wrong_location, wrong_protocol, port_refused, sided_refused, unmet}
+use Rattle.check_ports.specs.PortParts.{brought_unless}
 use Rattle.check_base.specs.Console.{console}
-use Rattle.type_lowering.specs.LoweredInterfaces.{lowered_operation, lowered_interface}
+use Rattle.lower_types.specs.LoweredInterfaces.{lowered_operation, lowered_interface}
 use Rattle.service_check.specs.Programs.{lowered_port_part}
 use Rattle.service_check.proofs.Emptied.{left_empty, right_empty, fails, holds, mapped_empty, has_place, in_first, in_last, names_differ}
 use Rattle.service_check.proofs.OnceEach.{passed, among_passed, firsts_of_two, first_places, second_differ, two_apart, texts_under, taken_by_interface}

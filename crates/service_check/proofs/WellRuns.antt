@@ -22,17 +22,17 @@ use Rattle.check_base.specs.declared.refusal.CheckName.TheVariants.{UnknownOpera
 use Rattle.check_base.specs.declared.refusal.Refusal.{Refusal}
 use Rattle.check_base.specs.Least.{refused, refused_if}
 use Rattle.check_base.specs.Files.{Operation, first_there, init_in, input_operations, main_in, operation_named, output_ports, place_in, port_in, sets_of, texts_of, interface_names, variables_of}
-use Rattle.process_lowering.specs.Behaviours.{Numbering, console_port, lowered_if_there, port_among}
+use Rattle.lower_processes.specs.Behaviours.{Numbering, console_port, lowered_if_there, port_among}
 use Rattle.check_base.specs.Repeated.{Texts}
 use Rattle.service_check.specs.Mentioned.{block_texts, clause_texts}
 use Rattle.check_base.specs.Console.{console, println}
-use Rattle.port_checks.specs.PortRules.{operations_repeated}
-use Rattle.process_checks.specs.Surroundings.{Surroundings, outlet, surroundings}
-use Rattle.process_checks.specs.ProcessRules.{agree, block_refused, outlet_named, used}
-use Rattle.type_lowering.specs.LoweredInterfaces.{lowered_interface, lowered_operation}
+use Rattle.check_ports.specs.PortRules.{operations_repeated}
+use Rattle.check_processes.specs.Surroundings.{Surroundings, outlet, surroundings}
+use Rattle.check_processes.specs.ProcessRules.{agree, block_refused, outlet_named, used}
+use Rattle.lower_types.specs.LoweredInterfaces.{lowered_interface, lowered_operation}
 use Rattle.service_check.specs.Programs.{lowered_port_part, lowered_set, numbered_from, numbering}
 use Rattle.service_check.specs.ServiceRules.{clause_refused}
-use Rattle.process_checks.specs.InitRules.{init_refused}
+use Rattle.check_processes.specs.InitRules.{init_refused}
 use Rattle.service_check.proofs.Emptied.{has_place, holds, left_empty}
 use Rattle.service_check.proofs.WellBehaviours.{Meets, block_well}
 use Rattle.service_check.proofs.WellInit.{init_clear, main_clear}

@@ -22,13 +22,13 @@ use Rattle.check_base.specs.declared.refusal.Refusal.{Refusal}
 use Rattle.check_base.specs.Least.{refused}
 use Rattle.check_base.specs.Repeated.{as_name, repeated}
 use Rattle.check_base.specs.Files.{execution_of, input_port_in, input_ports, is_concurrent, output_ports, port_in, sets_of, type_names, interface_names, variables_of}
-use Rattle.port_checks.specs.PortRules.{brought_in, input_locations, input_ports_refused, operations_repeated, port_name, ports_refused, sided_refused, unmet}
-use Rattle.port_checks.specs.PortParts.{service_locations}
-use Rattle.type_lowering.specs.LoweredInterfaces.{lowered_interface}
+use Rattle.check_ports.specs.PortRules.{brought_in, input_locations, input_ports_refused, operations_repeated, port_name, ports_refused, sided_refused, unmet}
+use Rattle.check_ports.specs.PortParts.{service_locations}
+use Rattle.lower_types.specs.LoweredInterfaces.{lowered_interface}
 use Rattle.service_check.specs.Programs.{lowered_port_part, lowered_service}
 use Rattle.service_check.specs.ServiceRules.{clause_refused, execution_place, init_place, main_place, no_start, second, service_refused, uncorrelated}
-use Rattle.process_checks.specs.Surroundings.{surroundings}
-use Rattle.port_checks.specs.SetRules.{set_of_single, set_refused, sets_refused, two_sets}
+use Rattle.check_processes.specs.Surroundings.{surroundings}
+use Rattle.check_ports.specs.SetRules.{set_of_single, set_refused, sets_refused, two_sets}
 use Rattle.service_check.proofs.Emptied.{left_empty, right_empty, names_differ}
 use Rattle.service_check.proofs.WellPorts.{ports_of, all_known, each_port_formed, service_operations_differ}
 use Rattle.service_check.proofs.WellSets.{sets_formed}

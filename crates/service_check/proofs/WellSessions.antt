@@ -24,14 +24,14 @@ use Rattle.check_base.specs.declared.refusal.CheckName.TheVariants.{NoStart, Unc
 use Rattle.check_base.specs.Least.{refused_if}
 use Rattle.check_base.specs.OnceEach.{firsts_after}
 use Rattle.check_base.specs.Files.{Operation, execution_of, input_operations, input_ports, is_concurrent, place_in, sets_of, texts_of}
-use Rattle.process_lowering.specs.Behaviours.{Numbering, lowered_if_there}
+use Rattle.lower_processes.specs.Behaviours.{Numbering, lowered_if_there}
 use Rattle.service_check.specs.Programs.{lowered_execution, lowered_service, lowered_set, numbering}
-use Rattle.type_lowering.specs.LoweredInterfaces.{lowered_operation}
-use Rattle.type_lowering.specs.LoweredTypes.{lowered_type}
+use Rattle.lower_types.specs.LoweredInterfaces.{lowered_operation}
+use Rattle.lower_types.specs.LoweredTypes.{lowered_type}
 use Rattle.service_check.specs.ServiceRules as rules
-use Rattle.process_checks.specs.FirstInputs.{first_input}
+use Rattle.check_processes.specs.FirstInputs.{first_input}
 use Rattle.service_check.specs.ServiceRules.{is_lost, main_of, names_if_there, no_start, starting, uncorrelated}
-use Rattle.port_checks.specs.SetRules.{alias_names, set_texts, types_in_sets}
+use Rattle.check_ports.specs.SetRules.{alias_names, set_texts, types_in_sets}
 use Rattle.service_check.proofs.Emptied.{fails, right_empty}
 use Rattle.check_base.proofs.Firsts.{once_texts}
 use Rattle.service_check.proofs.WellNames.{taken_differ}

@@ -25,7 +25,7 @@ use Rattle.check_base.specs.Least.{refused}
 use Rattle.check_base.specs.Repeated.{repeated}
 use Rattle.check_base.specs.OnceEach.{firsts_after, first_names_after}
 use Rattle.check_base.specs.Files.{is_concurrent, place_in, set_in, type_names, set_names}
-use Rattle.port_checks.specs.SetRules.{alias_names, alias_texts, set_types, set_texts, all_have, partly, wrong_alias, variable_refused, set_refused, two_sets, types_in_sets, set_of_single}
+use Rattle.check_ports.specs.SetRules.{alias_names, alias_texts, set_types, set_texts, all_have, partly, wrong_alias, variable_refused, set_refused, two_sets, types_in_sets, set_of_single}
 use Rattle.service_check.specs.Programs.{lowered_alias, lowered_variable, lowered_set, lowered_execution}
 use Rattle.service_check.proofs.Emptied.{left_empty, right_empty, holds, mapped_empty, in_first, names_differ}
 use Rattle.service_check.proofs.OnceEach.{second_differ, two_apart}

@@ -23,13 +23,13 @@ use Rattle.behaviour_tree.specs.FormedServices as formed_services
 use Rattle.behaviour_tree.specs.FormedBehaviours.{branch_operations}
 use Rattle.behaviour_tree.specs.FormedServices.{first_of_members, is_install}
 use Rattle.check_base.specs.Files.{place_in}
-use Rattle.process_lowering.specs.Behaviours.{InputView, Numbering, alone, lowered_answer, lowered_assignment, lowered_block, lowered_branch, lowered_conditional, lowered_for, lowered_handler, lowered_input, lowered_port, lowered_process, lowered_step, sent}
-use Rattle.process_lowering.specs.Expressions.{lowered_expr, lowered_if_written, lowered_path}
-use Rattle.process_checks.specs.FirstInputParts.{beginning, branch_level, input_level}
-use Rattle.process_checks.specs.ProcessParts.{branch_operation}
-use Rattle.process_checks.specs.FirstInputs.{Beginning, block_level, first_input, of_sequence, process_level}
-use Rattle.process_checks.proofs.Beginnings as begins
-use Rattle.process_lowering.proofs.LoweredProcesses as means
+use Rattle.lower_processes.specs.Behaviours.{InputView, Numbering, alone, lowered_answer, lowered_assignment, lowered_block, lowered_branch, lowered_conditional, lowered_for, lowered_handler, lowered_input, lowered_port, lowered_process, lowered_step, sent}
+use Rattle.lower_processes.specs.Expressions.{lowered_expr, lowered_if_written, lowered_path}
+use Rattle.check_processes.specs.FirstInputParts.{beginning, branch_level, input_level}
+use Rattle.check_processes.specs.ProcessParts.{branch_operation}
+use Rattle.check_processes.specs.FirstInputs.{Beginning, block_level, first_input, of_sequence, process_level}
+use Rattle.check_processes.proofs.Beginnings as begins
+use Rattle.lower_processes.proofs.LoweredProcesses as means
 
 -- ---- branches
 

@@ -16,10 +16,10 @@ use Rattle.behaviour_tree.specs.View.{StepView, path_of, step_of}
 use Rattle.behaviour_tree.specs.FormedExpressions.{has_ints, is_int, is_target}
 use Rattle.check_base.specs.declared.refusal.CheckName.TheVariants.{WrongKind}
 use Rattle.check_base.specs.declared.refusal.Refusal.{Refusal}
-use Rattle.process_lowering.specs.Expressions.{lowered_expr, lowered_form, lowered_path, lowered_place}
-use Rattle.process_checks.specs.ProcessRules.{is_int_literal, wrong_if_written, wrong_index, wrong_path, wrong_step}
+use Rattle.lower_processes.specs.Expressions.{lowered_expr, lowered_form, lowered_path, lowered_place}
+use Rattle.check_processes.specs.ProcessRules.{is_int_literal, wrong_if_written, wrong_index, wrong_path, wrong_step}
 use Rattle.service_check.proofs.Emptied.{holds, left_empty, right_empty}
-use Rattle.process_lowering.proofs.LoweredExpressions.{expr_is, int_lowered, path_is, step_is}
+use Rattle.lower_processes.proofs.LoweredExpressions.{expr_is, int_lowered, path_is, step_is}
 
 -- whether a form is an int without a sign
 abbrev int_form : ExprForm-F ExprForm Expr Factor Member Path Step Term → Bool

@@ -25,15 +25,15 @@ use Rattle.check_base.specs.declared.refusal.CheckName.TheVariants.{DuplicateNam
 use Rattle.check_base.specs.declared.refusal.Refusal.{Refusal}
 use Rattle.check_base.specs.Repeated.{place_of}
 use Rattle.check_base.specs.Files.{place_in, type_named, type_names, body_of, name_in}
-use Rattle.type_checks.specs.TypeRules as rule
-use Rattle.type_checks.specs.TypeRules.{FieldFound, unknown_type, body_refused, field_refused, field_names_refused, circle, type_refused}
+use Rattle.check_types.specs.TypeRules as rule
+use Rattle.check_types.specs.TypeRules.{FieldFound, unknown_type, body_refused, field_refused, field_names_refused, circle, type_refused}
 use Rattle.check_base.specs.TypeNames.{leads_back}
-use Rattle.type_checks.specs.Circles.{name_of, next_place}
-use Rattle.type_lowering.specs.LoweredTypes.{body_level, field_level, lowered_body, lowered_field, lowered_definition}
-use Rattle.type_checks.proofs.BodyRules as rules
+use Rattle.check_types.specs.Circles.{name_of, next_place}
+use Rattle.lower_types.specs.LoweredTypes.{body_level, field_level, lowered_body, lowered_field, lowered_definition}
+use Rattle.check_types.proofs.BodyRules as rules
 use Rattle.service_check.proofs.Emptied.{left_empty, right_empty, fails, holds, mapped_empty, place_empty, another_text, has_place, names_differ}
-use Rattle.type_checks.proofs.Leading.{leads_by_place}
-use Rattle.type_lowering.proofs.LoweredTypes.{root_lowered, named_lowered, undefined_lowered, field_is}
+use Rattle.check_types.proofs.Leading.{leads_by_place}
+use Rattle.lower_types.proofs.LoweredTypes.{root_lowered, named_lowered, undefined_lowered, field_is}
 use Rattle.behaviour_tree.proofs.Leading.{led_alike}
 
 -- ---- types by their names

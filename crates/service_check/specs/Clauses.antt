@@ -13,7 +13,7 @@ use Rattle.check_base.specs.declared.refusal.Refusal.{Refusal}
 use Rattle.check_base.specs.Least.{refused, refused_if}
 use Rattle.check_base.specs.Files.{Operation, execution_of, is_concurrent, service_in, sets_of}
 use Rattle.check_base.specs.MaybeThere.{if_there}
-use Rattle.port_checks.specs.SetRules.{types_in_sets}
+use Rattle.check_ports.specs.SetRules.{types_in_sets}
 use Rattle.service_check.specs.ServiceRules.{execution_place, init_place, is_lost, main_place, names_if_there}
 use Rattle.service_check.specs.ServiceRules.{service_refused, starting}
 

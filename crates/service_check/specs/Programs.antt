@@ -15,10 +15,10 @@ use Rattle.behaviour_tree.specs.Data.{PortPart, AliasPart, VariablePart, SetPart
 use Rattle.check_base.specs.Files.{Sided, interface_names, texts_of, type_names, types_of, interfaces_of, services_of}
 use Rattle.check_base.specs.Files.{place_in, port_in, port_operations, input_operations, sets_of, execution_of}
 use Rattle.check_base.specs.Files.{first_there, init_in, main_in, variables_of}
-use Rattle.process_lowering.specs.Behaviours.{NumberedPort, Numbering, lowered_if_there}
+use Rattle.lower_processes.specs.Behaviours.{NumberedPort, Numbering, lowered_if_there}
 use Rattle.service_check.specs.Mentioned.{names_of}
-use Rattle.type_lowering.specs.LoweredTypes.{lowered_definition}
-use Rattle.type_lowering.specs.LoweredInterfaces.{lowered_interface}
+use Rattle.lower_types.specs.LoweredTypes.{lowered_definition}
+use Rattle.lower_types.specs.LoweredInterfaces.{lowered_interface}
 
 -- ---- services
 

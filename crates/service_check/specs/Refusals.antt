@@ -11,9 +11,9 @@ use Rattle.check_base.specs.declared.refusal.Refusal.{Refusal}
 use Rattle.check_base.specs.Repeated.{as_name, repeated}
 use Rattle.check_base.specs.Least.{refused, least}
 use Rattle.check_base.specs.Files.{types_of, interfaces_of, services_of, input_ports}
-use Rattle.type_checks.specs.TypeRules.{type_refused}
-use Rattle.type_checks.specs.InterfaceRules.{interface_refused}
-use Rattle.port_checks.specs.PortRules.{input_locations}
+use Rattle.check_types.specs.TypeRules.{type_refused}
+use Rattle.check_types.specs.InterfaceRules.{interface_refused}
+use Rattle.check_ports.specs.PortRules.{input_locations}
 use Rattle.service_check.specs.ServiceRules.{service_refused}
 
 -- a file without a service, at its beginning

@@ -18,12 +18,12 @@ use Rattle.check_base.specs.declared.refusal.Refusal.{Refusal}
 use Rattle.check_base.specs.Least.{refused, refused_if}
 use Rattle.check_base.specs.Files.{Operation, input_operations, sets_of, execution_of, is_concurrent, first_there}
 use Rattle.check_base.specs.Files.{main_in}
-use Rattle.port_checks.specs.PortRules.{ports_refused}
-use Rattle.port_checks.specs.SetRules.{types_in_sets, sets_refused}
-use Rattle.process_checks.specs.Surroundings.{Surroundings, surroundings}
-use Rattle.process_checks.specs.ProcessRules.{block_refused}
-use Rattle.process_checks.specs.FirstInputs.{first_input}
-use Rattle.process_checks.specs.InitRules.{init_refused}
+use Rattle.check_ports.specs.PortRules.{ports_refused}
+use Rattle.check_ports.specs.SetRules.{types_in_sets, sets_refused}
+use Rattle.check_processes.specs.Surroundings.{Surroundings, surroundings}
+use Rattle.check_processes.specs.ProcessRules.{block_refused}
+use Rattle.check_processes.specs.FirstInputs.{first_input}
+use Rattle.check_processes.specs.InitRules.{init_refused}
 
 -- ---- clauses
 

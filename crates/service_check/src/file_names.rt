@@ -4,7 +4,9 @@ ghost use Rattle.jolie_ast.specs.declared.interface.Interface.{Interface};
 ghost use Rattle.jolie_ast.specs.declared.service.Service.{Service};
 ghost use Rattle.jolie_ast.specs.declared.types.TypeDefinition.{TypeDefinition};
 ghost use Rattle.check_base.specs.Files.{interfaces_of, service_in, services_of, types_of};
-ghost use Rattle.check_base.specs.Least.{joined};
+ghost use Rattle.check_base.specs.declared.refusal.CheckName.TheVariants.{DuplicateName};
+ghost use Rattle.check_base.specs.Least.{joined, refused};
+ghost use Rattle.check_base.specs.Repeated.{repeated};
 ghost use Rattle.service_check.specs.Refusals.{locations_in, names_refused, no_service};
 
 use check_base::{
@@ -43,12 +45,48 @@ pub fn names_refused(
 ) -> Result<(), AllocError>
     ensures { OnOk result (least.new ≡ joined least.old (names_refused file.now)) }
 {
-    let types = type_names(alloc, file)?;
-    repeated_refused(alloc, types.as_slice(), least)?;
-    let interfaces = interface_names(alloc, file)?;
-    repeated_refused(alloc, interfaces.as_slice(), least)?;
-    let services = service_names(alloc, file)?;
-    repeated_refused(alloc, services.as_slice(), least)?;
+    types_repeated(alloc, file, least)?;
+    interfaces_repeated(alloc, file, least)?;
+    services_repeated(alloc, file, least)?;
+    locations_repeated(alloc, file, least)
+}
+
+fn types_repeated(alloc: Global, file: &[Definition], least: &mut Least) -> Result<(), AllocError>
+    ensures { OnOk result (least.new ≡ joined least.old (refused DuplicateName (repeated (map (λ (t : TypeDefinition). t.name) (types_of file.now))))) }
+{
+    let names = type_names(alloc, file)?;
+    repeated_refused(alloc, names.as_slice(), least)
+}
+
+fn interfaces_repeated(
+    alloc: Global,
+    file: &[Definition],
+    least: &mut Least,
+) -> Result<(), AllocError>
+    ensures { OnOk result (least.new ≡ joined least.old (refused DuplicateName (repeated (map (λ (i : Interface). i.name) (interfaces_of file.now))))) }
+{
+    let names = interface_names(alloc, file)?;
+    repeated_refused(alloc, names.as_slice(), least)
+}
+
+fn services_repeated(
+    alloc: Global,
+    file: &[Definition],
+    least: &mut Least,
+) -> Result<(), AllocError>
+    ensures { OnOk result (least.new ≡ joined least.old (refused DuplicateName (repeated (map (λ (s : Service). s.name) (services_of file.now))))) }
+{
+    let names = service_names(alloc, file)?;
+    repeated_refused(alloc, names.as_slice(), least)
+}
+
+fn locations_repeated(
+    alloc: Global,
+    file: &[Definition],
+    least: &mut Least,
+) -> Result<(), AllocError>
+    ensures { OnOk result (least.new ≡ joined least.old (refused DuplicateName (repeated (flat_map locations_in (services_of file.now))))) }
+{
     let locations = locations(alloc, file)?;
     repeated_refused(alloc, locations.as_slice(), least)
 }

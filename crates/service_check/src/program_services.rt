@@ -2,12 +2,12 @@ ghost use Rattle.std.specs.Prelude.{◌≡◌, ◌++◌, ◌∷◌, map, IfOk, O
 ghost use Rattle.std.specs.List.{filter_map};
 ghost use Rattle.std.specs.Option.{option_copied, option_to_list};
 ghost use Rattle.behaviour_tree.specs.View.{behaviour_view};
-ghost use Rattle.process_lowering.specs.Behaviours.{lowered_if_there};
-ghost use Rattle.process_lowering.specs.Numbers.{numbering_of};
+ghost use Rattle.lower_processes.specs.Behaviours.{lowered_if_there};
+ghost use Rattle.lower_processes.specs.Numbers.{numbering_of};
 ghost use Rattle.behaviour_tree.specs.PartsView.{alias_view, port_view, service_view, set_view, variable_view};
-ghost use Rattle.check_base.specs.Files.{place_in, service_in, services_of, set_in};
+ghost use Rattle.check_base.specs.Files.{first_there, init_in, main_in, place_in, port_in, service_in, services_of, set_in};
 ghost use Rattle.service_check.specs.KeptPorts.{said_execution, sided, texts_in};
-ghost use Rattle.service_check.specs.Programs.{lowered_alias, lowered_execution, lowered_port_part, lowered_service, lowered_set, lowered_variable};
+ghost use Rattle.service_check.specs.Programs.{lowered_alias, lowered_execution, lowered_port_part, lowered_service, lowered_set, lowered_variable, numbering};
 
 use crate::service_numbers::numbers_of;
 use crate::sides::{SidedPort, ports_of};
@@ -15,7 +15,7 @@ use behaviour_tree::{Alias, Behaviour, CorrelationSet, Execution, Port, Service,
 use check_base::{Interfaces, Names, init_of, main_of, number, said_execution, service_in, set_in};
 use jolie_ast::{Block, Clause, CorrelationVariable, Definition, Name};
 use jolie_trees::Text;
-use process_lowering::{Numbers, lowered_if_there};
+use lower_processes::{Numbers, lowered_if_there};
 use std::alloc::{AllocError, Global};
 
 /// The services of a file, in order.
@@ -66,20 +66,56 @@ fn lowered_service<'a>(
     ensures { IfOk result (λ s. service_view s ≡ lowered_service interfaces.now types.now names.now service.now) }
 {
     let clauses = service.clauses.as_slice();
-    let sides = ports_of(alloc, clauses)?;
-    let numbers = numbers_of(alloc, service, sides.as_slice(), interfaces)?;
     let name = service.name.text.copied()?;
-    let ports = lowered_ports(alloc, sides.as_slice(), interfaces.names())?;
+    let ports = ports_among(alloc, clauses, interfaces.names())?;
     let sets = lowered_sets(alloc, clauses, types)?;
-    let init = boxed_if_there(alloc, init_of(clauses), &numbers, names)?;
-    let main = lowered_if_there(alloc, main_of(clauses), &numbers, names)?;
+    let behaviours = behaviours_of(alloc, service, interfaces, names)?;
     Ok(Service {
         name,
         execution: execution_of(clauses),
         ports,
         sets,
-        init: Box::into_inner(init),
-        main,
+        init: Box::into_inner(behaviours.init),
+        main: Box::into_inner(behaviours.main),
+    })
+}
+
+/// What a service does first, and what each of its sessions does.
+#[derive(Drop)]
+struct Behaviours {
+    init: Box<Behaviour>,
+    main: Box<Behaviour>,
+}
+
+fn behaviours_of<'a>(
+    alloc: Global,
+    service: &'a jolie_ast::Service,
+    interfaces: &Interfaces<'a>,
+    names: &Names<'_>,
+) -> Result<Behaviours, AllocError>
+    ensures init { IfOk result (λ b. behaviour_view b.init.value ≡ lowered_if_there (numbering interfaces.now names.now service.now) (first_there (filter_map init_in service.now.clauses))) }
+    ensures main { IfOk result (λ b. behaviour_view b.main.value ≡ lowered_if_there (numbering interfaces.now names.now service.now) (first_there (filter_map main_in service.now.clauses))) }
+{
+    let clauses = service.clauses.as_slice();
+    let sides = ports_of(alloc, clauses)?;
+    let numbers = numbers_of(alloc, service, sides.as_slice(), interfaces)?;
+    numbered_behaviours(alloc, clauses, &numbers, names)
+}
+
+/// The same of the clauses of a service whose numbers are at hand.
+fn numbered_behaviours(
+    alloc: Global,
+    clauses: &[Clause],
+    numbers: &Numbers<'_>,
+    names: &Names<'_>,
+) -> Result<Behaviours, AllocError>
+    ensures init { IfOk result (λ b. behaviour_view b.init.value ≡ lowered_if_there (numbering_of numbers.now names.now) (first_there (filter_map init_in clauses.now))) }
+    ensures main { IfOk result (λ b. behaviour_view b.main.value ≡ lowered_if_there (numbering_of numbers.now names.now) (first_there (filter_map main_in clauses.now))) }
+{
+    let init = boxed_if_there(alloc, init_of(clauses), numbers, names)?;
+    Ok(Behaviours {
+        init,
+        main: boxed_if_there(alloc, main_of(clauses), numbers, names)?,
     })
 }
 
@@ -119,7 +155,19 @@ fn lowered_execution(execution: jolie_ast::Execution) -> Execution
 
 // ---- ports
 
-/// The ports of a service, with their interfaces by number.
+/// The ports among the clauses of a service, with their interfaces by number.
+fn ports_among(
+    alloc: Global,
+    clauses: &[Clause],
+    interfaces: &Names<'_>,
+) -> Result<Vec<Port>, AllocError>
+    ensures { IfOk result (λ v. map port_view v.items ≡ map (lowered_port_part interfaces.now) (filter_map port_in clauses.now)) }
+{
+    let sides = ports_of(alloc, clauses)?;
+    lowered_ports(alloc, sides.as_slice(), interfaces)
+}
+
+/// Ports with their interfaces by number.
 #[tactic(auto, using(check_base::proofs::Loops::mapped_twice))]
 fn lowered_ports(
     alloc: Global,

@@ -3,7 +3,7 @@ ghost use Rattle.std.specs.List.{filter_map};
 ghost use Rattle.std.specs.Option.{option_to_list};
 ghost use Rattle.check_base.specs.Files.{answering, each_once, group_operations, input_port_in, operations_among, operations_in, operations_named, port_in, silent, texts_of};
 ghost use Rattle.check_base.specs.Repeated.{with_texts};
-ghost use Rattle.process_lowering.specs.Numbers.{numbering_of};
+ghost use Rattle.lower_processes.specs.Numbers.{numbering_of};
 ghost use Rattle.service_check.specs.KeptPorts.{input_operations_among, port_texts, sided};
 ghost use Rattle.service_check.specs.Programs.{numbered, numbered_from, numbering};
 
@@ -11,7 +11,7 @@ use crate::mentioned::include;
 use crate::sides::SidedPort;
 use check_base::{Interfaces, Names, fitting, input_port_in, variables_of};
 use jolie_ast::{Clause, Interface, Name, OneWay, OperationGroup, RequestResponse, Service};
-use process_lowering::{Numbers, Ports};
+use lower_processes::{Numbers, Ports};
 use std::alloc::{AllocError, Global};
 
 /// What the processes of a service name by numbers.

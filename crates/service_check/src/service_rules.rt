@@ -1,16 +1,17 @@
-ghost use Rattle.std.specs.Prelude.{◌≡◌, IfOk, OnOk, flat_map, option_map};
+ghost use Rattle.std.specs.Prelude.{◌≡◌, ◌++◌, IfOk, OnOk, flat_map, option_map};
 ghost use Rattle.std.specs.List.{list_any};
 ghost use Rattle.service_check.specs.Clauses.{second_among, seconds_among, some_lost};
-ghost use Rattle.process_checks.specs.FirstInputParts.{operations_of};
+ghost use Rattle.check_processes.specs.FirstInputParts.{operations_of};
+ghost use Rattle.check_processes.specs.Surroundings.{surroundings};
 ghost use Rattle.check_base.specs.Least.{joined};
-ghost use Rattle.service_check.specs.ServiceRules.{clause_refused, execution_place, init_place, is_among, is_lost, main_place, names_if_there, no_start, service_refused, starting};
+ghost use Rattle.service_check.specs.ServiceRules.{clause_refused, execution_place, init_place, is_among, is_lost, main_place, names_if_there, no_start, service_refused, starting, uncorrelated};
 
 use check_base::{CheckName, Interfaces, Least, Names, Types, is_concurrent, main_of};
-use jolie_ast::{Clause, Service, TypeName};
-use port_checks::{ports_refused, sets_refused, types_in_sets};
-use process_checks::{
+use check_ports::{ports_refused, sets_refused, types_in_sets};
+use check_processes::{
     Declared, FirstInput, Operations, Surroundings, block_refused, first_input, init_refused,
 };
+use jolie_ast::{Clause, Service, TypeName};
 use std::alloc::{AllocError, Global};
 
 /// What is refused of a service of a file with these types, interfaces and locations of input ports.
@@ -24,14 +25,26 @@ pub fn service_refused<'a>(
 ) -> Result<(), AllocError>
     ensures { OnOk result (least.new ≡ joined least.old (service_refused types.now interfaces.now locations.now service.now)) }
 {
-    let clauses = service.clauses.as_slice();
-    seconds_refused(clauses, least);
+    seconds_refused(service.clauses.as_slice(), least);
     ports_refused(alloc, interfaces, locations, service, least)?;
     sets_refused(alloc, types, service, least)?;
-    let surroundings = Surroundings::of_service(alloc, interfaces, service)?;
-    clauses_refused(alloc, &surroundings, clauses, least)?;
-    uncorrelated(alloc, surroundings.inputs(), service, least)?;
+    sessions_refused(alloc, interfaces, service, least)?;
     no_start(service, least);
+    Ok(())
+}
+
+/// What is refused of the processes of a service, and that an input of it reaches no session.
+fn sessions_refused<'a>(
+    alloc: Global,
+    interfaces: &Interfaces<'a>,
+    service: &'a Service,
+    least: &mut Least,
+) -> Result<(), AllocError>
+    ensures { OnOk result (least.new ≡ joined least.old (flat_map (clause_refused (surroundings interfaces.now service.now)) service.now.clauses ++ uncorrelated interfaces.now service.now)) }
+{
+    let surroundings = Surroundings::of_service(alloc, interfaces, service)?;
+    clauses_refused(alloc, &surroundings, service.clauses.as_slice(), least)?;
+    uncorrelated(alloc, surroundings.inputs(), service, least)?;
     Ok(())
 }
 

@@ -8,8 +8,8 @@ use Rattle.behaviour_tree.specs.declared.words.Need.TheVariants as need
 use Rattle.behaviour_tree.specs.declared.words.Given.{Given}
 use Rattle.behaviour_tree.specs.declared.words.Given.TheVariants as given
 use Rattle.behaviour_tree.specs.Data.{ProgramParts}
-use Rattle.calculus.specs.After.{Config, Done, after}
-use Rattle.calculus.specs.Runs.{Leads, TakenStep}
+use Rattle.session_calculus.specs.After.{Config, Done, after}
+use Rattle.session_calculus.specs.Runs.{Leads, TakenStep}
 use Rattle.office_core.specs.declared.history.Act.{Act}
 use Rattle.office_core.specs.declared.history.Act.TheVariants as act
 use Rattle.office_core.specs.declared.history.Entry.{Entry}

@@ -8,7 +8,7 @@ use Rattle.behaviour_tree.specs.declared.words.Need.{Need}
 use Rattle.behaviour_tree.specs.declared.words.Need.TheVariants as need
 use Rattle.behaviour_tree.specs.declared.words.Given.{Given}
 use Rattle.behaviour_tree.specs.declared.words.Outcome.{Outcome}
-use Rattle.calculus.specs.After.{Config, Done, after}
+use Rattle.session_calculus.specs.After.{Config, Done, after}
 use Rattle.office_core.specs.declared.history.Entry.{Entry}
 use Rattle.office_core.specs.Boxes.{queue}
 use Rattle.office_core.specs.Calls.{result}

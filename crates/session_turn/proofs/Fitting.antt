@@ -12,23 +12,23 @@ use Rattle.behaviour_tree.specs.declared.words.Given.TheVariants as given
 use Rattle.behaviour_tree.specs.declared.words.Outcome.{Outcome}
 use Rattle.behaviour_tree.specs.Values.{truth_of}
 use Rattle.behaviour_tree.specs.Data.{PathTree, Proc, nothing, assign, undef, copy, bind, choose, repeat, choice, notify, solicit, install, comp, Branches, no_branches, one_way, request, HandlerList, ProgramParts}
-use Rattle.calculus.specs.Names.{handler_too_large}
-use Rattle.calculus.specs.Tables.{Table, fits}
-use Rattle.calculus.specs.Terms.{Fault, Term, Strands, done, place, seq, par, in_scope, exec, fail, wait, dead_wait, prot, no_strands, strand, State, live, caught, term, stands_in}
-use Rattle.calculus.specs.Throw.{Carried, up, caught_at, ended_at, blocked, absent, throw}
-use Rattle.calculus.specs.Moves.{Seen, Made, Move, moved_to, within, quietly, starts, ungiven, instead, inside, in_its_scope}
-use Rattle.calculus.specs.Effects.{Effect, faults, stores, effect_of, copied, effect_of_undef, received}
-use Rattle.calculus.specs.Faults.{binding, fault_in}
+use Rattle.session_calculus.specs.Names.{handler_too_large}
+use Rattle.session_calculus.specs.Tables.{Table, fits}
+use Rattle.session_calculus.specs.Terms.{Fault, Term, Strands, done, place, seq, par, in_scope, exec, fail, wait, dead_wait, prot, no_strands, strand, State, live, caught, term, stands_in}
+use Rattle.session_calculus.specs.Throw.{Carried, up, caught_at, ended_at, blocked, absent, throw}
+use Rattle.session_calculus.specs.Moves.{Seen, Made, Move, moved_to, within, quietly, starts, ungiven, instead, inside, in_its_scope}
+use Rattle.session_calculus.specs.Effects.{Effect, faults, stores, effect_of, copied, effect_of_undef, received}
+use Rattle.session_calculus.specs.Faults.{binding, fault_in}
 use Rattle.behaviour_tree.specs.FormedBehaviours.{branch_operations}
-use Rattle.calculus.specs.Inputs.{Coming, past, goes_on, asked, comes, inputs}
-use Rattle.calculus.specs.Replies.{outcome_of_fault, reply_of, replies}
-use Rattle.calculus.specs.Calls.{message_value, notifies, solicits, binds}
-use Rattle.calculus.specs.Answers.{Read, answered, faulted, Call, call_of, read, with_handlers, answer_comes, sets_target, answers, dead_answers, with_answer}
-use Rattle.calculus.specs.Scopes.{installs, compensates, ends, handles_fault, handles_end, scope_acts}
-use Rattle.calculus.specs.After.{Config, Done, changes, tests, turn_of, act, moves, moves_among, is_finished, raised, raises, moved, finishes, seen_by, after}
-use Rattle.calculus_laws.proofs.Options.{OnValue, OnValue-if, OnValue-some}
-use Rattle.calculus_laws.proofs.Moving.{coming}
-use Rattle.calculus_laws.proofs.Asking.{fault-blind}
+use Rattle.session_calculus.specs.Inputs.{Coming, past, goes_on, asked, comes, inputs}
+use Rattle.session_calculus.specs.Replies.{outcome_of_fault, reply_of, replies}
+use Rattle.session_calculus.specs.Calls.{message_value, notifies, solicits, binds}
+use Rattle.session_calculus.specs.Answers.{Read, answered, faulted, Call, call_of, read, with_handlers, answer_comes, sets_target, answers, dead_answers, with_answer}
+use Rattle.session_calculus.specs.Scopes.{installs, compensates, ends, handles_fault, handles_end, scope_acts}
+use Rattle.session_calculus.specs.After.{Config, Done, changes, tests, turn_of, act, moves, moves_among, is_finished, raised, raises, moved, finishes, seen_by, after}
+use Rattle.session_laws.proofs.Options.{OnValue, OnValue-if, OnValue-some}
+use Rattle.session_laws.proofs.Moving.{coming}
+use Rattle.session_laws.proofs.Asking.{fault-blind}
 
 -- a gift that an event may have which asks this
 abbrev pub Suits : Need → Given → Type 0

@@ -15,11 +15,11 @@ use Rattle.behaviour_tree.specs.FormedServices.{is_service, reach_of, runs_well}
 use Rattle.behaviour_tree.specs.FormedSets.{variables_of}
 use Rattle.behaviour_tree.specs.Operations.{service_operations}
 use Rattle.behaviour_tree.specs.WellFormed.{is_well_formed}
-use Rattle.calculus.specs.Terms.{Term, Strands, place, seq, par, in_scope, exec, prot, no_strands, strand, stands_in}
-use Rattle.calculus.specs.After.{Config, Done, after, first_config}
-use Rattle.calculus.specs.Runs.{TakenStep, RunsTo, start_of}
-use Rattle.calculus.specs.Laws.{asks, is_asked, is_request_of, place_among, place_in}
-use Rattle.calculus_laws.proofs.Options.{OnValue, OnValue-test}
+use Rattle.session_calculus.specs.Terms.{Term, Strands, place, seq, par, in_scope, exec, prot, no_strands, strand, stands_in}
+use Rattle.session_calculus.specs.After.{Config, Done, after, first_config}
+use Rattle.session_calculus.specs.Runs.{TakenStep, RunsTo, start_of}
+use Rattle.session_calculus.specs.Laws.{asks, is_asked, is_request_of, place_among, place_in}
+use Rattle.session_laws.proofs.Options.{OnValue, OnValue-test}
 use Rattle.office_core.specs.Limits.{Setting}
 use Rattle.office_core.specs.Keys.{Variable, first, sets_from, sets_of, variables_from}
 use Rattle.office_core.specs.Bound.{sets_with}
@@ -181,7 +181,7 @@ service-names parts s h =
     )
 
 -- a session of a service that is there
-record Started (parts : ProgramParts) (service : ℕ) (c : Config) : Type 0 where
+pub record Started (parts : ProgramParts) (service : ℕ) (c : Config) : Type 0 where
   pub part : ServicePart
   pub there : slice_get parts.services service ≡ Some part
   pub names : FormNames (reach_of parts part) c.form
@@ -204,7 +204,7 @@ started-first parts service from well e = go (slice_get parts.services service) 
     }
 
 -- and where it has come to
-started : (parts : ProgramParts) (service : ℕ) (steps : List TakenStep) (last : Config) → is_well_formed parts ≡ true
+pub started : (parts : ProgramParts) (service : ℕ) (steps : List TakenStep) (last : Config) → is_well_formed parts ≡ true
     → RunsTo parts service steps last
     → Started parts service last
 started parts service steps last well run =

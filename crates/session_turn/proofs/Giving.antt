@@ -15,7 +15,7 @@ use Rattle.behaviour_tree.specs.declared.words.Need.TheVariants as need
 use Rattle.behaviour_tree.specs.declared.words.Given.{Given}
 use Rattle.behaviour_tree.specs.declared.words.Given.TheVariants as given
 use Rattle.behaviour_tree.specs.declared.words.Outcome.{Outcome}
-use Rattle.calculus.specs.After.{Config, Done, HasEvent, after as after_of}
+use Rattle.session_calculus.specs.After.{Config, Done, HasEvent, after as after_of}
 use Rattle.correlation.specs.declared.bind_reply.BindReply.{BindReply}
 use Rattle.correlation.specs.declared.bind_reply.BindReply.TheVariants as reply
 use Rattle.office_core.specs.declared.history.Act.{Act}

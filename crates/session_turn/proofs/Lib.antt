@@ -11,7 +11,15 @@ pub mod Matching
 pub mod NamedForms
 pub mod Naming
 pub mod Owing
+pub mod OwnKeys
 pub mod Sent
 pub mod Telling
 pub mod Turning
 pub mod Walking
+mod Lists
+mod Acting
+mod Served
+mod Taken
+mod Opened
+mod Finding
+mod Passing

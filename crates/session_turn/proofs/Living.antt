@@ -2,8 +2,8 @@
 use Rattle.std.proofs.Common.{◌≡◌, ℕ, List, [], ◌∷◌, ◌++◌, Some, sym, subst, ◌∙◌, append_assoc}
 use Rattle.std.proofs.lemmas.List.{append-nil}
 use Rattle.behaviour_tree.specs.declared.words.Event.{Event}
-use Rattle.calculus.specs.After.{Config, after}
-use Rattle.calculus.specs.Runs.{start_of}
+use Rattle.session_calculus.specs.After.{Config, after}
+use Rattle.session_calculus.specs.Runs.{start_of}
 use Rattle.office_core.specs.declared.history.Entry.{Entry}
 use Rattle.session_turn.specs.Seen.{AreForeign, Grew, Seat}
 use Rattle.session_turn.specs.Lives.{Kept, Lives, Moment, by_event, by_other}

@@ -8,7 +8,7 @@ use Rattle.behaviour_tree.specs.declared.words.Need.{Need}
 use Rattle.behaviour_tree.specs.declared.words.Need.TheVariants as need
 use Rattle.behaviour_tree.specs.declared.words.Given.{Given}
 use Rattle.behaviour_tree.specs.declared.words.Given.TheVariants as given
-use Rattle.calculus.specs.After.{Config, Done, after, HasEvent}
+use Rattle.session_calculus.specs.After.{Config, Done, after, HasEvent}
 use Rattle.office_core.specs.declared.history.Entry.{Entry}
 use Rattle.session_turn.specs.Seen.{Seat, Grew}
 use Rattle.session_turn.specs.Lives.{Gives, Moment}

@@ -6,22 +6,22 @@ use Rattle.behaviour_tree.specs.declared.words.Given.{Given}
 use Rattle.behaviour_tree.specs.declared.words.Given.TheVariants as given
 use Rattle.behaviour_tree.specs.Data.{Proc, nothing, inner_handler, block, sequence, parallel, scope, Procs, no_procs, proc, Branches, no_branches, one_way, request, ProgramParts}
 use Rattle.behaviour_tree.specs.FormedBehaviours.{Reach, count_of}
-use Rattle.calculus.specs.Tables.{Table, entry, or_nothing}
-use Rattle.calculus.specs.Terms.{Fault, Term, Strands, done, place, thrown, seq, par, in_scope, exec, fail, wait, dead_wait, prot, no_strands, strand, State, live, caught, last, zombie, seq_of, all_done, par_of, prot_of, scope_of, stands_in}
-use Rattle.calculus.specs.Start.{Begun, start, start_head, start_members, begin, normal}
-use Rattle.calculus.specs.Kill.{kill, kill_members}
-use Rattle.calculus.specs.Ready.{ready}
-use Rattle.calculus.specs.Throw.{Carried, up, caught_at, ended_at, blocked, absent, surrounded, at_live, at_scope, throw, throw_among}
-use Rattle.calculus.specs.Moves.{Seen, Move, within}
-use Rattle.calculus.specs.Effects.{Effect, faults, stores, received}
-use Rattle.calculus.specs.Inputs.{Coming, past, goes_on, asked, comes}
-use Rattle.calculus.specs.After.{Config, Done, first_config, turn_of, moved, moves, raised, finishes, seen_by, after}
-use Rattle.calculus.specs.Runs.{TakenStep, Leads}
-use Rattle.calculus_laws.proofs.Options.{OnValue, OnValue-if, OnValue-imp, OnValue-under}
-use Rattle.calculus_laws.proofs.Moving.{coming, Keeps, keeps-moves}
-use Rattle.calculus_laws.proofs.Carrying.{Carries, carries-if, carries-surrounded, carries-reaches}
-use Rattle.calculus_laws.proofs.Settling.{Settles, settles-begin, settles-normal}
-use Rattle.calculus_laws.proofs.Events.{of_event}
+use Rattle.session_calculus.specs.Tables.{Table, entry, or_nothing}
+use Rattle.session_calculus.specs.Terms.{Fault, Term, Strands, done, place, thrown, seq, par, in_scope, exec, fail, wait, dead_wait, prot, no_strands, strand, State, live, caught, last, zombie, seq_of, all_done, par_of, prot_of, scope_of, stands_in}
+use Rattle.session_calculus.specs.Start.{Begun, start, start_head, start_members, begin, normal}
+use Rattle.session_calculus.specs.Kill.{kill, kill_members}
+use Rattle.session_calculus.specs.Ready.{ready}
+use Rattle.session_calculus.specs.Throw.{Carried, up, caught_at, ended_at, blocked, absent, surrounded, at_live, at_scope, throw, throw_among}
+use Rattle.session_calculus.specs.Moves.{Seen, Move, within}
+use Rattle.session_calculus.specs.Effects.{Effect, faults, stores, received}
+use Rattle.session_calculus.specs.Inputs.{Coming, past, goes_on, asked, comes}
+use Rattle.session_calculus.specs.After.{Config, Done, first_config, turn_of, moved, moves, raised, finishes, seen_by, after}
+use Rattle.session_calculus.specs.Runs.{TakenStep, Leads}
+use Rattle.session_laws.proofs.Options.{OnValue, OnValue-if, OnValue-imp, OnValue-under}
+use Rattle.session_laws.proofs.Moving.{coming, Keeps, keeps-moves}
+use Rattle.session_laws.proofs.Carrying.{Carries, carries-if, carries-surrounded, carries-reaches}
+use Rattle.session_laws.proofs.Settling.{Settles, settles-begin, settles-normal}
+use Rattle.session_laws.proofs.Events.{of_event}
 use Rattle.session_turn.proofs.Naming.{AllNameWell, BranchesNameWell, HandlersNameWell, NamesWell, TableNames, names-entry, names-over, names-plus, names-without}
 
 abbrev mutual

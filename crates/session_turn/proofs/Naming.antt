@@ -6,8 +6,8 @@ use Rattle.std.proofs.lemmas.Bool.{and_parts}
 use Rattle.behaviour_tree.specs.declared.behaviour.HandlerKey.{HandlerKey}
 use Rattle.behaviour_tree.specs.declared.behaviour.HandlerKey.TheVariants as key
 use Rattle.behaviour_tree.specs.Data.{Proc, bind, sequence, parallel, choose, repeat, choice, solicit, install, inner_handler, scope, block, Procs, no_procs, proc, Branches, no_branches, one_way, request, HandlerList, no_handlers, handler}
-use Rattle.behaviour_tree.specs.FormedBehaviours.{Reach, are_behaviours, are_branches, are_handlers, are_some, are_two, has_operation, is_behaviour}
-use Rattle.calculus.specs.Tables.{Entries, Table, entry, filled, filled_all, filled_branches, or_nothing, over, plus, put_over, taken_in, under, with, with_handler, without}
+use Rattle.behaviour_tree.specs.FormedBehaviours.{Reach, are_behaviours, are_branches, are_handlers, are_some, are_two, has_operation, is_behaviour, is_key}
+use Rattle.session_calculus.specs.Tables.{Entries, Table, entry, filled, filled_all, filled_branches, or_nothing, over, plus, put_over, taken_in, under, with, with_handler, without}
 
 abbrev mutual
   -- what a behaviour names is there
@@ -36,10 +36,10 @@ abbrev mutual
   BranchesNameWell r (request o x y body p bs) =
       (has_operation r.inputs o true ≡ true) × NamesWell r body × NamesWell r p × BranchesNameWell r bs
 
-  -- and of handlers
+  -- and of handlers, whose keys a text may have
   pub HandlersNameWell : Reach → HandlerList → Type 0
   HandlersNameWell r no_handlers = Unit {0}
-  HandlersNameWell r (handler k p list) = NamesWell r p × HandlersNameWell r list
+  HandlersNameWell r (handler k p list) = (is_key r.names k ≡ true) × NamesWell r p × HandlersNameWell r list
 
 -- ---- well-formed behaviours
 
@@ -97,7 +97,8 @@ mutual
   names-handlers r no_handlers h = tt
   names-handlers r (handler k p list) h =
       let all = and_parts _ _ h in
-      (names_well r true p (and_parts _ _ all.0).1, names-handlers r list all.1)
+      let first = and_parts _ _ all.0 in
+      (first.0, names_well r true p first.1, names-handlers r list all.1)
 
 -- ---- handlers
 
@@ -198,9 +199,9 @@ names-put_over : (r : Reach) (q : ℕ) (h : Table) (list : HandlerList) (new : T
     → TableNames r (put_over q h list new)
 names-put_over r q h no_handlers new n l w = w
 names-put_over r q h (handler k p list) new n l w =
-    names-put_over r q h list (with_handler q k (taken_in q h k p) new) n l.1
+    names-put_over r q h list (with_handler q k (taken_in q h k p) new) n l.2
     (names-with_handler r q k (taken_in q h k p) new
-    (names-filled r (or_nothing (under q k h)) p (names-under r q k h n) l.0) w)
+    (names-filled r (or_nothing (under q k h)) p (names-under r q k h n) l.1) w)
 
 -- a table with further handlers
 pub names-plus : (r : Reach) (q : ℕ) (h : Table) (list : HandlerList) → TableNames r h → HandlersNameWell r list

@@ -14,17 +14,17 @@ use Rattle.behaviour_tree.specs.declared.words.Given.{Given}
 use Rattle.behaviour_tree.specs.declared.words.Given.TheVariants as given
 use Rattle.behaviour_tree.specs.declared.words.Outcome.{Outcome}
 use Rattle.behaviour_tree.specs.Data.{Proc, choice, ProgramParts, behaviour_of}
-use Rattle.calculus.specs.Start.{begin}
-use Rattle.calculus.specs.After.{Config, Done, after, first_config}
-use Rattle.calculus.specs.Open.{none, only, open_requests, waiting}
-use Rattle.calculus.specs.Runs.{Leads, RunsTo, TakenStep, start_of}
-use Rattle.calculus.specs.Laws.{AnswersAll, WaitsForAll, asks, is_asked, is_event, is_request_of, place_in, times_answered, times_asked, times_in, times_open, times_replied, times_sent, times_waiting}
-use Rattle.calculus_laws.proofs.Answering.{answers_once, asked-cons}
-use Rattle.calculus_laws.proofs.Asking.{asks_one_thing}
-use Rattle.calculus_laws.proofs.Counting.{once}
-use Rattle.calculus_laws.proofs.Fresh.{fresh-begin, fresh-held}
-use Rattle.calculus_laws.proofs.Options.{OnValue, OnValue-all, OnValue-lift, OnValue-some}
-use Rattle.calculus_laws.proofs.Sending.{sends_once}
+use Rattle.session_calculus.specs.Start.{begin}
+use Rattle.session_calculus.specs.After.{Config, Done, after, first_config}
+use Rattle.session_calculus.specs.Open.{none, only, open_requests, waiting}
+use Rattle.session_calculus.specs.Runs.{Leads, RunsTo, TakenStep, start_of}
+use Rattle.session_calculus.specs.Laws.{AnswersAll, WaitsForAll, asks, is_asked, is_event, is_request_of, place_in, times_answered, times_asked, times_in, times_open, times_replied, times_sent, times_waiting}
+use Rattle.session_laws.proofs.Answering.{answers_once, asked-cons}
+use Rattle.session_laws.proofs.Asking.{asks_one_thing}
+use Rattle.session_laws.proofs.Counting.{once}
+use Rattle.session_laws.proofs.Fresh.{fresh-begin, fresh-held}
+use Rattle.session_laws.proofs.Options.{OnValue, OnValue-all, OnValue-lift, OnValue-some}
+use Rattle.session_laws.proofs.Sending.{sends_once}
 use Rattle.correlation.specs.declared.bind_reply.BindReply.{BindReply}
 use Rattle.correlation.specs.declared.bind_reply.BindReply.TheVariants as reply
 use Rattle.office_core.specs.declared.history.Act.{Act}

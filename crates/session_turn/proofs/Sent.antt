@@ -11,7 +11,7 @@ use Rattle.behaviour_tree.specs.declared.words.Event.{Event}
 use Rattle.behaviour_tree.specs.declared.words.Need.{Need}
 use Rattle.behaviour_tree.specs.declared.words.Need.TheVariants as need
 use Rattle.behaviour_tree.specs.declared.words.Given.{Given}
-use Rattle.calculus.specs.After.{Config}
+use Rattle.session_calculus.specs.After.{Config}
 use Rattle.office_core.specs.declared.history.Act.{Act}
 use Rattle.office_core.specs.declared.history.Act.TheVariants as act
 use Rattle.office_core.specs.declared.history.Entry.{Entry}

@@ -8,15 +8,15 @@ use Rattle.behaviour_tree.specs.declared.words.Need.TheVariants as need
 use Rattle.behaviour_tree.specs.declared.words.Given.{Given}
 use Rattle.behaviour_tree.specs.declared.words.Given.TheVariants as given
 use Rattle.behaviour_tree.specs.Data.{Proc, choice, Branches, no_branches, one_way, request, ProgramParts}
-use Rattle.calculus.specs.Terms.{Term, Strands, place}
-use Rattle.calculus.specs.Throw.{Carried, up, caught_at, ended_at, blocked, absent, throw}
-use Rattle.calculus.specs.Moves.{Seen, Move}
-use Rattle.calculus.specs.Effects.{Effect, faults, stores, received}
-use Rattle.calculus.specs.Inputs.{Coming, past, goes_on, comes}
-use Rattle.calculus.specs.After.{Config, Done, moves, raised, moved, finishes, seen_by, after}
-use Rattle.calculus_laws.proofs.Options.{OnValue, OnValue-if, OnValue-imp}
-use Rattle.calculus_laws.proofs.Moving.{coming, Keeps, keeps-moves}
-use Rattle.calculus_laws.proofs.Events.{of_event}
+use Rattle.session_calculus.specs.Terms.{Term, Strands, place}
+use Rattle.session_calculus.specs.Throw.{Carried, up, caught_at, ended_at, blocked, absent, throw}
+use Rattle.session_calculus.specs.Moves.{Seen, Move}
+use Rattle.session_calculus.specs.Effects.{Effect, faults, stores, received}
+use Rattle.session_calculus.specs.Inputs.{Coming, past, goes_on, comes}
+use Rattle.session_calculus.specs.After.{Config, Done, moves, raised, moved, finishes, seen_by, after}
+use Rattle.session_laws.proofs.Options.{OnValue, OnValue-if, OnValue-imp}
+use Rattle.session_laws.proofs.Moving.{coming, Keeps, keeps-moves}
+use Rattle.session_laws.proofs.Events.{of_event}
 use Rattle.run_record.specs.Steps.{makes_call}
 
 -- how the kind and the number of an event tell what it asks, and a message the gift

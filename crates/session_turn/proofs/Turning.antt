@@ -5,7 +5,7 @@ use Rattle.std.specs.List.Sorted.{IsStrictlyIncreasing}
 use Rattle.std.proofs.lemmas.Bool.{false≢true}
 use Rattle.behaviour_tree.specs.declared.words.Event.{Event}
 use Rattle.behaviour_tree.specs.Data.{ProgramParts}
-use Rattle.calculus.specs.After.{Config, HasEvent}
+use Rattle.session_calculus.specs.After.{Config, HasEvent}
 use Rattle.office_core.specs.declared.history.Entry.{Entry}
 use Rattle.office_core.specs.Limits.{run_of}
 use Rattle.session_turn.specs.Seen.{Office, Seat, seat}

@@ -14,9 +14,9 @@ use Rattle.behaviour_tree.specs.declared.words.Need.{Need}
 use Rattle.behaviour_tree.specs.declared.words.Need.TheVariants as need
 use Rattle.behaviour_tree.specs.declared.words.Given.{Given}
 use Rattle.behaviour_tree.specs.Data.{ProgramParts}
-use Rattle.calculus.specs.After.{Config, Done, after}
-use Rattle.calculus.specs.Runs.{TakenStep, Leads}
-use Rattle.calculus_laws.proofs.Counting.{once}
+use Rattle.session_calculus.specs.After.{Config, Done, after}
+use Rattle.session_calculus.specs.Runs.{TakenStep, Leads}
+use Rattle.session_laws.proofs.Counting.{once}
 use Rattle.office_core.specs.declared.history.Act.{Act}
 use Rattle.office_core.specs.declared.history.Act.TheVariants as act
 use Rattle.office_core.specs.declared.history.Entry.{Entry}

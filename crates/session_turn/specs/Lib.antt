@@ -5,3 +5,4 @@ pub mod Turns
 pub mod Looks
 pub mod Attempts
 pub mod Laws
+pub mod Passes

@@ -5,8 +5,8 @@ use Rattle.behaviour_tree.specs.declared.words.Need.{Need}
 use Rattle.behaviour_tree.specs.declared.words.Need.TheVariants as need
 use Rattle.behaviour_tree.specs.declared.words.Given.{Given}
 use Rattle.behaviour_tree.specs.declared.words.Given.TheVariants as given
-use Rattle.calculus.specs.After.{Config, Done, after}
-use Rattle.calculus.specs.Runs.{start_of}
+use Rattle.session_calculus.specs.After.{Config, Done, after}
+use Rattle.session_calculus.specs.Runs.{start_of}
 use Rattle.office_core.specs.declared.history.Act.{Act}
 use Rattle.office_core.specs.declared.history.Entry.{Entry}
 use Rattle.office_core.specs.Sessions.{service_of, was_adopted}

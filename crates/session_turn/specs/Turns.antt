@@ -5,7 +5,7 @@ use Rattle.behaviour_tree.specs.declared.words.Event.{Event}
 use Rattle.behaviour_tree.specs.declared.words.Need.{Need}
 use Rattle.behaviour_tree.specs.declared.words.Need.TheVariants as need
 use Rattle.behaviour_tree.specs.declared.words.Given.{Given}
-use Rattle.calculus.specs.After.{Config, Done, after, HasEvent}
+use Rattle.session_calculus.specs.After.{Config, Done, after, HasEvent}
 use Rattle.office_core.specs.declared.history.Entry.{Entry}
 use Rattle.office_core.specs.Boxes.{queue}
 use Rattle.office_core.specs.Calls.{result}

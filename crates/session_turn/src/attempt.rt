@@ -1,7 +1,7 @@
 ghost use Rattle.std.specs.Prelude.{◌≡◌, true, List, IfOk, IfSome, IsSome, MatchOption, OnOk};
 ghost use Rattle.behaviour_tree.specs.PartsView.{parts_of};
 ghost use Rattle.behaviour_tree.specs.declared.words.Event.{Event as Row};
-ghost use Rattle.calculus.specs.After.{HasEvent, after as after_of};
+ghost use Rattle.session_calculus.specs.After.{HasEvent, after as after_of};
 ghost use Rattle.behaviour_tree.specs.declared.words.Need.TheVariants as need;
 ghost use Rattle.office_core.specs.Limits.{run_of};
 ghost use Rattle.run_record.specs.Steps.{binding};

@@ -1,6 +1,6 @@
-ghost use Rattle.session_turn.specs.Laws.{KeptAgrees, MayAsk};
+ghost use Rattle.session_turn.specs.Laws.{KeptAgrees, MayAsk, NamesByThis};
 
-use calculus::runs_keep_their_promises;
+use session_calculus::runs_keep_their_promises;
 
 /// Does nothing: its clause says that what turns keep is a run of the service that ends where the session stands, and
 /// agrees with the history.
@@ -14,3 +14,8 @@ pub fn sessions_may_ask()
 {
     runs_keep_their_promises();
 }
+
+/// Does nothing: its clause says that in a run of a checked program scopes name themselves by `this` alone.
+pub fn scopes_name_themselves_by_this()
+    ensures named { NamesByThis }
+{}

@@ -10,13 +10,15 @@ mod attempt;
 mod desk;
 mod laws;
 mod look;
+mod plain;
 mod seating;
 mod session;
 mod turn;
 
 pub use desk::Desk;
-pub use laws::{kept_sessions_agree, sessions_may_ask};
+pub use laws::{kept_sessions_agree, scopes_name_themselves_by_this, sessions_may_ask};
 pub use look::may_act;
+pub use plain::PlainDesk;
 pub use seating::Seating;
 pub use session::Session;
 pub use turn::{Player, Turn, turn_of};

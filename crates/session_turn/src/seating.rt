@@ -1,6 +1,6 @@
 ghost use Rattle.std.specs.Prelude.{◌≡◌, ◌<◌, IfOk, length};
 ghost use Rattle.behaviour_tree.specs.PartsView.{parts_of};
-ghost use Rattle.calculus.specs.Runs.{start_of};
+ghost use Rattle.session_calculus.specs.Runs.{start_of};
 
 use crate::session::Session;
 use behaviour_tree::Program;

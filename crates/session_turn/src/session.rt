@@ -2,7 +2,7 @@ ghost use Rattle.std.specs.Prelude.{◌≡◌, ◌↔◌, ℕ, false, None, Some
 ghost use Rattle.std.specs.List.Sorted.{IsStrictlyIncreasing};
 ghost use Rattle.behaviour_tree.specs.PartsView.{parts_of};
 ghost use Rattle.behaviour_tree.specs.declared.words.Given.{Given as Gift};
-ghost use Rattle.calculus.specs.After.{Config, Done as DoneEvent, HasEvent, after as after_of};
+ghost use Rattle.session_calculus.specs.After.{Config, Done as DoneEvent, HasEvent, after as after_of};
 
 use behaviour_tree::{Event, Given, Need, Program, Strands};
 use std::alloc::AllocError;

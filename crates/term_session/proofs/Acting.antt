@@ -4,15 +4,15 @@ use Rattle.jolie_trees.specs.Data.{Tree}
 use Rattle.behaviour_tree.specs.declared.words.Need.{Need}
 use Rattle.behaviour_tree.specs.declared.words.Need.TheVariants as need
 use Rattle.behaviour_tree.specs.Data.{PathTree, Proc, Procs, HandlerList}
-use Rattle.calculus.specs.Tables.{Table}
-use Rattle.calculus.specs.Terms.{Fault, Term, Strands, done, place, thrown, seq, par, in_scope, exec, fail, wait, dead_wait, prot, no_strands, strand, State, stands_in}
-use Rattle.calculus.specs.Moves.{Seen, Move, within, inside, in_its_scope, ungiven, in_strand}
-use Rattle.calculus.specs.Faults.{fault_in, fault_among, fault_of}
-use Rattle.calculus.specs.Replies.{outcome_of_fault, reply_of, replies}
-use Rattle.calculus.specs.Answers.{call_of, answers, dead_answers, with_answer}
-use Rattle.calculus.specs.After.{act, moves, moves_among}
-use Rattle.calculus_laws.proofs.Moving.{NotDone}
-use Rattle.place_events.specs.Asked.{asked}
+use Rattle.session_calculus.specs.Tables.{Table}
+use Rattle.session_calculus.specs.Terms.{Fault, Term, Strands, done, place, thrown, seq, par, in_scope, exec, fail, wait, dead_wait, prot, no_strands, strand, State, stands_in}
+use Rattle.session_calculus.specs.Moves.{Seen, Move, within, inside, in_its_scope, ungiven, in_strand}
+use Rattle.session_calculus.specs.Faults.{fault_in, fault_among, fault_of}
+use Rattle.session_calculus.specs.Replies.{outcome_of_fault, reply_of, replies}
+use Rattle.session_calculus.specs.Answers.{call_of, answers, dead_answers, with_answer}
+use Rattle.session_calculus.specs.After.{act, moves, moves_among}
+use Rattle.session_laws.proofs.Moving.{NotDone}
+use Rattle.session_events.specs.Asked.{asked}
 use Rattle.term_session.specs.Asks.{asked_in, asked_among, asked_of_scope}
 use Rattle.term_session.specs.Walks.{Walked, stuck, faulted, went, walked, acted_in, acted_among, around, in_scope_around, scope_event, acts_here, acts_alone, idle, failing, looked, looked_in, looked_among, looks_alone}
 

@@ -6,21 +6,21 @@ use Rattle.behaviour_tree.specs.declared.words.Need.TheVariants as need
 use Rattle.behaviour_tree.specs.declared.words.Given.{Given}
 use Rattle.behaviour_tree.specs.declared.words.Given.TheVariants as given
 use Rattle.behaviour_tree.specs.Data.{PathTree, Proc, assign, undef, copy, Branches, no_branches, one_way, request, ProgramParts}
-use Rattle.calculus.specs.Tables.{Table}
-use Rattle.calculus.specs.Terms.{Fault, Term, Strands, done, place, seq, par, in_scope, exec, prot, strand, State, stands_in}
-use Rattle.calculus.specs.Throw.{Carried, up, caught_at, ended_at, blocked, absent, throw}
-use Rattle.calculus.specs.Moves.{Seen, Move, moved_to, inside}
-use Rattle.calculus.specs.Effects.{Effect, faults, stores, received}
-use Rattle.calculus.specs.Faults.{fault_in}
+use Rattle.session_calculus.specs.Tables.{Table}
+use Rattle.session_calculus.specs.Terms.{Fault, Term, Strands, done, place, seq, par, in_scope, exec, prot, strand, State, stands_in}
+use Rattle.session_calculus.specs.Throw.{Carried, up, caught_at, ended_at, blocked, absent, throw}
+use Rattle.session_calculus.specs.Moves.{Seen, Move, moved_to, inside}
+use Rattle.session_calculus.specs.Effects.{Effect, faults, stores, received}
+use Rattle.session_calculus.specs.Faults.{fault_in}
 use Rattle.behaviour_tree.specs.FormedBehaviours.{branch_operations}
-use Rattle.calculus.specs.Inputs.{Coming, past, goes_on, comes}
-use Rattle.calculus.specs.Calls.{message_value}
-use Rattle.calculus.specs.After.{Config, Done, moves, is_finished, raised, acts, finishes, seen_by, after}
-use Rattle.calculus_laws.proofs.Options.{OnValue, OnValue-if, OnValue-imp}
-use Rattle.calculus_laws.proofs.Moving.{NotDone, Writes, Alone, coming, Keeps, keeps-moves}
-use Rattle.calculus_laws.proofs.Events.{of_event}
-use Rattle.calculus_laws.proofs.Asking.{blind, fault-blind}
-use Rattle.place_events.specs.Asked.{asked, one_of}
+use Rattle.session_calculus.specs.Inputs.{Coming, past, goes_on, comes}
+use Rattle.session_calculus.specs.Calls.{message_value}
+use Rattle.session_calculus.specs.After.{Config, Done, moves, is_finished, raised, acts, finishes, seen_by, after}
+use Rattle.session_laws.proofs.Options.{OnValue, OnValue-if, OnValue-imp}
+use Rattle.session_laws.proofs.Moving.{NotDone, Writes, Alone, coming, Keeps, keeps-moves}
+use Rattle.session_laws.proofs.Events.{of_event}
+use Rattle.session_laws.proofs.Asking.{blind, fault-blind}
+use Rattle.session_events.specs.Asked.{asked, one_of}
 use Rattle.term_session.specs.Asks.{asked_alone, asked_in, asked_among, asked_at_end, asked_by_throw, asked_with, needed}
 
 -- a move asks what the strand that acts is said to ask

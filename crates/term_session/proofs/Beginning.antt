@@ -1,8 +1,8 @@
 -- How a service begins.
 use Rattle.std.proofs.Common.{◌≡◌, ℕ, refl, sym, ap, ◌∙◌}
 use Rattle.behaviour_tree.specs.Data.{Proc, nothing, sequence, proc, no_procs}
-use Rattle.calculus.specs.Start.{Begun, begun, begin}
-use Rattle.calculus.specs.Terms.{Term, done, seq_of}
+use Rattle.session_calculus.specs.Start.{Begun, begun, begin}
+use Rattle.session_calculus.specs.Terms.{Term, done, seq_of}
 
 -- one of two that are equal where the form is done
 either : (t : Term) (x y : Begun Term) → (t ≡ done → x ≡ y) → ◌≡◌ {A = Begun Term} (elim t [ done ↦ x | _ ↦ y ]) y

@@ -11,18 +11,18 @@ use Rattle.behaviour_tree.specs.declared.words.Given.{Given}
 use Rattle.behaviour_tree.specs.declared.words.Given.TheVariants as given
 use Rattle.behaviour_tree.specs.Data.{ProgramParts, PathTree, Exp, Proc, Procs, assign, undef, copy}
 use Rattle.behaviour_tree.specs.Values.{value, steps_of}
-use Rattle.calculus.specs.After.{Config, Done, HasEvent, after, is_finished, seen_by}
-use Rattle.calculus.specs.Effects.{faults, stores, assigned, put, taken_away, stored}
-use Rattle.calculus.specs.Faults.{fault_in, fault_of, fault_of_effect}
-use Rattle.calculus.specs.Replies.{reply_of}
-use Rattle.calculus.specs.Moves.{Seen, inside}
-use Rattle.calculus.specs.Names.{expr_fault, store_too_large}
-use Rattle.calculus.specs.Tables.{Table}
-use Rattle.calculus.specs.Terms.{Term, State, done, place, seq, in_scope, exec, prot}
-use Rattle.calculus.specs.Throw.{Carried, up, caught_at, ended_at, blocked, absent, throw}
-use Rattle.place_events.specs.Asked.{asked}
-use Rattle.term_faults.specs.declared.decision.Decision.{Decision}
-use Rattle.term_faults.specs.Decisions.{decided, decision_view}
+use Rattle.session_calculus.specs.After.{Config, Done, HasEvent, after, is_finished, seen_by}
+use Rattle.session_calculus.specs.Effects.{faults, stores, assigned, put, taken_away, stored}
+use Rattle.session_calculus.specs.Faults.{fault_in, fault_of, fault_of_effect}
+use Rattle.session_calculus.specs.Replies.{reply_of}
+use Rattle.session_calculus.specs.Moves.{Seen, inside}
+use Rattle.session_calculus.specs.Names.{expr_fault, store_too_large}
+use Rattle.session_calculus.specs.Tables.{Table}
+use Rattle.session_calculus.specs.Terms.{Term, State, done, place, seq, in_scope, exec, prot}
+use Rattle.session_calculus.specs.Throw.{Carried, up, caught_at, ended_at, blocked, absent, throw}
+use Rattle.session_events.specs.Asked.{asked}
+use Rattle.session_faults.specs.declared.decision.Decision.{Decision}
+use Rattle.session_faults.specs.Decisions.{decided, decision_view}
 use Rattle.term_session.specs.Asks.{asked_by_throw, asked_at_end, asked_with, needed}
 use Rattle.term_session.specs.Foretold.{is_so, Foresees, IsRaised, is_asked_so, Foretells}
 use Rattle.term_session.specs.Walks.{Looked, idle, failing, asking, looked, looked_in}

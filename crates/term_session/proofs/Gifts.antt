@@ -2,11 +2,11 @@
 use Rattle.std.proofs.Common.{◌≡◌, ℕ, zero, suc, true, None, Some, Option, refl}
 use Rattle.behaviour_tree.specs.declared.words.Given.{Given}
 use Rattle.behaviour_tree.specs.declared.words.Given.TheVariants as given
-use Rattle.calculus.specs.Tables.{Table}
-use Rattle.calculus.specs.Terms.{Fault, Term, State, live, caught, term, last, zombie}
-use Rattle.calculus.specs.Moves.{Seen, Move, ungiven}
-use Rattle.calculus.specs.Scopes.{scope_acts, ends, handles_fault, handles_end}
-use Rattle.calculus.specs.After.{Config, Done, finish_event, finishes, raises}
+use Rattle.session_calculus.specs.Tables.{Table}
+use Rattle.session_calculus.specs.Terms.{Fault, Term, State, live, caught, term, last, zombie}
+use Rattle.session_calculus.specs.Moves.{Seen, Move, ungiven}
+use Rattle.session_calculus.specs.Scopes.{scope_acts, ends, handles_fault, handles_end}
+use Rattle.session_calculus.specs.After.{Config, Done, finish_event, finishes, raises}
 use Rattle.term_session.specs.Steps.{stepped, stepped_by}
 use Rattle.term_session.specs.Walks.{scope_event}
 

@@ -4,15 +4,15 @@ use Rattle.std.proofs.lemmas.Bool.{false≢true}
 use Rattle.behaviour_tree.specs.declared.words.Given.{Given}
 use Rattle.behaviour_tree.specs.Data.{ProgramParts}
 use Rattle.behaviour_tree.specs.PartsView.{parts_of}
-use Rattle.calculus.specs.After.{Config, raises, acts, finishes, after, is_finished, seen_by}
-use Rattle.calculus.specs.Moves.{Seen}
-use Rattle.calculus.specs.Names.{main}
-use Rattle.calculus.specs.Tables.{empty}
-use Rattle.calculus.specs.Terms.{Fault, Term}
+use Rattle.session_calculus.specs.After.{Config, raises, acts, finishes, after, is_finished, seen_by}
+use Rattle.session_calculus.specs.Moves.{Seen}
+use Rattle.session_calculus.specs.Names.{main}
+use Rattle.session_calculus.specs.Tables.{empty}
+use Rattle.session_calculus.specs.Terms.{Fault, Term}
 use Rattle.handler_table.specs.View.{table_view}
-use Rattle.place_events.specs.Seen as scenes
-use Rattle.place_values.specs.declared.actor.Actor.{Actor}
-use Rattle.running_terms.specs.declared.installed.Installed.{Installed}
+use Rattle.session_events.specs.Seen as scenes
+use Rattle.session_values.specs.declared.actor.Actor.{Actor}
+use Rattle.session_forms.specs.declared.installed.Installed.{Installed}
 use Rattle.term_session.specs.Configs.{config_view}
 use Rattle.term_session.specs.Steps.{stepped, stepped_by}
 use Rattle.term_session.specs.Walks.{stuck, faulted, acted_in}

@@ -13,20 +13,20 @@ use Rattle.behaviour_tree.specs.declared.words.Outcome.{Outcome}
 use Rattle.behaviour_tree.specs.declared.words.Outcome.TheVariants as outcome
 use Rattle.behaviour_tree.specs.Values.{truth_of, value}
 use Rattle.behaviour_tree.specs.Data.{Proc, nothing, assign, undef, copy, bind, choose, repeat, choice, notify, solicit, install, comp, Branches, no_branches, one_way, request, ProgramParts}
-use Rattle.calculus.specs.Terms.{Fault, Term, Strands, done, place, thrown, seq, par, in_scope, exec, fail, wait, dead_wait, prot, no_strands, strand, State, live, caught, term, last, zombie, stands_in}
-use Rattle.calculus.specs.Throw.{Carried, up, caught_at, ended_at, blocked, absent, throw}
-use Rattle.calculus.specs.Tables.{Table}
-use Rattle.calculus.specs.Moves.{Seen, Move, within, inside, in_its_scope, ungiven}
-use Rattle.calculus.specs.Effects.{Effect, faults, stores, effect_of, copied, effect_of_undef}
-use Rattle.calculus.specs.Faults.{binding, fault_of, fault_of_effect, fault_of_missing, fault_in, fault_among}
+use Rattle.session_calculus.specs.Terms.{Fault, Term, Strands, done, place, thrown, seq, par, in_scope, exec, fail, wait, dead_wait, prot, no_strands, strand, State, live, caught, term, last, zombie, stands_in}
+use Rattle.session_calculus.specs.Throw.{Carried, up, caught_at, ended_at, blocked, absent, throw}
+use Rattle.session_calculus.specs.Tables.{Table}
+use Rattle.session_calculus.specs.Moves.{Seen, Move, within, inside, in_its_scope, ungiven}
+use Rattle.session_calculus.specs.Effects.{Effect, faults, stores, effect_of, copied, effect_of_undef}
+use Rattle.session_calculus.specs.Faults.{binding, fault_of, fault_of_effect, fault_of_missing, fault_in, fault_among}
 use Rattle.behaviour_tree.specs.FormedBehaviours.{branch_operations}
-use Rattle.calculus.specs.Calls.{message_value, notifies, solicits, binds}
-use Rattle.calculus.specs.Replies.{outcome_of_fault, reply_of, replies}
-use Rattle.calculus.specs.Answers.{Read, call_of, answers, dead_answers, with_answer}
-use Rattle.calculus.specs.Scopes.{scope_acts}
-use Rattle.calculus.specs.After.{Config, Done, changes, tests, turn_of, act, moves, moves_among, is_finished, raised, raises, moved, finishes, acts, seen_by, after, HasEvent}
-use Rattle.calculus_laws.proofs.Asking.{fault-blind}
-use Rattle.place_events.specs.Asked.{asked, one_of}
+use Rattle.session_calculus.specs.Calls.{message_value, notifies, solicits, binds}
+use Rattle.session_calculus.specs.Replies.{outcome_of_fault, reply_of, replies}
+use Rattle.session_calculus.specs.Answers.{Read, call_of, answers, dead_answers, with_answer}
+use Rattle.session_calculus.specs.Scopes.{scope_acts}
+use Rattle.session_calculus.specs.After.{Config, Done, changes, tests, turn_of, act, moves, moves_among, is_finished, raised, raises, moved, finishes, acts, seen_by, after, HasEvent}
+use Rattle.session_laws.proofs.Asking.{fault-blind}
+use Rattle.session_events.specs.Asked.{asked, one_of}
 use Rattle.term_session.specs.Needs.{AsksForItsEvent, HasNoEventUnasked}
 use Rattle.term_session.proofs.Asked.{needs_after}
 use Rattle.term_session.specs.Asks.{asked_of_scope, asked_alone, asked_in, asked_among, asked_at_end, asked_by_throw, asked_with, needed}

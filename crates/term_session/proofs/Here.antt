@@ -3,20 +3,20 @@ use Rattle.std.proofs.Common.{◌≡◌, ℕ, Option, None, Some, option_map, re
 use Rattle.std.specs.Prelude.{IfNone}
 use Rattle.behaviour_tree.specs.Data.{Proc}
 use Rattle.behaviour_tree.specs.View.{handlers_view}
-use Rattle.calculus.specs.Terms.{Fault, Term, place}
-use Rattle.calculus.specs.Moves.{Seen, Move}
-use Rattle.calculus.specs.Answers.{call_of, dead_answers, with_answer}
-use Rattle.calculus.specs.Faults.{fault_of}
-use Rattle.calculus.specs.After.{act}
-use Rattle.place_events.specs.Came.{Came, came, comes_to, acted_view}
-use Rattle.place_events.specs.Came as places
-use Rattle.place_events.specs.declared.event.Acted.{Acted}
-use Rattle.place_events.specs.declared.event.Acted.TheVariants as acted
-use Rattle.place_events.specs.declared.event.Moved.{Moved}
-use Rattle.place_values.specs.declared.memory.Memory.{Memory}
-use Rattle.running_terms.specs.View.{dead_call_view}
-use Rattle.running_terms.specs.declared.call.Call.{Call}
-use Rattle.running_terms.specs.declared.installed.Installed.{Installed}
+use Rattle.session_calculus.specs.Terms.{Fault, Term, place}
+use Rattle.session_calculus.specs.Moves.{Seen, Move}
+use Rattle.session_calculus.specs.Answers.{call_of, dead_answers, with_answer}
+use Rattle.session_calculus.specs.Faults.{fault_of}
+use Rattle.session_calculus.specs.After.{act}
+use Rattle.session_events.specs.Came.{Came, came, comes_to, acted_view}
+use Rattle.session_events.specs.Came as places
+use Rattle.session_events.specs.declared.event.Acted.{Acted}
+use Rattle.session_events.specs.declared.event.Acted.TheVariants as acted
+use Rattle.session_events.specs.declared.event.Moved.{Moved}
+use Rattle.session_values.specs.declared.memory.Memory.{Memory}
+use Rattle.session_forms.specs.View.{dead_call_view}
+use Rattle.session_forms.specs.declared.call.Call.{Call}
+use Rattle.session_forms.specs.declared.installed.Installed.{Installed}
 use Rattle.term_session.specs.Turns.{seen_at, moved_at, event_at, came_to}
 use Rattle.term_session.specs.Walks.{Walked, stuck, faulted, went, walked, acts_here}
 use Rattle.term_session.specs.declared.turn.Turn.{Turn}

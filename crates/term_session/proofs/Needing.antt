@@ -7,8 +7,8 @@ use Rattle.std.proofs.lemmas.List.Kept.{IsStrictlyIncreasing-filter}
 use Rattle.behaviour_tree.specs.declared.words.Given.{Given}
 use Rattle.behaviour_tree.specs.declared.words.Need.{Need}
 use Rattle.behaviour_tree.specs.Data.{ProgramParts}
-use Rattle.calculus.specs.After.{Config, Done, after, HasEvent}
-use Rattle.running_terms.specs.Standing.{strands_in}
+use Rattle.session_calculus.specs.After.{Config, Done, after, HasEvent}
+use Rattle.session_forms.specs.Standing.{strands_in}
 use Rattle.term_session.specs.Asks.{needed}
 use Rattle.term_session.proofs.HasEvents.{there, asks_for_its_event, has_no_event_unasked}
 use Rattle.term_session.proofs.Filtering.{contains-filter, from_filter}

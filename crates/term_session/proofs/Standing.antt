@@ -7,12 +7,12 @@ use Rattle.std.proofs.lemmas.List.Elements.{Contains-append_left, Contains-appen
 use Rattle.behaviour_tree.specs.declared.words.Need.{Need}
 use Rattle.behaviour_tree.specs.declared.words.Given.TheVariants as given
 use Rattle.behaviour_tree.specs.Data.{ProgramParts}
-use Rattle.calculus.specs.Terms.{Fault, Term, Strands, done, place, thrown, seq, par, in_scope, exec, fail, wait, dead_wait, prot, no_strands, strand, stands_in, is_within, is_among}
-use Rattle.calculus.specs.Moves.{Seen, inside}
-use Rattle.calculus.specs.Faults.{fault_in, fault_among, fault_of}
-use Rattle.calculus.specs.After.{Config, is_finished, seen_by}
-use Rattle.running_terms.specs.Standing.{strands_in, strands_within, strands_among}
-use Rattle.place_events.specs.Asked.{asked}
+use Rattle.session_calculus.specs.Terms.{Fault, Term, Strands, done, place, thrown, seq, par, in_scope, exec, fail, wait, dead_wait, prot, no_strands, strand, stands_in, is_within, is_among}
+use Rattle.session_calculus.specs.Moves.{Seen, inside}
+use Rattle.session_calculus.specs.Faults.{fault_in, fault_among, fault_of}
+use Rattle.session_calculus.specs.After.{Config, is_finished, seen_by}
+use Rattle.session_forms.specs.Standing.{strands_in, strands_within, strands_among}
+use Rattle.session_events.specs.Asked.{asked}
 use Rattle.term_session.specs.Asks.{asked_in, asked_among, asked_alone, asked_of_scope, asked_at_end, asked_with, needed}
 
 -- what stands in a form stands in what is around it

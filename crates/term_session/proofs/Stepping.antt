@@ -4,14 +4,14 @@ use Rattle.std.proofs.lemmas.Option.{none-some}
 use Rattle.jolie_trees.specs.Data.{Tree}
 use Rattle.behaviour_tree.specs.declared.words.Event.{Event}
 use Rattle.behaviour_tree.specs.declared.words.Need.{Need}
-use Rattle.calculus.specs.Terms.{Fault, Term}
-use Rattle.calculus.specs.Throw.{Carried, up, caught_at, ended_at, blocked, absent, throw}
-use Rattle.calculus.specs.Moves.{Seen, Move}
-use Rattle.calculus.specs.Faults.{fault_in}
-use Rattle.calculus.specs.After.{Config, Done, with_form, raised, raises, moved, moves, acts}
-use Rattle.term_faults.specs.declared.decision.Decision.{Decision}
-use Rattle.term_faults.specs.declared.decision.Decision.TheVariants.{Up, Caught, Ended, Blocked, Absent}
-use Rattle.term_faults.specs.Decisions.{carried_by, decided, decision_view}
+use Rattle.session_calculus.specs.Terms.{Fault, Term}
+use Rattle.session_calculus.specs.Throw.{Carried, up, caught_at, ended_at, blocked, absent, throw}
+use Rattle.session_calculus.specs.Moves.{Seen, Move}
+use Rattle.session_calculus.specs.Faults.{fault_in}
+use Rattle.session_calculus.specs.After.{Config, Done, with_form, raised, raises, moved, moves, acts}
+use Rattle.session_faults.specs.declared.decision.Decision.{Decision}
+use Rattle.session_faults.specs.declared.decision.Decision.TheVariants.{Up, Caught, Ended, Blocked, Absent}
+use Rattle.session_faults.specs.Decisions.{carried_by, decided, decision_view}
 use Rattle.term_session.specs.Asks.{asked_in, asked_by_throw, asked_with}
 use Rattle.term_session.specs.Steps.{Stepped, stepped, stepped_by}
 use Rattle.term_session.specs.Raised.{event_of_fault}

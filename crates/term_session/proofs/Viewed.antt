@@ -2,17 +2,17 @@
 use Rattle.std.proofs.Common.{◌≡◌, ℕ, ◌+◌, ◌<◌, true, false, ◌||◌, List, take, drop, length, get_or, set, Option, None, Some, refl, sym, ap, ◌∙◌}
 use Rattle.std.proofs.lemmas.List.{get_or-set_same}
 use Rattle.behaviour_tree.specs.Data.{PathTree, Procs}
-use Rattle.calculus.specs.Terms.{Term, Strands, done, seq, par, in_scope, exec, prot, no_strands, strand, State, stands_in, is_among}
-use Rattle.calculus.specs.Moves.{Seen}
-use Rattle.calculus_laws.proofs.Moving.{NotDone}
+use Rattle.session_calculus.specs.Terms.{Term, Strands, done, seq, par, in_scope, exec, prot, no_strands, strand, State, stands_in, is_among}
+use Rattle.session_calculus.specs.Moves.{Seen}
+use Rattle.session_laws.proofs.Moving.{NotDone}
 use Rattle.handler_table.specs.View.{table_view}
-use Rattle.place_values.specs.declared.memory.Memory.{Memory}
-use Rattle.running_terms.specs.View.{members_view, term_view}
-use Rattle.running_terms.specs.declared.installed.Installed.{Installed}
-use Rattle.running_terms.specs.declared.term.Strand.{Strand}
-use Rattle.term_faults.specs.Places.{StandsFirst, joined}
-use Rattle.term_faults.proofs.Positions.{members-split, members-put}
-use Rattle.term_faults.proofs.Tests.{left_false, right_false}
+use Rattle.session_values.specs.declared.memory.Memory.{Memory}
+use Rattle.session_forms.specs.View.{members_view, term_view}
+use Rattle.session_forms.specs.declared.installed.Installed.{Installed}
+use Rattle.session_forms.specs.declared.term.Strand.{Strand}
+use Rattle.session_faults.specs.Places.{StandsFirst, joined}
+use Rattle.session_faults.proofs.Positions.{members-split, members-put}
+use Rattle.session_faults.proofs.Tests.{left_false, right_false}
 use Rattle.term_session.specs.Turns.{seen_at, walked_view}
 use Rattle.term_session.specs.Walks.{Walked, stuck, faulted, went, acted_in, acted_among, around, in_scope_around, idle, looked_in, looked_among}
 use Rattle.term_session.specs.declared.turn.Turn.{Turn}

@@ -5,14 +5,14 @@ use Rattle.behaviour_tree.specs.declared.words.Need.{Need}
 use Rattle.behaviour_tree.specs.declared.words.Need.TheVariants as need
 use Rattle.behaviour_tree.specs.declared.words.Given.TheVariants as given
 use Rattle.behaviour_tree.specs.Data.{ProgramParts}
-use Rattle.calculus.specs.Terms.{Fault, Term, Strands, done, place, seq, par, in_scope, exec, fail, wait, dead_wait}
-use Rattle.calculus.specs.Terms.{prot, no_strands, strand, State, live, caught, term, stands_in}
-use Rattle.calculus.specs.Throw.{Carried, up, caught_at, ended_at, throw}
-use Rattle.calculus.specs.Moves.{Seen, inside}
-use Rattle.calculus.specs.Faults.{fault_in}
-use Rattle.calculus.specs.Replies.{outcome_of_fault, reply_of}
-use Rattle.calculus.specs.After.{Config, is_finished, seen_by}
-use Rattle.place_events.specs.Asked.{asked}
+use Rattle.session_calculus.specs.Terms.{Fault, Term, Strands, done, place, seq, par, in_scope, exec, fail, wait, dead_wait}
+use Rattle.session_calculus.specs.Terms.{prot, no_strands, strand, State, live, caught, term, stands_in}
+use Rattle.session_calculus.specs.Throw.{Carried, up, caught_at, ended_at, throw}
+use Rattle.session_calculus.specs.Moves.{Seen, inside}
+use Rattle.session_calculus.specs.Faults.{fault_in}
+use Rattle.session_calculus.specs.Replies.{outcome_of_fault, reply_of}
+use Rattle.session_calculus.specs.After.{Config, is_finished, seen_by}
+use Rattle.session_events.specs.Asked.{asked}
 
 -- a scope whose body is done asks nothing; one that is through, or that a fault left, has no event
 abbrev pub asked_of_scope : State → Option Need

@@ -1,6 +1,6 @@
 -- What a session is at a moment.
-use Rattle.calculus.specs.After as spec
-use Rattle.running_terms.specs.View.{term_view}
+use Rattle.session_calculus.specs.After as spec
+use Rattle.session_forms.specs.View.{term_view}
 use Rattle.term_session.specs.declared.config.Config.{Config}
 
 -- the configuration that a session is in

@@ -6,11 +6,11 @@ use Rattle.jolie_trees.specs.Data.{Tree}
 use Rattle.behaviour_tree.specs.declared.words.Need.{Need}
 use Rattle.behaviour_tree.specs.declared.words.Need.TheVariants as need
 use Rattle.behaviour_tree.specs.Data.{ProgramParts}
-use Rattle.calculus.specs.After.{Config}
-use Rattle.calculus.specs.Moves.{Seen}
-use Rattle.calculus.specs.Names.{expr_fault, store_too_large}
-use Rattle.calculus.specs.Terms.{Term}
-use Rattle.calculus.specs.Throw.{throw}
+use Rattle.session_calculus.specs.After.{Config}
+use Rattle.session_calculus.specs.Moves.{Seen}
+use Rattle.session_calculus.specs.Names.{expr_fault, store_too_large}
+use Rattle.session_calculus.specs.Terms.{Term}
+use Rattle.session_calculus.specs.Throw.{throw}
 use Rattle.term_session.specs.Asks.{asked_by_throw, needed}
 use Rattle.term_session.specs.Walks.{Looked, failing, asking, looked_in}
 use Rattle.term_session.specs.declared.glance.Glance.{Glance}

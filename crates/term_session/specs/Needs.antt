@@ -4,7 +4,7 @@ use Rattle.std.specs.Prelude.{◌≡◌, ℕ, Option, None, Some}
 use Rattle.behaviour_tree.specs.declared.words.Given.{Given}
 use Rattle.behaviour_tree.specs.declared.words.Need.{Need}
 use Rattle.behaviour_tree.specs.Data.{ProgramParts}
-use Rattle.calculus.specs.After.{Config, Done, after, HasEvent}
+use Rattle.session_calculus.specs.After.{Config, Done, after, HasEvent}
 use Rattle.term_session.specs.Asks.{needed}
 
 -- Where a strand needs something, it has an event, and whatever the office gives, its event asks just that.

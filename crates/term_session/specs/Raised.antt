@@ -2,9 +2,9 @@
 -- The event of a fault by where it has come to.
 use Rattle.std.specs.Prelude.{ℕ, Option, None, Some}
 use Rattle.behaviour_tree.specs.declared.words.Event.{Event}
-use Rattle.calculus.specs.Names.{main}
-use Rattle.calculus.specs.Throw.{Carried, up, caught_at, ended_at, blocked, absent}
-use Rattle.calculus.specs.After.{raise_event}
+use Rattle.session_calculus.specs.Names.{main}
+use Rattle.session_calculus.specs.Throw.{Carried, up, caught_at, ended_at, blocked, absent}
+use Rattle.session_calculus.specs.After.{raise_event}
 
 -- the event of fault f of strand n, none where it is blocked or its strand has no place
 abbrev pub event_of_fault : {A : Type 0} → ℕ → ℕ → Carried A → Option Event

@@ -1,6 +1,6 @@
 -- What a session is at a moment, and which service it is of.
 use Rattle.std.specs.Prelude.{ℕ, Option, option_map}
-use Rattle.calculus.specs.After.{Config}
+use Rattle.session_calculus.specs.After.{Config}
 use Rattle.term_session.specs.Configs.{config_view}
 use Rattle.term_session.specs.declared.session.TermSession.{TermSession}
 

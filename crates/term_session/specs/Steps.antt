@@ -2,7 +2,7 @@
 -- What a step of a session makes.
 use Rattle.std.specs.Prelude.{Option, None, Some}
 use Rattle.behaviour_tree.specs.declared.words.Event.{Event}
-use Rattle.calculus.specs.After.{Config, Done}
+use Rattle.session_calculus.specs.After.{Config, Done}
 
 -- a configuration, and the event that led to it; none where it stayed
 pub record Stepped : Type 0 where

@@ -2,14 +2,14 @@
 -- What a turn of a strand sees, and what it came to.
 use Rattle.std.specs.Prelude.{Option, None, Some}
 use Rattle.std.specs.Arc.{arc_value}
-use Rattle.calculus.specs.Moves.{Seen, Move, moved_to}
-use Rattle.calculus.specs.Terms.{Term}
-use Rattle.place_events.specs.Seen.{seen_by, made_with, moved_view}
-use Rattle.place_events.specs.declared.event.Acted as acted
-use Rattle.place_events.specs.declared.event.Moved.{Moved}
-use Rattle.place_values.specs.declared.memory.Memory.{Memory}
-use Rattle.running_terms.specs.View.{fault_view}
-use Rattle.running_terms.specs.declared.installed.Installed.{Installed}
+use Rattle.session_calculus.specs.Moves.{Seen, Move, moved_to}
+use Rattle.session_calculus.specs.Terms.{Term}
+use Rattle.session_events.specs.Seen.{seen_by, made_with, moved_view}
+use Rattle.session_events.specs.declared.event.Acted as acted
+use Rattle.session_events.specs.declared.event.Moved.{Moved}
+use Rattle.session_values.specs.declared.memory.Memory.{Memory}
+use Rattle.session_forms.specs.View.{fault_view}
+use Rattle.session_forms.specs.declared.installed.Installed.{Installed}
 use Rattle.term_session.specs.Walks.{Walked, stuck, faulted, went}
 use Rattle.term_session.specs.declared.turn.Turn.{Turn}
 use Rattle.term_session.specs.declared.turn.Walked as walked

@@ -3,16 +3,16 @@
 use Rattle.std.specs.Prelude.{ℕ, Option, None, Some, if◌then◌else◌, nat_eq}
 use Rattle.behaviour_tree.specs.declared.words.Need.{Need}
 use Rattle.behaviour_tree.specs.declared.words.Need.TheVariants as need
-use Rattle.calculus.specs.Tables.{Table}
-use Rattle.calculus.specs.Terms.{Fault, Term, Strands, State, done, place, thrown, in_scope, exec, fail, wait}
-use Rattle.calculus.specs.Terms.{dead_wait}
-use Rattle.calculus.specs.Moves.{Seen, Move, within, ungiven, inside, in_its_scope}
-use Rattle.calculus.specs.Faults.{fault_of, fault_in, fault_among}
-use Rattle.calculus.specs.Replies.{outcome_of_fault, reply_of, replies}
-use Rattle.calculus.specs.Answers.{call_of, answers, dead_answers, with_answer}
-use Rattle.calculus.specs.Scopes.{scope_acts}
-use Rattle.calculus.specs.After.{act, moves, moves_among}
-use Rattle.place_events.specs.Asked.{asked}
+use Rattle.session_calculus.specs.Tables.{Table}
+use Rattle.session_calculus.specs.Terms.{Fault, Term, Strands, State, done, place, thrown, in_scope, exec, fail, wait}
+use Rattle.session_calculus.specs.Terms.{dead_wait}
+use Rattle.session_calculus.specs.Moves.{Seen, Move, within, ungiven, inside, in_its_scope}
+use Rattle.session_calculus.specs.Faults.{fault_of, fault_in, fault_among}
+use Rattle.session_calculus.specs.Replies.{outcome_of_fault, reply_of, replies}
+use Rattle.session_calculus.specs.Answers.{call_of, answers, dead_answers, with_answer}
+use Rattle.session_calculus.specs.Scopes.{scope_acts}
+use Rattle.session_calculus.specs.After.{act, moves, moves_among}
+use Rattle.session_events.specs.Asked.{asked}
 use Rattle.term_session.specs.Asks.{asked_in, asked_among, asked_of_scope}
 
 -- what acting in a form, or in the members of a parallel, comes to: the strand has no event there, or a fault, and what

@@ -1,14 +1,14 @@
 ghost use Rattle.std.specs.Prelude.{◌≡◌, IfOk};
-ghost use Rattle.running_terms.specs.View.{members_view, term_view};
+ghost use Rattle.session_forms.specs.View.{members_view, term_view};
 ghost use Rattle.term_session.specs.Turns.{seen_at, walked_view};
 ghost use Rattle.term_session.specs.Walks as spec;
 
 use crate::act_here::act_here;
 use crate::turn::{Turn, Walked};
-use place_values::Memory;
-use running_terms::{Installed, Strand, Term};
+use session_faults::place_of;
+use session_forms::{Installed, Strand, Term};
+use session_values::Memory;
 use std::alloc::{AllocError, Global};
-use term_faults::place_of;
 
 /// Acts in a form, which runs in the strand `own`, in a turn. Where its strand has a fault or no event there all stays.
 #[cycle(act)]

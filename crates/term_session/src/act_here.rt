@@ -1,21 +1,22 @@
 ghost use Rattle.std.specs.Prelude.{◌≡◌, option_map, IfOk, IfNone};
 ghost use Rattle.handler_table.specs.View.{table_view};
 ghost use Rattle.behaviour_tree.specs.View.{handlers_view, path_view};
-ghost use Rattle.calculus.specs.Answers as answers;
-ghost use Rattle.calculus.specs.Moves.{ungiven};
-ghost use Rattle.calculus.specs.Replies as replies;
-ghost use Rattle.calculus.specs.Terms.{done};
-ghost use Rattle.running_terms.specs.View.{fault_view, state_view, term_view};
-ghost use Rattle.place_values.specs.declared.memory.Memory.{Memory as Held};
+ghost use Rattle.session_calculus.specs.Answers as answers;
+ghost use Rattle.session_calculus.specs.Moves.{ungiven};
+ghost use Rattle.session_calculus.specs.Replies as replies;
+ghost use Rattle.session_calculus.specs.Terms.{done};
+ghost use Rattle.session_forms.specs.View.{fault_view, state_view, term_view};
+ghost use Rattle.session_values.specs.declared.memory.Memory.{Memory as Held};
 ghost use Rattle.term_session.specs.Turns.{moved_at, seen_at, walked_view};
 ghost use Rattle.term_session.specs.Walks as spec;
 
 use crate::turn::{Turn, Walked, came, went};
-use answer_events::{answer_came, failure_told, killed_answer_came, replied};
 use behaviour_tree::{Given, PathExpr};
-use place_events::{Moved, Scene, acted, scope_acts};
-use place_values::Memory;
-use running_terms::{Call, Fault, Installed, ScopeState, Term, boxed, replaced};
+use session_events::{
+    Moved, Scene, acted, answer_came, failure_told, killed_answer_came, replied, scope_acts,
+};
+use session_forms::{Call, Fault, Installed, ScopeState, Term, boxed, replaced};
+use session_values::Memory;
 use std::alloc::{AllocError, Global};
 use std::sync::Arc;
 

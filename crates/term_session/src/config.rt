@@ -1,20 +1,20 @@
 ghost use Rattle.std.specs.Prelude.{◌≡◌, IfOk};
 ghost use Rattle.behaviour_tree.specs.Data.{behaviour_of};
 ghost use Rattle.behaviour_tree.specs.PartsView.{service_view};
-ghost use Rattle.calculus.specs.After as spec;
-ghost use Rattle.calculus.specs.Names.{main};
-ghost use Rattle.calculus.specs.Start as starts;
-ghost use Rattle.calculus.specs.Tables.{empty};
+ghost use Rattle.session_calculus.specs.After as spec;
+ghost use Rattle.session_calculus.specs.Names.{main};
+ghost use Rattle.session_calculus.specs.Start as starts;
+ghost use Rattle.session_calculus.specs.Tables.{empty};
 ghost use Rattle.handler_table.specs.View.{table_view};
-ghost use Rattle.running_terms.specs.Begins.{begun_view};
-ghost use Rattle.running_terms.specs.View.{term_view};
+ghost use Rattle.session_forms.specs.Begins.{begun_view};
+ghost use Rattle.session_forms.specs.View.{term_view};
 ghost use Rattle.term_session.specs.Configs.{config_view};
 
 use behaviour_tree::{Behaviour, Service, standard};
 use handler_table::Table;
 use jolie_trees::Tree;
-use place_values::Memory;
-use running_terms::{Begun, Installed, ScopeState, Term, begin, begin_both, boxed, normalize};
+use session_forms::{Begun, Installed, ScopeState, Term, begin, begin_both, boxed, normalize};
+use session_values::Memory;
 use std::alloc::{AllocError, Global};
 
 /// What a session is at a moment.

@@ -3,8 +3,8 @@ ghost use Rattle.std.specs.List.{filter};
 ghost use Rattle.std.specs.List.Sorted.{IsStrictlyIncreasing};
 ghost use Rattle.std.specs.Option.{is_some};
 ghost use Rattle.behaviour_tree.specs.PartsView.{parts_of};
-ghost use Rattle.calculus.specs.After.{HasEvent};
-ghost use Rattle.running_terms.specs.Standing.{strands_in};
+ghost use Rattle.session_calculus.specs.After.{HasEvent};
+ghost use Rattle.session_forms.specs.Standing.{strands_in};
 ghost use Rattle.term_session.specs.Asks as spec;
 ghost use Rattle.term_session.specs.Configs.{config_view};
 
@@ -12,8 +12,8 @@ use crate::config::Config;
 use crate::glance::{Glance, foretold};
 use crate::needed::needed;
 use behaviour_tree::{Program, Strands};
-use place_values::Actor;
-use running_terms::strands_of;
+use session_forms::strands_of;
+use session_values::Actor;
 use sqlite_items::Items;
 use std::alloc::{AllocError, Global};
 

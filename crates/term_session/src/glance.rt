@@ -2,11 +2,11 @@
 
 ghost use Rattle.std.specs.Prelude.{◌≡◌, true, is_some};
 ghost use Rattle.behaviour_tree.specs.View.{behaviour_view};
-ghost use Rattle.calculus.specs.Faults as faults;
-ghost use Rattle.calculus.specs.Moves.{Seen};
-ghost use Rattle.place_events.specs.Asked as asked;
-ghost use Rattle.running_terms.specs.View.{term_view};
-ghost use Rattle.term_faults.specs.Decisions.{decision_view};
+ghost use Rattle.session_calculus.specs.Faults as faults;
+ghost use Rattle.session_calculus.specs.Moves.{Seen};
+ghost use Rattle.session_events.specs.Asked as asked;
+ghost use Rattle.session_forms.specs.View.{term_view};
+ghost use Rattle.session_faults.specs.Decisions.{decision_view};
 ghost use Rattle.term_session.specs.Asks.{asked_by_throw};
 ghost use Rattle.term_session.specs.Configs.{config_view};
 ghost use Rattle.term_session.specs.Foretold.{Foresees, Foretells, IsRaised, is_so};
@@ -14,8 +14,8 @@ ghost use Rattle.term_session.specs.Walks.{looked};
 
 use crate::config::Config;
 use behaviour_tree::{Behaviour, standard};
-use running_terms::Term;
-use term_faults::{Decision, decided};
+use session_faults::{Decision, decided};
+use session_forms::Term;
 
 /// What a glance tells of the event of a strand: nothing, that it asks something, or that it changes the store and asks
 /// nothing.

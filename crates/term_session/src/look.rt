@@ -1,21 +1,20 @@
 ghost use Rattle.std.specs.Prelude.{◌≡◌, is_some, IfOk};
 ghost use Rattle.behaviour_tree.specs.View.{behaviour_view};
 ghost use Rattle.behaviour_tree.specs.declared.words.Given.TheVariants as given;
-ghost use Rattle.place_events.specs.Asked as asked;
-ghost use Rattle.calculus.specs.Faults as faults;
-ghost use Rattle.place_events.specs.Seen.{seen_in};
-ghost use Rattle.running_terms.specs.View.{members_view, state_view, term_view};
+ghost use Rattle.session_events.specs.Asked as asked;
+ghost use Rattle.session_calculus.specs.Faults as faults;
+ghost use Rattle.session_events.specs.Seen.{seen_in};
+ghost use Rattle.session_forms.specs.View.{members_view, state_view, term_view};
 ghost use Rattle.term_session.specs.Asks.{asked_of_scope};
 ghost use Rattle.term_session.specs.Looks.{looked_view};
 ghost use Rattle.term_session.specs.Walks as spec;
 
-use answer_events::{failure_told, replied};
 use behaviour_tree::{Behaviour, Need};
-use place_events::{Scene, asked_of, fault_of};
-use place_values::Memory;
-use running_terms::{ScopeState, Strand, Term, boxed};
+use session_events::{Scene, asked_of, failure_told, fault_of, replied};
+use session_faults::place_of;
+use session_forms::{ScopeState, Strand, Term, boxed};
+use session_values::Memory;
 use std::alloc::{AllocError, Global};
-use term_faults::place_of;
 
 /// What looking at a form tells of a strand: it has no event there, or a fault of this name, or its event asks this.
 #[derive(Drop)]

@@ -1,8 +1,8 @@
 ghost use Rattle.std.specs.Prelude.{◌≡◌, option_map, Some, IfOk, MatchOption};
 ghost use Rattle.behaviour_tree.specs.PartsView.{parts_of};
 ghost use Rattle.behaviour_tree.specs.declared.words.Given.{Given};
-ghost use Rattle.calculus.specs.After.{Done as DoneEvent, HasEvent, after};
-ghost use Rattle.term_faults.specs.Decisions.{decision_view};
+ghost use Rattle.session_calculus.specs.After.{Done as DoneEvent, HasEvent, after};
+ghost use Rattle.session_faults.specs.Decisions.{decision_view};
 ghost use Rattle.term_session.specs.Asks as spec;
 ghost use Rattle.term_session.specs.Configs.{config_view};
 
@@ -10,10 +10,10 @@ use crate::config::{Config, outermost};
 use crate::glance::{Glance, foretold};
 use crate::look::{Looked, look};
 use behaviour_tree::Need;
-use place_events::Scene;
-use place_values::Actor;
+use session_events::Scene;
+use session_faults::{Decision, decided};
+use session_values::Actor;
 use std::alloc::{AllocError, Global};
-use term_faults::{Decision, decided};
 
 /// What the event of a strand asks of the office, or none where it has no event.
 #[tactic(auto, using(crate::proofs::Stepping::asked_told))]

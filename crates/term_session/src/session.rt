@@ -2,10 +2,10 @@ ghost use Rattle.std.specs.Prelude.{◌≡◌, ◌<◌, ◌↔◌, ℕ, false, N
 ghost use Rattle.std.specs.List.Sorted.{IsStrictlyIncreasing};
 ghost use Rattle.behaviour_tree.specs.PartsView.{parts_of};
 ghost use Rattle.behaviour_tree.specs.declared.words.Given.{Given as Gift};
-ghost use Rattle.calculus.specs.After.{Done as DoneEvent, HasEvent, after as after_of};
-ghost use Rattle.calculus.specs.Open as held;
-ghost use Rattle.calculus.specs.Ready.{rising};
-ghost use Rattle.calculus.specs.Runs.{start_of};
+ghost use Rattle.session_calculus.specs.After.{Done as DoneEvent, HasEvent, after as after_of};
+ghost use Rattle.session_calculus.specs.Open as held;
+ghost use Rattle.session_calculus.specs.Ready.{rising};
+ghost use Rattle.session_calculus.specs.Runs.{start_of};
 ghost use Rattle.term_session.specs.Sessions.{config_of, service_of};
 ghost use Rattle.term_session.specs.declared.session.StepError.TheVariants.{Memory};
 
@@ -15,8 +15,8 @@ use crate::needed::need_of;
 use crate::step::step;
 use crate::turn::Turn;
 use behaviour_tree::{Event, Given, Need, Numbers, Program, Strands};
-use place_values::Actor;
-use running_terms::{open_requests, waiting};
+use session_forms::{open_requests, waiting};
+use session_values::Actor;
 use std::alloc::{AllocError, Global};
 use thiserror::Error;
 

@@ -1,10 +1,10 @@
 ghost use Rattle.std.specs.Prelude.{◌≡◌, false, IfOk, OnErr};
 ghost use Rattle.std.specs.Arc.{arc_value};
 ghost use Rattle.behaviour_tree.specs.PartsView.{parts_of};
-ghost use Rattle.calculus.specs.After as spec;
-ghost use Rattle.calculus.specs.Throw.{throw};
-ghost use Rattle.running_terms.specs.View.{fault_view, term_view};
-ghost use Rattle.term_faults.specs.Decisions.{decision_view};
+ghost use Rattle.session_calculus.specs.After as spec;
+ghost use Rattle.session_calculus.specs.Throw.{throw};
+ghost use Rattle.session_forms.specs.View.{fault_view, term_view};
+ghost use Rattle.session_faults.specs.Decisions.{decision_view};
 ghost use Rattle.term_session.specs.Configs.{config_view};
 ghost use Rattle.term_session.specs.Raised.{event_of_fault};
 ghost use Rattle.term_session.specs.Steps.{stepped, stepped_by};
@@ -13,10 +13,10 @@ use crate::act::act;
 use crate::config::{Config, outermost};
 use crate::turn::{Turn, Walked};
 use behaviour_tree::{Event, Kind, standard};
-use running_terms::Fault;
+use session_faults::{Decision, carry, decided};
+use session_forms::Fault;
 use std::alloc::{AllocError, Global};
 use std::sync::Arc;
-use term_faults::{Decision, carry, decided};
 
 /// Does the event of a strand, and gives it; none where the strand has none for what the office gave, and then all stays.
 /// Nothing is taken of a session that has ended.

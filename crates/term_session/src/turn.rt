@@ -1,14 +1,14 @@
 ghost use Rattle.std.specs.Prelude.{◌≡◌};
-ghost use Rattle.running_terms.specs.declared.installed.Installed.{Installed as Around};
-ghost use Rattle.place_values.specs.declared.memory.Memory.{Memory as Held};
+ghost use Rattle.session_forms.specs.declared.installed.Installed.{Installed as Around};
+ghost use Rattle.session_values.specs.declared.memory.Memory.{Memory as Held};
 ghost use Rattle.term_session.specs.Turns.{came_to, event_at, walked_view};
-ghost use Rattle.running_terms.specs.View.{term_view};
+ghost use Rattle.session_forms.specs.View.{term_view};
 ghost use Rattle.term_session.specs.declared.turn.Turn.{Turn as Acting};
 
 use behaviour_tree::{Event, Given, Need};
-use place_events::{Acted, Moved};
-use place_values::Actor;
-use running_terms::{Fault, Term};
+use session_events::{Acted, Moved};
+use session_forms::{Fault, Term};
+use session_values::Actor;
 use std::sync::Arc;
 
 /// A turn of a strand: who acts, and what the office gave for the event.

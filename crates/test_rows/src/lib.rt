@@ -27,18 +27,17 @@
 //! - A field that a row lacks is that of its group.
 //! - Lines of another form mean nothing.
 //!
-//! A program reads the tables that its command line names by `tables`, takes their `rows`, asks each row for its fields, and
-//! tells a `Report` what it has and what was expected. Its `args` names the files of its `data/`, and its `stdout` has the line
-//! `GROUP NAME: as expected` for each row and a last line with the count.
+//! A program hands `run` what a row expects and what it gives, both read of the row's fields. Its `args` names the files of its
+//! `data/`, and its `stdout` has the line `GROUP NAME: as expected` for each row and a last line with the count.
 #![tactic(auto)]
 
 mod error;
 mod field;
 mod files;
+mod program;
 mod report;
 mod row;
 
 pub use error::TableError;
-pub use files::tables;
-pub use report::Report;
-pub use row::{Row, rows};
+pub use program::run;
+pub use row::Row;

@@ -6,10 +6,11 @@ use Rattle.correlation.proofs.keys.search.Given as goal
 abbrev pub invariant-loop-window : goal.invariant-loop-window
 invariant-loop-window g l = record {
   rising : is_rising l.window ≡ true;
-  place : searched l.values l.fn.rows ≡ moved l.before (searched l.values l.window);
+  place : searched l.initial.sought.values l.fn.rows ≡ moved l.before (searched l.initial.sought.values l.window);
   within : l.before + length l.window ≤ length l.fn.rows;
-  counted : l.initial.steps ≤ l.steps;
-  cost : doubled (l.steps - l.initial.steps) (weight (length l.window)) ≤ weight (length l.fn.rows);
+  same : l.sought.values ≡ l.initial.sought.values;
+  counted : l.initial.sought.steps ≤ l.sought.steps;
+  cost : doubled (l.sought.steps - l.initial.sought.steps) (weight (length l.window)) ≤ weight (length l.fn.rows);
 }
 
 abbrev pub decreases-loop-window : goal.decreases-loop-window

@@ -1,5 +1,5 @@
 use Rattle.std.proofs.Common.{◌≡◌, IfOk, ap, subst, ◌∙◌}
-use Rattle.file_notes.specs.Notes.{notes_of}
+use Rattle.explain_notes.specs.Notes.{notes_of}
 use Rattle.explain_text.specs.Noted.{noted_text}
 use Rattle.explain_text.proofs.notes.notes_on.Goals as goal
 

@@ -1,5 +1,5 @@
 use Rattle.std.specs.Prelude.{codes}
-use Rattle.program_mentions.proofs.Lists.{turn_of}
+use Rattle.explain_notes.proofs.Lists.{turn_of}
 use Rattle.explain_text.specs.Noted.{note_lines}
 use Rattle.explain_text.proofs.notes.with_notes.Goals as goal
 

@@ -1,6 +1,6 @@
 use Rattle.std.proofs.Common.{◌≡◌, map, take}
 use Rattle.behaviour_tree.specs.View.{behaviour_view, branch_view}
-use Rattle.calculus.specs.Tables.{filled}
+use Rattle.session_calculus.specs.Tables.{filled}
 use Rattle.handler_table.specs.Filled.{filled_branch, former_of}
 use Rattle.handler_table.proofs.fill.+filled.Given as goal
 

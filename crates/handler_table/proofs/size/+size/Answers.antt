@@ -2,7 +2,7 @@ use Rattle.std.proofs.Common.{[], ◌∷◌, ◌++◌, map, take, sym, ap, ◌�
 use Rattle.std.proofs.lemmas.List.{take_all}
 use Rattle.behaviour_tree.specs.declared.behaviour.Handler.{out-Handler}
 use Rattle.behaviour_tree.specs.View.{behaviour_view, branch_view, branches_of, handler_view, handlers_of, procs_of}
-use Rattle.calculus.specs.Tables.{filled, filled_all, filled_branches}
+use Rattle.session_calculus.specs.Tables.{filled, filled_all, filled_branches}
 use Rattle.handler_table.specs.Filled.{former_of}
 use Rattle.handler_table.specs.Sizes as spec
 use Rattle.handler_table.proofs.Sums.{all_more, branches_more, handlers_more}

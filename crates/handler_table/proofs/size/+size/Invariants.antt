@@ -1,6 +1,6 @@
 use Rattle.std.proofs.Common.{◌≡◌, map, take}
 use Rattle.behaviour_tree.specs.View.{behaviour_view, branch_view, branches_of, handler_view, handlers_of, procs_of}
-use Rattle.calculus.specs.Tables.{filled_all, filled_branches}
+use Rattle.session_calculus.specs.Tables.{filled_all, filled_branches}
 use Rattle.handler_table.specs.Filled.{former_of}
 use Rattle.handler_table.specs.Sizes as spec
 use Rattle.handler_table.proofs.size.+size.Given as goal

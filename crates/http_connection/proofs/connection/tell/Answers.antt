@@ -15,5 +15,4 @@ answer_with-requires g c = owes_where c.args.kept.now.next c.in-Some.close (sym 
 
 pub returns-in-None-clause-wrote : goal.returns-in-None-clause-wrote
 returns-in-None-clause-wrote g c =
-    let calls = g.W.Wire.calls in
-    writes_nothing (calls c.args.wire.now) (calls c.args.wire.now) c.args.kept.now.written.items c.args.kept.now.written.items refl refl
+    writes_nothing (g.W.Wire.told c.args.wire.now).calls (g.W.Wire.told c.args.wire.now).calls c.args.kept.now.written.items c.args.kept.now.written.items refl refl

@@ -6,13 +6,14 @@ use Rattle.http_connection.proofs.sending.write_all.Given as goal
 abbrev pub invariant-loop-done : goal.invariant-loop-done
 invariant-loop-done g l = record {
   within : l.done ≤ length l.bytes;
-  written : Appends (g.W.Wire.taken l.fn.wire) (g.W.Wire.taken l.wire) (take l.done l.bytes);
-  called : IsWritten (g.W.Wire.calls l.fn.wire) (g.W.Wire.calls l.wire) (take l.done l.bytes) true;
-  lost : g.W.Wire.lost l.wire ≡ g.W.Wire.lost l.fn.wire;
-  cut : g.W.Wire.cut l.wire ≡ g.W.Wire.cut l.fn.wire;
-  given : g.W.Wire.given l.wire ≡ g.W.Wire.given l.fn.wire;
-  left : g.W.Wire.left l.wire ≡ g.W.Wire.left l.fn.wire;
-  closed : g.W.Wire.closed l.wire ≡ g.W.Wire.closed l.fn.wire;
+  written : Appends (g.W.Wire.told l.fn.wire).written (g.W.Wire.told l.wire).written (take l.done l.bytes);
+  called : IsWritten (g.W.Wire.told l.fn.wire).calls (g.W.Wire.told l.wire).calls (take l.done l.bytes) true;
+  lost : (g.W.Wire.told l.wire).read_failed ≡ (g.W.Wire.told l.fn.wire).read_failed;
+  cut : (g.W.Wire.told l.wire).write_failed ≡ (g.W.Wire.told l.fn.wire).write_failed;
+  given : (g.W.Wire.told l.wire).read ≡ (g.W.Wire.told l.fn.wire).read;
+  left : (g.W.Wire.told l.wire).unread ≡ (g.W.Wire.told l.fn.wire).unread;
+  closed : (g.W.Wire.told l.wire).closed ≡ (g.W.Wire.told l.fn.wire).closed;
+  door : (g.W.Wire.told l.wire).door ≡ (g.W.Wire.told l.fn.wire).door;
 }
 
 abbrev pub decreases-loop-done : goal.decreases-loop-done

@@ -1,6 +1,6 @@
 -- What the reader gives is taken up.
 use Rattle.std.proofs.Common.{refl, sym, ◌∙◌, subst}
-use Rattle.http_connection.specs.Seen.{failures_of, line_of, seen}
+use Rattle.http_connection.specs.Seen.{seen}
 use Rattle.http_connection.specs.Steps.{IsFed}
 use Rattle.http_connection.proofs.Passing.{carried_on, spent_talks, fed_now, interim_fed}
 use Rattle.http_connection.proofs.Calls.{writes_alike, writes_nothing}
@@ -8,16 +8,16 @@ use Rattle.http_connection.proofs.turn.go_on.Goals as goal
 
 pub returns-in_err-fed-clause-talks : goal.returns-in_err-fed-clause-talks
 returns-in_err-fed-clause-talks g c = λ first bodies texts h.
-    let was = seen c.args.kept.now (line_of (g.W.Wire.given c.args.wire.now) (g.W.Wire.left c.args.wire.now) (g.W.Wire.taken c.args.wire.now) (failures_of (g.W.Wire.lost c.args.wire.now) (g.W.Wire.cut c.args.wire.now)) (g.W.Wire.closed c.args.wire.now)) in
-    let now = seen c.feed.new.self (line_of (g.W.Wire.given c.args.wire.now) (g.W.Wire.left c.args.wire.now) (g.W.Wire.taken c.args.wire.now) (failures_of (g.W.Wire.lost c.args.wire.now) (g.W.Wire.cut c.args.wire.now)) (g.W.Wire.closed c.args.wire.now)) in
+    let was = seen c.args.kept.now (g.W.Wire.told c.args.wire.now) in
+    let now = seen c.feed.new.self (g.W.Wire.told c.args.wire.now) in
     spent_talks first now bodies texts
     (carried_on first was now h.carried (record { line = refl; read = c.in_err-fed.ensures.read; written = c.in_err-fed.ensures.written }))
     (c.in_err-fed.ensures.next ∙ c.requires)
 
 pub returns-then-is_interim-clause-talks : goal.returns-then-is_interim-clause-talks
 returns-then-is_interim-clause-talks g c = λ first bodies texts h.
-    let was = seen c.args.kept.now (line_of (g.W.Wire.given c.args.wire.now) (g.W.Wire.left c.args.wire.now) (g.W.Wire.taken c.args.wire.now) (failures_of (g.W.Wire.lost c.args.wire.now) (g.W.Wire.cut c.args.wire.now)) (g.W.Wire.closed c.args.wire.now)) in
-    let now = seen c.feed.new.self (line_of (g.W.Wire.given c.args.wire.now) (g.W.Wire.left c.args.wire.now) (g.W.Wire.taken c.args.wire.now) (failures_of (g.W.Wire.lost c.args.wire.now) (g.W.Wire.cut c.args.wire.now)) (g.W.Wire.closed c.args.wire.now)) in
+    let was = seen c.args.kept.now (g.W.Wire.told c.args.wire.now) in
+    let now = seen c.feed.new.self (g.W.Wire.told c.args.wire.now) in
     c.invite.ensures.talks first bodies texts
     (subst (λ f. IsFed first now f bodies texts) (interim_fed c.in_ok-fed.fed (sym c.is_interim.ensures ∙ c.if-is_interim.true))
     (fed_now first was now c.args.piece.now c.in_ok-fed.fed bodies texts h
@@ -25,25 +25,22 @@ returns-then-is_interim-clause-talks g c = λ first bodies texts h.
 
 pub returns-clause-talks : goal.returns-clause-talks
 returns-clause-talks g c = λ first bodies texts h.
-    let was = seen c.args.kept.now (line_of (g.W.Wire.given c.args.wire.now) (g.W.Wire.left c.args.wire.now) (g.W.Wire.taken c.args.wire.now) (failures_of (g.W.Wire.lost c.args.wire.now) (g.W.Wire.cut c.args.wire.now)) (g.W.Wire.closed c.args.wire.now)) in
-    let now = seen c.feed.new.self (line_of (g.W.Wire.given c.args.wire.now) (g.W.Wire.left c.args.wire.now) (g.W.Wire.taken c.args.wire.now) (failures_of (g.W.Wire.lost c.args.wire.now) (g.W.Wire.cut c.args.wire.now)) (g.W.Wire.closed c.args.wire.now)) in
+    let was = seen c.args.kept.now (g.W.Wire.told c.args.wire.now) in
+    let now = seen c.feed.new.self (g.W.Wire.told c.args.wire.now) in
     c.take_up.ensures.talks first bodies texts
     (fed_now first was now c.args.piece.now c.in_ok-fed.fed bodies texts h
     (record { line = refl; read = c.in_ok-fed.ensures.read; written = c.in_ok-fed.ensures.written }) c.in_ok-fed.ensures.gives)
 
 pub returns-in_err-fed-clause-wrote : goal.returns-in_err-fed-clause-wrote
 returns-in_err-fed-clause-wrote g c =
-    let calls = g.W.Wire.calls in
-    writes_nothing (calls c.args.wire.now) (calls c.args.wire.now) c.args.kept.now.written.items c.feed.new.self.written.items refl c.in_err-fed.ensures.written
+    writes_nothing (g.W.Wire.told c.args.wire.now).calls (g.W.Wire.told c.args.wire.now).calls c.args.kept.now.written.items c.feed.new.self.written.items refl c.in_err-fed.ensures.written
 
 pub returns-then-is_interim-clause-wrote : goal.returns-then-is_interim-clause-wrote
 returns-then-is_interim-clause-wrote g c =
-    let calls = g.W.Wire.calls in
     let w = c.invite.new.kept.written.items in
-    writes_alike (calls c.args.wire.now) (calls c.invite.new.wire) c.feed.new.self.written.items w c.args.kept.now.written.items w c.invite.ensures.wrote (sym c.in_ok-fed.ensures.written) refl
+    writes_alike (g.W.Wire.told c.args.wire.now).calls (g.W.Wire.told c.invite.new.wire).calls c.feed.new.self.written.items w c.args.kept.now.written.items w c.invite.ensures.wrote (sym c.in_ok-fed.ensures.written) refl
 
 pub returns-clause-wrote : goal.returns-clause-wrote
 returns-clause-wrote g c =
-    let calls = g.W.Wire.calls in
     let w = c.take_up.new.kept.written.items in
-    writes_alike (calls c.args.wire.now) (calls c.take_up.new.wire) c.feed.new.self.written.items w c.args.kept.now.written.items w c.take_up.ensures.wrote (sym c.in_ok-fed.ensures.written) refl
+    writes_alike (g.W.Wire.told c.args.wire.now).calls (g.W.Wire.told c.take_up.new.wire).calls c.feed.new.self.written.items w c.args.kept.now.written.items w c.take_up.ensures.wrote (sym c.in_ok-fed.ensures.written) refl

@@ -2,7 +2,7 @@
 use Rattle.std.proofs.Common.{refl, ap, ◌∙◌, [], None, subst}
 use Rattle.http_port.specs.Responses.{interim}
 use Rattle.http_port.specs.declared.head_reader.Fed.TheVariants.{Interim}
-use Rattle.http_connection.specs.Seen.{failures_of, line_of, seen}
+use Rattle.http_connection.specs.Seen.{seen}
 use Rattle.http_connection.specs.Steps.{Sends}
 use Rattle.http_connection.proofs.Passing.{carried_on, spent_talks, untold, sent_failing, invited_on, fed_now}
 use Rattle.http_connection.proofs.Calls.{writes_alike, writes_on}
@@ -10,11 +10,11 @@ use Rattle.http_connection.proofs.turn.invite.Goals as goal
 
 pub returns-in_err-cut-clause-talks : goal.returns-in_err-cut-clause-talks
 returns-in_err-cut-clause-talks g c = λ first bodies texts h.
-    let was = seen c.args.kept.now (line_of (g.W.Wire.given c.args.wire.now) (g.W.Wire.left c.args.wire.now) (g.W.Wire.taken c.args.wire.now) (failures_of (g.W.Wire.lost c.args.wire.now) (g.W.Wire.cut c.args.wire.now)) (g.W.Wire.closed c.args.wire.now)) in
-    let now = seen c.send.new.kept (line_of (g.W.Wire.given c.send.new.wire) (g.W.Wire.left c.send.new.wire) (g.W.Wire.taken c.send.new.wire) (failures_of (g.W.Wire.lost c.send.new.wire) (g.W.Wire.cut c.send.new.wire)) (g.W.Wire.closed c.send.new.wire)) in
+    let was = seen c.args.kept.now (g.W.Wire.told c.args.wire.now) in
+    let now = seen c.send.new.kept (g.W.Wire.told c.send.new.wire) in
     spent_talks first now bodies texts
     (carried_on first was now h.carried (record {
-      line = ap (λ w. line_of (g.W.Wire.given w) (g.W.Wire.left w) (g.W.Wire.taken w) (failures_of (g.W.Wire.lost w) (g.W.Wire.cut w)) (g.W.Wire.closed w)) c.in_err-cut.ensures.sends.1;
+      line = ap (λ w. g.W.Wire.told w) c.in_err-cut.ensures.sends.1;
       read = c.in_err-cut.ensures.sends.0.read;
       written = c.in_err-cut.ensures.sends.0.written;
     }))
@@ -22,17 +22,17 @@ returns-in_err-cut-clause-talks g c = λ first bodies texts h.
 
 pub returns-then-cut-clause-talks : goal.returns-then-cut-clause-talks
 returns-then-cut-clause-talks g c = λ first bodies texts h.
-    let was = seen c.args.kept.now (line_of (g.W.Wire.given c.args.wire.now) (g.W.Wire.left c.args.wire.now) (g.W.Wire.taken c.args.wire.now) (failures_of (g.W.Wire.lost c.args.wire.now) (g.W.Wire.cut c.args.wire.now)) (g.W.Wire.closed c.args.wire.now)) in
-    let mid = seen c.send.new.kept (line_of (g.W.Wire.given c.send.new.wire) (g.W.Wire.left c.send.new.wire) (g.W.Wire.taken c.send.new.wire) (failures_of (g.W.Wire.lost c.send.new.wire) (g.W.Wire.cut c.send.new.wire)) (g.W.Wire.closed c.send.new.wire)) in
-    let now = seen c.finish.new.kept (line_of (g.W.Wire.given c.finish.new.wire) (g.W.Wire.left c.finish.new.wire) (g.W.Wire.taken c.finish.new.wire) (failures_of (g.W.Wire.lost c.finish.new.wire) (g.W.Wire.cut c.finish.new.wire)) (g.W.Wire.closed c.finish.new.wire)) in
+    let was = seen c.args.kept.now (g.W.Wire.told c.args.wire.now) in
+    let mid = seen c.send.new.kept (g.W.Wire.told c.send.new.wire) in
+    let now = seen c.finish.new.kept (g.W.Wire.told c.finish.new.wire) in
     untold first now bodies texts
     (sent_failing first was mid now Interim None bodies texts h (subst (λ cut. Sends interim cut was mid) c.if-cut.true c.in_ok-cut.ensures.sends) c.finish.ensures.finishes)
 
 pub returns-in_err-fed-clause-talks : goal.returns-in_err-fed-clause-talks
 returns-in_err-fed-clause-talks g c = λ first bodies texts h.
-    let was = seen c.args.kept.now (line_of (g.W.Wire.given c.args.wire.now) (g.W.Wire.left c.args.wire.now) (g.W.Wire.taken c.args.wire.now) (failures_of (g.W.Wire.lost c.args.wire.now) (g.W.Wire.cut c.args.wire.now)) (g.W.Wire.closed c.args.wire.now)) in
-    let mid = seen c.send.new.kept (line_of (g.W.Wire.given c.send.new.wire) (g.W.Wire.left c.send.new.wire) (g.W.Wire.taken c.send.new.wire) (failures_of (g.W.Wire.lost c.send.new.wire) (g.W.Wire.cut c.send.new.wire)) (g.W.Wire.closed c.send.new.wire)) in
-    let now = seen c.feed.new.self (line_of (g.W.Wire.given c.send.new.wire) (g.W.Wire.left c.send.new.wire) (g.W.Wire.taken c.send.new.wire) (failures_of (g.W.Wire.lost c.send.new.wire) (g.W.Wire.cut c.send.new.wire)) (g.W.Wire.closed c.send.new.wire)) in
+    let was = seen c.args.kept.now (g.W.Wire.told c.args.wire.now) in
+    let mid = seen c.send.new.kept (g.W.Wire.told c.send.new.wire) in
+    let now = seen c.feed.new.self (g.W.Wire.told c.send.new.wire) in
     let sent = subst (λ cut. Sends interim cut was mid) c.if-cut.false c.in_ok-cut.ensures.sends in
     let going = invited_on first was mid bodies texts h sent in
     spent_talks first now bodies texts
@@ -41,9 +41,9 @@ returns-in_err-fed-clause-talks g c = λ first bodies texts h.
 
 pub returns-then-is_interim-clause-talks : goal.returns-then-is_interim-clause-talks
 returns-then-is_interim-clause-talks g c = λ first bodies texts h.
-    let was = seen c.args.kept.now (line_of (g.W.Wire.given c.args.wire.now) (g.W.Wire.left c.args.wire.now) (g.W.Wire.taken c.args.wire.now) (failures_of (g.W.Wire.lost c.args.wire.now) (g.W.Wire.cut c.args.wire.now)) (g.W.Wire.closed c.args.wire.now)) in
-    let mid = seen c.send.new.kept (line_of (g.W.Wire.given c.send.new.wire) (g.W.Wire.left c.send.new.wire) (g.W.Wire.taken c.send.new.wire) (failures_of (g.W.Wire.lost c.send.new.wire) (g.W.Wire.cut c.send.new.wire)) (g.W.Wire.closed c.send.new.wire)) in
-    let now = seen c.feed.new.self (line_of (g.W.Wire.given c.send.new.wire) (g.W.Wire.left c.send.new.wire) (g.W.Wire.taken c.send.new.wire) (failures_of (g.W.Wire.lost c.send.new.wire) (g.W.Wire.cut c.send.new.wire)) (g.W.Wire.closed c.send.new.wire)) in
+    let was = seen c.args.kept.now (g.W.Wire.told c.args.wire.now) in
+    let mid = seen c.send.new.kept (g.W.Wire.told c.send.new.wire) in
+    let now = seen c.feed.new.self (g.W.Wire.told c.send.new.wire) in
     let sent = subst (λ cut. Sends interim cut was mid) c.if-cut.false c.in_ok-cut.ensures.sends in
     let going = invited_on first was mid bodies texts h sent in
     spent_talks first now bodies texts
@@ -52,9 +52,9 @@ returns-then-is_interim-clause-talks g c = λ first bodies texts h.
 
 pub returns-clause-talks : goal.returns-clause-talks
 returns-clause-talks g c = λ first bodies texts h.
-    let was = seen c.args.kept.now (line_of (g.W.Wire.given c.args.wire.now) (g.W.Wire.left c.args.wire.now) (g.W.Wire.taken c.args.wire.now) (failures_of (g.W.Wire.lost c.args.wire.now) (g.W.Wire.cut c.args.wire.now)) (g.W.Wire.closed c.args.wire.now)) in
-    let mid = seen c.send.new.kept (line_of (g.W.Wire.given c.send.new.wire) (g.W.Wire.left c.send.new.wire) (g.W.Wire.taken c.send.new.wire) (failures_of (g.W.Wire.lost c.send.new.wire) (g.W.Wire.cut c.send.new.wire)) (g.W.Wire.closed c.send.new.wire)) in
-    let now = seen c.feed.new.self (line_of (g.W.Wire.given c.send.new.wire) (g.W.Wire.left c.send.new.wire) (g.W.Wire.taken c.send.new.wire) (failures_of (g.W.Wire.lost c.send.new.wire) (g.W.Wire.cut c.send.new.wire)) (g.W.Wire.closed c.send.new.wire)) in
+    let was = seen c.args.kept.now (g.W.Wire.told c.args.wire.now) in
+    let mid = seen c.send.new.kept (g.W.Wire.told c.send.new.wire) in
+    let now = seen c.feed.new.self (g.W.Wire.told c.send.new.wire) in
     let sent = subst (λ cut. Sends interim cut was mid) c.if-cut.false c.in_ok-cut.ensures.sends in
     c.take_up.ensures.talks first bodies texts
     (fed_now first mid now [] c.in_ok-fed.fed bodies texts (invited_on first was mid bodies texts h sent)
@@ -62,22 +62,18 @@ returns-clause-talks g c = λ first bodies texts h.
 
 pub returns-then-cut-clause-wrote : goal.returns-then-cut-clause-wrote
 returns-then-cut-clause-wrote g c =
-    let calls = g.W.Wire.calls in
-    writes_on (calls c.args.wire.now) (calls c.send.new.wire) (calls c.finish.new.wire) c.args.kept.now.written.items c.send.new.kept.written.items c.finish.new.kept.written.items
+    writes_on (g.W.Wire.told c.args.wire.now).calls (g.W.Wire.told c.send.new.wire).calls (g.W.Wire.told c.finish.new.wire).calls c.args.kept.now.written.items c.send.new.kept.written.items c.finish.new.kept.written.items
     c.in_ok-cut.ensures.wrote c.finish.ensures.wrote
 
 pub returns-in_err-fed-clause-wrote : goal.returns-in_err-fed-clause-wrote
 returns-in_err-fed-clause-wrote g c =
-    let calls = g.W.Wire.calls in
-    writes_alike (calls c.args.wire.now) (calls c.send.new.wire) c.args.kept.now.written.items c.send.new.kept.written.items c.args.kept.now.written.items c.feed.new.self.written.items c.in_ok-cut.ensures.wrote refl c.in_err-fed.ensures.written
+    writes_alike (g.W.Wire.told c.args.wire.now).calls (g.W.Wire.told c.send.new.wire).calls c.args.kept.now.written.items c.send.new.kept.written.items c.args.kept.now.written.items c.feed.new.self.written.items c.in_ok-cut.ensures.wrote refl c.in_err-fed.ensures.written
 
 pub returns-then-is_interim-clause-wrote : goal.returns-then-is_interim-clause-wrote
 returns-then-is_interim-clause-wrote g c =
-    let calls = g.W.Wire.calls in
-    writes_alike (calls c.args.wire.now) (calls c.send.new.wire) c.args.kept.now.written.items c.send.new.kept.written.items c.args.kept.now.written.items c.feed.new.self.written.items c.in_ok-cut.ensures.wrote refl c.in_ok-fed.ensures.written
+    writes_alike (g.W.Wire.told c.args.wire.now).calls (g.W.Wire.told c.send.new.wire).calls c.args.kept.now.written.items c.send.new.kept.written.items c.args.kept.now.written.items c.feed.new.self.written.items c.in_ok-cut.ensures.wrote refl c.in_ok-fed.ensures.written
 
 pub returns-clause-wrote : goal.returns-clause-wrote
 returns-clause-wrote g c =
-    let calls = g.W.Wire.calls in
-    writes_on (calls c.args.wire.now) (calls c.send.new.wire) (calls c.take_up.new.wire) c.args.kept.now.written.items c.feed.new.self.written.items c.take_up.new.kept.written.items
-    (writes_alike (calls c.args.wire.now) (calls c.send.new.wire) c.args.kept.now.written.items c.send.new.kept.written.items c.args.kept.now.written.items c.feed.new.self.written.items c.in_ok-cut.ensures.wrote refl c.in_ok-fed.ensures.written) c.take_up.ensures.wrote
+    writes_on (g.W.Wire.told c.args.wire.now).calls (g.W.Wire.told c.send.new.wire).calls (g.W.Wire.told c.take_up.new.wire).calls c.args.kept.now.written.items c.feed.new.self.written.items c.take_up.new.kept.written.items
+    (writes_alike (g.W.Wire.told c.args.wire.now).calls (g.W.Wire.told c.send.new.wire).calls c.args.kept.now.written.items c.send.new.kept.written.items c.args.kept.now.written.items c.feed.new.self.written.items c.in_ok-cut.ensures.wrote refl c.in_ok-fed.ensures.written) c.take_up.ensures.wrote

@@ -1,12 +1,12 @@
 -- What a read brings is carried along.
-use Rattle.std.proofs.Common.{rules, ◌≡◌, refl, ◌∙◌, ap₂, subst, [], ◌∷◌, take}
+use Rattle.std.proofs.Common.{rules, ◌≡◌, refl, ◌∙◌, subst, [], ◌∷◌, take}
 use Rattle.std.specs.Io.KnownBytes.{Appends, Consumes}
 use Rattle.outside_traits.specs.Told.{Lists}
 use Rattle.outside_traits.specs.declared.calls.WireCall.TheVariants.{Read}
 use Rattle.http_connection.specs.Talking.{log}
 use Rattle.http_connection.specs.Stages.{stage_of, IsBehindTelling}
 use Rattle.http_connection.specs.declared.stage.Standing.TheVariants as Stands
-use Rattle.http_connection.specs.Seen.{failures_of, line_of, seen}
+use Rattle.http_connection.specs.Seen.{seen}
 use Rattle.http_connection.proofs.Passing.{waiting_spent, waiting_fed, read_going, read_ended, read_failed, err_only}
 use Rattle.http_connection.proofs.Words.{done_so}
 use Rattle.http_connection.proofs.Ends.{spent_unended, failed_unended, going_unended, read_tells}
@@ -15,22 +15,23 @@ use Rattle.http_connection.proofs.turn.read_on.Goals as goal
 
 pub returns-in_err-reserve-clause-talks : goal.returns-in_err-reserve-clause-talks
 returns-in_err-reserve-clause-talks g c = λ first bodies texts h.
-    waiting_spent first (seen c.args.kept.now (line_of (g.W.Wire.given c.args.wire.now) (g.W.Wire.left c.args.wire.now) (g.W.Wire.taken c.args.wire.now) (failures_of (g.W.Wire.lost c.args.wire.now) (g.W.Wire.cut c.args.wire.now)) (g.W.Wire.closed c.args.wire.now)))
-    (seen (record c.stand.new.self { read = c.reserve.new.self }) (line_of (g.W.Wire.given c.args.wire.now) (g.W.Wire.left c.args.wire.now) (g.W.Wire.taken c.args.wire.now) (failures_of (g.W.Wire.lost c.args.wire.now) (g.W.Wire.cut c.args.wire.now)) (g.W.Wire.closed c.args.wire.now))) bodies texts h c.requires
+    waiting_spent first (seen c.args.kept.now (g.W.Wire.told c.args.wire.now))
+    (seen (record c.stand.new.self { read = c.reserve.new.self }) (g.W.Wire.told c.args.wire.now)) bodies texts h c.requires
     (record { line = refl; read = c.in_err-reserve.ensures.items ∙ c.stand.ensures.read; written = c.stand.ensures.written }) c.stand.ensures.next
 
 pub returns-in-Ok-eq0-clause-talks : goal.returns-in-Ok-eq0-clause-talks
 returns-in-Ok-eq0-clause-talks g c = λ first bodies texts h.
-    let was = seen c.args.kept.now (line_of (g.W.Wire.given c.args.wire.now) (g.W.Wire.left c.args.wire.now) (g.W.Wire.taken c.args.wire.now) (failures_of (g.W.Wire.lost c.args.wire.now) (g.W.Wire.cut c.args.wire.now)) (g.W.Wire.closed c.args.wire.now)) in
-    let mid = seen (record c.stand.new.self { read = c.reserve.new.self }) (line_of (g.W.Wire.given c.read.new.self) (g.W.Wire.left c.read.new.self) (g.W.Wire.taken c.read.new.self) (failures_of (g.W.Wire.lost c.read.new.self) (g.W.Wire.cut c.read.new.self)) (g.W.Wire.closed c.read.new.self)) in
-    let now = seen c.finish.new.kept (line_of (g.W.Wire.given c.finish.new.wire) (g.W.Wire.left c.finish.new.wire) (g.W.Wire.taken c.finish.new.wire) (failures_of (g.W.Wire.lost c.finish.new.wire) (g.W.Wire.cut c.finish.new.wire)) (g.W.Wire.closed c.finish.new.wire)) in
+    let was = seen c.args.kept.now (g.W.Wire.told c.args.wire.now) in
+    let mid = seen (record c.stand.new.self { read = c.reserve.new.self }) (g.W.Wire.told c.read.new.self) in
+    let now = seen c.finish.new.kept (g.W.Wire.told c.finish.new.wire) in
     read_ended first was mid now bodies texts (waiting_fed first was bodies texts h c.requires)
     (record {
-      given = subst (λ n. Appends was.line.given mid.line.given (take n c.read.new.into)) c.in-Ok-eq0.field-0-test c.in-Ok-eq0.ensures.given;
-      left = subst (λ n. Consumes was.line.left mid.line.left (take n c.read.new.into)) c.in-Ok-eq0.field-0-test c.in-Ok-eq0.ensures.bytes.0;
-      taken = c.in-Ok-eq0.ensures.taken;
-      failures = ap₂ failures_of c.in-Ok-eq0.ensures.lost c.in-Ok-eq0.ensures.cut;
+      given = subst (λ n. Appends was.line.read mid.line.read (take n c.read.new.into)) c.in-Ok-eq0.field-0-test c.in-Ok-eq0.ensures.read;
+      left = subst (λ n. Consumes was.line.unread mid.line.unread (take n c.read.new.into)) c.in-Ok-eq0.field-0-test c.in-Ok-eq0.ensures.bytes.0;
+      taken = c.in-Ok-eq0.ensures.written;
+      failures = λ i. record { read_failed = c.in-Ok-eq0.ensures.read_failed i; write_failed = c.in-Ok-eq0.ensures.write_failed i };
       closed = c.in-Ok-eq0.ensures.closed;
+      door = c.in-Ok-eq0.ensures.door;
       read = search rules;
       written = c.stand.ensures.written;
       reader = c.stand.ensures.reader;
@@ -40,17 +41,18 @@ returns-in-Ok-eq0-clause-talks g c = λ first bodies texts h.
 
 pub returns-in-Ok-clause-talks : goal.returns-in-Ok-clause-talks
 returns-in-Ok-clause-talks g c = λ first bodies texts h.
-    let was = seen c.args.kept.now (line_of (g.W.Wire.given c.args.wire.now) (g.W.Wire.left c.args.wire.now) (g.W.Wire.taken c.args.wire.now) (failures_of (g.W.Wire.lost c.args.wire.now) (g.W.Wire.cut c.args.wire.now)) (g.W.Wire.closed c.args.wire.now)) in
-    let mid = seen (record c.stand.new.self { read = c.extend_from_slice.new.self }) (line_of (g.W.Wire.given c.read.new.self) (g.W.Wire.left c.read.new.self) (g.W.Wire.taken c.read.new.self) (failures_of (g.W.Wire.lost c.read.new.self) (g.W.Wire.cut c.read.new.self)) (g.W.Wire.closed c.read.new.self)) in
+    let was = seen c.args.kept.now (g.W.Wire.told c.args.wire.now) in
+    let mid = seen (record c.stand.new.self { read = c.extend_from_slice.new.self }) (g.W.Wire.told c.read.new.self) in
     let piece = take c.in-Ok.count c.read.new.into in
     c.go_on.ensures.talks first bodies texts
     (read_going first was mid piece bodies texts (waiting_fed first was bodies texts h c.requires)
     (record {
-      given = c.in-Ok.ensures.given;
+      given = c.in-Ok.ensures.read;
       left = c.in-Ok.ensures.bytes.0;
-      taken = c.in-Ok.ensures.taken;
-      failures = ap₂ failures_of c.in-Ok.ensures.lost c.in-Ok.ensures.cut;
+      taken = c.in-Ok.ensures.written;
+      failures = λ i. record { read_failed = c.in-Ok.ensures.read_failed i; write_failed = c.in-Ok.ensures.write_failed i };
       closed = c.in-Ok.ensures.closed;
+      door = c.in-Ok.ensures.door;
       read = search rules;
       written = c.stand.ensures.written;
       reader = c.stand.ensures.reader;
@@ -58,16 +60,17 @@ returns-in-Ok-clause-talks g c = λ first bodies texts h.
 
 pub returns-in-Err-clause-talks : goal.returns-in-Err-clause-talks
 returns-in-Err-clause-talks g c = λ first bodies texts h.
-    let was = seen c.args.kept.now (line_of (g.W.Wire.given c.args.wire.now) (g.W.Wire.left c.args.wire.now) (g.W.Wire.taken c.args.wire.now) (failures_of (g.W.Wire.lost c.args.wire.now) (g.W.Wire.cut c.args.wire.now)) (g.W.Wire.closed c.args.wire.now)) in
-    let mid = seen (record c.stand.new.self { read = c.reserve.new.self }) (line_of (g.W.Wire.given c.read.new.self) (g.W.Wire.left c.read.new.self) (g.W.Wire.taken c.read.new.self) (failures_of (g.W.Wire.lost c.read.new.self) (g.W.Wire.cut c.read.new.self)) (g.W.Wire.closed c.read.new.self)) in
-    let now = seen c.finish-in-Err.new.kept (line_of (g.W.Wire.given c.finish-in-Err.new.wire) (g.W.Wire.left c.finish-in-Err.new.wire) (g.W.Wire.taken c.finish-in-Err.new.wire) (failures_of (g.W.Wire.lost c.finish-in-Err.new.wire) (g.W.Wire.cut c.finish-in-Err.new.wire)) (g.W.Wire.closed c.finish-in-Err.new.wire)) in
+    let was = seen c.args.kept.now (g.W.Wire.told c.args.wire.now) in
+    let mid = seen (record c.stand.new.self { read = c.reserve.new.self }) (g.W.Wire.told c.read.new.self) in
+    let now = seen c.finish-in-Err.new.kept (g.W.Wire.told c.finish-in-Err.new.wire) in
     read_failed first was mid now bodies texts (waiting_fed first was bodies texts h c.requires)
     (record {
-      given = c.in-Err.ensures.given;
+      given = c.in-Err.ensures.read;
       left = c.in-Err.ensures.bytes;
-      taken = c.in-Err.ensures.taken;
-      lost = c.in-Err.ensures.lost;
-      uncut = c.in-Err.ensures.cut;
+      taken = c.in-Err.ensures.written;
+      lost = c.in-Err.ensures.read_failed;
+      uncut = c.in-Err.ensures.write_failed;
+      door = c.in-Err.ensures.door;
       read = search rules;
       written = c.stand.ensures.written;
       reader = c.stand.ensures.reader;
@@ -79,49 +82,44 @@ returns-in-Ok-clause-next g c = err_only c.go_on.result (λ _. IsBehindTelling (
 
 pub returns-in_err-reserve-clause-called : goal.returns-in_err-reserve-clause-called
 returns-in_err-reserve-clause-called g c = λ first bodies texts h.
-    let calls = g.W.Wire.calls in
     let was = log c.args.kept.now.read.items c.args.kept.now.written.items bodies texts in
-    called_nothing (calls c.args.wire.now) (calls c.args.wire.now) was (log c.reserve.new.self.items c.stand.new.self.written.items bodies texts) refl (c.in_err-reserve.ensures.items ∙ c.stand.ensures.read) c.stand.ensures.written
+    called_nothing (g.W.Wire.told c.args.wire.now).calls (g.W.Wire.told c.args.wire.now).calls was (log c.reserve.new.self.items c.stand.new.self.written.items bodies texts) refl (c.in_err-reserve.ensures.items ∙ c.stand.ensures.read) c.stand.ensures.written
 
 pub returns-in-Ok-eq0-clause-called : goal.returns-in-Ok-eq0-clause-called
 returns-in-Ok-eq0-clause-called g c = λ first bodies texts h.
-    let calls = g.W.Wire.calls in
     let was = log c.args.kept.now.read.items c.args.kept.now.written.items bodies texts in
     let mid = log c.reserve.new.self.items c.stand.new.self.written.items bodies texts in
     let is = log c.finish.new.kept.read.items c.finish.new.kept.written.items bodies texts in
-    called_on (calls c.args.wire.now) (calls c.read.new.self) (calls c.finish.new.wire) was mid is refl refl
-    (called_read (calls c.args.wire.now) (calls c.read.new.self) was mid [] 0 (subst (λ n. Lists (calls c.args.wire.now) (calls c.read.new.self) (Read n ∷ [])) c.in-Ok-eq0.field-0-test c.in-Ok-eq0.ensures.calls) refl (search rules) c.stand.ensures.written (done_so c.args.kept.now.reader was (waiting_fed first (seen c.args.kept.now (line_of (g.W.Wire.given c.args.wire.now) (g.W.Wire.left c.args.wire.now) (g.W.Wire.taken c.args.wire.now) (failures_of (g.W.Wire.lost c.args.wire.now) (g.W.Wire.cut c.args.wire.now)) (g.W.Wire.closed c.args.wire.now))) bodies texts h c.requires).given))
-    (called_writes (calls c.read.new.self) (calls c.finish.new.wire) mid is c.finish.ensures.wrote c.finish.ensures.finishes.read)
+    called_on (g.W.Wire.told c.args.wire.now).calls (g.W.Wire.told c.read.new.self).calls (g.W.Wire.told c.finish.new.wire).calls was mid is refl refl
+    (called_read (g.W.Wire.told c.args.wire.now).calls (g.W.Wire.told c.read.new.self).calls was mid [] 0 (subst (λ n. Lists (g.W.Wire.told c.args.wire.now).calls (g.W.Wire.told c.read.new.self).calls (Read n ∷ [])) c.in-Ok-eq0.field-0-test c.in-Ok-eq0.ensures.calls) refl (search rules) c.stand.ensures.written (done_so c.args.kept.now.reader was (waiting_fed first (seen c.args.kept.now (g.W.Wire.told c.args.wire.now)) bodies texts h c.requires).given))
+    (called_writes (g.W.Wire.told c.read.new.self).calls (g.W.Wire.told c.finish.new.wire).calls mid is c.finish.ensures.wrote c.finish.ensures.finishes.read)
 
 pub returns-in-Ok-clause-called : goal.returns-in-Ok-clause-called
 returns-in-Ok-clause-called g c = λ first bodies texts h.
-    let calls = g.W.Wire.calls in
     let was = log c.args.kept.now.read.items c.args.kept.now.written.items bodies texts in
     let mid = log c.extend_from_slice.new.self.items c.stand.new.self.written.items bodies texts in
     let is = log c.go_on.new.kept.read.items c.go_on.new.kept.written.items bodies texts in
-    called_on (calls c.args.wire.now) (calls c.read.new.self) (calls c.go_on.new.wire) was mid is refl refl
-    (called_read (calls c.args.wire.now) (calls c.read.new.self) was mid (take c.in-Ok.count c.read.new.into) c.in-Ok.count c.in-Ok.ensures.calls c.in-Ok.ensures.bound.1 (search rules) c.stand.ensures.written (done_so c.args.kept.now.reader was (waiting_fed first (seen c.args.kept.now (line_of (g.W.Wire.given c.args.wire.now) (g.W.Wire.left c.args.wire.now) (g.W.Wire.taken c.args.wire.now) (failures_of (g.W.Wire.lost c.args.wire.now) (g.W.Wire.cut c.args.wire.now)) (g.W.Wire.closed c.args.wire.now))) bodies texts h c.requires).given))
-    (called_writes (calls c.read.new.self) (calls c.go_on.new.wire) mid is c.go_on.ensures.wrote c.go_on.ensures.read)
+    called_on (g.W.Wire.told c.args.wire.now).calls (g.W.Wire.told c.read.new.self).calls (g.W.Wire.told c.go_on.new.wire).calls was mid is refl refl
+    (called_read (g.W.Wire.told c.args.wire.now).calls (g.W.Wire.told c.read.new.self).calls was mid (take c.in-Ok.count c.read.new.into) c.in-Ok.count c.in-Ok.ensures.calls c.in-Ok.ensures.bound.1 (search rules) c.stand.ensures.written (done_so c.args.kept.now.reader was (waiting_fed first (seen c.args.kept.now (g.W.Wire.told c.args.wire.now)) bodies texts h c.requires).given))
+    (called_writes (g.W.Wire.told c.read.new.self).calls (g.W.Wire.told c.go_on.new.wire).calls mid is c.go_on.ensures.wrote c.go_on.ensures.read)
 
 pub returns-in-Err-clause-called : goal.returns-in-Err-clause-called
 returns-in-Err-clause-called g c = λ first bodies texts h.
-    let calls = g.W.Wire.calls in
     let was = log c.args.kept.now.read.items c.args.kept.now.written.items bodies texts in
     let mid = log c.reserve.new.self.items c.stand.new.self.written.items bodies texts in
     let is = log c.finish-in-Err.new.kept.read.items c.finish-in-Err.new.kept.written.items bodies texts in
-    called_on (calls c.args.wire.now) (calls c.read.new.self) (calls c.finish-in-Err.new.wire) was mid is refl refl
-    (called_read (calls c.args.wire.now) (calls c.read.new.self) was mid [] 0 c.in-Err.ensures.calls refl (search rules) c.stand.ensures.written (done_so c.args.kept.now.reader was (waiting_fed first (seen c.args.kept.now (line_of (g.W.Wire.given c.args.wire.now) (g.W.Wire.left c.args.wire.now) (g.W.Wire.taken c.args.wire.now) (failures_of (g.W.Wire.lost c.args.wire.now) (g.W.Wire.cut c.args.wire.now)) (g.W.Wire.closed c.args.wire.now))) bodies texts h c.requires).given))
-    (called_writes (calls c.read.new.self) (calls c.finish-in-Err.new.wire) mid is c.finish-in-Err.ensures.wrote c.finish-in-Err.ensures.finishes.read)
+    called_on (g.W.Wire.told c.args.wire.now).calls (g.W.Wire.told c.read.new.self).calls (g.W.Wire.told c.finish-in-Err.new.wire).calls was mid is refl refl
+    (called_read (g.W.Wire.told c.args.wire.now).calls (g.W.Wire.told c.read.new.self).calls was mid [] 0 c.in-Err.ensures.calls refl (search rules) c.stand.ensures.written (done_so c.args.kept.now.reader was (waiting_fed first (seen c.args.kept.now (g.W.Wire.told c.args.wire.now)) bodies texts h c.requires).given))
+    (called_writes (g.W.Wire.told c.read.new.self).calls (g.W.Wire.told c.finish-in-Err.new.wire).calls mid is c.finish-in-Err.ensures.wrote c.finish-in-Err.ensures.finishes.read)
 
 pub returns-in_err-reserve-clause-ended : goal.returns-in_err-reserve-clause-ended
 returns-in_err-reserve-clause-ended g c = λ first bodies texts h o e. absurd (spent_unended c.stand.new.self.next c.stand.ensures.next e)
 
 pub returns-in-Ok-eq0-clause-ended : goal.returns-in-Ok-eq0-clause-ended
 returns-in-Ok-eq0-clause-ended g c = λ first bodies texts h o e.
-    let ended = g.W.Wire.ended in
     c.finish.ensures.ended
-    ∙ read_tells first (seen c.args.kept.now (line_of (g.W.Wire.given c.args.wire.now) (g.W.Wire.left c.args.wire.now) (g.W.Wire.taken c.args.wire.now) (failures_of (g.W.Wire.lost c.args.wire.now) (g.W.Wire.cut c.args.wire.now)) (g.W.Wire.closed c.args.wire.now))) bodies texts h c.requires o
-    (ended c.args.wire.now) (ended c.read.new.self) 4096 c.in-Ok-eq0.field-0 c.in-Ok-eq0.ensures.ended refl c.in-Ok-eq0.field-0-test
+    ∙ read_tells first (seen c.args.kept.now (g.W.Wire.told c.args.wire.now)) bodies texts h c.requires o
+    (g.W.Wire.told c.args.wire.now).ended (g.W.Wire.told c.read.new.self).ended 4096 c.in-Ok-eq0.field-0 c.in-Ok-eq0.ensures.ended refl c.in-Ok-eq0.field-0-test
 
 pub returns-in-Ok-clause-ended : goal.returns-in-Ok-clause-ended
 returns-in-Ok-clause-ended g c = λ first bodies texts h o e. absurd (going_unended c.go_on.result c.go_on.new.kept.next c.go_on.ensures.next e)

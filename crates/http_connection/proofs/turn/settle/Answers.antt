@@ -1,6 +1,6 @@
 -- Each piece carries what passed along.
 use Rattle.std.proofs.Common.{refl, sym, ◌∙◌}
-use Rattle.http_connection.specs.Seen.{failures_of, line_of, seen}
+use Rattle.http_connection.specs.Seen.{seen}
 use Rattle.http_connection.specs.Talking.{log}
 use Rattle.http_connection.proofs.Passing.{waiting_spent, waits_where}
 use Rattle.http_connection.proofs.Calls.{called_nothing, called_on}
@@ -12,8 +12,7 @@ loop-init g c = record {
   next = c.requires;
   talks = λ first bodies texts h. h;
   called = λ first bodies texts h.
-      let calls = g.W.Wire.calls in
-      called_nothing (calls c.args.wire.now) (calls c.args.wire.now) (log c.args.kept.now.read.items c.args.kept.now.written.items bodies texts) (log c.args.kept.now.read.items c.args.kept.now.written.items bodies texts) refl refl refl;
+      called_nothing (g.W.Wire.told c.args.wire.now).calls (g.W.Wire.told c.args.wire.now).calls (log c.args.kept.now.read.items c.args.kept.now.written.items bodies texts) (log c.args.kept.now.read.items c.args.kept.now.written.items bodies texts) refl refl refl;
 }
 
 pub loop-preserved : goal.loop-preserved
@@ -21,8 +20,7 @@ loop-preserved g c = record {
   next = waits_where c.read_on.new.kept.next (sym c.waits.ensures ∙ c.if-not-waits.false);
   talks = λ first bodies texts h. c.in_ok-read_on.ensures.talks first bodies texts (c.loop.invariant.talks first bodies texts h);
   called = λ first bodies texts h.
-      let calls = g.W.Wire.calls in
-      called_on (calls c.args.wire.now) (calls c.loop.wire) (calls c.read_on.new.wire) (log c.args.kept.now.read.items c.args.kept.now.written.items bodies texts) (log c.loop.kept.read.items c.loop.kept.written.items bodies texts) (log c.read_on.new.kept.read.items c.read_on.new.kept.written.items bodies texts) refl refl (c.loop.invariant.called first bodies texts h)
+      called_on (g.W.Wire.told c.args.wire.now).calls (g.W.Wire.told c.loop.wire).calls (g.W.Wire.told c.read_on.new.wire).calls (log c.args.kept.now.read.items c.args.kept.now.written.items bodies texts) (log c.loop.kept.read.items c.loop.kept.written.items bodies texts) (log c.read_on.new.kept.read.items c.read_on.new.kept.written.items bodies texts) refl refl (c.loop.invariant.called first bodies texts h)
       (c.in_ok-read_on.ensures.called first bodies texts (c.loop.invariant.talks first bodies texts h));
 }
 
@@ -34,27 +32,24 @@ returns-then-not-waits-clause-talks g c = λ first bodies texts h. c.in_ok-read_
 
 pub returns-clause-talks : goal.returns-clause-talks
 returns-clause-talks g c = λ first bodies texts h.
-    waiting_spent first (seen c.loop.kept (line_of (g.W.Wire.given c.loop.wire) (g.W.Wire.left c.loop.wire) (g.W.Wire.taken c.loop.wire) (failures_of (g.W.Wire.lost c.loop.wire) (g.W.Wire.cut c.loop.wire)) (g.W.Wire.closed c.loop.wire)))
-    (seen c.stand.new.self (line_of (g.W.Wire.given c.loop.wire) (g.W.Wire.left c.loop.wire) (g.W.Wire.taken c.loop.wire) (failures_of (g.W.Wire.lost c.loop.wire) (g.W.Wire.cut c.loop.wire)) (g.W.Wire.closed c.loop.wire))) bodies texts (c.loop.invariant.talks first bodies texts h) c.loop.invariant.next
+    waiting_spent first (seen c.loop.kept (g.W.Wire.told c.loop.wire))
+    (seen c.stand.new.self (g.W.Wire.told c.loop.wire)) bodies texts (c.loop.invariant.talks first bodies texts h) c.loop.invariant.next
     (record { line = refl; read = c.stand.ensures.read; written = c.stand.ensures.written }) c.stand.ensures.next
 
 pub returns-in_err-read_on-clause-called : goal.returns-in_err-read_on-clause-called
 returns-in_err-read_on-clause-called g c = λ first bodies texts h.
-    let calls = g.W.Wire.calls in
-    called_on (calls c.args.wire.now) (calls c.loop.wire) (calls c.read_on.new.wire) (log c.args.kept.now.read.items c.args.kept.now.written.items bodies texts) (log c.loop.kept.read.items c.loop.kept.written.items bodies texts) (log c.read_on.new.kept.read.items c.read_on.new.kept.written.items bodies texts) refl refl (c.loop.invariant.called first bodies texts h)
+    called_on (g.W.Wire.told c.args.wire.now).calls (g.W.Wire.told c.loop.wire).calls (g.W.Wire.told c.read_on.new.wire).calls (log c.args.kept.now.read.items c.args.kept.now.written.items bodies texts) (log c.loop.kept.read.items c.loop.kept.written.items bodies texts) (log c.read_on.new.kept.read.items c.read_on.new.kept.written.items bodies texts) refl refl (c.loop.invariant.called first bodies texts h)
     (c.in_err-read_on.ensures.called first bodies texts (c.loop.invariant.talks first bodies texts h))
 
 pub returns-then-not-waits-clause-called : goal.returns-then-not-waits-clause-called
 returns-then-not-waits-clause-called g c = λ first bodies texts h.
-    let calls = g.W.Wire.calls in
-    called_on (calls c.args.wire.now) (calls c.loop.wire) (calls c.read_on.new.wire) (log c.args.kept.now.read.items c.args.kept.now.written.items bodies texts) (log c.loop.kept.read.items c.loop.kept.written.items bodies texts) (log c.read_on.new.kept.read.items c.read_on.new.kept.written.items bodies texts) refl refl (c.loop.invariant.called first bodies texts h)
+    called_on (g.W.Wire.told c.args.wire.now).calls (g.W.Wire.told c.loop.wire).calls (g.W.Wire.told c.read_on.new.wire).calls (log c.args.kept.now.read.items c.args.kept.now.written.items bodies texts) (log c.loop.kept.read.items c.loop.kept.written.items bodies texts) (log c.read_on.new.kept.read.items c.read_on.new.kept.written.items bodies texts) refl refl (c.loop.invariant.called first bodies texts h)
     (c.in_ok-read_on.ensures.called first bodies texts (c.loop.invariant.talks first bodies texts h))
 
 pub returns-clause-called : goal.returns-clause-called
 returns-clause-called g c = λ first bodies texts h.
-    let calls = g.W.Wire.calls in
-    called_on (calls c.args.wire.now) (calls c.loop.wire) (calls c.loop.wire) (log c.args.kept.now.read.items c.args.kept.now.written.items bodies texts) (log c.loop.kept.read.items c.loop.kept.written.items bodies texts) (log c.stand.new.self.read.items c.stand.new.self.written.items bodies texts) refl refl (c.loop.invariant.called first bodies texts h)
-    (called_nothing (calls c.loop.wire) (calls c.loop.wire) (log c.loop.kept.read.items c.loop.kept.written.items bodies texts) (log c.stand.new.self.read.items c.stand.new.self.written.items bodies texts) refl c.stand.ensures.read c.stand.ensures.written)
+    called_on (g.W.Wire.told c.args.wire.now).calls (g.W.Wire.told c.loop.wire).calls (g.W.Wire.told c.loop.wire).calls (log c.args.kept.now.read.items c.args.kept.now.written.items bodies texts) (log c.loop.kept.read.items c.loop.kept.written.items bodies texts) (log c.stand.new.self.read.items c.stand.new.self.written.items bodies texts) refl refl (c.loop.invariant.called first bodies texts h)
+    (called_nothing (g.W.Wire.told c.loop.wire).calls (g.W.Wire.told c.loop.wire).calls (log c.loop.kept.read.items c.loop.kept.written.items bodies texts) (log c.stand.new.self.read.items c.stand.new.self.written.items bodies texts) refl c.stand.ensures.read c.stand.ensures.written)
 
 pub returns-in_err-read_on-clause-ended : goal.returns-in_err-read_on-clause-ended
 returns-in_err-read_on-clause-ended g c = λ first bodies texts h. c.in_err-read_on.ensures.ended first bodies texts (c.loop.invariant.talks first bodies texts h)

@@ -5,16 +5,16 @@ use Rattle.http_link.proofs.exchange.exchange.Goals as goal
 
 pub returns-in-Ok : goal.returns-in-Ok
 returns-in-Ok g c =
-    exchanged_or_cut c.read_response.result (traffic (g.W.Wire.given c.args.wire.now) (g.W.Wire.taken c.args.wire.now) (g.W.Wire.calls c.args.wire.now) (g.W.Wire.lost c.args.wire.now) (g.W.Wire.cut c.args.wire.now) (g.W.Wire.ended c.args.wire.now)) (traffic (g.W.Wire.given c.write_all.new.wire) (g.W.Wire.taken c.write_all.new.wire) (g.W.Wire.calls c.write_all.new.wire) (g.W.Wire.lost c.write_all.new.wire) (g.W.Wire.cut c.write_all.new.wire) (g.W.Wire.ended c.write_all.new.wire)) (traffic (g.W.Wire.given c.read_response.new.wire) (g.W.Wire.taken c.read_response.new.wire) (g.W.Wire.calls c.read_response.new.wire) (g.W.Wire.lost c.read_response.new.wire) (g.W.Wire.cut c.read_response.new.wire) (g.W.Wire.ended c.read_response.new.wire))
+    exchanged_or_cut c.read_response.result (traffic (g.W.Wire.told c.args.wire.now)) (traffic (g.W.Wire.told c.write_all.new.wire)) (traffic (g.W.Wire.told c.read_response.new.wire))
     c.args.request.now c.args.inbox.now c.read_response.new.inbox c.requires.empty
     c.in-Ok.ensures.writes.0 c.in-Ok.ensures.writes.1 c.in-Ok.ensures.given
-    (unmoved (traffic (g.W.Wire.given c.args.wire.now) (g.W.Wire.taken c.args.wire.now) (g.W.Wire.calls c.args.wire.now) (g.W.Wire.lost c.args.wire.now) (g.W.Wire.cut c.args.wire.now) (g.W.Wire.ended c.args.wire.now)) (traffic (g.W.Wire.given c.write_all.new.wire) (g.W.Wire.taken c.write_all.new.wire) (g.W.Wire.calls c.write_all.new.wire) (g.W.Wire.lost c.write_all.new.wire) (g.W.Wire.cut c.write_all.new.wire) (g.W.Wire.ended c.write_all.new.wire))
+    (unmoved (traffic (g.W.Wire.told c.args.wire.now)) (traffic (g.W.Wire.told c.write_all.new.wire))
     c.in-Ok.ensures.lost c.in-Ok.ensures.cut c.in-Ok.ensures.ended)
     c.read_response.ensures
 
 pub returns-in-Err : goal.returns-in-Err
 returns-in-Err g c =
     let writes = c.in-Err.ensures.writes in
-    cut_in_writing (traffic (g.W.Wire.given c.args.wire.now) (g.W.Wire.taken c.args.wire.now) (g.W.Wire.calls c.args.wire.now) (g.W.Wire.lost c.args.wire.now) (g.W.Wire.cut c.args.wire.now) (g.W.Wire.ended c.args.wire.now)) (traffic (g.W.Wire.given c.write_all.new.wire) (g.W.Wire.taken c.write_all.new.wire) (g.W.Wire.calls c.write_all.new.wire) (g.W.Wire.lost c.write_all.new.wire) (g.W.Wire.cut c.write_all.new.wire) (g.W.Wire.ended c.write_all.new.wire)) c.args.request.now writes.0 writes.1 writes.2 writes.3 c.in-Err.ensures.given
-    (cuts (traffic (g.W.Wire.given c.args.wire.now) (g.W.Wire.taken c.args.wire.now) (g.W.Wire.calls c.args.wire.now) (g.W.Wire.lost c.args.wire.now) (g.W.Wire.cut c.args.wire.now) (g.W.Wire.ended c.args.wire.now)) (traffic (g.W.Wire.given c.write_all.new.wire) (g.W.Wire.taken c.write_all.new.wire) (g.W.Wire.calls c.write_all.new.wire) (g.W.Wire.lost c.write_all.new.wire) (g.W.Wire.cut c.write_all.new.wire) (g.W.Wire.ended c.write_all.new.wire))
-    (g.W.Wire.closed c.args.wire.now) c.in-Err.ensures.lost c.in-Err.ensures.cut c.in-Err.ensures.ended c.requires.open)
+    cut_in_writing (traffic (g.W.Wire.told c.args.wire.now)) (traffic (g.W.Wire.told c.write_all.new.wire)) c.args.request.now writes.0 writes.1 writes.2 writes.3 c.in-Err.ensures.given
+    (cuts (traffic (g.W.Wire.told c.args.wire.now)) (traffic (g.W.Wire.told c.write_all.new.wire))
+    (g.W.Wire.told c.args.wire.now).closed c.in-Err.ensures.lost c.in-Err.ensures.cut c.in-Err.ensures.ended c.requires.open)

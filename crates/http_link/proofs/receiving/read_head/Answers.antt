@@ -27,7 +27,7 @@ returns-in-Ok-eq0-clause-heard g c =
     let none : length read.0 ≡ 0 = read.1 ∙ c.in-Ok-eq0.field-0-test in (
       true,
       knows_end c.as_slice.result.now c.loop-announced.inbox c.fill.new.self read.0 _ c.as_slice.ensures c.in_default.ensures.none.0 read.2 none refl,
-      heard_end (traffic (g.W.Wire.given c.args.wire.now) (g.W.Wire.taken c.args.wire.now) (g.W.Wire.calls c.args.wire.now) (g.W.Wire.lost c.args.wire.now) (g.W.Wire.cut c.args.wire.now) (g.W.Wire.ended c.args.wire.now)) (traffic (g.W.Wire.given c.loop-announced.wire) (g.W.Wire.taken c.loop-announced.wire) (g.W.Wire.calls c.loop-announced.wire) (g.W.Wire.lost c.loop-announced.wire) (g.W.Wire.cut c.loop-announced.wire) (g.W.Wire.ended c.loop-announced.wire)) (traffic (g.W.Wire.given c.fill.new.wire) (g.W.Wire.taken c.fill.new.wire) (g.W.Wire.calls c.fill.new.wire) (g.W.Wire.lost c.fill.new.wire) (g.W.Wire.cut c.fill.new.wire) (g.W.Wire.ended c.fill.new.wire))
+      heard_end (traffic (g.W.Wire.told c.args.wire.now)) (traffic (g.W.Wire.told c.loop-announced.wire)) (traffic (g.W.Wire.told c.fill.new.wire))
           c.args.inbox.now c.loop-announced.inbox c.fill.new.self read.0 c.in-Ok-eq0.field-0
           c.loop-announced.invariant.heard
           (unfinished_front c.as_slice.result.now c.loop-announced.inbox c.as_slice.ensures c.in_default.ensures.none.0)
@@ -38,7 +38,7 @@ returns-in-Ok-eq0-clause-heard g c =
 pub returns-in-Err-clause-heard : goal.returns-in-Err-clause-heard
 returns-in-Err-clause-heard g c =
     let read = c.in-Err.ensures.read in
-    heard_cut (traffic (g.W.Wire.given c.args.wire.now) (g.W.Wire.taken c.args.wire.now) (g.W.Wire.calls c.args.wire.now) (g.W.Wire.lost c.args.wire.now) (g.W.Wire.cut c.args.wire.now) (g.W.Wire.ended c.args.wire.now)) (traffic (g.W.Wire.given c.loop-announced.wire) (g.W.Wire.taken c.loop-announced.wire) (g.W.Wire.calls c.loop-announced.wire) (g.W.Wire.lost c.loop-announced.wire) (g.W.Wire.cut c.loop-announced.wire) (g.W.Wire.ended c.loop-announced.wire)) (traffic (g.W.Wire.given c.fill.new.wire) (g.W.Wire.taken c.fill.new.wire) (g.W.Wire.calls c.fill.new.wire) (g.W.Wire.lost c.fill.new.wire) (g.W.Wire.cut c.fill.new.wire) (g.W.Wire.ended c.fill.new.wire))
+    heard_cut (traffic (g.W.Wire.told c.args.wire.now)) (traffic (g.W.Wire.told c.loop-announced.wire)) (traffic (g.W.Wire.told c.fill.new.wire))
     c.args.inbox.now c.loop-announced.inbox c.fill.new.self
     c.loop-announced.invariant.heard
     (unfinished_front c.as_slice.result.now c.loop-announced.inbox c.as_slice.ensures c.in_default.ensures.none.0)
@@ -50,7 +50,7 @@ loop-announced-preserved g c =
     let scanned : HoldsScan (take longest_head c.loop-announced.inbox) c.announced_in.new.scan =
     subst (λ l. HoldsScan (take longest_head l) c.announced_in.new.scan) c.as_slice.ensures c.in_default.ensures.scan in
     record {
-      heard = heard_more (traffic (g.W.Wire.given c.args.wire.now) (g.W.Wire.taken c.args.wire.now) (g.W.Wire.calls c.args.wire.now) (g.W.Wire.lost c.args.wire.now) (g.W.Wire.cut c.args.wire.now) (g.W.Wire.ended c.args.wire.now)) (traffic (g.W.Wire.given c.loop-announced.wire) (g.W.Wire.taken c.loop-announced.wire) (g.W.Wire.calls c.loop-announced.wire) (g.W.Wire.lost c.loop-announced.wire) (g.W.Wire.cut c.loop-announced.wire) (g.W.Wire.ended c.loop-announced.wire)) (traffic (g.W.Wire.given c.fill.new.wire) (g.W.Wire.taken c.fill.new.wire) (g.W.Wire.calls c.fill.new.wire) (g.W.Wire.lost c.fill.new.wire) (g.W.Wire.cut c.fill.new.wire) (g.W.Wire.ended c.fill.new.wire))
+      heard = heard_more (traffic (g.W.Wire.told c.args.wire.now)) (traffic (g.W.Wire.told c.loop-announced.wire)) (traffic (g.W.Wire.told c.fill.new.wire))
           c.args.inbox.now c.loop-announced.inbox c.fill.new.self read.0 c.in-Ok.field-0
           c.loop-announced.invariant.heard
           (unfinished_front c.as_slice.result.now c.loop-announced.inbox c.as_slice.ensures c.in_default.ensures.none.0)

@@ -8,11 +8,11 @@ use Rattle.http_link.proofs.receiving.read_head.Given as goal
 abbrev pub invariant-loop-announced : goal.invariant-loop-announced
 invariant-loop-announced g l = record {
   heard : Heard
-      (traffic (g.W.Wire.given l.fn.wire) (g.W.Wire.taken l.fn.wire) (g.W.Wire.calls l.fn.wire) (g.W.Wire.lost l.fn.wire) (g.W.Wire.cut l.fn.wire) (g.W.Wire.ended l.fn.wire))
-      (traffic (g.W.Wire.given l.wire) (g.W.Wire.taken l.wire) (g.W.Wire.calls l.wire) (g.W.Wire.lost l.wire) (g.W.Wire.cut l.wire) (g.W.Wire.ended l.wire))
+      (traffic (g.W.Wire.told l.fn.wire))
+      (traffic (g.W.Wire.told l.wire))
       l.fn.inbox l.inbox false;
   scan : HoldsScan (take longest_head l.inbox) l.scan;
-  unclosed : g.W.Wire.closed l.wire ≡ false;
+  unclosed : (g.W.Wire.told l.wire).closed ≡ false;
 }
 
 abbrev pub decreases-loop-announced : goal.decreases-loop-announced

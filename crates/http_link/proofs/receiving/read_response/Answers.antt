@@ -25,14 +25,14 @@ pub returns-in-Sized : goal.returns-in-Sized
 returns-in-Sized g c =
     let k = c.in-Ok.ensures.heard in
     let known = known_head c.read_head.new.inbox k.0 c.in-Ok.announced (Sized c.in-Sized.size) c.in-Sized.is (not_refused c.in-Sized.size) k.1 in
-    found_on c.read_sized.result (traffic (g.W.Wire.given c.args.wire.now) (g.W.Wire.taken c.args.wire.now) (g.W.Wire.calls c.args.wire.now) (g.W.Wire.lost c.args.wire.now) (g.W.Wire.cut c.args.wire.now) (g.W.Wire.ended c.args.wire.now)) (traffic (g.W.Wire.given c.read_head.new.wire) (g.W.Wire.taken c.read_head.new.wire) (g.W.Wire.calls c.read_head.new.wire) (g.W.Wire.lost c.read_head.new.wire) (g.W.Wire.cut c.read_head.new.wire) (g.W.Wire.ended c.read_head.new.wire)) (traffic (g.W.Wire.given c.read_sized.new.wire) (g.W.Wire.taken c.read_sized.new.wire) (g.W.Wire.calls c.read_sized.new.wire) (g.W.Wire.lost c.read_sized.new.wire) (g.W.Wire.cut c.read_sized.new.wire) (g.W.Wire.ended c.read_sized.new.wire))
+    found_on c.read_sized.result (traffic (g.W.Wire.told c.args.wire.now)) (traffic (g.W.Wire.told c.read_head.new.wire)) (traffic (g.W.Wire.told c.read_sized.new.wire))
     c.args.inbox.now c.read_head.new.inbox c.read_sized.new.inbox
-    (subst (λ e. Heard (traffic (g.W.Wire.given c.args.wire.now) (g.W.Wire.taken c.args.wire.now) (g.W.Wire.calls c.args.wire.now) (g.W.Wire.lost c.args.wire.now) (g.W.Wire.cut c.args.wire.now) (g.W.Wire.ended c.args.wire.now)) (traffic (g.W.Wire.given c.read_head.new.wire) (g.W.Wire.taken c.read_head.new.wire) (g.W.Wire.calls c.read_head.new.wire) (g.W.Wire.lost c.read_head.new.wire) (g.W.Wire.cut c.read_head.new.wire) (g.W.Wire.ended c.read_head.new.wire)) c.args.inbox.now c.read_head.new.inbox e) known.0 k.2) c.read_sized.ensures
+    (subst (λ e. Heard (traffic (g.W.Wire.told c.args.wire.now)) (traffic (g.W.Wire.told c.read_head.new.wire)) c.args.inbox.now c.read_head.new.inbox e) known.0 k.2) c.read_sized.ensures
 
 pub returns-in-ToEnd : goal.returns-in-ToEnd
 returns-in-ToEnd g c =
     let k = c.in-Ok.ensures.heard in
     let known = known_head c.read_head.new.inbox k.0 c.in-Ok.announced ToEnd c.in-ToEnd.is open_not_refused k.1 in
-    found_on c.read_to_end.result (traffic (g.W.Wire.given c.args.wire.now) (g.W.Wire.taken c.args.wire.now) (g.W.Wire.calls c.args.wire.now) (g.W.Wire.lost c.args.wire.now) (g.W.Wire.cut c.args.wire.now) (g.W.Wire.ended c.args.wire.now)) (traffic (g.W.Wire.given c.read_head.new.wire) (g.W.Wire.taken c.read_head.new.wire) (g.W.Wire.calls c.read_head.new.wire) (g.W.Wire.lost c.read_head.new.wire) (g.W.Wire.cut c.read_head.new.wire) (g.W.Wire.ended c.read_head.new.wire)) (traffic (g.W.Wire.given c.read_to_end.new.wire) (g.W.Wire.taken c.read_to_end.new.wire) (g.W.Wire.calls c.read_to_end.new.wire) (g.W.Wire.lost c.read_to_end.new.wire) (g.W.Wire.cut c.read_to_end.new.wire) (g.W.Wire.ended c.read_to_end.new.wire))
+    found_on c.read_to_end.result (traffic (g.W.Wire.told c.args.wire.now)) (traffic (g.W.Wire.told c.read_head.new.wire)) (traffic (g.W.Wire.told c.read_to_end.new.wire))
     c.args.inbox.now c.read_head.new.inbox c.read_to_end.new.inbox
-    (subst (λ e. Heard (traffic (g.W.Wire.given c.args.wire.now) (g.W.Wire.taken c.args.wire.now) (g.W.Wire.calls c.args.wire.now) (g.W.Wire.lost c.args.wire.now) (g.W.Wire.cut c.args.wire.now) (g.W.Wire.ended c.args.wire.now)) (traffic (g.W.Wire.given c.read_head.new.wire) (g.W.Wire.taken c.read_head.new.wire) (g.W.Wire.calls c.read_head.new.wire) (g.W.Wire.lost c.read_head.new.wire) (g.W.Wire.cut c.read_head.new.wire) (g.W.Wire.ended c.read_head.new.wire)) c.args.inbox.now c.read_head.new.inbox e) known.0 k.2) c.read_to_end.ensures
+    (subst (λ e. Heard (traffic (g.W.Wire.told c.args.wire.now)) (traffic (g.W.Wire.told c.read_head.new.wire)) c.args.inbox.now c.read_head.new.inbox e) known.0 k.2) c.read_to_end.ensures

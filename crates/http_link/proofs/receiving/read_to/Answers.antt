@@ -12,7 +12,7 @@ returns-in-Ok-eq0-clause-heard g c =
     let h = c.loop-inbox.invariant.heard in
     let long = c.len.ensures.len in
     let open_ = unfinished_on c.args.inbox.now c.loop-inbox.inbox h.piece c.args.end c.requires.unfinished h.grown (omega arith) in
-    heard_end (traffic (g.W.Wire.given c.args.wire.now) (g.W.Wire.taken c.args.wire.now) (g.W.Wire.calls c.args.wire.now) (g.W.Wire.lost c.args.wire.now) (g.W.Wire.cut c.args.wire.now) (g.W.Wire.ended c.args.wire.now)) (traffic (g.W.Wire.given c.loop-inbox.wire) (g.W.Wire.taken c.loop-inbox.wire) (g.W.Wire.calls c.loop-inbox.wire) (g.W.Wire.lost c.loop-inbox.wire) (g.W.Wire.cut c.loop-inbox.wire) (g.W.Wire.ended c.loop-inbox.wire)) (traffic (g.W.Wire.given c.fill.new.wire) (g.W.Wire.taken c.fill.new.wire) (g.W.Wire.calls c.fill.new.wire) (g.W.Wire.lost c.fill.new.wire) (g.W.Wire.cut c.fill.new.wire) (g.W.Wire.ended c.fill.new.wire))
+    heard_end (traffic (g.W.Wire.told c.args.wire.now)) (traffic (g.W.Wire.told c.loop-inbox.wire)) (traffic (g.W.Wire.told c.fill.new.wire))
     c.args.inbox.now c.loop-inbox.inbox c.fill.new.self read.0 c.in-Ok-eq0.field-0 h open_
     (record { given = read.3; taken = c.in-Ok-eq0.ensures.taken; noted = read.4; calm = c.in-Ok-eq0.ensures.told })
     read.2 read.1 c.in-Ok-eq0.field-0-test c.in-Ok-eq0.ensures.bounded
@@ -24,7 +24,7 @@ loop-inbox-preserved g c =
     let long = c.len.ensures.len in
     let open_ = unfinished_on c.args.inbox.now c.loop-inbox.inbox h.piece c.args.end c.requires.unfinished h.grown (omega arith) in
     record {
-      heard = heard_more (traffic (g.W.Wire.given c.args.wire.now) (g.W.Wire.taken c.args.wire.now) (g.W.Wire.calls c.args.wire.now) (g.W.Wire.lost c.args.wire.now) (g.W.Wire.cut c.args.wire.now) (g.W.Wire.ended c.args.wire.now)) (traffic (g.W.Wire.given c.loop-inbox.wire) (g.W.Wire.taken c.loop-inbox.wire) (g.W.Wire.calls c.loop-inbox.wire) (g.W.Wire.lost c.loop-inbox.wire) (g.W.Wire.cut c.loop-inbox.wire) (g.W.Wire.ended c.loop-inbox.wire)) (traffic (g.W.Wire.given c.fill.new.wire) (g.W.Wire.taken c.fill.new.wire) (g.W.Wire.calls c.fill.new.wire) (g.W.Wire.lost c.fill.new.wire) (g.W.Wire.cut c.fill.new.wire) (g.W.Wire.ended c.fill.new.wire))
+      heard = heard_more (traffic (g.W.Wire.told c.args.wire.now)) (traffic (g.W.Wire.told c.loop-inbox.wire)) (traffic (g.W.Wire.told c.fill.new.wire))
           c.args.inbox.now c.loop-inbox.inbox c.fill.new.self read.0 c.in-Ok.field-0 h open_
           (record { given = read.3; taken = c.in-Ok.ensures.taken; noted = read.4; calm = c.in-Ok.ensures.told })
           read.2 read.1 (omega arith) c.in-Ok.ensures.bounded;
@@ -37,6 +37,6 @@ returns-in-Err-clause-heard g c =
     let h = c.loop-inbox.invariant.heard in
     let long = c.len.ensures.len in
     let open_ = unfinished_on c.args.inbox.now c.loop-inbox.inbox h.piece c.args.end c.requires.unfinished h.grown (omega arith) in
-    heard_cut (traffic (g.W.Wire.given c.args.wire.now) (g.W.Wire.taken c.args.wire.now) (g.W.Wire.calls c.args.wire.now) (g.W.Wire.lost c.args.wire.now) (g.W.Wire.cut c.args.wire.now) (g.W.Wire.ended c.args.wire.now)) (traffic (g.W.Wire.given c.loop-inbox.wire) (g.W.Wire.taken c.loop-inbox.wire) (g.W.Wire.calls c.loop-inbox.wire) (g.W.Wire.lost c.loop-inbox.wire) (g.W.Wire.cut c.loop-inbox.wire) (g.W.Wire.ended c.loop-inbox.wire)) (traffic (g.W.Wire.given c.fill.new.wire) (g.W.Wire.taken c.fill.new.wire) (g.W.Wire.calls c.fill.new.wire) (g.W.Wire.lost c.fill.new.wire) (g.W.Wire.cut c.fill.new.wire) (g.W.Wire.ended c.fill.new.wire))
+    heard_cut (traffic (g.W.Wire.told c.args.wire.now)) (traffic (g.W.Wire.told c.loop-inbox.wire)) (traffic (g.W.Wire.told c.fill.new.wire))
     c.args.inbox.now c.loop-inbox.inbox c.fill.new.self h open_
     read.0 read.1 c.in-Err.ensures.taken read.2 c.in-Err.ensures.told

@@ -7,10 +7,10 @@ use Rattle.http_link.proofs.receiving.read_to.Given as goal
 abbrev pub invariant-loop-inbox : goal.invariant-loop-inbox
 invariant-loop-inbox g l = record {
   heard : Heard
-      (traffic (g.W.Wire.given l.fn.wire) (g.W.Wire.taken l.fn.wire) (g.W.Wire.calls l.fn.wire) (g.W.Wire.lost l.fn.wire) (g.W.Wire.cut l.fn.wire) (g.W.Wire.ended l.fn.wire))
-      (traffic (g.W.Wire.given l.wire) (g.W.Wire.taken l.wire) (g.W.Wire.calls l.wire) (g.W.Wire.lost l.wire) (g.W.Wire.cut l.wire) (g.W.Wire.ended l.wire))
+      (traffic (g.W.Wire.told l.fn.wire))
+      (traffic (g.W.Wire.told l.wire))
       l.fn.inbox l.inbox false;
-  unclosed : g.W.Wire.closed l.wire ≡ false;
+  unclosed : (g.W.Wire.told l.wire).closed ≡ false;
 }
 
 abbrev pub decreases-loop-inbox : goal.decreases-loop-inbox

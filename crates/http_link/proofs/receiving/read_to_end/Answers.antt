@@ -10,14 +10,14 @@ read_to-requires-clause-unfinished g c = λ more short. open_unfinished c.args.i
 
 pub returns-in-Ok-true : goal.returns-in-Ok-true
 returns-in-Ok-true g c =
-    let heard = subst (λ t. Heard (traffic (g.W.Wire.given c.args.wire.now) (g.W.Wire.taken c.args.wire.now) (g.W.Wire.calls c.args.wire.now) (g.W.Wire.lost c.args.wire.now) (g.W.Wire.cut c.args.wire.now) (g.W.Wire.ended c.args.wire.now)) (traffic (g.W.Wire.given c.read_to.new.wire) (g.W.Wire.taken c.read_to.new.wire) (g.W.Wire.calls c.read_to.new.wire) (g.W.Wire.lost c.read_to.new.wire) (g.W.Wire.cut c.read_to.new.wire) (g.W.Wire.ended c.read_to.new.wire)) c.args.inbox.now c.read_to.new.inbox (not t)) c.in-Ok-true.field-0-test c.in-Ok-true.ensures.heard in
+    let heard = subst (λ t. Heard (traffic (g.W.Wire.told c.args.wire.now)) (traffic (g.W.Wire.told c.read_to.new.wire)) c.args.inbox.now c.read_to.new.inbox (not t)) c.in-Ok-true.field-0-test c.in-Ok-true.ensures.heard in
     let head = subst (λ l. HasHead l (open_head c.args.head)) (sym heard.grown) (head_grows c.args.inbox.now heard.piece (open_head c.args.head) c.requires.head) in
     let long : c.args.head + 65536 + 1 ≤ length c.read_to.new.inbox = MatchBool-at_true _ _ c.in-Ok-true.field-0-test c.in-Ok-true.ensures.there in
     (false, open_long c.read_to.new.inbox c.args.head head (omega arith), heard)
 
 pub returns-in-Ok-false : goal.returns-in-Ok-false
 returns-in-Ok-false g c =
-    let heard = subst (λ t. Heard (traffic (g.W.Wire.given c.args.wire.now) (g.W.Wire.taken c.args.wire.now) (g.W.Wire.calls c.args.wire.now) (g.W.Wire.lost c.args.wire.now) (g.W.Wire.cut c.args.wire.now) (g.W.Wire.ended c.args.wire.now)) (traffic (g.W.Wire.given c.read_to.new.wire) (g.W.Wire.taken c.read_to.new.wire) (g.W.Wire.calls c.read_to.new.wire) (g.W.Wire.lost c.read_to.new.wire) (g.W.Wire.cut c.read_to.new.wire) (g.W.Wire.ended c.read_to.new.wire)) c.args.inbox.now c.read_to.new.inbox (not t)) c.in-Ok-false.field-0-test c.in-Ok-false.ensures.heard in
+    let heard = subst (λ t. Heard (traffic (g.W.Wire.told c.args.wire.now)) (traffic (g.W.Wire.told c.read_to.new.wire)) c.args.inbox.now c.read_to.new.inbox (not t)) c.in-Ok-false.field-0-test c.in-Ok-false.ensures.heard in
     let head = subst (λ l. HasHead l (open_head c.args.head)) (sym heard.grown) (head_grows c.args.inbox.now heard.piece (open_head c.args.head) c.requires.head) in
     let short : length c.read_to.new.inbox < c.args.head + 65536 + 1 = MatchBool-at_false _ _ c.in-Ok-false.field-0-test c.in-Ok-false.ensures.there in
     let found : Finds c.read_to.new.inbox true (Some (record { start = c.args.head; end = c.len-end.result })) =

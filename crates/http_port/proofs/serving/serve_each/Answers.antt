@@ -15,7 +15,7 @@ pub loop-init : goal.loop-init
 loop-init g c = record {
   asks = c.asks_where_given.ensures;
   within = omega arith;
-  going = going_first c.args.reader.now (record { given = g.W.Wire.given c.args.wire.now; left = g.W.Wire.left c.args.wire.now; taken = g.W.Wire.taken c.args.wire.now; calls = g.W.Wire.calls c.args.wire.now; heard = g.S.Serve.heard c.args.serve.now; said = g.S.Serve.said c.args.serve.now });
+  going = going_first c.args.reader.now (record { given = (g.W.Wire.told c.args.wire.now).read; left = (g.W.Wire.told c.args.wire.now).unread; taken = (g.W.Wire.told c.args.wire.now).written; calls = (g.W.Wire.told c.args.wire.now).calls; heard = g.S.Serve.heard c.args.serve.now; said = g.S.Serve.said c.args.serve.now });
   lost = refl;
   cut = refl;
   closed = refl;
@@ -23,9 +23,9 @@ loop-init g c = record {
 
 pub returns-in-Ends-clause-serves : goal.returns-in-Ends-clause-serves
 returns-in-Ends-clause-serves g c =
-    let before : Told = record { given = g.W.Wire.given c.args.wire.now; left = g.W.Wire.left c.args.wire.now; taken = g.W.Wire.taken c.args.wire.now; calls = g.W.Wire.calls c.args.wire.now; heard = g.S.Serve.heard c.args.serve.now; said = g.S.Serve.said c.args.serve.now } in
-    let at : Told = record { given = g.W.Wire.given c.loop.wire; left = g.W.Wire.left c.loop.wire; taken = g.W.Wire.taken c.loop.wire; calls = g.W.Wire.calls c.loop.wire; heard = g.S.Serve.heard c.loop.serve; said = g.S.Serve.said c.loop.serve } in
-    let turned : Told = record { given = g.W.Wire.given c.take_turn.new.wire; left = g.W.Wire.left c.take_turn.new.wire; taken = g.W.Wire.taken c.take_turn.new.wire; calls = g.W.Wire.calls c.take_turn.new.wire; heard = g.S.Serve.heard c.take_turn.new.serve; said = g.S.Serve.said c.take_turn.new.serve } in
+    let before : Told = record { given = (g.W.Wire.told c.args.wire.now).read; left = (g.W.Wire.told c.args.wire.now).unread; taken = (g.W.Wire.told c.args.wire.now).written; calls = (g.W.Wire.told c.args.wire.now).calls; heard = g.S.Serve.heard c.args.serve.now; said = g.S.Serve.said c.args.serve.now } in
+    let at : Told = record { given = (g.W.Wire.told c.loop.wire).read; left = (g.W.Wire.told c.loop.wire).unread; taken = (g.W.Wire.told c.loop.wire).written; calls = (g.W.Wire.told c.loop.wire).calls; heard = g.S.Serve.heard c.loop.serve; said = g.S.Serve.said c.loop.serve } in
+    let turned : Told = record { given = (g.W.Wire.told c.take_turn.new.wire).read; left = (g.W.Wire.told c.take_turn.new.wire).unread; taken = (g.W.Wire.told c.take_turn.new.wire).written; calls = (g.W.Wire.told c.take_turn.new.wire).calls; heard = g.S.Serve.heard c.take_turn.new.serve; said = g.S.Serve.said c.take_turn.new.serve } in
     let turn = c.in_ok-take_turn.ensures.reacts in
     let t : Turned c.loop.reader at (take c.loop.count c.loop.chunk) c.take_turn.new.reader turned = record {
       fed = turn.0;
@@ -47,18 +47,18 @@ pub returns-in-Ends-clause-lost : goal.returns-in-Ends-clause-lost
 returns-in-Ends-clause-lost g c =
     let turn = c.in_ok-take_turn.ensures.reacts in
     c.in_ok-take_turn.ensures.lost ∙ c.loop.invariant.lost
-    ∙ sym (turn_unlost turn.0 turn.1 turn.2 c.in-Ends.end (subst (Reacts turn.0 turn.1 turn.2) c.in-Ends.is turn.4) (g.W.Wire.lost c.args.wire.now))
+    ∙ sym (turn_unlost turn.0 turn.1 turn.2 c.in-Ends.end (subst (Reacts turn.0 turn.1 turn.2) c.in-Ends.is turn.4) (g.W.Wire.told c.args.wire.now).read_failed)
 
 pub returns-in-Ends-clause-cut : goal.returns-in-Ends-clause-cut
 returns-in-Ends-clause-cut g c =
-    c.in_ok-take_turn.ensures.cut ∙ ap (λ e. cut_by e (g.W.Wire.closed c.loop.wire) (g.W.Wire.cut c.loop.wire)) c.in-Ends.is
+    c.in_ok-take_turn.ensures.cut ∙ ap (λ e. cut_by e (g.W.Wire.told c.loop.wire).closed (g.W.Wire.told c.loop.wire).write_failed) c.in-Ends.is
     ∙ ap₂ (λ (closed cut : Bool). cut_behind c.in-Ends.end closed cut) c.loop.invariant.closed c.loop.invariant.cut
 
 pub returns-in-Ok-eq0-clause-serves : goal.returns-in-Ok-eq0-clause-serves
 returns-in-Ok-eq0-clause-serves g c =
-    let before : Told = record { given = g.W.Wire.given c.args.wire.now; left = g.W.Wire.left c.args.wire.now; taken = g.W.Wire.taken c.args.wire.now; calls = g.W.Wire.calls c.args.wire.now; heard = g.S.Serve.heard c.args.serve.now; said = g.S.Serve.said c.args.serve.now } in
-    let at : Told = record { given = g.W.Wire.given c.loop.wire; left = g.W.Wire.left c.loop.wire; taken = g.W.Wire.taken c.loop.wire; calls = g.W.Wire.calls c.loop.wire; heard = g.S.Serve.heard c.loop.serve; said = g.S.Serve.said c.loop.serve } in
-    let turned : Told = record { given = g.W.Wire.given c.take_turn.new.wire; left = g.W.Wire.left c.take_turn.new.wire; taken = g.W.Wire.taken c.take_turn.new.wire; calls = g.W.Wire.calls c.take_turn.new.wire; heard = g.S.Serve.heard c.take_turn.new.serve; said = g.S.Serve.said c.take_turn.new.serve } in
+    let before : Told = record { given = (g.W.Wire.told c.args.wire.now).read; left = (g.W.Wire.told c.args.wire.now).unread; taken = (g.W.Wire.told c.args.wire.now).written; calls = (g.W.Wire.told c.args.wire.now).calls; heard = g.S.Serve.heard c.args.serve.now; said = g.S.Serve.said c.args.serve.now } in
+    let at : Told = record { given = (g.W.Wire.told c.loop.wire).read; left = (g.W.Wire.told c.loop.wire).unread; taken = (g.W.Wire.told c.loop.wire).written; calls = (g.W.Wire.told c.loop.wire).calls; heard = g.S.Serve.heard c.loop.serve; said = g.S.Serve.said c.loop.serve } in
+    let turned : Told = record { given = (g.W.Wire.told c.take_turn.new.wire).read; left = (g.W.Wire.told c.take_turn.new.wire).unread; taken = (g.W.Wire.told c.take_turn.new.wire).written; calls = (g.W.Wire.told c.take_turn.new.wire).calls; heard = g.S.Serve.heard c.take_turn.new.serve; said = g.S.Serve.said c.take_turn.new.serve } in
     let turn = c.in_ok-take_turn.ensures.reacts in
     let t : Turned c.loop.reader at (take c.loop.count c.loop.chunk) c.take_turn.new.reader turned = record {
       fed = turn.0;
@@ -73,11 +73,11 @@ returns-in-Ok-eq0-clause-serves g c =
       heard = turn.7;
       told = turn.8;
     } in
-    let after : Told = record { given = g.W.Wire.given c.read.new.self; left = g.W.Wire.left c.read.new.self; taken = g.W.Wire.taken c.read.new.self; calls = g.W.Wire.calls c.read.new.self; heard = g.S.Serve.heard c.take_turn.new.serve; said = g.S.Serve.said c.take_turn.new.serve } in
+    let after : Told = record { given = (g.W.Wire.told c.read.new.self).read; left = (g.W.Wire.told c.read.new.self).unread; taken = (g.W.Wire.told c.read.new.self).written; calls = (g.W.Wire.told c.read.new.self).calls; heard = g.S.Serve.heard c.take_turn.new.serve; said = g.S.Serve.said c.take_turn.new.serve } in
     let read : ReadOn turned after [] = record {
-      given = subst (λ n. Appends turned.given after.given (take n c.read.new.into)) c.in-Ok-eq0.field-0-test c.in-Ok-eq0.ensures.given;
+      given = subst (λ n. Appends turned.given after.given (take n c.read.new.into)) c.in-Ok-eq0.field-0-test c.in-Ok-eq0.ensures.read;
       left = subst (λ n. Consumes turned.left after.left (take n c.read.new.into)) c.in-Ok-eq0.field-0-test c.in-Ok-eq0.ensures.bytes.0;
-      taken = c.in-Ok-eq0.ensures.taken;
+      taken = c.in-Ok-eq0.ensures.written;
       heard = refl;
       told = refl;
     } in
@@ -87,9 +87,9 @@ returns-in-Ok-eq0-clause-serves g c =
 
 pub returns-in-Err-clause-serves : goal.returns-in-Err-clause-serves
 returns-in-Err-clause-serves g c =
-    let before : Told = record { given = g.W.Wire.given c.args.wire.now; left = g.W.Wire.left c.args.wire.now; taken = g.W.Wire.taken c.args.wire.now; calls = g.W.Wire.calls c.args.wire.now; heard = g.S.Serve.heard c.args.serve.now; said = g.S.Serve.said c.args.serve.now } in
-    let at : Told = record { given = g.W.Wire.given c.loop.wire; left = g.W.Wire.left c.loop.wire; taken = g.W.Wire.taken c.loop.wire; calls = g.W.Wire.calls c.loop.wire; heard = g.S.Serve.heard c.loop.serve; said = g.S.Serve.said c.loop.serve } in
-    let turned : Told = record { given = g.W.Wire.given c.take_turn.new.wire; left = g.W.Wire.left c.take_turn.new.wire; taken = g.W.Wire.taken c.take_turn.new.wire; calls = g.W.Wire.calls c.take_turn.new.wire; heard = g.S.Serve.heard c.take_turn.new.serve; said = g.S.Serve.said c.take_turn.new.serve } in
+    let before : Told = record { given = (g.W.Wire.told c.args.wire.now).read; left = (g.W.Wire.told c.args.wire.now).unread; taken = (g.W.Wire.told c.args.wire.now).written; calls = (g.W.Wire.told c.args.wire.now).calls; heard = g.S.Serve.heard c.args.serve.now; said = g.S.Serve.said c.args.serve.now } in
+    let at : Told = record { given = (g.W.Wire.told c.loop.wire).read; left = (g.W.Wire.told c.loop.wire).unread; taken = (g.W.Wire.told c.loop.wire).written; calls = (g.W.Wire.told c.loop.wire).calls; heard = g.S.Serve.heard c.loop.serve; said = g.S.Serve.said c.loop.serve } in
+    let turned : Told = record { given = (g.W.Wire.told c.take_turn.new.wire).read; left = (g.W.Wire.told c.take_turn.new.wire).unread; taken = (g.W.Wire.told c.take_turn.new.wire).written; calls = (g.W.Wire.told c.take_turn.new.wire).calls; heard = g.S.Serve.heard c.take_turn.new.serve; said = g.S.Serve.said c.take_turn.new.serve } in
     let turn = c.in_ok-take_turn.ensures.reacts in
     let t : Turned c.loop.reader at (take c.loop.count c.loop.chunk) c.take_turn.new.reader turned = record {
       fed = turn.0;
@@ -104,11 +104,11 @@ returns-in-Err-clause-serves g c =
       heard = turn.7;
       told = turn.8;
     } in
-    let after : Told = record { given = g.W.Wire.given c.read.new.self; left = g.W.Wire.left c.read.new.self; taken = g.W.Wire.taken c.read.new.self; calls = g.W.Wire.calls c.read.new.self; heard = g.S.Serve.heard c.take_turn.new.serve; said = g.S.Serve.said c.take_turn.new.serve } in
+    let after : Told = record { given = (g.W.Wire.told c.read.new.self).read; left = (g.W.Wire.told c.read.new.self).unread; taken = (g.W.Wire.told c.read.new.self).written; calls = (g.W.Wire.told c.read.new.self).calls; heard = g.S.Serve.heard c.take_turn.new.serve; said = g.S.Serve.said c.take_turn.new.serve } in
     let read : ReadOn turned after [] = record {
-      given = Appends-kept turned.given turned.given after.given [] (Appends-nil turned.given) c.in-Err.ensures.given;
+      given = Appends-kept turned.given turned.given after.given [] (Appends-nil turned.given) c.in-Err.ensures.read;
       left = Consumes-kept turned.left turned.left after.left [] (Consumes-nil turned.left) c.in-Err.ensures.bytes;
-      taken = c.in-Err.ensures.taken;
+      taken = c.in-Err.ensures.written;
       heard = refl;
       told = refl;
     } in
@@ -117,9 +117,9 @@ returns-in-Err-clause-serves g c =
 
 pub loop-preserved : goal.loop-preserved
 loop-preserved g c =
-    let before : Told = record { given = g.W.Wire.given c.args.wire.now; left = g.W.Wire.left c.args.wire.now; taken = g.W.Wire.taken c.args.wire.now; calls = g.W.Wire.calls c.args.wire.now; heard = g.S.Serve.heard c.args.serve.now; said = g.S.Serve.said c.args.serve.now } in
-    let at : Told = record { given = g.W.Wire.given c.loop.wire; left = g.W.Wire.left c.loop.wire; taken = g.W.Wire.taken c.loop.wire; calls = g.W.Wire.calls c.loop.wire; heard = g.S.Serve.heard c.loop.serve; said = g.S.Serve.said c.loop.serve } in
-    let turned : Told = record { given = g.W.Wire.given c.take_turn.new.wire; left = g.W.Wire.left c.take_turn.new.wire; taken = g.W.Wire.taken c.take_turn.new.wire; calls = g.W.Wire.calls c.take_turn.new.wire; heard = g.S.Serve.heard c.take_turn.new.serve; said = g.S.Serve.said c.take_turn.new.serve } in
+    let before : Told = record { given = (g.W.Wire.told c.args.wire.now).read; left = (g.W.Wire.told c.args.wire.now).unread; taken = (g.W.Wire.told c.args.wire.now).written; calls = (g.W.Wire.told c.args.wire.now).calls; heard = g.S.Serve.heard c.args.serve.now; said = g.S.Serve.said c.args.serve.now } in
+    let at : Told = record { given = (g.W.Wire.told c.loop.wire).read; left = (g.W.Wire.told c.loop.wire).unread; taken = (g.W.Wire.told c.loop.wire).written; calls = (g.W.Wire.told c.loop.wire).calls; heard = g.S.Serve.heard c.loop.serve; said = g.S.Serve.said c.loop.serve } in
+    let turned : Told = record { given = (g.W.Wire.told c.take_turn.new.wire).read; left = (g.W.Wire.told c.take_turn.new.wire).unread; taken = (g.W.Wire.told c.take_turn.new.wire).written; calls = (g.W.Wire.told c.take_turn.new.wire).calls; heard = g.S.Serve.heard c.take_turn.new.serve; said = g.S.Serve.said c.take_turn.new.serve } in
     let turn = c.in_ok-take_turn.ensures.reacts in
     let t : Turned c.loop.reader at (take c.loop.count c.loop.chunk) c.take_turn.new.reader turned = record {
       fed = turn.0;
@@ -137,7 +137,7 @@ loop-preserved g c =
     elim c.match-branch-2.branch [
       | in-GoesOn w ↦
           let reacts = subst (Reacts turn.0 turn.1 turn.2) w.in-GoesOn.is turn.4 in
-          let uncut = c.in_ok-take_turn.ensures.cut ∙ ap (λ e. cut_by e (g.W.Wire.closed c.loop.wire) (g.W.Wire.cut c.loop.wire)) w.in-GoesOn.is in
+          let uncut = c.in_ok-take_turn.ensures.cut ∙ ap (λ e. cut_by e (g.W.Wire.told c.loop.wire).closed (g.W.Wire.told c.loop.wire).write_failed) w.in-GoesOn.is in
           rw (w.wire-is, w.count-is) (record {
             asks = c.loop.invariant.asks;
             within = omega arith;
@@ -148,12 +148,12 @@ loop-preserved g c =
           })
       | in-Waits+in-Ok w ↦
           let reacts = subst (Reacts turn.0 turn.1 turn.2) w.in-Waits.is turn.4 in
-          let uncut = c.in_ok-take_turn.ensures.cut ∙ ap (λ e. cut_by e (g.W.Wire.closed c.loop.wire) (g.W.Wire.cut c.loop.wire)) w.in-Waits.is in
-          let after : Told = record { given = g.W.Wire.given w.read.new.self; left = g.W.Wire.left w.read.new.self; taken = g.W.Wire.taken w.read.new.self; calls = g.W.Wire.calls w.read.new.self; heard = g.S.Serve.heard c.take_turn.new.serve; said = g.S.Serve.said c.take_turn.new.serve } in
+          let uncut = c.in_ok-take_turn.ensures.cut ∙ ap (λ e. cut_by e (g.W.Wire.told c.loop.wire).closed (g.W.Wire.told c.loop.wire).write_failed) w.in-Waits.is in
+          let after : Told = record { given = (g.W.Wire.told w.read.new.self).read; left = (g.W.Wire.told w.read.new.self).unread; taken = (g.W.Wire.told w.read.new.self).written; calls = (g.W.Wire.told w.read.new.self).calls; heard = g.S.Serve.heard c.take_turn.new.serve; said = g.S.Serve.said c.take_turn.new.serve } in
           let read : ReadOn turned after (take w.in-Ok.read w.read.new.into) = record {
-            given = w.in-Ok.ensures.given;
+            given = w.in-Ok.ensures.read;
             left = w.in-Ok.ensures.bytes.0;
-            taken = w.in-Ok.ensures.taken;
+            taken = w.in-Ok.ensures.written;
             heard = refl;
             told = refl;
           } in
@@ -162,8 +162,8 @@ loop-preserved g c =
             within = w.in-Ok.ensures.bound.0;
             going = read_on c.args.reader.now c.loop.invariant.asks before c.loop.reader at (take c.loop.count c.loop.chunk) c.loop.invariant.going c.take_turn.new.reader turned t reacts (ap goes w.in-Waits.is) after (take w.in-Ok.read w.read.new.into) read
                 w.in-Ok.read w.in-Ok.ensures.calls w.in-Ok.ensures.bound.1 (omega (arith, w.in-Ok.read-test));
-            lost = w.in-Ok.ensures.lost ∙ c.in_ok-take_turn.ensures.lost ∙ c.loop.invariant.lost;
-            cut = w.in-Ok.ensures.cut ∙ uncut ∙ c.loop.invariant.cut;
+            lost = w.in-Ok.ensures.read_failed ∙ c.in_ok-take_turn.ensures.lost ∙ c.loop.invariant.lost;
+            cut = w.in-Ok.ensures.write_failed ∙ uncut ∙ c.loop.invariant.cut;
             closed = w.in-Ok.ensures.closed ∙ c.in_ok-take_turn.ensures.closed ∙ c.loop.invariant.closed;
           })
     ]

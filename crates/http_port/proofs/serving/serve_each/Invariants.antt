@@ -8,11 +8,11 @@ invariant-loop g l = record {
   asks : AsksWhereGiven l.fn.reader;
   within : l.count ≤ length l.chunk;
   going : Going l.fn.reader
-      (record { given = g.W.Wire.given l.fn.wire; left = g.W.Wire.left l.fn.wire; taken = g.W.Wire.taken l.fn.wire; calls = g.W.Wire.calls l.fn.wire; heard = g.S.Serve.heard l.fn.serve; said = g.S.Serve.said l.fn.serve })
+      (record { given = (g.W.Wire.told l.fn.wire).read; left = (g.W.Wire.told l.fn.wire).unread; taken = (g.W.Wire.told l.fn.wire).written; calls = (g.W.Wire.told l.fn.wire).calls; heard = g.S.Serve.heard l.fn.serve; said = g.S.Serve.said l.fn.serve })
       l.reader
-      (record { given = g.W.Wire.given l.wire; left = g.W.Wire.left l.wire; taken = g.W.Wire.taken l.wire; calls = g.W.Wire.calls l.wire; heard = g.S.Serve.heard l.serve; said = g.S.Serve.said l.serve })
+      (record { given = (g.W.Wire.told l.wire).read; left = (g.W.Wire.told l.wire).unread; taken = (g.W.Wire.told l.wire).written; calls = (g.W.Wire.told l.wire).calls; heard = g.S.Serve.heard l.serve; said = g.S.Serve.said l.serve })
       (take l.count l.chunk);
-  lost : g.W.Wire.lost l.wire ≡ g.W.Wire.lost l.fn.wire;
-  cut : g.W.Wire.cut l.wire ≡ g.W.Wire.cut l.fn.wire;
-  closed : g.W.Wire.closed l.wire ≡ g.W.Wire.closed l.fn.wire;
+  lost : (g.W.Wire.told l.wire).read_failed ≡ (g.W.Wire.told l.fn.wire).read_failed;
+  cut : (g.W.Wire.told l.wire).write_failed ≡ (g.W.Wire.told l.fn.wire).write_failed;
+  closed : (g.W.Wire.told l.wire).closed ≡ (g.W.Wire.told l.fn.wire).closed;
 }

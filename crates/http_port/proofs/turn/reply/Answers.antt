@@ -8,7 +8,7 @@ use Rattle.http_port.proofs.turn.reply.Goals as goal
 
 pub returns-in-Text-clause-answers : goal.returns-in-Text-clause-answers
 returns-in-Text-clause-answers g c =
-    subst (λ said. IfOk c.respond.result (λ turn. (went : List ℕ) × Answers said c.args.close went turn × Appends (g.W.Wire.taken c.args.wire.now) (g.W.Wire.taken c.respond.new.wire) went × IsWritten (g.W.Wire.calls c.args.wire.now) (g.W.Wire.calls c.respond.new.wire) went (goes turn)))
+    subst (λ said. IfOk c.respond.result (λ turn. (went : List ℕ) × Answers said c.args.close went turn × Appends (g.W.Wire.told c.args.wire.now).written (g.W.Wire.told c.respond.new.wire).written went × IsWritten (g.W.Wire.told c.args.wire.now).calls (g.W.Wire.told c.respond.new.wire).calls went (goes turn)))
     (sym c.in-Text.is)
-    (subst (λ text. IfOk c.respond.result (λ turn. (went : List ℕ) × Writes (response 200 text c.args.close) (turn_behind c.args.close) went turn × Appends (g.W.Wire.taken c.args.wire.now) (g.W.Wire.taken c.respond.new.wire) went × IsWritten (g.W.Wire.calls c.args.wire.now) (g.W.Wire.calls c.respond.new.wire) went (goes turn)))
+    (subst (λ text. IfOk c.respond.result (λ turn. (went : List ℕ) × Writes (response 200 text c.args.close) (turn_behind c.args.close) went turn × Appends (g.W.Wire.told c.args.wire.now).written (g.W.Wire.told c.respond.new.wire).written went × IsWritten (g.W.Wire.told c.args.wire.now).calls (g.W.Wire.told c.respond.new.wire).calls went (goes turn)))
     c.as_slice.ensures c.respond.ensures.writes)

@@ -15,18 +15,18 @@ loop-done-preserved g c =
     let rest = take_rest bytes done in
     let fits : count ≤ length bytes - done = subst (λ k. count ≤ k) (ap length rest ∙ length-drop done bytes) c.in_ok-done.ensures.bound in
     let some : 0 < count = c.in_ok-done.ensures.some (subst (λ (k : ℕ). 0 < k) (sym (ap length rest ∙ length-drop done bytes)) (omega (arith, c.loop-done-test.true))) in
-    let more = subst (λ l. Appends (g.W.Wire.taken c.loop-done.wire) (g.W.Wire.taken c.write.new.self) (take count l)) rest c.in_ok-done.ensures.bytes in
+    let more = subst (λ l. Appends (g.W.Wire.told c.loop-done.wire).written (g.W.Wire.told c.write.new.self).written (take count l)) rest c.in_ok-done.ensures.bytes in
     let taken : count ≡ length (take count (drop done bytes)) = sym (length-take-le count (drop done bytes) (omega (arith, length-drop done bytes))) in
     record {
       within = omega arith;
-      written = subst (Appends (g.W.Wire.taken c.args.wire.now) (g.W.Wire.taken c.write.new.self)) (sym (take-add done count bytes))
-          (Appends-trans (g.W.Wire.taken c.args.wire.now) (g.W.Wire.taken c.loop-done.wire) (g.W.Wire.taken c.write.new.self) (take done bytes) (take count (drop done bytes)) c.loop-done.invariant.written more);
-      called = subst (λ l. IsWritten (g.W.Wire.calls c.args.wire.now) (g.W.Wire.calls c.write.new.self) l true) (sym (take-add done count bytes))
-          (written_more (g.W.Wire.calls c.args.wire.now) (g.W.Wire.calls c.loop-done.wire) (g.W.Wire.calls c.write.new.self) (take done bytes) (take count (drop done bytes)) count c.loop-done.invariant.called c.in_ok-done.ensures.calls taken some);
-      lost = c.in_ok-done.ensures.lost ∙ c.loop-done.invariant.lost;
-      cut = c.in_ok-done.ensures.cut ∙ c.loop-done.invariant.cut;
+      written = subst (Appends (g.W.Wire.told c.args.wire.now).written (g.W.Wire.told c.write.new.self).written) (sym (take-add done count bytes))
+          (Appends-trans (g.W.Wire.told c.args.wire.now).written (g.W.Wire.told c.loop-done.wire).written (g.W.Wire.told c.write.new.self).written (take done bytes) (take count (drop done bytes)) c.loop-done.invariant.written more);
+      called = subst (λ l. IsWritten (g.W.Wire.told c.args.wire.now).calls (g.W.Wire.told c.write.new.self).calls l true) (sym (take-add done count bytes))
+          (written_more (g.W.Wire.told c.args.wire.now).calls (g.W.Wire.told c.loop-done.wire).calls (g.W.Wire.told c.write.new.self).calls (take done bytes) (take count (drop done bytes)) count c.loop-done.invariant.called c.in_ok-done.ensures.calls taken some);
+      lost = c.in_ok-done.ensures.read_failed ∙ c.loop-done.invariant.lost;
+      cut = c.in_ok-done.ensures.write_failed ∙ c.loop-done.invariant.cut;
       ended = c.in_ok-done.ensures.ended ∙ c.loop-done.invariant.ended;
-      given = c.in_ok-done.ensures.given ∙ c.loop-done.invariant.given;
-      left = c.in_ok-done.ensures.left ∙ c.loop-done.invariant.left;
+      given = c.in_ok-done.ensures.read ∙ c.loop-done.invariant.given;
+      left = c.in_ok-done.ensures.unread ∙ c.loop-done.invariant.left;
       closed = c.in_ok-done.ensures.closed ∙ c.loop-done.invariant.closed;
     }

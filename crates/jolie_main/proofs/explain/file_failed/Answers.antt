@@ -1,6 +1,6 @@
 -- What each command writes of a file that can't be read.
 use Rattle.std.proofs.Common.{refl}
-use Rattle.command_words.specs.declared.table.Action.TheVariants as action
+use Rattle.main_commands.specs.declared.table.Action.TheVariants as action
 use Rattle.jolie_main.proofs.CommandsDone.{tells, tells_line}
 use Rattle.jolie_main.proofs.explain.file_failed.Goals as goal
 

@@ -14,7 +14,7 @@ left_over n text lt none =
     omega arith
 
 pub loop-done-init : goal.loop-done-init
-loop-done-init g c = record { within = omega arith; written = Appends-nil (g.K.Sink.taken c.args.output.now); calm = refl }
+loop-done-init g c = record { within = omega arith; written = Appends-nil (g.K.Sink.told c.args.output.now).written; calm = refl }
 
 pub loop-done-preserved : goal.loop-done-preserved
 loop-done-preserved g c =
@@ -23,11 +23,11 @@ loop-done-preserved g c =
     let count = c.in-Ok.count in
     let rest = take_rest bytes done in
     let fits : count ≤ length bytes - done = subst (λ k. count ≤ k) (ap length rest ∙ length-drop done bytes) c.in-Ok.ensures.bound in
-    let more = subst (λ l. Appends (g.K.Sink.taken c.loop-done.output) (g.K.Sink.taken c.write.new.self) (take count l)) rest c.in-Ok.ensures.bytes in
+    let more = subst (λ l. Appends (g.K.Sink.told c.loop-done.output).written (g.K.Sink.told c.write.new.self).written (take count l)) rest c.in-Ok.ensures.bytes in
     record {
       within = omega arith;
-      written = subst (Appends (g.K.Sink.taken c.args.output.now) (g.K.Sink.taken c.write.new.self)) (sym (take-add done count bytes))
-          (Appends-trans (g.K.Sink.taken c.args.output.now) (g.K.Sink.taken c.loop-done.output) (g.K.Sink.taken c.write.new.self) (take done bytes) (take count (drop done bytes)) c.loop-done.invariant.written more);
+      written = subst (Appends (g.K.Sink.told c.args.output.now).written (g.K.Sink.told c.write.new.self).written) (sym (take-add done count bytes))
+          (Appends-trans (g.K.Sink.told c.args.output.now).written (g.K.Sink.told c.loop-done.output).written (g.K.Sink.told c.write.new.self).written (take done bytes) (take count (drop done bytes)) c.loop-done.invariant.written more);
       calm = c.in-Ok.ensures.cause.calm ∙ c.loop-done.invariant.calm;
     }
 
@@ -39,8 +39,8 @@ returns-in-Err g c =
     record {
       piece = take done bytes;
       part = (drop done bytes, left_over done bytes lt, take-append-drop done bytes);
-      bytes = Appends-kept (g.K.Sink.taken c.args.output.now) (g.K.Sink.taken c.loop-done.output) (g.K.Sink.taken c.write.new.self) (take done bytes) c.loop-done.invariant.written c.in-Err.ensures.bytes;
-      cause = subst (λ n. Rose n (g.K.Sink.faults c.write.new.self)) c.loop-done.invariant.calm c.in-Err.ensures.cause.failed;
+      bytes = Appends-kept (g.K.Sink.told c.args.output.now).written (g.K.Sink.told c.loop-done.output).written (g.K.Sink.told c.write.new.self).written (take done bytes) c.loop-done.invariant.written c.in-Err.ensures.bytes;
+      cause = subst (λ n. Rose n (g.K.Sink.told c.write.new.self).faults) c.loop-done.invariant.calm c.in-Err.ensures.cause.failed;
     }
 
 pub returns : goal.returns
@@ -48,6 +48,6 @@ returns g c =
     let done = c.loop-done.done in
     let bytes = c.args.text.now in
     record {
-      bytes = subst (Appends (g.K.Sink.taken c.args.output.now) (g.K.Sink.taken c.loop-done.output)) (take_all done bytes (omega arith)) c.loop-done.invariant.written;
+      bytes = subst (Appends (g.K.Sink.told c.args.output.now).written (g.K.Sink.told c.loop-done.output).written) (take_all done bytes (omega arith)) c.loop-done.invariant.written;
       calm = c.loop-done.invariant.calm;
     }

@@ -5,8 +5,8 @@ use Rattle.jolie_main.proofs.say.say.Given as goal
 abbrev pub invariant-loop-done : goal.invariant-loop-done
 invariant-loop-done g l = record {
   within : l.done ≤ length l.text;
-  written : Appends (g.K.Sink.taken l.fn.output) (g.K.Sink.taken l.output) (take l.done l.text);
-  calm : g.K.Sink.faults l.output ≡ g.K.Sink.faults l.fn.output;
+  written : Appends (g.K.Sink.told l.fn.output).written (g.K.Sink.told l.output).written (take l.done l.text);
+  calm : (g.K.Sink.told l.output).faults ≡ (g.K.Sink.told l.fn.output).faults;
 }
 
 abbrev pub decreases-loop-done : goal.decreases-loop-done

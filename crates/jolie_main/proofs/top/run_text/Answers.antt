@@ -1,7 +1,7 @@
 -- A program runs by the first link, and another text is refused.
 use Rattle.std.proofs.Common.{refl}
 use Rattle.jolie_main.proofs.CommandsDone.{not_run, ran}
-use Rattle.file_verdicts.proofs.TextsAsPrograms.{has_some}
+use Rattle.check_verdicts.proofs.TextsAsPrograms.{has_some}
 use Rattle.jolie_main.proofs.top.run_text.Goals as goal
 
 pub run_program-requires-clause-some : goal.run_program-requires-clause-some
@@ -15,4 +15,4 @@ returns-in-Err-clause-runs g c =
 pub returns-clause-runs : goal.returns-clause-runs
 returns-clause-runs g c =
     λ n doors. ran c.args.command.now c.args.text.now _ c.in-Ok.program c.run_program.result _ c.in_ok-program.ensures c.in-Ok.is
-    c.run_program.ensures.lined refl c.run_program.ensures.travelled
+    (c.run_program.ensures.lined n doors)

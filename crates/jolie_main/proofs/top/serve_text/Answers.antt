@@ -1,7 +1,7 @@
 -- A program is served by the first link, and another text is refused.
 use Rattle.std.proofs.Common.{refl}
 use Rattle.jolie_main.proofs.CommandsDone.{not_served, served}
-use Rattle.file_verdicts.proofs.TextsAsPrograms.{has_some}
+use Rattle.check_verdicts.proofs.TextsAsPrograms.{has_some}
 use Rattle.jolie_main.proofs.top.serve_text.Goals as goal
 
 pub serve_program-requires-clause-some : goal.serve_program-requires-clause-some
@@ -15,4 +15,4 @@ returns-in-Err-clause-serves g c =
 pub returns-clause-serves : goal.returns-clause-serves
 returns-clause-serves g c =
     λ n source. served _ c.args.command.now c.args.text.now _ c.in-Ok.program c.serve_program.result _ c.in_ok-program.ensures
-    c.in-Ok.is c.serve_program.ensures.doored refl refl c.serve_program.ensures.travelled
+    c.in-Ok.is (c.serve_program.ensures.doored n source _)

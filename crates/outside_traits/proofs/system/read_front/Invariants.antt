@@ -4,7 +4,7 @@ use Rattle.outside_traits.proofs.system.read_front.Given as goal
 
 abbrev pub invariant-loop-chunk : goal.invariant-loop-chunk
 invariant-loop-chunk g l = record {
-  given : Consumes (g.S.Source.left l.fn.source) (g.S.Source.left l.source) l.bytes.items;
+  given : Consumes (g.S.Source.told l.fn.source).unread (g.S.Source.told l.source).unread l.bytes.items;
   most : length l.bytes.items ≤ l.most;
 }
 

@@ -27,11 +27,11 @@ returns-clause-ran g c =
     let closed = b.passed first before (dealt_under dealt first c.args.front.now before (sym e.program) so) new
     (passed_starts _ c.new-pendings.result (ap (λ (s : State). s.history) e.begun) c.new-pendings.ensures.postings c.new-pendings.ensures.waiting
     before new) in
-    ran_as dealt first c.finish.new.front c.args.text.now _ (ap parts_of b.program ∙ e.program)
+    ran_as dealt first c.finish.new.front c.args.text.now before _ (ap parts_of b.program ∙ e.program)
     (b.budget ∙ ap (λ (s : State). s.budget) e.begun)
-    (f.ran first closed.0
+    (f.ran first before closed.0
     (dealt_under dealt first c.bring_in.new.front closed.0 (ap parts_of (sym b.program)) closed.1)
-    closed.2)
+    closed.2.0 closed.2.1)
 
 pub returns-clause-trips : goal.returns-clause-trips
 returns-clause-trips g c =

@@ -2,7 +2,7 @@
 use Rattle.std.proofs.Common.{◌≡◌, ◌∙◌, [], length, List, refl, sym, ap, subst, arith, rules}
 use Rattle.std.proofs.lemmas.List.{nil_from_length}
 use Rattle.std.specs.Vec.Iter.{into_iter_items}
-use Rattle.order_laws.specs.Uncollected.{AreUncollected}
+use Rattle.run_order_laws.specs.Uncollected.{AreUncollected}
 use Rattle.run_cells.specs.Crews.{past_in, state_of}
 use Rattle.run_posts.specs.declared.pending.Fate.{Fate}
 use Rattle.run_posts.specs.Fates.{messages_in}

@@ -2,7 +2,7 @@
 use Rattle.std.proofs.Common.{◌≡◌, ◌∙◌, ◌++◌, [], sym, ap}
 use Rattle.std.proofs.lemmas.List.{nil_from_length}
 use Rattle.std.specs.Vec.Iter.{into_iter_items}
-use Rattle.order_laws.proofs.Lists.{append_nil}
+use Rattle.run_order_laws.proofs.Lists.{append_nil}
 use Rattle.run_posts.specs.Fates.{outcomes_in}
 use Rattle.run_posts.proofs.telling.outcomes_of.Goals as goal
 

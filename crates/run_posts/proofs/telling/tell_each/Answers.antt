@@ -4,7 +4,7 @@ use Rattle.std.specs.List.{filter}
 use Rattle.std.proofs.lemmas.List.{nil_from_length}
 use Rattle.std.specs.Vec.Iter.{into_iter_items}
 use Rattle.behaviour_tree.specs.PartsView.{parts_of}
-use Rattle.order_laws.proofs.Lists.{append_nil}
+use Rattle.run_order_laws.proofs.Lists.{append_nil}
 use Rattle.run_posts.specs.declared.pending.Pending.{Pending}
 use Rattle.run_posts.specs.Fates.{is_finished, is_open, wait_of}
 use Rattle.run_posts.specs.Telling.{TellsOn}

@@ -3,7 +3,7 @@ use Rattle.std.proofs.Common.{◌∙◌, refl, subst, sym}
 use Rattle.jolie_trees.specs.Trees.{root_of, void_tree}
 use Rattle.behaviour_tree.specs.declared.words.Outcome.TheVariants as outcome
 use Rattle.office_core.specs.declared.outgoing.OutKind.TheVariants as kind
-use Rattle.office_front.specs.Calls.{Notes}
+use Rattle.run_theorem.specs.Calls.{Notes}
 use Rattle.jsonrpc_calls.specs.Console.{console_line}
 use Rattle.run_cells.specs.Crews.{state_of}
 use Rattle.run_sweep.specs.Swept.{NotesBy, NotesMore, PassedOn, ToursBy}
@@ -21,7 +21,7 @@ loop-out-init g c =
       errands = errands_none s.setting kind.Console s c.requires.settled;
       toured = λ now first t. t;
       noted = passed_none g.F.Front.dealt c.args.front.now (NotesBy s.setting s.history s.history)
-          (λ d muted. (notes_none d muted, λ so. so));
+          (λ d notes_failed. (notes_none d notes_failed, λ so. so));
     }
 
 pub note-requires-clause-fetched : goal.note-requires-clause-fetched

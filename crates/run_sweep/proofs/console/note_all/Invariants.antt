@@ -1,11 +1,11 @@
 -- The calls that were fetched so far were noted; those that wait are fewer each time.
 use Rattle.std.proofs.Common.{◌≡◌, length}
+use Rattle.outside_links.specs.Trips.{LinkTold}
 use Rattle.office_core.specs.declared.outgoing.OutKind.TheVariants as kind
 use Rattle.office_core.specs.Calls.{outgoing}
 use Rattle.run_cells.specs.Crews.{AtWork, past_in, state_of}
 use Rattle.run_sweep.specs.Swept.{Errands, NotesBy, PassedOn, ToursBy}
 use Rattle.run_sweep.proofs.console.note_all.Given as goal
-use Rattle.trip_laws.specs.Trips.{TripsTold}
 
 abbrev pub invariant-loop-out : goal.invariant-loop-out
 invariant-loop-out g l = record {
@@ -13,7 +13,7 @@ invariant-loop-out g l = record {
   work : AtWork (g.C.Sessions.crew l.cells);
   errands : Errands (state_of (g.C.Sessions.crew l.initial.cells)).setting kind.Console
       (state_of (g.C.Sessions.crew l.initial.cells)) (state_of (g.C.Sessions.crew l.cells)) l.moved;
-  toured : (now : TripsTold)
+  toured : (now : LinkTold)
       → ToursBy (state_of (g.C.Sessions.crew l.initial.cells)).setting
       (state_of (g.C.Sessions.crew l.initial.cells)).history (state_of (g.C.Sessions.crew l.cells)).history now now;
   noted : PassedOn g.F.Front.dealt l.initial.front l.front

@@ -5,12 +5,11 @@ use Rattle.outside_links.specs.Trips.{there_alone, there_and_back}
 use Rattle.jsonrpc_calls.specs.Heard.{heard}
 use Rattle.run_sweep.proofs.Heard.{counted_alone, heard_of}
 use Rattle.run_sweep.proofs.elsewhere.trip.Goals as goal
-use Rattle.trip_laws.specs.Trips.{trips_told}
 
 pub returns-in-Ok : goal.returns-in-Ok
 returns-in-Ok g c =
-    heard_of (parts_of c.args.program.now) c.args.out.now (trips_told (g.L.Link.trips c.args.link.now) (g.L.Link.faults c.args.link.now))
-    (trips_told (g.L.Link.trips c.trip.new.self) (g.L.Link.faults c.trip.new.self))
+    heard_of (parts_of c.args.program.now) c.args.out.now (g.L.Link.told c.args.link.now)
+    (g.L.Link.told c.trip.new.self)
     (there_and_back c.location_called-location.result.now c.as_bytes.result.now c.in-Ok.bytes.items)
     c.outcome_heard.result c.location_called-location.ensures
     (c.as_bytes.ensures.value ∙ c.as_str.ensures ∙ c.in_ok-text.ensures)
@@ -21,12 +20,12 @@ returns-in-Ok g c =
 
 pub returns-in-Err-Failed : goal.returns-in-Err-Failed
 returns-in-Err-Failed g c =
-    heard_of (parts_of c.args.program.now) c.args.out.now (trips_told (g.L.Link.trips c.args.link.now) (g.L.Link.faults c.args.link.now))
-    (trips_told (g.L.Link.trips c.trip.new.self) (g.L.Link.faults c.trip.new.self))
+    heard_of (parts_of c.args.program.now) c.args.out.now (g.L.Link.told c.args.link.now)
+    (g.L.Link.told c.trip.new.self)
     (there_alone c.location_called-location.result.now c.as_bytes.result.now)
     c.nothing_heard.result c.location_called-location.ensures
     (c.as_bytes.ensures.value ∙ c.as_str.ensures ∙ c.in_ok-text.ensures)
     (c.trip.ensures.alone (cc))
-    (counted_alone c.trip.result (g.L.Link.faults c.args.link.now) (g.L.Link.faults c.trip.new.self)
+    (counted_alone c.trip.result (g.L.Link.told c.args.link.now).faults (g.L.Link.told c.trip.new.self).faults
     c.location_called-location.result.now c.as_bytes.result.now (cc) c.trip.ensures.faults)
     c.nothing_heard.ensures

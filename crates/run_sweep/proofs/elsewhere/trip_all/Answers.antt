@@ -3,12 +3,11 @@ use Rattle.std.proofs.Common.{◌∙◌, refl, subst, sym, true≢false}
 use Rattle.behaviour_tree.specs.PartsView.{parts_of}
 use Rattle.office_core.specs.declared.outgoing.OutKind.TheVariants as kind
 use Rattle.run_cells.specs.Crews.{state_of}
-use Rattle.trip_laws.specs.Going.{IsHeard, NotedSoFar}
+use Rattle.run_trip_laws.specs.Going.{IsHeard, NotedSoFar}
 use Rattle.run_sweep.specs.Swept.{ToursBy}
 use Rattle.run_sweep.proofs.Errands.{errands_none, errands_more, errand_of, fetched_of, fetched_some, fetched_none}
 use Rattle.run_sweep.proofs.Errands.{cleared_of, less_of, same_history, noted_same, toured_of}
 use Rattle.run_sweep.proofs.elsewhere.trip_all.Goals as goal
-use Rattle.trip_laws.specs.Trips.{trips_told}
 
 pub loop-out-init : goal.loop-out-init
 loop-out-init g c =
@@ -49,8 +48,8 @@ loop-out-preserved g c =
       program = c.answered.ensures.program ∙ c.fetch.ensures.program ∙ i.program;
       work = did.work;
       errands = errands_more s.setting kind.Remote s mid new out c.loop-out.moved i.errands x;
-      toured = toured_of s mid one new out o c.loop-out.moved made.0 (trips_told (g.L.Link.trips c.args.link.now) (g.L.Link.faults c.args.link.now))
-          (trips_told (g.L.Link.trips c.loop-out.link) (g.L.Link.faults c.loop-out.link)) (trips_told (g.L.Link.trips c.trip.new.link) (g.L.Link.faults c.trip.new.link)) i.errands f did.added did.work.team
+      toured = toured_of s mid one new out o c.loop-out.moved made.0 (g.L.Link.told c.args.link.now)
+          (g.L.Link.told c.loop-out.link) (g.L.Link.told c.trip.new.link) i.errands f did.added did.work.team
           (subst (λ p. IsHeard (parts_of p) out made.0 o)
           (c.program.ensures ∙ c.fetch.ensures.program ∙ i.program) made.1)
           made.2 made.3 i.toured;
@@ -91,7 +90,7 @@ returns-clause-toured g c =
     let mid = state_of (g.C.Sessions.crew c.loop-out.cells) in
     let new = state_of (g.C.Sessions.crew c.fetch.new.self) in
     let n = fetched_none kind.Remote mid new _ c.in_default.is c.in_ok-out.ensures.call c.in_ok-out.ensures.added in
-    subst (λ h. ToursBy s.setting s.history h (trips_told (g.L.Link.trips c.args.link.now) (g.L.Link.faults c.args.link.now)) (trips_told (g.L.Link.trips c.loop-out.link) (g.L.Link.faults c.loop-out.link)))
+    subst (λ h. ToursBy s.setting s.history h (g.L.Link.told c.args.link.now) (g.L.Link.told c.loop-out.link))
     (sym (same_history mid new n.stays)) c.loop-out.invariant.toured
 
 pub returns-clause-noted : goal.returns-clause-noted

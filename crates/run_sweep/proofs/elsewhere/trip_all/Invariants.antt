@@ -3,10 +3,9 @@ use Rattle.std.proofs.Common.{◌≡◌, ℕ, List, length}
 use Rattle.office_core.specs.declared.outgoing.OutKind.TheVariants as kind
 use Rattle.office_core.specs.Calls.{outgoing}
 use Rattle.run_cells.specs.Crews.{AtWork, past_in, state_of}
-use Rattle.trip_laws.specs.Going.{NotedSoFar}
+use Rattle.run_trip_laws.specs.Going.{NotedSoFar}
 use Rattle.run_sweep.specs.Swept.{Errands, ToursBy}
 use Rattle.run_sweep.proofs.elsewhere.trip_all.Given as goal
-use Rattle.trip_laws.specs.Trips.{trips_told}
 
 abbrev pub invariant-loop-out : goal.invariant-loop-out
 invariant-loop-out g l = record {
@@ -16,7 +15,7 @@ invariant-loop-out g l = record {
       (state_of (g.C.Sessions.crew l.initial.cells)) (state_of (g.C.Sessions.crew l.cells)) l.moved;
   toured : ToursBy (state_of (g.C.Sessions.crew l.initial.cells)).setting
       (state_of (g.C.Sessions.crew l.initial.cells)).history (state_of (g.C.Sessions.crew l.cells)).history
-      (trips_told (g.L.Link.trips l.initial.link) (g.L.Link.faults l.initial.link)) (trips_told (g.L.Link.trips l.link) (g.L.Link.faults l.link));
+      (g.L.Link.told l.initial.link) (g.L.Link.told l.link);
   noted : (noted : List ℕ)
       → NotedSoFar (state_of (g.C.Sessions.crew l.initial.cells)).setting
       (state_of (g.C.Sessions.crew l.initial.cells)).history noted

@@ -7,7 +7,6 @@ use Rattle.run_sweep.proofs.Rounds.{settled_one, settled_two, half_swept, half_t
 use Rattle.run_sweep.proofs.Rounds.{round_swept, round_tours, round_notes, round_brought, round_less, round_quiet}
 use Rattle.run_sweep.proofs.Rounds.{round_still, again_by, calm_by, not_halted, halted_only}
 use Rattle.run_sweep.proofs.sweeping.go_round.Goals as goal
-use Rattle.trip_laws.specs.Trips.{trips_told}
 
 pub note_all-requires-clause-settled : goal.note_all-requires-clause-settled
 note_all-requires-clause-settled g c =
@@ -26,7 +25,7 @@ returns-then-halted-clause-swept g c =
 pub returns-then-halted-clause-toured : goal.returns-then-halted-clause-toured
 returns-then-halted-clause-toured g c =
     let two = state_of (g.C.Sessions.crew c.note_all.new.cells) in
-    let now = trips_told (g.L.Link.trips c.args.link.now) (g.L.Link.faults c.args.link.now) in
+    let now = g.L.Link.told c.args.link.now in
     half_tours two.history now c.in_ok-turned.ensures.went c.in_ok-turned.ensures.work.team c.requires.settled
     c.requires.brought (c.in_ok-noted.ensures.toured now)
 
@@ -66,10 +65,10 @@ returns-clause-swept g c =
 pub returns-clause-toured : goal.returns-clause-toured
 returns-clause-toured g c =
     let two = state_of (g.C.Sessions.crew c.note_all.new.cells) in
-    let now = trips_told (g.L.Link.trips c.args.link.now) (g.L.Link.faults c.args.link.now) in
+    let now = g.L.Link.told c.args.link.now in
     let went = c.in_ok-turned.ensures.went in
     let team = c.in_ok-turned.ensures.work.team in
-    round_tours now (trips_told (g.L.Link.trips c.trip_all.new.link) (g.L.Link.faults c.trip_all.new.link))
+    round_tours now (g.L.Link.told c.trip_all.new.link)
     (round_of went team c.requires.settled c.requires.brought c.in_ok-noted.ensures.cleared
     c.in_ok-travelled.ensures.cleared)
     (half_tours two.history now went team c.requires.settled c.requires.brought (c.in_ok-noted.ensures.toured now))

@@ -1,12 +1,11 @@
 -- The rounds follow one another until one does nothing or the front halts.
 use Rattle.std.proofs.Common.{◌∙◌, refl, subst, sym}
 use Rattle.run_cells.specs.Crews.{state_of}
-use Rattle.trip_laws.specs.Going.{AreSettled}
+use Rattle.run_trip_laws.specs.Going.{AreSettled}
 use Rattle.run_sweep.specs.Swept.{NotesBy, NotesMore}
 use Rattle.run_sweep.proofs.Notes.{failing, notes_none, notes_on, notes_mute, passed_none, passed_on}
 use Rattle.run_sweep.proofs.Rounds.{swept_none, swept_on, notes_then, tours_then, quiet_then, still_then, calm_goes_on}
 use Rattle.run_sweep.proofs.sweeping.sweep.Goals as goal
-use Rattle.trip_laws.specs.Trips.{trips_told}
 
 pub loop-init : goal.loop-init
 loop-init g c =
@@ -18,7 +17,7 @@ loop-init g c =
       brought = c.requires.brought;
       toured = λ first t. t;
       noted = passed_none g.F.Front.dealt c.args.front.now (NotesBy s.setting s.history s.history)
-          (λ d muted. (notes_none d muted, λ so. so));
+          (λ d notes_failed. (notes_none d notes_failed, λ so. so));
       still = λ q. (refl, refl);
     }
 
@@ -40,8 +39,8 @@ loop-preserved g c =
       work = did.work;
       swept = swept_on s mid new i.swept did.swept;
       brought = (did.again c.in-Again.is).0;
-      toured = tours_then s mid new (trips_told (g.L.Link.trips c.args.link.now) (g.L.Link.faults c.args.link.now)) (trips_told (g.L.Link.trips c.loop.link) (g.L.Link.faults c.loop.link))
-          (trips_told (g.L.Link.trips c.go_round.new.link) (g.L.Link.faults c.go_round.new.link))
+      toured = tours_then s mid new (g.L.Link.told c.args.link.now) (g.L.Link.told c.loop.link)
+          (g.L.Link.told c.go_round.new.link)
           i.swept.setting i.toured did.toured;
       noted = passed_on g.F.Front.dealt c.args.front.now c.loop.front c.go_round.new.front
           (NotesBy s.setting s.history mid.history) (NotesBy mid.setting mid.history new.history)
@@ -68,8 +67,8 @@ returns-in-Calm-clause-toured g c =
     let mid = state_of (g.C.Sessions.crew c.loop.cells) in
     let new = state_of (g.C.Sessions.crew c.go_round.new.cells) in
     let i = c.loop.invariant in
-    tours_then s mid new (trips_told (g.L.Link.trips c.args.link.now) (g.L.Link.faults c.args.link.now)) (trips_told (g.L.Link.trips c.loop.link) (g.L.Link.faults c.loop.link))
-    (trips_told (g.L.Link.trips c.go_round.new.link) (g.L.Link.faults c.go_round.new.link))
+    tours_then s mid new (g.L.Link.told c.args.link.now) (g.L.Link.told c.loop.link)
+    (g.L.Link.told c.go_round.new.link)
     i.swept.setting i.toured c.in_ok-go_round.ensures.toured
 
 pub returns-in-Calm-clause-noted : goal.returns-in-Calm-clause-noted
@@ -110,8 +109,8 @@ returns-in-Halted-clause-toured g c =
     let mid = state_of (g.C.Sessions.crew c.loop.cells) in
     let new = state_of (g.C.Sessions.crew c.go_round.new.cells) in
     let i = c.loop.invariant in
-    tours_then s mid new (trips_told (g.L.Link.trips c.args.link.now) (g.L.Link.faults c.args.link.now)) (trips_told (g.L.Link.trips c.loop.link) (g.L.Link.faults c.loop.link))
-    (trips_told (g.L.Link.trips c.go_round.new.link) (g.L.Link.faults c.go_round.new.link))
+    tours_then s mid new (g.L.Link.told c.args.link.now) (g.L.Link.told c.loop.link)
+    (g.L.Link.told c.go_round.new.link)
     i.swept.setting i.toured c.in_ok-go_round.ensures.toured
 
 pub returns-in-Halted-clause-noted : goal.returns-in-Halted-clause-noted

@@ -1,11 +1,11 @@
 use Rattle.std.proofs.Common.{◌≡◌, ◌∙◌, map, option_map, ap, sym, rules}
 use Rattle.std.proofs.lemmas.Bool.{false≢true}
 use Rattle.behaviour_tree.specs.View.{behaviour_view, path_view, procs_of}
-use Rattle.calculus.specs.Terms.{done, seq, in_scope, exec, prot}
+use Rattle.session_calculus.specs.Terms.{done, seq, in_scope, exec, prot}
 use Rattle.handler_table.specs.View.{table_view}
-use Rattle.running_terms.specs.Rests.{rest_items}
-use Rattle.running_terms.specs.View.{state_view, term_view}
-use Rattle.running_terms.specs.declared.term.Term as term
+use Rattle.session_forms.specs.Rests.{rest_items}
+use Rattle.session_forms.specs.View.{state_view, term_view}
+use Rattle.session_forms.specs.declared.term.Term as term
 use Rattle.term_session.specs.Turns.{seen_at, walked_view}
 use Rattle.term_session.specs.Walks.{acted_in}
 use Rattle.term_session.proofs.Between.{through}

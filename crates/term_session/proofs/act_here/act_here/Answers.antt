@@ -1,8 +1,8 @@
 use Rattle.std.proofs.Common.{◌≡◌, ◌∙◌, rules}
 use Rattle.behaviour_tree.specs.View.{behaviour_view}
-use Rattle.calculus.specs.Terms.{place}
-use Rattle.running_terms.specs.View.{dead_call_view, term_view}
-use Rattle.running_terms.specs.declared.term.Term as term
+use Rattle.session_calculus.specs.Terms.{place}
+use Rattle.session_forms.specs.View.{dead_call_view, term_view}
+use Rattle.session_forms.specs.declared.term.Term as term
 use Rattle.term_session.specs.Turns.{seen_at, came_to, event_at}
 use Rattle.term_session.proofs.Between.{through}
 use Rattle.term_session.proofs.Here.{at_place, killed_call_acts}

@@ -1,7 +1,7 @@
 use Rattle.std.proofs.Common.{◌≡◌, Some, ap, sym, ◌∙◌, rules}
 use Rattle.behaviour_tree.specs.declared.words.Given.TheVariants as given
-use Rattle.calculus.specs.Replies.{outcome_of_fault, replies}
-use Rattle.running_terms.specs.View.{fault_view, term_view}
+use Rattle.session_calculus.specs.Replies.{outcome_of_fault, replies}
+use Rattle.session_forms.specs.View.{fault_view, term_view}
 use Rattle.term_session.specs.Turns.{seen_at}
 use Rattle.term_session.proofs.Gifts.{ungiven_some}
 use Rattle.term_session.proofs.act_here.failure.Goals as goal

@@ -1,8 +1,8 @@
 use Rattle.std.proofs.Common.{◌≡◌, Some, option_map, ap, sym, ◌∙◌, rules}
 use Rattle.behaviour_tree.specs.View.{path_view}
 use Rattle.behaviour_tree.specs.declared.words.Given.TheVariants as given
-use Rattle.calculus.specs.Replies.{reply_of, replies}
-use Rattle.calculus.specs.Terms.{done}
+use Rattle.session_calculus.specs.Replies.{reply_of, replies}
+use Rattle.session_calculus.specs.Terms.{done}
 use Rattle.term_session.specs.Turns.{seen_at}
 use Rattle.term_session.proofs.Gifts.{ungiven_some}
 use Rattle.term_session.proofs.act_here.reply.Goals as goal

@@ -1,7 +1,7 @@
 use Rattle.std.proofs.Common.{◌≡◌, sym, ◌∙◌, rules}
 use Rattle.behaviour_tree.specs.declared.words.Given.TheVariants as given
 use Rattle.handler_table.specs.View.{table_view}
-use Rattle.running_terms.specs.View.{state_view}
+use Rattle.session_forms.specs.View.{state_view}
 use Rattle.term_session.specs.Turns.{seen_at}
 use Rattle.term_session.proofs.Gifts.{own_scope_event}
 use Rattle.term_session.proofs.act_here.scope_event.Goals as goal

@@ -2,7 +2,7 @@ use Rattle.std.proofs.Common.{◌≡◌, rules}
 use Rattle.behaviour_tree.specs.Data.{nothing}
 use Rattle.behaviour_tree.specs.View.{behaviour_view}
 use Rattle.behaviour_tree.specs.declared.behaviour.Behaviour as behaviour
-use Rattle.running_terms.specs.Begins.{begun_view}
+use Rattle.session_forms.specs.Begins.{begun_view}
 use Rattle.term_session.proofs.Beginning.{begins_at_once}
 use Rattle.term_session.proofs.config.begun.Goals as goal
 

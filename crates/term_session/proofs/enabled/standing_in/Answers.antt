@@ -4,7 +4,7 @@ use Rattle.std.proofs.lemmas.List.Filters.{dedup_is}
 use Rattle.std.proofs.lemmas.List.Kept.{Contains-dedup_nat}
 use Rattle.std.proofs.lemmas.List.Sorted.{Contains-permutation}
 use Rattle.std.proofs.lemmas.Map.Keys.{IsStrictlyIncreasing-dedup}
-use Rattle.running_terms.specs.Standing.{strands_in}
+use Rattle.session_forms.specs.Standing.{strands_in}
 use Rattle.term_session.specs.Configs.{config_view}
 use Rattle.term_session.proofs.enabled.standing_in.Goals as goal
 

@@ -1,9 +1,9 @@
 use Rattle.std.proofs.Common.{◌≡◌, sym, subst, option_map, rules}
 use Rattle.behaviour_tree.specs.View.{path_view}
-use Rattle.calculus.specs.Terms.{in_scope, exec}
+use Rattle.session_calculus.specs.Terms.{in_scope, exec}
 use Rattle.handler_table.specs.View.{table_view}
-use Rattle.running_terms.specs.View.{state_view, term_view}
-use Rattle.running_terms.specs.declared.term.Term as term
+use Rattle.session_forms.specs.View.{state_view, term_view}
+use Rattle.session_forms.specs.declared.term.Term as term
 use Rattle.term_session.specs.Foretold.{Foresees}
 use Rattle.term_session.proofs.Foretelling.{in_body, in_request}
 use Rattle.term_session.proofs.glance.+glance_in.Goals as goal

@@ -1,6 +1,6 @@
 use Rattle.std.proofs.Common.{sym, subst, ◌∙◌}
-use Rattle.calculus.specs.Names.{expr_fault, store_too_large}
-use Rattle.running_terms.specs.View.{term_view}
+use Rattle.session_calculus.specs.Names.{expr_fault, store_too_large}
+use Rattle.session_forms.specs.View.{term_view}
 use Rattle.term_session.specs.Configs.{config_view}
 use Rattle.term_session.specs.Foretold.{Foresees, IsRaised}
 use Rattle.term_session.proofs.Foretelling.{told_asks, told_stores}

@@ -1,4 +1,4 @@
-use Rattle.running_terms.specs.View.{term_view}
+use Rattle.session_forms.specs.View.{term_view}
 use Rattle.term_session.proofs.Foretelling.{raised_by}
 use Rattle.term_session.proofs.glance.is_raised.Goals as goal
 

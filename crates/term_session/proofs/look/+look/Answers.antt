@@ -2,13 +2,13 @@ use Rattle.std.proofs.Common.{◌≡◌, ◌∙◌, option_map, ap, sym, rules}
 use Rattle.std.proofs.lemmas.Bool.{false≢true}
 use Rattle.behaviour_tree.specs.View.{path_view}
 use Rattle.behaviour_tree.specs.declared.words.Given.TheVariants as given
-use Rattle.calculus.specs.Moves.{inside}
-use Rattle.calculus.specs.Terms.{done, in_scope, exec}
+use Rattle.session_calculus.specs.Moves.{inside}
+use Rattle.session_calculus.specs.Terms.{done, in_scope, exec}
 use Rattle.handler_table.specs.View.{table_view}
-use Rattle.place_events.specs.Seen.{seen_in}
-use Rattle.running_terms.specs.View.{state_view, term_view}
-use Rattle.running_terms.specs.declared.installed.Installed.{Installed}
-use Rattle.running_terms.specs.declared.term.Term as term
+use Rattle.session_events.specs.Seen.{seen_in}
+use Rattle.session_forms.specs.View.{state_view, term_view}
+use Rattle.session_forms.specs.declared.installed.Installed.{Installed}
+use Rattle.session_forms.specs.declared.term.Term as term
 use Rattle.term_session.specs.Walks.{looked_in}
 use Rattle.term_session.proofs.Acting.{looked_scope, looked_exec, not_done}
 use Rattle.term_session.proofs.Viewed.{first_looked}

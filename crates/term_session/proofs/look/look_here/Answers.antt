@@ -1,10 +1,10 @@
 use Rattle.std.proofs.Common.{◌≡◌, sym, ap, ◌∙◌, rules}
 use Rattle.behaviour_tree.specs.declared.words.Given.TheVariants as given
-use Rattle.calculus.specs.Moves.{Move}
-use Rattle.calculus.specs.Terms.{Term, fail}
-use Rattle.place_events.specs.Seen.{seen_in}
-use Rattle.running_terms.specs.View.{fault_view, term_view}
-use Rattle.running_terms.specs.declared.term.Term as term
+use Rattle.session_calculus.specs.Moves.{Move}
+use Rattle.session_calculus.specs.Terms.{Term, fail}
+use Rattle.session_events.specs.Seen.{seen_in}
+use Rattle.session_forms.specs.View.{fault_view, term_view}
+use Rattle.session_forms.specs.declared.term.Term as term
 use Rattle.term_session.specs.Walks.{asking, looks_here}
 use Rattle.term_session.proofs.look.look_here.Goals as goal
 

@@ -5,19 +5,19 @@ use Rattle.jolie_trees.specs.Data.{Tree}
 use Rattle.behaviour_tree.specs.PartsView.{parts_of}
 use Rattle.behaviour_tree.specs.declared.words.Given.TheVariants as given
 use Rattle.behaviour_tree.specs.declared.words.Need.{Need}
-use Rattle.calculus.specs.After.{is_finished, seen_by}
-use Rattle.calculus.specs.Faults.{fault_in}
-use Rattle.calculus.specs.Names.{main}
-use Rattle.calculus.specs.Tables.{empty}
-use Rattle.calculus.specs.Terms.{Fault}
-use Rattle.calculus.specs.Throw.{throw}
+use Rattle.session_calculus.specs.After.{is_finished, seen_by}
+use Rattle.session_calculus.specs.Faults.{fault_in}
+use Rattle.session_calculus.specs.Names.{main}
+use Rattle.session_calculus.specs.Tables.{empty}
+use Rattle.session_calculus.specs.Terms.{Fault}
+use Rattle.session_calculus.specs.Throw.{throw}
 use Rattle.handler_table.specs.View.{table_view}
-use Rattle.place_events.specs.Seen as scenes
-use Rattle.place_values.specs.declared.actor.Actor.{Actor}
-use Rattle.running_terms.specs.View.{term_view}
-use Rattle.running_terms.specs.declared.installed.Installed.{Installed}
-use Rattle.term_faults.specs.Decisions.{decided, decision_view}
-use Rattle.term_faults.specs.declared.decision.Decision.{Decision}
+use Rattle.session_events.specs.Seen as scenes
+use Rattle.session_values.specs.declared.actor.Actor.{Actor}
+use Rattle.session_forms.specs.View.{term_view}
+use Rattle.session_forms.specs.declared.installed.Installed.{Installed}
+use Rattle.session_faults.specs.Decisions.{decided, decision_view}
+use Rattle.session_faults.specs.declared.decision.Decision.{Decision}
 use Rattle.term_session.specs.Asks.{asked_at_end, asked_by_throw, asked_with, needed}
 use Rattle.term_session.specs.Configs.{config_view}
 use Rattle.term_session.specs.Looks.{looked_view}

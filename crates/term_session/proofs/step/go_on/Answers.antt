@@ -1,8 +1,8 @@
 use Rattle.std.proofs.Common.{◌≡◌, ap, sym, ◌∙◌}
 use Rattle.std.specs.Arc.{arc_value}
 use Rattle.behaviour_tree.specs.PartsView.{parts_of}
-use Rattle.calculus.specs.After.{seen_by}
-use Rattle.running_terms.specs.View.{fault_view, term_view}
+use Rattle.session_calculus.specs.After.{seen_by}
+use Rattle.session_forms.specs.View.{fault_view, term_view}
 use Rattle.term_session.specs.Configs.{config_view}
 use Rattle.term_session.specs.Turns.{seen_at, walked_view}
 use Rattle.term_session.specs.Walks.{stuck, faulted, acted_in}

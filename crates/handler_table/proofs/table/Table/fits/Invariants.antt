@@ -1,6 +1,6 @@
 use Rattle.std.proofs.Common.{◌≡◌, drop, map}
 use Rattle.behaviour_tree.specs.View.{handler_view, handlers_of}
-use Rattle.calculus.specs.Tables as spec
+use Rattle.session_calculus.specs.Tables as spec
 use Rattle.handler_table.specs.View.{table_view}
 use Rattle.handler_table.proofs.table.Table.fits.Given as goal
 

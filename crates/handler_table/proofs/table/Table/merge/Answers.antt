@@ -1,7 +1,7 @@
 use Rattle.std.proofs.Common.{◌≡◌, ◌+◌, ◌≤◌, [], ◌∷◌, length, refl, sym, ap, subst, ◌∙◌, arith}
 use Rattle.std.proofs.lemmas.List.{length-append, length-map}
 use Rattle.behaviour_tree.specs.declared.behaviour.Handlers.{out-Handlers}
-use Rattle.calculus.specs.Tables.{Table, over}
+use Rattle.session_calculus.specs.Tables.{Table, over}
 use Rattle.handler_table.specs.Entries.{entries_of, entry_of}
 use Rattle.handler_table.specs.View.{room, table_view}
 use Rattle.handler_table.proofs.Takes.{entries_seen, keys_seen, over_popped, scopes_popped}

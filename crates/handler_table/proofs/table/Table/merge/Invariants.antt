@@ -1,5 +1,5 @@
 use Rattle.std.proofs.Common.{◌≡◌, ◌≤◌, true, length}
-use Rattle.calculus.specs.Tables as spec
+use Rattle.session_calculus.specs.Tables as spec
 use Rattle.handler_table.specs.Entries.{entries_in, entries_of}
 use Rattle.handler_table.specs.Rows.{are_scopes, views_of}
 use Rattle.handler_table.specs.View.{room, table_view}

@@ -2,11 +2,11 @@ use Rattle.std.proofs.Common.{◌≡◌, ◌+◌, ◌++◌, ◌∷◌, [], OnOk,
 use Rattle.std.specs.Prelude.{option_map}
 use Rattle.jolie_ast.specs.declared.expression.Path.{out-Path}
 use Rattle.jolie_ast.specs.declared.expression.Step.{out-Step}
-use Rattle.jolie_ast.specs.Spacing.{after, with_token}
-use Rattle.jolie_ast.specs.PrintedExpressions.{factor_tokens, term_tokens, member_tokens, step_tokens, operand_tokens, expr_shown, form_shown, path_tokens, in_parens}
+use Rattle.jolie_ast.specs.Spacing.{after, separated, with_token}
+use Rattle.jolie_ast.specs.PrintedExpressions.{factor_tokens, term_tokens, member_tokens, step_tokens, operand_tokens, cast_token, expr_shown, expr_tokens, form_shown, path_tokens, in_parens}
 use Rattle.jolie_ast.specs.PrintedParts.{index_tokens}
-use Rattle.jolie_ast.proofs.Spacing.{turn_of, token_then, all_separated, all_behind}
-use Rattle.jolie_ast.proofs.PrintedExpressions.{operand_several, operand_alone, indexed_step, factor_is, term_is, path_is, step_is, defined_shown}
+use Rattle.jolie_ast.proofs.Spacing.{turn_of, token_then, all_separated, all_behind, shown_as, shown_behind}
+use Rattle.jolie_ast.proofs.PrintedExpressions.{operand_several, operand_alone, indexed_step, factor_is, term_is, path_is, step_is, and_shown, cast_shown, defined_shown, minus_shown, not_shown, or_shown, path_form_shown, product_shown, size_shown, sum_shown, text_shown, truth_shown}
 use Rattle.jolie_ast.proofs.printer.Printer.+expression.Goals as goal
 
 pub operand-returns-then-is_operation : goal.operand-returns-then-is_operation
@@ -69,3 +69,47 @@ pub step-returns-in_ok-token-3 : goal.step-returns-in_ok-token-3
 step-returns-in_ok-token-3 t c =
     indexed_step c.args.step.now c.in-Some.index c.get.result.now c.args.self.now c.token.new.self c.token-in-Some.new.self c.expr.new.self c.token-in-Some-2.new.self c.in-Some.is c.get.ensures
     (c.in_ok-token.ensures ∙ ap (with_token c.args.self.now) c.as_str.ensures) c.in_ok-token-2.ensures c.in_ok-expr.ensures c.in_ok-token-3.ensures
+
+pub form-returns-in-Str : goal.form-returns-in-Str
+form-returns-in-Str t c =
+    shown_as c.quoted.result c.args.self.now c.quoted.new.self _ _ (ap (λ f. (form_shown f).tokens) c.in-Str.is ∙ ap (λ s. s.tokens) (text_shown _)) c.quoted.ensures
+
+pub form-returns-in-Bool : goal.form-returns-in-Bool
+form-returns-in-Bool t c =
+    shown_as c.truth.result c.args.self.now c.truth.new.self _ _ (ap (λ f. (form_shown f).tokens) c.in-Bool.is ∙ ap (λ s. s.tokens) (truth_shown _)) c.truth.ensures
+
+pub form-returns-in-Path : goal.form-returns-in-Path
+form-returns-in-Path t c =
+    shown_as c.path.result c.args.self.now c.path.new.self _ _ (ap (λ f. (form_shown f).tokens) c.in-Path.is ∙ ap (λ s. s.tokens) (path_form_shown _)) c.path.ensures
+
+pub form-returns-in_ok-token-in-Size : goal.form-returns-in_ok-token-in-Size
+form-returns-in_ok-token-in-Size t c =
+    shown_behind c.path-in-Size.result c.args.self.now c.token.new.self c.path-in-Size.new.self (codes "#" ∷ []) _ _ c.in_ok-token-in-Size.ensures (ap (λ f. (form_shown f).tokens) c.in-Size.is ∙ ap (λ s. s.tokens) (size_shown _)) c.path-in-Size.ensures
+
+pub form-returns-in_ok-cast_target-in-Cast : goal.form-returns-in_ok-cast_target-in-Cast
+form-returns-in_ok-cast_target-in-Cast t c =
+    shown_behind c.in_parens.result c.args.self.now c.cast_target.new.self c.in_parens.new.self (_ ∷ []) _ _ c.in_ok-cast_target-in-Cast.ensures (ap (λ f. (form_shown f).tokens) c.in-Cast.is ∙ ap (λ s. s.tokens) (cast_shown _ _) ∙ ap (λ v. cast_token c.in-Cast.target ∷ in_parens (expr_tokens v)) (sym c.get.ensures)) c.in_parens.ensures
+
+pub form-returns-in_ok-token-in-Minus : goal.form-returns-in_ok-token-in-Minus
+form-returns-in_ok-token-in-Minus t c =
+    shown_behind c.operand.result c.args.self.now c.token-in-Minus.new.self c.operand.new.self (codes "-" ∷ []) _ _ c.in_ok-token-in-Minus.ensures (ap (λ f. (form_shown f).tokens) c.in-Minus.is ∙ ap (λ s. s.tokens) (minus_shown _) ∙ ap (λ v. codes "-" ∷ operand_tokens v) (sym c.get-in-Minus.ensures)) c.operand.ensures
+
+pub form-returns-in_ok-token-in-Not : goal.form-returns-in_ok-token-in-Not
+form-returns-in_ok-token-in-Not t c =
+    shown_behind c.operand-in-Not.result c.args.self.now c.token-in-Not.new.self c.operand-in-Not.new.self (codes "!" ∷ []) _ _ c.in_ok-token-in-Not.ensures (ap (λ f. (form_shown f).tokens) c.in-Not.is ∙ ap (λ s. s.tokens) (not_shown _) ∙ ap (λ v. codes "!" ∷ operand_tokens v) (sym c.get-in-Not.ensures)) c.operand-in-Not.ensures
+
+pub form-returns-in_ok-operand-in-Product : goal.form-returns-in_ok-operand-in-Product
+form-returns-in_ok-operand-in-Product t c =
+    shown_behind c.factors.result c.args.self.now c.operand-in-Product.new.self c.factors.new.self (operand_tokens c.get-in-Product.result.now) (flat_map factor_tokens c.as_slice-in-Product.result.now) _ c.in_ok-operand-in-Product.ensures (ap (λ f. (form_shown f).tokens) c.in-Product.is ∙ ap (λ s. s.tokens) (product_shown _ _) ∙ ap (λ v. operand_tokens v ++ flat_map factor_tokens c.in-Product.rest) (sym c.get-in-Product.ensures) ∙ ap (λ vs. operand_tokens c.get-in-Product.result.now ++ flat_map factor_tokens vs) (sym c.as_slice-in-Product.ensures)) c.factors.ensures
+
+pub form-returns-in_ok-operand-in-Sum : goal.form-returns-in_ok-operand-in-Sum
+form-returns-in_ok-operand-in-Sum t c =
+    shown_behind c.terms.result c.args.self.now c.operand-in-Sum.new.self c.terms.new.self (operand_tokens c.get-in-Sum.result.now) (flat_map term_tokens c.as_slice-in-Sum.result.now) _ c.in_ok-operand-in-Sum.ensures (ap (λ f. (form_shown f).tokens) c.in-Sum.is ∙ ap (λ s. s.tokens) (sum_shown _ _) ∙ ap (λ v. operand_tokens v ++ flat_map term_tokens c.in-Sum.rest) (sym c.get-in-Sum.ensures) ∙ ap (λ vs. operand_tokens c.get-in-Sum.result.now ++ flat_map term_tokens vs) (sym c.as_slice-in-Sum.ensures)) c.terms.ensures
+
+pub form-returns-in-And : goal.form-returns-in-And
+form-returns-in-And t c =
+    shown_as c.operands.result c.args.self.now c.operands.new.self _ _ (ap (λ f. (form_shown f).tokens) c.in-And.is ∙ ap (λ s. s.tokens) (and_shown _) ∙ ap (separated (codes "&&") operand_tokens) (sym c.as_slice-in-And.ensures)) c.operands.ensures
+
+pub form-returns-in-Or : goal.form-returns-in-Or
+form-returns-in-Or t c =
+    shown_as c.operands-in-Or.result c.args.self.now c.operands-in-Or.new.self _ _ (ap (λ f. (form_shown f).tokens) c.in-Or.is ∙ ap (λ s. s.tokens) (or_shown _) ∙ ap (separated (codes "||") operand_tokens) (sym c.as_slice-in-Or.ensures)) c.operands-in-Or.ensures

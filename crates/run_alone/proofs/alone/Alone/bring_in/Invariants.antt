@@ -8,7 +8,6 @@ use Rattle.run_sweep.specs.Swept.{ToursBy}
 use Rattle.run_alone.specs.Between.{Between, Passed}
 use Rattle.run_alone.proofs.Looks.{IsAt, Looked, looks_left}
 use Rattle.run_alone.proofs.alone.Alone.bring_in.Given as goal
-use Rattle.trip_laws.specs.Trips.{trips_told}
 
 abbrev pub invariant-looks : goal.invariant-looks
 invariant-looks g l = record {
@@ -18,10 +17,10 @@ invariant-looks g l = record {
   work : AtWork (with_awake l.self.cells.awake.items (crew_by l.self.cells.program l.self.cells.office l.self.cells.budget (map (λ d. stand_by (g.S.Session.service_of d.session) (g.S.Session.config_of d.session) d.events) l.self.cells.cells.items) l.self.cells.picks.now));
   between : Between (state_of (crew_by l.self.cells.program l.self.cells.office l.self.cells.budget (map (λ d. stand_by (g.S.Session.service_of d.session) (g.S.Session.config_of d.session) d.events) l.self.cells.cells.items) l.self.cells.picks.now)) (waits l.self.pendings) l.self.pendings.postings l.calm;
   goes : Goes (state_of (crew_by l.fn.self.cells.program l.fn.self.cells.office l.fn.self.cells.budget (map (λ d. stand_by (g.S.Session.service_of d.session) (g.S.Session.config_of d.session) d.events) l.fn.self.cells.cells.items) l.fn.self.cells.picks.now)) (state_of (crew_by l.self.cells.program l.self.cells.office l.self.cells.budget (map (λ d. stand_by (g.S.Session.service_of d.session) (g.S.Session.config_of d.session) d.events) l.self.cells.cells.items) l.self.cells.picks.now));
-  toured : ToursBy (state_of (crew_by l.fn.self.cells.program l.fn.self.cells.office l.fn.self.cells.budget (map (λ d. stand_by (g.S.Session.service_of d.session) (g.S.Session.config_of d.session) d.events) l.fn.self.cells.cells.items) l.fn.self.cells.picks.now)).setting (state_of (crew_by l.fn.self.cells.program l.fn.self.cells.office l.fn.self.cells.budget (map (λ d. stand_by (g.S.Session.service_of d.session) (g.S.Session.config_of d.session) d.events) l.fn.self.cells.cells.items) l.fn.self.cells.picks.now)).history (state_of (crew_by l.self.cells.program l.self.cells.office l.self.cells.budget (map (λ d. stand_by (g.S.Session.service_of d.session) (g.S.Session.config_of d.session) d.events) l.self.cells.cells.items) l.self.cells.picks.now)).history (trips_told (g.L.Link.trips l.fn.link) (g.L.Link.faults l.fn.link)) (trips_told (g.L.Link.trips l.link) (g.L.Link.faults l.link));
+  toured : ToursBy (state_of (crew_by l.fn.self.cells.program l.fn.self.cells.office l.fn.self.cells.budget (map (λ d. stand_by (g.S.Session.service_of d.session) (g.S.Session.config_of d.session) d.events) l.fn.self.cells.cells.items) l.fn.self.cells.picks.now)).setting (state_of (crew_by l.fn.self.cells.program l.fn.self.cells.office l.fn.self.cells.budget (map (λ d. stand_by (g.S.Session.service_of d.session) (g.S.Session.config_of d.session) d.events) l.fn.self.cells.cells.items) l.fn.self.cells.picks.now)).history (state_of (crew_by l.self.cells.program l.self.cells.office l.self.cells.budget (map (λ d. stand_by (g.S.Session.service_of d.session) (g.S.Session.config_of d.session) d.events) l.self.cells.cells.items) l.self.cells.picks.now)).history (g.L.Link.told l.fn.link) (g.L.Link.told l.link);
   passed : Looked g.F.Front.dealt (parts_of l.fn.self.cells.program) l.fn.front l.front
       (Passed (state_of (crew_by l.fn.self.cells.program l.fn.self.cells.office l.fn.self.cells.budget (map (λ d. stand_by (g.S.Session.service_of d.session) (g.S.Session.config_of d.session) d.events) l.fn.self.cells.cells.items) l.fn.self.cells.picks.now)) (waits l.fn.self.pendings) l.fn.self.pendings.postings)
-      (IsAt (state_of (crew_by l.self.cells.program l.self.cells.office l.self.cells.budget (map (λ d. stand_by (g.S.Session.service_of d.session) (g.S.Session.config_of d.session) d.events) l.self.cells.cells.items) l.self.cells.picks.now)) (waits l.self.pendings) l.self.pendings.postings l.calm l.looks);
+      (λ new. IsAt new (state_of (crew_by l.self.cells.program l.self.cells.office l.self.cells.budget (map (λ d. stand_by (g.S.Session.service_of d.session) (g.S.Session.config_of d.session) d.events) l.self.cells.cells.items) l.self.cells.picks.now)) (waits l.self.pendings) l.self.pendings.postings l.calm l.looks);
 }
 
 abbrev pub decreases-looks : goal.decreases-looks

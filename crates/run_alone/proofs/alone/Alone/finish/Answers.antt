@@ -1,71 +1,19 @@
--- The run is ended.
-use Rattle.std.proofs.Common.{ap, ◌∙◌}
-use Rattle.behaviour_tree.specs.PartsView.{parts_of}
-use Rattle.run_cells.specs.Crews.{events_of}
-use Rattle.run_posts.specs.Fates.{waits}
-use Rattle.run_alone.proofs.Looks.{tells_under}
-use Rattle.run_alone.proofs.Picking.{goes_ended}
-use Rattle.run_alone.proofs.Quitting.{between_under, closed_under, open_stopped, quits_first, stop_same}
-use Rattle.run_alone.proofs.Touring.{toured_ended, tours_into}
+-- The run was ended, and its record is what it leaves.
+use Rattle.run_alone.proofs.Quitting.{left_by}
 use Rattle.run_alone.proofs.alone.Alone.finish.Goals as goal
 
-pub collect_all-requires-clause-collectable : goal.collect_all-requires-clause-collectable
-collect_all-requires-clause-collectable g c =
-    let e = c.in_ok-rest.ensures in
-    let a = c.in_ok-adopt_all.ensures in
-    (open_stopped e.rested a.adopted (stop_same c.in_ok-spent.ensures.same c.stop.ensures.added) e.work.team a.work.team
-    c.stop.ensures.legal
-    (between_under _ _ e.pendings c.requires.between).opens).uncollected
+pub returns-in_ok-report-in-Ok-clause-ran : goal.returns-in_ok-report-in-Ok-clause-ran
+returns-in_ok-report-in-Ok-clause-ran g c =
+    let r = c.in_ok-report-in-Ok.ensures in
+    λ first new before so closed none_left.
+    c.in-Ok.ensures.ran _ _ (left_by {report = c.in_ok-report-in-Ok.report} r.program r.history r.sessions r.traffic r.legal) first new before so closed none_left
 
-pub returns-clause-toured : goal.returns-clause-toured
-returns-clause-toured g c =
-    let e = c.in_ok-rest.ensures in
-    let a = c.in_ok-adopt_all.ensures in
-    let r = c.in_ok-report.ensures in
-    tours_into r.history
-    (toured_ended (waits c.rest.new.self.pendings) e.rested a.adopted (stop_same c.in_ok-spent.ensures.same c.stop.ensures.added)
-    c.in_ok-collect_all.ensures.collected a.work.team.legal c.stop.ensures.legal r.legal e.toured)
+pub returns-in_ok-report-in-Ok-clause-goes : goal.returns-in_ok-report-in-Ok-clause-goes
+returns-in_ok-report-in-Ok-clause-goes g c =
+    let r = c.in_ok-report-in-Ok.ensures in
+    c.in-Ok.ensures.goes _ _ (left_by {report = c.in_ok-report-in-Ok.report} r.program r.history r.sessions r.traffic r.legal)
 
-pub returns-clause-ran : goal.returns-clause-ran
-returns-clause-ran g c =
-    let e = c.in_ok-rest.ensures in
-    let a = c.in_ok-adopt_all.ensures in
-    let r = c.in_ok-report.ensures in
-    let k = c.in_ok-collect_all.ensures in
-    let dealt = g.F.Front.dealt in
-    let parts = parts_of c.args.self.cells.program in
-    let program = ap parts_of
-    (c.program.ensures ∙ k.program ∙ c.stop.ensures.program ∙ c.in_ok-spent.ensures.program ∙ a.program ∙ e.program) in
-    let between = between_under _ _ e.pendings c.requires.between in
-    let stop = stop_same c.in_ok-spent.ensures.same c.stop.ensures.added in
-    λ first before so closed.
-    quits_first
-    (record {
-      rest = e.rested;
-      adopt = a.adopted;
-      stop = stop;
-      collect = k.collected;
-      waits = k.waiting;
-      team0 = c.requires.work.team;
-      team1 = e.work.team;
-      team2 = a.work.team;
-      legal = r.legal;
-    })
-    between _ _ (dealt parts first c.rest.new.front) (dealt parts first c.tell_finished.new.front) before r.program
-    (record {
-      history = r.history;
-      sessions = r.sessions ∙ ap events_of (k.collected.stands ∙ stop.stands);
-      traffic = r.traffic;
-      spent = c.in_ok-spent.ensures.exact;
-    })
-    (closed_under _ _ e.pendings closed)
-    (e.noted parts first before so closed)
-    (λ mid now expected.
-    tells_under dealt c.rest.new.front c.tell_finished.new.front _ _ program c.in_ok-tell_finished.ensures.told first mid
-    now expected)
-
-pub returns-clause-goes : goal.returns-clause-goes
-returns-clause-goes g c =
-    goes_ended (waits c.rest.new.self.pendings) c.in_ok-rest.ensures.rested c.in_ok-adopt_all.ensures.adopted
-    (stop_same c.in_ok-spent.ensures.same c.stop.ensures.added) c.in_ok-collect_all.ensures.collected
-    c.in_ok-adopt_all.ensures.work.team c.in_ok-report.ensures.history c.in_ok-report.ensures.sessions
+pub returns-in_ok-report-in-Ok-clause-toured : goal.returns-in_ok-report-in-Ok-clause-toured
+returns-in_ok-report-in-Ok-clause-toured g c =
+    let r = c.in_ok-report-in-Ok.ensures in
+    c.in-Ok.ensures.toured _ _ (left_by {report = c.in_ok-report-in-Ok.report} r.program r.history r.sessions r.traffic r.legal)

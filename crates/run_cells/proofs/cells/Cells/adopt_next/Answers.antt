@@ -1,8 +1,8 @@
 -- The next session is adopted and seated, if it was born.
 use Rattle.std.proofs.Common.{◌∷◌, ◌++◌, [], ap, map, subst, sym, ◌∙◌}
 use Rattle.std.proofs.lemmas.Bool.{false≢true}
-use Rattle.office_kept.specs.Entries.{adopt_entry}
-use Rattle.plain_office.specs.View.{Adds}
+use Rattle.office_plain.specs.Entries.{adopt_entry}
+use Rattle.office_plain.specs.View.{Adds}
 use Rattle.run_cells.specs.Crews.{crew_by, stand_by, with_awake}
 use Rattle.run_cells.specs.Turns.{one}
 use Rattle.run_cells.proofs.Looping.{count_is, seated_awake}

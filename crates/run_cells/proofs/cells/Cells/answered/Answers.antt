@@ -3,8 +3,8 @@ use Rattle.std.proofs.Common.{◌≡◌, Some, refl, sym, true}
 use Rattle.office_core.specs.declared.history.Act.TheVariants as act
 use Rattle.office_core.specs.Legal.{is_fetched}
 use Rattle.office_core.specs.Limits.{first_worker}
-use Rattle.office_kept.specs.Entries.{entry}
-use Rattle.plain_office.specs.View.{entries_of, past_in}
+use Rattle.office_plain.specs.Entries.{entry}
+use Rattle.office_plain.specs.View.{entries_of, past_in}
 use Rattle.run_cells.proofs.Offices.{along, at_work, stays_failed, stays_work, works_ok}
 use Rattle.run_cells.proofs.cells.Cells.answered.Goals as goal
 

@@ -5,8 +5,8 @@ use Rattle.office_core.specs.Answers.{answers}
 use Rattle.office_core.specs.Keys.{first}
 use Rattle.office_core.specs.Legal.{is_collectable}
 use Rattle.office_core.specs.Limits.{first_worker}
-use Rattle.office_kept.specs.Entries.{collect_entry}
-use Rattle.plain_office.specs.View.{entries_of}
+use Rattle.office_plain.specs.Entries.{collect_entry}
+use Rattle.office_plain.specs.View.{entries_of}
 use Rattle.run_cells.specs.Crews.{crew_by, stand_by}
 use Rattle.run_cells.proofs.Offices.{along, collect_goes, collect_own, ours_ok, stays_not, stays_ok, works_ok}
 use Rattle.run_cells.proofs.cells.Cells.collect.Goals as goal

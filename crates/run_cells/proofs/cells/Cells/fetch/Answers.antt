@@ -1,9 +1,9 @@
 -- A fetch adds the worker's entry, where a call waits.
 use Rattle.std.specs.Prelude.{◌≡◌, IfOk}
 use Rattle.office_core.specs.Limits.{first_worker}
-use Rattle.office_kept.specs.Entries.{fetch_entry}
-use Rattle.office_kept.specs.Replies.{next_outgoing}
-use Rattle.plain_office.specs.View.{entries_of, past_in}
+use Rattle.office_plain.specs.Entries.{fetch_entry}
+use Rattle.office_plain.specs.Replies.{next_outgoing}
+use Rattle.office_plain.specs.View.{entries_of, past_in}
 use Rattle.run_cells.proofs.Offices.{along, at_work, fetch_goes, fetch_own, stays_failed, stays_work, works_ok}
 use Rattle.run_cells.proofs.cells.Cells.fetch.Goals as goal
 

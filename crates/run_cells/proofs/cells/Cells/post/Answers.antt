@@ -2,8 +2,8 @@
 use Rattle.std.specs.Prelude.{◌≡◌, IfOk}
 use Rattle.office_core.specs.Limits.{first_worker}
 use Rattle.office_core.specs.Route.{post_reply, route}
-use Rattle.office_kept.specs.Entries.{post_entry}
-use Rattle.plain_office.specs.View.{entries_of, past_in}
+use Rattle.office_plain.specs.Entries.{post_entry}
+use Rattle.office_plain.specs.View.{entries_of, past_in}
 use Rattle.run_cells.proofs.Offices.{along, at_work, post_goes, post_own, stays_failed, stays_work, works_ok}
 use Rattle.run_cells.proofs.cells.Cells.post.Goals as goal
 

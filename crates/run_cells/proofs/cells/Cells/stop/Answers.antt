@@ -1,5 +1,5 @@
 -- The run is stopped behind the end of input.
-use Rattle.plain_office.specs.View.{past_in}
+use Rattle.office_plain.specs.View.{past_in}
 use Rattle.run_cells.proofs.Offices.{at_work, legal_of, stop_works, stopped, stopped_ours}
 use Rattle.run_cells.proofs.cells.Cells.stop.Goals as goal
 

@@ -2,7 +2,7 @@ use Rattle.std.proofs.Common.{◌≡◌, Some, ap, ◌∙◌, rules}
 use Rattle.std.specs.Prelude.{Ok}
 use Rattle.std.proofs.lemmas.Result.{IfOk-at_ok}
 use Rattle.behaviour_tree.specs.PartsView.{parts_of}
-use Rattle.calculus.specs.After.{after}
+use Rattle.session_calculus.specs.After.{after}
 use Rattle.term_session.specs.Configs.{config_view}
 use Rattle.term_session.specs.Sessions.{service_of}
 use Rattle.term_session.specs.Steps.{stepped, stepped_by}

@@ -1,0 +1,7 @@
+use Rattle.std.proofs.Common.{◌≡◌, map, take}
+use Rattle.jolie_ast.specs.declared.name.Name.{Name}
+use Rattle.check_base.specs.Repeated.{first_names}
+use Rattle.check_ports.proofs.set_rules.first_names.Given as goal
+
+abbrev pub invariant-loop-name : goal.invariant-loop-name
+invariant-loop-name l = (l.texts ≡ map (λ (n : Name). n.text) (map (λ n. n.now) (take l.name-index l.names))) × (map (λ n. n.now) l.firsts.items ≡ first_names (map (λ n. n.now) (take l.name-index l.names)))

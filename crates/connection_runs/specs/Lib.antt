@@ -1,3 +1,0 @@
-pub mod Ports
-pub mod Visits
-pub mod Served

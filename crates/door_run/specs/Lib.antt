@@ -1,4 +1,0 @@
-pub mod Used
-pub mod Through
-pub mod Doored
-pub mod Steps

@@ -1,0 +1,5 @@
+use Rattle.explain_notes.proofs.Turns.{five_more}
+use Rattle.explain_notes.proofs.declared.add_faults_of_calls.Goals as goal
+
+pub returns : goal.returns
+returns c = five_more _ _ _ _ _ _ _ _ _ _ _ c.in_ok-add.ensures.added c.in_ok-add-2.ensures.added c.in_ok-add-3.ensures.added c.in_ok-add-4.ensures.added c.in_ok-add-5.ensures.added

@@ -1,0 +1,6 @@
+use Rattle.std.proofs.Common.{◌≡◌, ◌++◌, map, take}
+use Rattle.explain_notes.specs.Mentions.{caught_role, in_role}
+use Rattle.explain_notes.proofs.list.Mentions.add_of_this.Given as goal
+
+abbrev pub invariant-loop-mention : goal.invariant-loop-mention
+invariant-loop-mention l = l.self ≡ l.initial.self ++ map (in_role caught_role) (take l.mention-index l.inner)

@@ -1,0 +1,9 @@
+pub mod Expressions
+pub mod Mentions
+pub mod Parts
+pub mod Processes
+pub mod Services
+pub mod Statements
+pub mod Answers
+pub mod Notes
+pub mod Rules

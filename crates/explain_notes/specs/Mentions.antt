@@ -1,0 +1,106 @@
+-- A name with what is done with it, and how what stands around changes that.
+use Rattle.std.specs.Prelude.{ℕ, Bool, true, false, ◌&&◌, bytes_eq, if◌then◌else◌, List, [], ◌∷◌, map, flat_map}
+use Rattle.std.specs.List.{list_any}
+use Rattle.behaviour_tree.specs.Distinct.{is_in}
+use Rattle.jolie_ast.specs.declared.name.Name.{Name}
+use Rattle.explain_notes.specs.declared.role.Role.{Role}
+use Rattle.explain_notes.specs.declared.role.Role.TheVariants as role
+
+-- a name where it stands, and what is done with it
+pub record Mentioned : Type 0 where
+  pub role : Role
+  pub name : Name
+
+-- mentions in a row
+abbrev pub Seen : Type 0
+Seen = List Mentioned
+
+-- a mention of a name in a role
+abbrev pub mention : Role → Name → Mentioned
+mention r n = record { role = r; name = n }
+
+-- ---- roles
+
+-- a variable gets a value
+abbrev pub is_set : Role → Bool
+is_set role.Set = true
+is_set role.Kept = true
+is_set role.Received = true
+is_set role.Filled = true
+is_set r = false
+
+-- a fault is thrown that nothing caught yet
+abbrev pub is_free : Role → Bool
+is_free role.Thrown = true
+is_free role.ThrownInLoop = true
+is_free role.Rethrown = true
+is_free r = false
+
+-- a fault has a handler in the nearest scope
+abbrev pub is_handled : Role → Bool
+is_handled role.Handled = true
+is_handled r = false
+
+-- in a loop
+abbrev pub looped_role : Role → Role
+looped_role role.Thrown = role.ThrownInLoop
+looped_role r = r
+
+-- in the braces behind an input that is not answered
+abbrev pub kept_role : Role → Role
+kept_role role.Set = role.Kept
+kept_role r = r
+
+-- where faults end by themselves
+abbrev pub caught_role : Role → Role
+caught_role r = if is_free r then role.Caught else r
+
+-- in the handler of this fault: thrown again it passes its own scope
+abbrev pub rethrown_role : Role → Role
+rethrown_role r = if is_free r then role.Rethrown else r
+
+-- in the body of a request that is answered by this variable
+abbrev pub filled_role : Role → Role
+filled_role r = if is_set r then role.Filled else r
+
+-- around a scope that does not handle the fault
+abbrev pub freed_role : Role → Role
+freed_role role.Rethrown = role.Thrown
+freed_role role.Handled = role.HandledInside
+freed_role r = r
+
+-- around a scope that handles the fault
+abbrev pub handled_role : Role → Role
+handled_role role.Thrown = role.Caught
+handled_role role.ThrownInLoop = role.Caught
+handled_role r = freed_role r
+
+-- ---- mentions
+
+-- in the role that is made of its own
+abbrev pub in_role : (Role → Role) → Mentioned → Mentioned
+in_role change m = mention (change m.role) m.name
+
+-- the same, where it is of this name
+abbrev pub in_role_of : Name → (Role → Role) → Mentioned → Mentioned
+in_role_of n change m = if bytes_eq m.name.text n.text then in_role change m else m
+
+-- the names that stand in such roles
+abbrev pub names_in : (Role → Bool) → Seen → List (List ℕ)
+names_in is_such ms = flat_map (λ (m : Mentioned). if is_such m.role then m.name.text ∷ [] else []) ms
+
+-- the variable of this name gets a value
+abbrev pub sets : Name → Seen → Bool
+sets variable ms = list_any (λ (m : Mentioned). is_set m.role && bytes_eq m.name.text variable.text) ms
+
+-- a fault is thrown that nothing of this catches
+abbrev pub faults : Seen → Bool
+faults ms = list_any (λ (m : Mentioned). is_free m.role) ms
+
+-- around a scope with handlers for the faults of these names
+abbrev pub out_of_scope : List (List ℕ) → Mentioned → Mentioned
+out_of_scope names m = mention (if is_in m.name.text names then handled_role m.role else freed_role m.role) m.name
+
+-- a scope of these mentions, seen from around it
+abbrev pub around_scope : Seen → Seen
+around_scope body = map (out_of_scope (names_in is_handled body)) body

@@ -1,0 +1,117 @@
+-- What is noted of a file.
+use Rattle.std.specs.Prelude.{ℕ, Bool, false, ◌&&◌, not, if◌then◌else◌, List, [], ◌∷◌, ◌++◌, codes, map, flat_map}
+use Rattle.behaviour_tree.specs.Distinct.{is_in}
+use Rattle.jolie_ast.specs.declared.name.Name.{Name}
+use Rattle.jolie_ast.specs.declared.interface.Fault.{Fault}
+use Rattle.jolie_ast.specs.declared.service.Service.{Service}
+use Rattle.jolie_ast.specs.declared.tree.Definition.{Definition}
+use Rattle.check_base.specs.Files.{Operation, execution_of, interfaces_of, is_concurrent, operations_in, services_of}
+use Rattle.explain_notes.specs.Mentions.{Mentioned, Seen, names_in}
+use Rattle.explain_notes.specs.Services.{service_mentions}
+use Rattle.explain_notes.specs.declared.kind.NoteKind.{NoteKind}
+use Rattle.explain_notes.specs.declared.kind.NoteKind.TheVariants as kind
+use Rattle.explain_notes.specs.Answers.{content_names}
+use Rattle.explain_notes.specs.Rules.{is_asked, is_met, is_noted}
+
+-- what is noted of a name
+pub record Noted : Type 0 where
+  pub kind : NoteKind
+  pub name : Name
+
+-- a note of a name
+abbrev pub note : NoteKind → Name → Noted
+note k n = record { kind = k; name = n }
+
+-- ---- the notes of a kind
+
+-- of each name in its roles that is not known, which is known from there on
+abbrev pub notes_after : NoteKind → List (List ℕ) → Seen → List Noted
+notes_after k known [] = []
+notes_after k known (m ∷ ms) =
+    if is_noted k m.role && not (is_in m.name.text known)
+    then note k m.name ∷ notes_after k (known ++ m.name.text ∷ []) ms
+    else notes_after k known ms
+
+-- of each mention in its roles whose name is known
+abbrev pub notes_known : NoteKind → List (List ℕ) → Seen → List Noted
+notes_known k known ms =
+    flat_map (λ (m : Mentioned). if is_noted k m.role && is_in m.name.text known then note k m.name ∷ [] else []) ms
+
+-- the answers that are set nowhere: of each request whose operation is not content with void, where its body does not
+-- set the variable, and no part of the service does that these texts tell of
+abbrev pub unanswered_after : List (List ℕ) → List (List ℕ) → Bool → Seen → List Noted
+unanswered_after content known asks [] = []
+unanswered_after content known asks (m ∷ ms) =
+    if is_asked m.role then unanswered_after content known (not (is_in m.name.text content)) ms
+    else if is_noted kind.Unanswered m.role && asks && not (is_in m.name.text known)
+    then note kind.Unanswered m.name ∷ unanswered_after content known asks ms
+    else unanswered_after content known asks ms
+
+-- the notes of a kind, by the texts that meet its names and by the operations that are content with void: where values
+-- are cut it is noted of names that are met, otherwise of those that are not
+abbrev pub notes_by : NoteKind → List (List ℕ) → List (List ℕ) → Seen → List Noted
+notes_by kind.TreeCut met content ms = notes_known kind.TreeCut met ms
+notes_by kind.LiteralCut met content ms = notes_known kind.LiteralCut met ms
+notes_by kind.Unanswered met content ms = unanswered_after content met false ms
+notes_by k met content ms = notes_after k met ms
+
+-- ---- what meets a name
+
+-- the names of faults
+abbrev pub fault_names : List Fault → List (List ℕ)
+fault_names faults = map (λ (f : Fault). f.name.text) faults
+
+-- the faults that operations throw
+abbrev pub faults_of : List Operation → List (List ℕ)
+faults_of operations = flat_map (λ (o : Operation). fault_names o.throws) operations
+
+-- the faults of the operations of a file
+abbrev pub declared_faults : List Definition → List (List ℕ)
+declared_faults file = flat_map (λ i. faults_of (operations_in i)) (interfaces_of file)
+
+-- the faults that the language throws: those that calls come back with, and those of a session's own statements
+abbrev pub standard_faults : List (List ℕ)
+standard_faults =
+    codes "IOException" ∷ codes "TypeMismatch" ∷ codes "CorrelationError" ∷ codes "Refused" ∷ codes "UndeclaredFault"
+    ∷ codes "ExprFault" ∷ codes "HandlerTooLarge" ∷ codes "StoreTooLarge" ∷ []
+
+-- the texts that meet a name of a kind in a file with these faults, whatever is mentioned: `main` is the outermost
+-- scope, whose faults stand below its name
+abbrev pub texts_met : List (List ℕ) → NoteKind → List (List ℕ)
+texts_met declared kind.Uncaught = declared
+texts_met declared kind.UncaughtInLoop = declared
+texts_met declared kind.Unthrown = declared ++ standard_faults
+texts_met declared kind.Unset = codes "main" ∷ []
+texts_met declared k = []
+
+-- the notes of a kind where this is seen, in a file whose operations have these faults, and those of the other names
+-- are content with void
+abbrev pub notes_for : List (List ℕ) → List (List ℕ) → Seen → NoteKind → List Noted
+notes_for declared content ms k = notes_by k (texts_met declared k ++ names_in (is_met k) ms) content ms
+
+-- ---- services and files
+
+-- the kinds that are noted of each service, in their order
+abbrev pub kinds_always : List NoteKind
+kinds_always =
+    kind.Uncaught ∷ kind.Unthrown ∷ kind.NoScope ∷ kind.Unsent ∷ kind.Unset ∷ kind.Unread ∷ kind.TreeCut
+    ∷ kind.LiteralCut ∷ kind.Unanswered ∷ []
+
+-- the kinds that are noted of a service by how its sessions are run
+abbrev pub kinds_by_sessions : Service → List NoteKind
+kinds_by_sessions s =
+    if is_concurrent (execution_of s) then kind.UncaughtInLoop ∷ [] else kind.EndsService ∷ kind.Forgotten ∷ []
+
+-- what is noted of a service: of one kind after the other
+abbrev pub service_notes : List (List ℕ) → List (List ℕ) → Service → List Noted
+service_notes declared content s =
+    flat_map (notes_for declared content (service_mentions s)) (kinds_always ++ kinds_by_sessions s)
+
+-- what is noted of a file whose operations have these faults, and those of the other names are content with void: of
+-- one service after the other
+abbrev pub notes_in : List (List ℕ) → List (List ℕ) → List Definition → List Noted
+notes_in declared content file = flat_map (service_notes declared content) (services_of file)
+
+-- what is noted of a file
+abbrev pub notes_of : List Definition → List Noted
+notes_of file = notes_in (declared_faults file) (content_names file) file

@@ -1,0 +1,113 @@
+ghost use Rattle.std.specs.Prelude.{◌≡◌};
+ghost use Rattle.explain_notes.specs.declared.kind.NoteKind.TheVariants as kind;
+ghost use Rattle.explain_notes.specs.Rules as spec;
+
+use crate::role::Role;
+
+/// What is noted of a name.
+#[derive(Clone, Copy, Debug, PartialEq, Eq)]
+pub enum NoteKind {
+    /// A fault that nothing catches, and no `throws` names.
+    Uncaught,
+    /// The same in a loop of a service of which many sessions run.
+    UncaughtInLoop,
+    /// A fault that nothing catches, in a loop of a service of one session.
+    EndsService,
+    /// A handler of a fault that nothing throws.
+    Unthrown,
+    /// A scope that is compensated and is not there.
+    NoScope,
+    /// An output port that nothing is sent to.
+    Unsent,
+    /// A variable that is read and nowhere set.
+    Unset,
+    /// A variable that is set and nowhere read.
+    Unread,
+    /// The same behind an input that is not answered, in a service of one session.
+    Forgotten,
+    /// A variable on the right side of `=`, below which something is set or read.
+    TreeCut,
+    /// A variable that is set by `=` to a literal with members.
+    LiteralCut,
+    /// A variable that a request is answered by, which nothing sets.
+    Unanswered,
+}
+
+impl NoteKind {
+    /// Whether it is noted of names in a role.
+    pub fn is_of(self, role: Role) -> bool
+        ensures { result ≡ spec.is_noted self role }
+    {
+        match self {
+            NoteKind::Uncaught => matches!(role, Role::Thrown | Role::Rethrown),
+            NoteKind::UncaughtInLoop => matches!(role, Role::ThrownInLoop),
+            NoteKind::EndsService => matches!(role, Role::ThrownInLoop),
+            NoteKind::Unthrown => matches!(role, Role::Handled | Role::HandledInside),
+            NoteKind::NoScope => matches!(role, Role::Compensated),
+            NoteKind::Unsent => matches!(role, Role::Port),
+            NoteKind::Unset => matches!(role, Role::Read | Role::FieldRead | Role::RootTaken),
+            NoteKind::Unread => matches!(role, Role::Set),
+            NoteKind::Forgotten => matches!(role, Role::Kept),
+            NoteKind::TreeCut => matches!(role, Role::RootTaken),
+            NoteKind::LiteralCut => matches!(role, Role::Flattened),
+            NoteKind::Unanswered => matches!(role, Role::LeftUnset),
+        }
+    }
+
+    /// Whether a name stands in a role that meets it.
+    pub fn is_met_by(self, role: Role) -> bool
+        ensures { result ≡ spec.is_met self role }
+    {
+        match self {
+            NoteKind::Uncaught => false,
+            NoteKind::UncaughtInLoop => false,
+            NoteKind::EndsService => false,
+            NoteKind::Unthrown => throws(role),
+            NoteKind::NoScope => matches!(role, Role::Scope),
+            NoteKind::Unsent => matches!(role, Role::SentTo),
+            NoteKind::Unset => gives_value(role),
+            NoteKind::Unread => takes_value(role),
+            NoteKind::Forgotten => takes_value(role) || matches!(role, Role::Set),
+            NoteKind::TreeCut => matches!(role, Role::Branched | Role::FieldRead),
+            NoteKind::LiteralCut => matches!(role, Role::Flattened),
+            NoteKind::Unanswered => matches!(role, Role::Set | Role::Kept | Role::Received),
+        }
+    }
+}
+
+/// A fault that is thrown, whatever becomes of it.
+fn throws(role: Role) -> bool
+    ensures { result ≡ spec.is_met kind.Unthrown role }
+{
+    matches!(
+        role,
+        Role::Thrown | Role::ThrownInLoop | Role::Rethrown | Role::Caught
+    )
+}
+
+/// A variable whose value is used, or answered.
+fn takes_value(role: Role) -> bool
+    ensures { result ≡ spec.takes_value role }
+{
+    matches!(
+        role,
+        Role::Read | Role::FieldRead | Role::RootTaken | Role::Answered | Role::LeftUnset
+    )
+}
+
+/// A variable that gets a value, or a scope, whose faults stand below its name.
+fn gives_value(role: Role) -> bool
+    ensures { result ≡ spec.is_met kind.Unset role }
+{
+    matches!(
+        role,
+        Role::Set | Role::Kept | Role::Received | Role::Filled | Role::Scope
+    )
+}
+
+/// An operation whose answer is a variable.
+pub fn is_asked(role: Role) -> bool
+    ensures { result ≡ spec.is_asked role }
+{
+    matches!(role, Role::Asked)
+}

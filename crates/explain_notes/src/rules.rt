@@ -1,0 +1,126 @@
+//! The notes of one kind.
+
+ghost use Rattle.std.specs.Prelude.{◌≡◌, ◌++◌, OnOk, false};
+ghost use Rattle.explain_notes.specs.Mentions.{names_in};
+ghost use Rattle.explain_notes.specs.Notes as spec;
+ghost use Rattle.explain_notes.specs.Rules.{is_met};
+
+use crate::declared::texts_met;
+use crate::kind::{NoteKind, is_asked};
+use crate::list::Mention;
+use crate::note::Note;
+use check_base::Names;
+use std::alloc::{AllocError, Global};
+
+/// The notes of a kind, in a file whose operations have these faults, and those of the other names are content with
+/// void.
+pub fn add_notes<'a>(
+    alloc: Global,
+    kind: NoteKind,
+    declared: &Names<'a>,
+    content: &Names<'a>,
+    mentions: &[Mention<'a>],
+    notes: &mut Vec<Note<'a>>,
+) -> Result<(), AllocError>
+    ensures { OnOk result (notes.new.items ≡ notes.old.items ++ spec.notes_for declared.now content.now mentions.now kind) }
+{
+    let mut met = texts_met(alloc, kind, declared)?;
+    add_met(kind, mentions, &mut met)?;
+    add_by(kind, &mut met, content, mentions, notes)
+}
+
+/// The notes of a kind, by the texts that meet its names.
+#[tactic(auto, using(crate::proofs::ByKind::of_the_unmet))]
+fn add_by<'a>(
+    kind: NoteKind,
+    met: &mut Names<'a>,
+    content: &Names<'a>,
+    mentions: &[Mention<'a>],
+    notes: &mut Vec<Note<'a>>,
+) -> Result<(), AllocError>
+    ensures { OnOk result (notes.new.items ≡ notes.old.items ++ spec.notes_by kind met.old content.now mentions.now) }
+{
+    match kind {
+        NoteKind::TreeCut => add_known(kind, met, mentions, notes),
+        NoteKind::LiteralCut => add_known(kind, met, mentions, notes),
+        NoteKind::Unanswered => add_unanswered_after(content, met, mentions, notes),
+        _ => add_unknown(kind, met, mentions, notes),
+    }
+}
+
+/// The notes of a kind: of each mention in its roles whose name is known.
+fn add_known<'a>(
+    kind: NoteKind,
+    known: &Names<'a>,
+    mentions: &[Mention<'a>],
+    notes: &mut Vec<Note<'a>>,
+) -> Result<(), AllocError>
+    ensures { OnOk result (notes.new.items ≡ notes.old.items ++ spec.notes_known kind known.now mentions.now) }
+{
+    for mention in mentions {
+        let name = mention.name();
+        if kind.is_of(mention.role()) && known.has(name.text.as_str()) {
+            notes.push(Note::new(kind, name))?;
+        }
+    }
+    Ok(())
+}
+
+/// Adds the names that stand in roles that meet them.
+fn add_met<'a>(
+    kind: NoteKind,
+    mentions: &[Mention<'a>],
+    known: &mut Names<'a>,
+) -> Result<(), AllocError>
+    ensures { OnOk result (known.new ≡ known.old ++ names_in (is_met kind) mentions.now) }
+{
+    for mention in mentions {
+        if kind.is_met_by(mention.role()) {
+            known.add(mention.name().text.as_str())?;
+        }
+    }
+    Ok(())
+}
+
+/// The notes of a kind: of each name in its roles that is not known, which is known from there on.
+fn add_unknown<'a>(
+    kind: NoteKind,
+    known: &mut Names<'a>,
+    mentions: &[Mention<'a>],
+    notes: &mut Vec<Note<'a>>,
+) -> Result<(), AllocError>
+    ensures { OnOk result (notes.new.items ≡ notes.old.items ++ spec.notes_after kind known.old mentions.now) }
+{
+    for mention in mentions {
+        let name = mention.name();
+        if kind.is_of(mention.role()) && !known.has(name.text.as_str()) {
+            known.add(name.text.as_str())?;
+            notes.push(Note::new(kind, name))?;
+        }
+    }
+    Ok(())
+}
+
+/// The answers that no body and nothing else sets.
+fn add_unanswered_after<'a>(
+    content: &Names<'a>,
+    known: &Names<'a>,
+    mentions: &[Mention<'a>],
+    notes: &mut Vec<Note<'a>>,
+) -> Result<(), AllocError>
+    ensures { OnOk result (notes.new.items ≡ notes.old.items ++ spec.unanswered_after content.now known.now false mentions.now) }
+{
+    let mut asks = false;
+    for mention in mentions {
+        let name = mention.name();
+        if is_asked(mention.role()) {
+            asks = !content.has(name.text.as_str());
+        } else if NoteKind::Unanswered.is_of(mention.role())
+            && asks
+            && !known.has(name.text.as_str())
+        {
+            notes.push(Note::new(NoteKind::Unanswered, name))?;
+        }
+    }
+    Ok(())
+}

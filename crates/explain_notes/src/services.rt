@@ -1,0 +1,48 @@
+//! What services mention.
+
+ghost use Rattle.std.specs.Prelude.{◌≡◌, ◌++◌, IfOk, OnOk};
+ghost use Rattle.explain_notes.specs.Mentions.{around_scope};
+ghost use Rattle.explain_notes.specs.Processes.{block_mentions};
+ghost use Rattle.explain_notes.specs.Services.{clause_mentions, service_mentions};
+
+use crate::list::Mentions;
+use crate::role::Role;
+use jolie_ast::{Block, Clause, Service};
+use std::alloc::{AllocError, Global};
+
+/// What a service mentions, in the order of its text, but that the variable a request is answered by stands before what
+/// the request takes.
+pub fn mentions_of(alloc: Global, service: &Service) -> Result<Mentions<'_>, AllocError>
+    ensures { IfOk result (λ mentions. mentions ≡ service_mentions service.now) }
+{
+    let mut mentions = Mentions::new(alloc);
+    for clause in service.clauses.as_slice() {
+        mentions.clause(clause)?;
+    }
+    Ok(mentions)
+}
+
+impl<'a> Mentions<'a> {
+    fn clause(&mut self, clause: &'a Clause) -> Result<(), AllocError>
+        ensures { OnOk result (self.new ≡ self.old ++ clause_mentions clause.now) }
+    {
+        match clause {
+            Clause::Execution { .. } => Ok(()),
+            Clause::InputPort(_) => Ok(()),
+            Clause::OutputPort(port) => self.add(Role::Port, &port.name),
+            Clause::CorrelationSet { .. } => Ok(()),
+            Clause::Init { body, .. } => self.block(body),
+            Clause::Main { body, .. } => self.outermost(body),
+        }
+    }
+
+    /// What stands in `main`, which is the outermost scope.
+    fn outermost(&mut self, body: &'a Block) -> Result<(), AllocError>
+        ensures { OnOk result (self.new ≡ self.old ++ around_scope (block_mentions body.now)) }
+    {
+        let mut inner = self.inner();
+        inner.block(body)?;
+        let handled = inner.handled()?;
+        self.add_scoped(&handled, &inner)
+    }
+}

@@ -1,3 +1,0 @@
-pub mod ByKind
-pub mod Silent
-pub mod Turns

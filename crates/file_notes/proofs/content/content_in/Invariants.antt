@@ -1,6 +1,0 @@
-use Rattle.std.proofs.Common.{◌≡◌, take}
-use Rattle.file_notes.specs.Answers.{content_in}
-use Rattle.file_notes.proofs.content.content_in.Given as goal
-
-abbrev pub invariant-loop-definition : goal.invariant-loop-definition
-invariant-loop-definition l = l.names ≡ content_in l.types (take l.definition-index l.file)

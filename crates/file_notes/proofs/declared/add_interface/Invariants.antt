@@ -1,7 +1,0 @@
-use Rattle.std.proofs.Common.{◌≡◌, ◌++◌, take, flat_map}
-use Rattle.check_base.specs.Files.{group_operations}
-use Rattle.file_notes.specs.Notes.{faults_of}
-use Rattle.file_notes.proofs.declared.add_interface.Given as goal
-
-abbrev pub invariant-loop-group : goal.invariant-loop-group
-invariant-loop-group l = l.names ≡ l.initial.names ++ flat_map (λ g. faults_of (group_operations g)) (take l.group-index l.group-items)

@@ -1,8 +1,0 @@
-use Rattle.std.proofs.Common.{◌≡◌, ◌++◌, drop, false}
-use Rattle.file_notes.specs.Notes.{unanswered_after}
-use Rattle.file_notes.proofs.rules.add_unanswered_after.Given as goal
-
-abbrev pub invariant-loop-mention : goal.invariant-loop-mention
-invariant-loop-mention l =
-    l.notes.items ++ unanswered_after l.content l.known l.asks (drop l.mention-index l.mentions)
-    ≡ l.initial.notes.items ++ unanswered_after l.content l.known false l.mentions

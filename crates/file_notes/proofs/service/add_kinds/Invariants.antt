@@ -1,7 +1,0 @@
-use Rattle.std.proofs.Common.{◌≡◌, ◌++◌, take, flat_map}
-use Rattle.file_notes.specs.Notes.{notes_for}
-use Rattle.file_notes.proofs.service.add_kinds.Given as goal
-
-abbrev pub invariant-loop-kind : goal.invariant-loop-kind
-invariant-loop-kind l =
-    l.notes.items ≡ l.initial.notes.items ++ flat_map (notes_for l.declared l.content l.seen) (take l.kind-index l.kinds)

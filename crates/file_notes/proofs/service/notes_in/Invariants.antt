@@ -1,6 +1,0 @@
-use Rattle.std.proofs.Common.{◌≡◌, take}
-use Rattle.file_notes.specs.Notes.{notes_in}
-use Rattle.file_notes.proofs.service.notes_in.Given as goal
-
-abbrev pub invariant-loop-definition : goal.invariant-loop-definition
-invariant-loop-definition l = l.notes.items ≡ notes_in l.declared l.content (take l.definition-index l.file)

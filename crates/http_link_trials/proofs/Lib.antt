@@ -1,5 +1,0 @@
-mod Checked
-mod Responses
-mod NoResponses
-mod Cut
-mod Requests

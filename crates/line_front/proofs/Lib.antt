@@ -1,5 +1,0 @@
-pub mod Splitting
-pub mod Postings
-pub mod Pieces
-pub mod Saying
-pub mod Dealing

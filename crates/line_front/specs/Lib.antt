@@ -1,7 +1,0 @@
-pub mod Passing
-pub mod Told
-pub mod Reading
-pub mod Writing
-pub mod Dealt
-pub mod Keeping
-pub mod Steps

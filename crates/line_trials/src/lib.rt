@@ -1,2 +1,0 @@
-//! Lines tried: each lemma in proofs/ computes what a run reads and writes, from bytes to bytes.
-#![tactic(auto)]

@@ -1,3 +1,0 @@
-pub mod Lookups
-pub mod SetNumbers
-pub mod Views

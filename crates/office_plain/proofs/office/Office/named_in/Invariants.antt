@@ -1,0 +1,4 @@
+use Rattle.office_plain.proofs.office.Office.named_in.Given as goal
+
+abbrev pub ghosts-find_in : goal.ghosts-find_in
+ghosts-find_in a = record { name = a.blank.name; parts = a.blank.parts }

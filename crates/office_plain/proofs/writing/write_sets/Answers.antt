@@ -1,0 +1,23 @@
+use Rattle.behaviour_tree.specs.View.{type_view}
+use Rattle.office_plain.proofs.Writes.{set_turn, sets_end}
+use Rattle.office_plain.proofs.writing.write_sets.Goals as goal
+
+pub loop-set-preserved : goal.loop-set-preserved
+loop-set-preserved c =
+    let m = c.args.message.now in
+    record {
+      live = c.in_ok-number.ensures.live;
+      rest =
+          set_turn m.session c.loop-set.number c.in_ok-number.number c.loop-set.set-index
+          (type_view c.args.ty.now) m.value
+          c.args.sets.now c.set-item.result c.deref.result.now _ _ _
+          c.loop-set-test.true c.set-item.is c.deref.ensures.value c.in_ok-number.ensures.rows
+          c.in_ok-number.ensures.next
+          c.loop-set.invariant.rest;
+    }
+
+pub returns : goal.returns
+returns c =
+    let m = c.args.message.now in
+    sets_end m.session c.loop-set.number c.loop-set.set-index (type_view c.args.ty.now) m.value c.args.sets.now _ _
+    c.loop-set-test.false c.loop-set.invariant.rest

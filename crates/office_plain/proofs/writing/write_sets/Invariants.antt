@@ -1,0 +1,16 @@
+use Rattle.std.proofs.Common.{◌≡◌, true}
+use Rattle.behaviour_tree.specs.View.{type_view}
+use Rattle.correlation.specs.Sessions.{changed, is_live}
+use Rattle.correlation.specs.View.{sessions_of}
+use Rattle.office_plain.specs.Accepting.{write_all}
+use Rattle.office_plain.proofs.Writes.{writes_in}
+use Rattle.office_plain.proofs.writing.write_sets.Given as goal
+
+abbrev pub invariant-loop-set : goal.invariant-loop-set
+invariant-loop-set l = record {
+  live : is_live (sessions_of l.rows) l.message.session ≡ true;
+  rest : changed l.message.session (write_all (writes_in (type_view l.ty) l.message.value 0 0 l.sets))
+      (sessions_of l.initial.rows)
+      ≡ changed l.message.session (write_all (writes_in (type_view l.ty) l.message.value l.number l.set-index l.sets))
+      (sessions_of l.rows);
+}

@@ -1,5 +1,0 @@
-pub mod Same
-pub mod Counts
-pub mod Sessions
-pub mod Quiet
-pub mod Fronts

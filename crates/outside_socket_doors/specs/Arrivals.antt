@@ -1,0 +1,67 @@
+-- What an accept says of who has come.
+use Rattle.std.specs.Prelude.{◌≡◌, ℕ, ℤ, Bool, true, false, ◌||◌, ◌==◌, if◌then◌else◌, unsigned_abs}
+use Rattle.std.specs.Prelude.{Option, Some, None, Result, Ok, Err}
+use Rattle.std.specs.IoError.{error_kind, raw_os_error}
+use Rattle.std.specs.declared.io.Error.{Error}
+use Rattle.std.specs.declared.io.ErrorKind.{ErrorKind}
+use Rattle.std.specs.declared.io.ErrorKind.TheVariants.{WouldBlock, Interrupted, ConnectionAborted, ConnectionReset}
+use Rattle.std.specs.declared.io.ErrorKind.TheVariants.{NetworkDown, NetworkUnreachable, HostUnreachable, TimedOut}
+use Rattle.outside_doors.specs.Counts.{DoorTold, untried}
+use Rattle.outside_doors.specs.declared.traits.Knock.{Knock}
+use Rattle.outside_doors.specs.declared.traits.Knock.TheVariants.{Came, NotYet, Closed}
+use Rattle.outside_socket_doors.specs.declared.obstacle.Obstacle.{Obstacle}
+use Rattle.outside_socket_doors.specs.declared.obstacle.Obstacle.TheVariants.{Nobody, Want, Fault}
+
+-- whether an error of this kind says that nobody is there: nobody waits, a signal came first, or who came is gone
+abbrev pub is_absence : ErrorKind → Bool
+is_absence WouldBlock = true
+is_absence Interrupted = true
+is_absence ConnectionAborted = true
+is_absence ConnectionReset = true
+is_absence NetworkDown = true
+is_absence NetworkUnreachable = true
+is_absence HostUnreachable = true
+is_absence TimedOut = true
+is_absence _ = false
+
+-- the number that the system gives an error, and 0 for an error that it gave none
+abbrev pub number_in : Option ℤ → ℕ
+number_in (Some code) = unsigned_abs code
+number_in None = 0
+
+-- the number of an error
+abbrev pub number_of : Error → ℕ
+number_of error = number_in (raw_os_error error)
+
+-- whether an error of this number says that who came is gone, though it is of no such kind: ENONET, EPROTO,
+-- ENOPROTOOPT, EOPNOTSUPP and EHOSTDOWN of Linux, which an accept passes on from a connection
+abbrev pub is_lost : ℕ → Bool
+is_lost number = number == 64 || number == 71 || number == 92 || number == 95 || number == 112
+
+-- whether an error of this number says that who waits can't be let in now: EPERM, where a rule of the system forbids
+-- it, or ENOMEM, ENFILE, EMFILE and ENOBUFS, where there is no memory or no file left
+abbrev pub is_want : ℕ → Bool
+is_want number = number == 1 || number == 12 || number == 23 || number == 24 || number == 105
+
+-- what stands in the way of an accept that came to an error
+abbrev pub obstacle_of : Error → Obstacle
+obstacle_of error = if is_absence (error_kind error) || is_lost (number_of error) then Nobody
+    else if is_want (number_of error) then Want else Fault
+
+-- a try at a door gave a connection
+abbrev pub GivesWire : {W E : Type 0} → Result (Knock W) E → Type 0
+GivesWire (Ok (Came wire)) = Unit {0}
+GivesWire (Ok NotYet) = ⊥
+GivesWire (Ok Closed) = ⊥
+GivesWire (Err cause) = ⊥
+
+-- what a contract sees of a door over a listener
+pub record ListenerTold : Type 0 where
+  -- what it counts
+  pub counts : DoorTold
+  -- whether nobody was there at the last look, of a try or of a rest: then a rest ends when somebody comes
+  pub empty : Bool
+
+-- before a door of this place was tried
+abbrev pub unvisited : ℕ → ListenerTold
+unvisited place = record { counts = untried place; empty = false }

@@ -1,6 +1,0 @@
-use Rattle.std.proofs.Common.{take}
-use Rattle.parse_hints.specs.MayStand.{AreKept, IsTold}
-use Rattle.parse_hints.proofs.found.told_among.Given as goal
-
-abbrev pub invariant-loop-hint : goal.invariant-loop-hint
-invariant-loop-hint l = AreKept (IsTold l.text l.at) (take l.hint-index l.hints) l.told.items

@@ -1,7 +1,0 @@
-mod Lists
-mod Acting
-mod Served
-mod Taken
-mod Opened
-mod Finding
-mod Passing

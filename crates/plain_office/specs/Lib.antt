@@ -1,4 +1,0 @@
-pub mod View
-pub mod Facts
-pub mod Ways
-pub mod Taken

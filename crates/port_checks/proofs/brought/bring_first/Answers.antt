@@ -1,7 +1,0 @@
-use Rattle.std.proofs.Common.{append-nil, sym}
-use Rattle.port_checks.proofs.BroughtIn.{first_of_groups}
-use Rattle.port_checks.proofs.brought.bring_first.Goals as goal
-
-pub returns-in_default : goal.returns-in_default
-returns-in_default c =
-    rw (first_of_groups c.args.at c.args.groups.now, ← c.first_operation.ensures, c.in_default.is) (sym (append-nil c.args.mentions.now.items))

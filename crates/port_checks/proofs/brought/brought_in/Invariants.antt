@@ -1,9 +1,0 @@
-use Rattle.std.proofs.Common.{◌≡◌, [], flat_map, take}
-use Rattle.std.specs.List.{filter_map}
-use Rattle.check_base.specs.Files.{input_port_in}
-use Rattle.port_checks.specs.Spared.{spared_in}
-use Rattle.port_checks.proofs.BroughtIn.{port_interfaces}
-use Rattle.port_checks.proofs.brought.brought_in.Given as goal
-
-abbrev pub invariant-loop-clause : goal.invariant-loop-clause
-invariant-loop-clause l = (l.earlier ≡ flat_map port_interfaces (filter_map input_port_in (take l.clause-index l.clauses))) × (l.mentions.items ≡ spared_in l.interfaces [] (filter_map input_port_in (take l.clause-index l.clauses)))

@@ -1,5 +1,0 @@
-use Rattle.std.proofs.Common.{◌≡◌, ◌++◌, map, take}
-use Rattle.port_checks.proofs.set_rules.mention_names.Given as goal
-
-abbrev pub invariant-loop-name : goal.invariant-loop-name
-invariant-loop-name l = l.mentions.items ≡ l.initial.mentions.items ++ map (λ n. n.now) (take l.name-index l.names)

@@ -1,7 +1,0 @@
-use Rattle.std.proofs.Common.{◌≡◌, flat_map, take}
-use Rattle.check_base.specs.Least.{joined}
-use Rattle.port_checks.specs.SetRules.{set_of_single}
-use Rattle.port_checks.proofs.set_rules.sets_of_single.Given as goal
-
-abbrev pub invariant-loop-clause : goal.invariant-loop-clause
-invariant-loop-clause l = l.least ≡ joined l.initial.least (flat_map (set_of_single l.is_concurrent) (take l.clause-index l.clauses))

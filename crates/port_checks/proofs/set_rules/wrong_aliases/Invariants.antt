@@ -1,7 +1,0 @@
-use Rattle.std.proofs.Common.{◌≡◌, flat_map, take}
-use Rattle.check_base.specs.Least.{joined}
-use Rattle.port_checks.specs.SetRules.{wrong_alias}
-use Rattle.port_checks.proofs.set_rules.wrong_aliases.Given as goal
-
-abbrev pub invariant-loop-alias : goal.invariant-loop-alias
-invariant-loop-alias l = l.least ≡ joined l.initial.least (flat_map (wrong_alias l.types) (take l.alias-index l.aliases))

@@ -1,7 +1,0 @@
--- The calls so far have come in.
-use Rattle.std.proofs.Common.{◌≡◌, map, take}
-use Rattle.branch_workers.specs.Texts.{call_in}
-use Rattle.posting_texts.proofs.posting.calls_of.Given as goal
-
-abbrev pub invariant-loop-call : goal.invariant-loop-call
-invariant-loop-call l = l.posted ≡ map (call_in l.service) (take l.call-index l.calls)

@@ -1,7 +1,0 @@
-use Rattle.std.proofs.Common.{◌≡◌, map, take}
-use Rattle.jolie_ast.specs.declared.process.Branch.{Branch}
-use Rattle.process_checks.specs.ProcessParts.{branch_operation}
-use Rattle.process_checks.proofs.first_inputs.names_of_branches.Given as goal
-
-abbrev pub invariant-loop-branch : goal.invariant-loop-branch
-invariant-loop-branch l = l.names ≡ map (λ (b : Branch). (branch_operation b).text) (take l.branch-index l.branches)

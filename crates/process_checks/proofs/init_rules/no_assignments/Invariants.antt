@@ -1,7 +1,0 @@
-use Rattle.std.proofs.Common.{◌≡◌, take}
-use Rattle.check_base.specs.Least.{joined}
-use Rattle.process_checks.specs.InitParts.{no_assignments}
-use Rattle.process_checks.proofs.init_rules.no_assignments.Given as goal
-
-abbrev pub invariant-loop-statement : goal.invariant-loop-statement
-invariant-loop-statement l = l.least ≡ joined l.initial.least (no_assignments (take l.statement-index l.statements))

@@ -1,7 +1,0 @@
-use Rattle.std.proofs.Common.{◌≡◌, take, flat_map}
-use Rattle.check_base.specs.Files.{group_operations}
-use Rattle.process_checks.specs.OperationTables.{with_new}
-use Rattle.process_checks.proofs.operation_tables.with_groups.Given as goal
-
-abbrev pub invariant-loop-group : goal.invariant-loop-group
-invariant-loop-group l = l.operations ≡ with_new l.initial.operations (flat_map group_operations (take l.group-index l.groups))

@@ -1,6 +1,0 @@
-use Rattle.std.proofs.Common.{◌≡◌, take, map}
-use Rattle.process_checks.specs.ProcessParts.{handler_name}
-use Rattle.process_checks.proofs.process_part_rules.handler_names.Given as goal
-
-abbrev pub invariant-loop-handler : goal.invariant-loop-handler
-invariant-loop-handler l = l.names.items ≡ map handler_name (take l.handler-index l.handlers)

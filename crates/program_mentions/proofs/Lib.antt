@@ -1,3 +1,0 @@
-pub mod ExpressionForms
-pub mod Lists
-pub mod ProcessForms

@@ -1,5 +1,0 @@
-use Rattle.std.proofs.Common.{◌≡◌, ◌++◌, take}
-use Rattle.program_mentions.proofs.list.Mentions.add_all.Given as goal
-
-abbrev pub invariant-loop-mention : goal.invariant-loop-mention
-invariant-loop-mention l = l.self ≡ l.initial.self ++ take l.mention-index l.inner

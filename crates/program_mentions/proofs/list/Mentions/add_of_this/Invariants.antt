@@ -1,6 +1,0 @@
-use Rattle.std.proofs.Common.{◌≡◌, ◌++◌, map, take}
-use Rattle.program_mentions.specs.Mentions.{caught_role, in_role}
-use Rattle.program_mentions.proofs.list.Mentions.add_of_this.Given as goal
-
-abbrev pub invariant-loop-mention : goal.invariant-loop-mention
-invariant-loop-mention l = l.self ≡ l.initial.self ++ map (in_role caught_role) (take l.mention-index l.inner)

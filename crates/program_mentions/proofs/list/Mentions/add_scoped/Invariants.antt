@@ -1,6 +1,0 @@
-use Rattle.std.proofs.Common.{◌≡◌, ◌++◌, map, take}
-use Rattle.program_mentions.specs.Mentions.{out_of_scope}
-use Rattle.program_mentions.proofs.list.Mentions.add_scoped.Given as goal
-
-abbrev pub invariant-loop-mention : goal.invariant-loop-mention
-invariant-loop-mention l = l.self ≡ l.initial.self ++ map (out_of_scope l.handled) (take l.mention-index l.inner)

@@ -1,6 +1,0 @@
-use Rattle.std.proofs.Common.{◌≡◌, drop}
-use Rattle.program_mentions.specs.Mentions.{sets}
-use Rattle.program_mentions.proofs.list.Mentions.sets.Given as goal
-
-abbrev pub invariant-loop-mention : goal.invariant-loop-mention
-invariant-loop-mention l = sets l.variable (drop l.mention-index l.self) ≡ sets l.variable l.self

@@ -1,6 +1,0 @@
-pub mod Expressions
-pub mod Mentions
-pub mod Parts
-pub mod Processes
-pub mod Services
-pub mod Statements

@@ -1,7 +1,0 @@
-use Rattle.quiet_laws.proofs.Finished.{is_run}
-use Rattle.quiet_laws.proofs.laws.runs_that_ended_are_runs.Goals as goal
-
-pub returns : goal.returns
-returns c = record {
-  ended = λ w budget muted h run came end legal hands together. is_run {h = h} came end legal hands together;
-}

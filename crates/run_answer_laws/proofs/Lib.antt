@@ -1,0 +1,9 @@
+pub mod OneWays
+pub mod OneWayForms
+pub mod Taking
+pub mod Asking
+pub mod Walking
+pub mod Served
+pub mod Histories
+pub mod Stopping
+pub mod Answering

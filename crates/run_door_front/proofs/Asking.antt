@@ -1,0 +1,509 @@
+-- What passed between a front over doors and its run, when it is asked for a posting.
+use Rattle.std.proofs.Common.{◌≡◌, refl, sym, ap, ap₂, ◌∙◌, subst, arith, ℕ, zero, suc, ◌+◌, ◌-◌, ◌^◌, ◌<◌, ◌≤◌, min, Bool, true, false, ◌&&◌, ◌||◌, ◌⊎◌, inl, inr, List, [], ◌∷◌, ◌++◌, length, map, take, None, Some, count_by, slice_get, nat_eq, nat_lt, nat_le, Result, Ok, Err, MatchResult}
+use Rattle.std.specs.declared.alloc.AllocError.{AllocError}
+use Rattle.std.specs.List.{list_all, list_any, sum_by}
+use Rattle.std.proofs.lemmas.Bool.{and_parts, and_from, lt-ltb, ltb-true, ltb-false, leb-false, true≢false}
+use Rattle.std.proofs.lemmas.List.{length-map, map-append, take_all, length_push}
+use Rattle.jolie_trees.specs.Data.{Tree}
+use Rattle.behaviour_tree.specs.Data.{ProgramParts}
+use Rattle.outside_doors.specs.Counts.{added}
+use Rattle.jsonrpc_text.specs.declared.message.Id.{Id}
+use Rattle.jsonrpc_text.specs.declared.message.Early.{Early}
+use Rattle.jsonrpc_text.specs.declared.message.ReadCall.{ReadCall}
+use Rattle.office_core.specs.declared.front.Posting.{Posting}
+use Rattle.run_theorem.specs.Dealings.{Asked, Brought, Told, Dealings}
+use Rattle.run_theorem.specs.declared.front.Next.{Next}
+use Rattle.run_theorem.specs.declared.front.Next.TheVariants as nexts
+use Rattle.run_theorem.specs.Calls.{After, most_postings, names_service, is_of, Leaves, Gives, GivesNone, none_left, Ends, IsQuiet, Asks}
+use Rattle.run_theorem.specs.Lines.{IsPrefix}
+use Rattle.run_theorem.specs.Texts.{Came as Incoming, call_in, posting_of}
+use Rattle.run_theorem.specs.Visits.{Visit, came_with}
+use Rattle.outside_traits.specs.Told.{WireTold}
+use Rattle.run_door_front.specs.Keeping.{is_led, leads_of, lead_of, Lead, PortTold, LinkTold, Keeping, services_of, rests_at, no_more, AreLed}
+use Rattle.outside_traits.specs.Told.{SinkTold}
+use Rattle.run_door_front.specs.Dealt.{most_open, Sides, sides_of, CameInTurn, HadNone, GaveNone, HaveWaited, HasSaid, HasDealt, MayHaveDealt}
+use Rattle.run_door_front.specs.NextSteps.{service_of, place_of, wires_of, is_open, has_room, closed_off, AreTried, LinksGoOn, listing, Hands, going_of, Goes, Rests, Posts, Looks}
+use Rattle.run_door_front.proofs.Entries.{length_set, nat_eq_is}
+use Rattle.run_door_front.proofs.Doors.{services-same, places-same, leads-same}
+use Rattle.run_door_front.proofs.Leading.{led-asked}
+use Rattle.run_door_front.proofs.Coming.{goes-none}
+use Rattle.run_door_front.proofs.Requests.{Serves, serves-on, came_length}
+use Rattle.run_door_front.proofs.OneMore.{one_more, next_of, serves-more, service_there}
+use Rattle.run_door_front.proofs.OneByOne.{told_all, one_count_more, told_first-more, heard_by-more, heard-where_reads}
+use Rattle.run_door_front.proofs.InTurn.{asked_within, over_on, in_turn-on, in_turn-asked}
+use Rattle.run_door_front.proofs.Notes.{noted_all}
+use Rattle.run_door_front.proofs.Waiting.{once_more, waited-none, waited-more, owes, opened_owe, owes-grow, busy-few, busy-all, busy-count}
+
+-- ---- calls
+
+-- what each of some numbers is, one among them is
+each_step : (p : ℕ → Bool) (n m : ℕ) (ns : List ℕ) → p m ≡ true → (list_any (nat_eq n) ns ≡ true → p n ≡ true) → (b : Bool) → nat_eq n m ≡ b
+    → b || list_any (nat_eq n) ns ≡ true → p n ≡ true
+each_step p n m ns is rest true same e = ap p (nat_eq_is n m same) ∙ is
+each_step p n m ns is rest false other e = rest e
+
+each_is : (p : ℕ → Bool) (n : ℕ) (ns : List ℕ) → list_all p ns ≡ true → list_any (nat_eq n) ns ≡ true → p n ≡ true
+each_is p n [] h e = absurd (true≢false (sym e))
+each_is p n (m ∷ ns) h e =
+    let both = and_parts (p m) (list_all p ns) h in
+    each_step p n m ns both.0 (λ k. each_is p n ns both.1 k) (nat_eq n m) refl e
+
+module _ (parts : ProgramParts) (service : ℕ) (has : nat_lt service (length parts.services) ≡ true) where
+  -- a call as it comes in is to the service
+  named : (i : Id) (what : Result (List ℕ × Tree) Early) → names_service parts (call_in service (record { id = i; what = what })) ≡ true
+  named i (Ok w) = has
+  named i (Err e) = refl
+
+  -- so are all calls
+  all_named : (cs : List ReadCall) → list_all (names_service parts) (map (call_in service) cs) ≡ true
+  all_named [] = refl
+  all_named (c ∷ cs) = ap₂ (λ x y. x && y) (named c.id c.what) (all_named cs)
+
+-- places below a number are below a larger one
+places_below : (m n : ℕ) → m ≤ n → (told : List Told) → list_all (λ (t : Told). nat_lt t.place m) told ≡ true
+    → list_all (λ (t : Told). nat_lt t.place n) told ≡ true
+places_below m n le [] h = refl
+places_below m n le (t ∷ told) h =
+    let both = and_parts (nat_lt t.place m) (list_all (λ (t : Told). nat_lt t.place m) told) h in
+    let less : t.place < m = ltb-true t.place m both.0 in
+    and_from (nat_lt t.place n) (list_all (λ (t : Told). nat_lt t.place n) told) (lt-ltb t.place n (omega arith)) (places_below m n le told both.1)
+
+-- all of a list are its first
+take_length : {A : Type 0} (xs : List A) → xs ≡ take (length xs) xs
+take_length xs = sym (take_all (length xs) xs (omega arith))
+
+-- where there is no room for one more connection although more may come, as many are open as may be
+many_open : (most : ℕ) (ports : List PortTold) (links : List LinkTold) → has_room most links ≡ false → closed_off most ports links ≡ false
+    → most_open ≤ count_by is_open links
+many_open most ports links none more = by_count (nat_lt (count_by is_open links) most_open) refl
+  where
+    first_false : (a b : Bool) → a || b ≡ false → a ≡ false
+    first_false true b e = absurd (true≢false e)
+    first_false false b e = refl
+
+    by_count : (b : Bool) → nat_lt (count_by is_open links) most_open ≡ b → most_open ≤ count_by is_open links
+    by_count true e =
+        let fewer : length links < most = leb-false most (length links) (first_false (nat_le most (length links)) _ more) in
+        absurd (true≢false (sym (and_from (nat_lt (length links) most) (nat_lt (count_by is_open links) most_open) (lt-ltb (length links) most fewer) e) ∙ none))
+    by_count false e = ltb-false (count_by is_open links) most_open e
+
+module _ (IsMade : WireTold → Type 0) (parts : ProgramParts) (first : Sides) (notes : SinkTold) (before now : Keeping) (d : Dealings)
+    (h : HasDealt IsMade parts first (sides_of before notes) d) (most : now.most ≡ before.most) (halted : now.halted ≡ before.halted) where
+  -- what was asked and told by then
+  serves : Serves IsMade parts (leads_of before) before.links h.all h.heard
+  serves = record { visits = h.visits; are = h.links; doors = h.doors; taken = h.taken; came = h.came; answers = h.answers }
+
+  -- connections go on without a request
+  in_turn-goes : (links : List LinkTold) → LinksGoOn IsMade (leads_of before) before.links links → CameInTurn d links
+  in_turn-goes links g =
+      in_turn-on d.brought.asked d.brought.seens d.said.told before.links links
+      (λ j a x. asked_within IsMade before.links h.visits h.links h.all.asked h.all.came h.came j a (ap (λ xs. slice_get xs j) h.asked ∙ x))
+      (over_on IsMade (leads_of before) before.links links g) h.in_turn
+
+  -- as many were given as were asked
+  given_count : length d.brought.given ≡ length before.traffics
+  given_count =
+      ap length h.given ∙ length-map h.all.came posting_of ∙ sym (came_length h.visits h.all.asked h.all.came h.came)
+      ∙ sym (length-map h.all.asked (λ (a : Asked). a.traffic)) ∙ ap length h.traffics
+
+  abbrev said_still : HasSaid first (sides_of now notes) d.said
+  said_still = record {
+    notes = h.said.notes;
+    written = h.said.written;
+    noted = h.said.noted;
+    halted = h.said.halted ∙ sym halted;
+    notes_failed = h.said.notes_failed;
+    faults = h.said.faults;
+  }
+
+  -- the sink took all that was noted
+  all_taken : d.said.halted ≡ false → IsPrefix d.said.noted h.said.notes
+  all_taken running = noted_all first.notes notes d.said h.said.notes running h.said.noted
+
+  -- what was brought where there is no posting
+  abbrev without : ℕ → Bool → Brought
+  without waits ended = record {
+    given = d.brought.given;
+    asked = d.brought.asked;
+    left = None;
+    waits = waits;
+    ended = ended;
+    faults = d.brought.faults;
+    seen = length d.said.told;
+    noted = d.said.noted;
+    seens = d.brought.seens;
+  }
+
+  gives_none : (waits : ℕ) (ended : Bool) → GivesNone d.brought (without waits ended)
+  gives_none waits ended =
+      record { given = refl; asked = refl; left = inl (sym h.left); faults = omega arith; seens = refl }
+
+  -- ---- there is no posting
+
+  module _ (g : Goes IsMade before.most (going_of before) (going_of now)) where
+    abbrev same_services : services_of now ≡ services_of before
+    same_services = services-same before.ports now.ports g.ports
+
+    abbrev same_leads : leads_of now ≡ leads_of before
+    same_leads = leads-same before.ports now.ports g.ports
+
+    still_serves : Serves IsMade parts (leads_of before) now.links h.all h.heard
+    still_serves = serves-on IsMade (leads_of before) parts before.links now.links h.all h.heard g.links serves
+
+    none-so : d.said.halted ≡ false → (waits : ℕ) (ended : Bool)
+        → (d.said.halted ≡ false → HadNone now (record { brought = without waits ended; said = d.said }) ⊎ (most_postings ≤ length d.brought.given))
+        → HasDealt IsMade parts first (sides_of now notes) (record { brought = without waits ended; said = d.said })
+    none-so running waits ended none = record {
+      services = same_services ∙ h.services;
+      in_place = places-same before.ports now.ports g.ports ∙ h.in_place;
+      most = most ∙ h.most;
+      within = ap (list_all (λ n. nat_lt n (length parts.services))) same_services ∙ h.within;
+      visits = still_serves.visits;
+      links = still_serves.are;
+      came_in = g.wires h.came_in;
+      led = g.led h.came_in h.led;
+      doors = subst (λ ls. list_all (λ (v : Visit). list_any (is_led v.door v.service) ls) still_serves.visits ≡ true) (sym same_leads) still_serves.doors;
+      accepted = subst (λ n. length now.links ≤ n) (sym most) (g.within h.accepted);
+      all = h.all;
+      asked = h.asked;
+      traffics = h.traffics ∙ sym g.traffics;
+      taken = still_serves.taken;
+      came = still_serves.came;
+      given = h.given;
+      heard = h.heard;
+      told = h.told;
+      all_told = h.all_told;
+      heard_by = h.heard_by;
+      places = h.places;
+      answers = still_serves.answers;
+      one_by_one = record { counts = h.one_by_one.counts; each = h.one_by_one.each };
+      in_turn = in_turn-goes now.links g.links;
+      said = said_still;
+      noted_by_then = all_taken running;
+      left = refl;
+      faults = h.faults;
+      seen = omega arith;
+      none = λ calm gave. none calm;
+    }
+
+  ends : Ends d.brought (without 0 true)
+  ends = record {
+    none = gives_none 0 true;
+    over = none_left (λ ps is. absurd (let clash : None ≡ Some ps = sym h.left ∙ is in cc));
+    waits = refl;
+    ended = refl;
+  }
+
+  -- there were the most postings
+  most-so : d.said.halted ≡ false → going_of now ≡ going_of before → most_postings ≤ length before.traffics
+      → After (HasDealt IsMade parts first (sides_of now notes)) (Asks parts nexts.End d)
+  most-so running same many =
+      let g = subst (λ x. Goes IsMade before.most (going_of before) x) (sym same) (goes-none IsMade before.most (going_of before)) in (
+        record { brought = without 0 true; said = d.said },
+        none-so g running 0 true (λ calm. inr (subst (λ n. most_postings ≤ n) (sym given_count) many)),
+        record { came = ends; silent = refl; seen = refl; noted = refl },
+      )
+
+  module _ (r : Rests IsMade before.most (going_of before) (going_of now)) where
+    at_rest : Serves IsMade parts (leads_of before) now.links h.all h.heard
+    at_rest = still_serves r.goes
+
+    -- all that was told was heard
+    told_then : (waits : ℕ) (ended : Bool) → d.said.halted ≡ false → h.heard ≡ take (without waits ended).seen d.said.told
+    told_then waits ended calm = h.all_told calm ∙ take_length d.said.told
+
+    over_same : no_more now ≡ closed_off before.most now.ports now.links
+    over_same = ap (λ n. closed_off n now.ports now.links) most
+
+    -- no connection can come any more
+    over-so : d.said.halted ≡ false → closed_off before.most now.ports now.links ≡ true
+        → After (HasDealt IsMade parts first (sides_of now notes)) (Asks parts nexts.End d)
+    over-so running over = (
+      record { brought = without 0 true; said = d.said },
+      none-so r.goes running 0 true (λ calm. inl (record {
+        busy = map owes now.links;
+        each = busy-all IsMade parts (leads_of before) now.links h.all h.heard (record { brought = without 0 true; said = d.said }) at_rest h.asked
+            (told_then 0 true calm) r.silent;
+        over = λ e. over_same ∙ over;
+        some = λ e. absurd (true≢false e);
+        waited = λ e. absurd (true≢false e);
+        rested = λ e. absurd (true≢false e);
+      })),
+      record { came = ends; silent = refl; seen = refl; noted = refl },
+    )
+
+    -- more may come
+    module _ (yet : d.brought.ended ≡ false) (quiet : IsQuiet d) (some : closed_off before.most now.ports now.links ≡ false)
+        (more : added (rests_at before.ports) 1 ≤ rests_at now.ports) where
+      -- as many owe an answer as may be open
+      full : has_room before.most now.links ≡ false → most_open ≤ count_by owes now.links
+      full none =
+          subst (λ n. most_open ≤ n) (opened_owe IsMade now.links at_rest.visits at_rest.are r.silent) (many_open before.most now.ports now.links none some)
+
+      abbrev waits_now : Dealings
+      waits_now = record { brought = without (suc d.brought.waits) false; said = d.said }
+
+      -- those that waited before wait now
+      still_full : d.said.halted ≡ false → (n : ℕ) → d.brought.waits ≡ suc n → HadNone before d → (most_open ≤ count_by owes now.links) ⊎ HaveWaited d.brought.waits before.ports
+      still_full calm n is had = elim (had.waited yet) [
+        | inl many ↦ inl (
+            let few = busy-few IsMade parts (leads_of before) before.links h.all h.heard d serves h.asked
+            (h.all_told calm ∙ take_length d.said.told ∙ ap (λ k. take k d.said.told) (sym (quiet (positive n d.brought.waits is)))) had.busy had.each in
+            let grow = owes-grow IsMade (leads_of before) before.links now.links r.goes.links in
+            three most_open (count_by (λ (b : Bool). b) had.busy) (count_by owes before.links) (count_by owes now.links) many few grow)
+        | inr all ↦ inr all
+      ]
+        where
+          positive : (n w : ℕ) → w ≡ suc n → 0 < w
+          positive n w e = omega arith
+
+          three : (a b c e : ℕ) → a ≤ b → b ≤ c → c ≤ e → a ≤ e
+          three a b c e x y z = omega arith
+
+      -- as many wait as may be, or each door was tried as often
+      waited-so : d.said.halted ≡ false → ((most_open ≤ count_by owes now.links) ⊎ HaveWaited (suc d.brought.waits) now.ports) ⊎ (most_postings ≤ length d.brought.given)
+      waited-so calm = elim r.tried [
+        | inl none ↦ inl (inl (full none))
+        | inr tried ↦ by_waits d.brought.waits refl tried
+      ]
+        where
+          by_waits : (n : ℕ) → d.brought.waits ≡ n → AreTried before.ports now.ports
+              → ((most_open ≤ count_by owes now.links) ⊎ HaveWaited (suc d.brought.waits) now.ports) ⊎ (most_postings ≤ length d.brought.given)
+          by_waits zero is tried =
+              inl (inr (subst (λ n. HaveWaited (suc n) now.ports) (sym is) (waited-more 0 before.ports now.ports r.goes.ports tried (waited-none before.ports))))
+          by_waits (suc n) is tried = elim (h.none calm (inr (positive n d.brought.waits is))) [
+            | inl had ↦ elim (still_full calm n is had) [
+              | inl many ↦ inl (inl many)
+              | inr all ↦ inl (inr (waited-more d.brought.waits before.ports now.ports r.goes.ports tried all))
+            ]
+            | inr many ↦ inr many
+          ]
+            where
+              positive : (n w : ℕ) → w ≡ suc n → 0 < w
+              positive n w e = omega arith
+
+      -- as often was rested
+      rested-so : d.said.halted ≡ false
+          → (min (suc d.brought.waits) (2 ^ 64 - 1) ≤ rests_at now.ports) ⊎ (most_postings ≤ length d.brought.given)
+      rested-so calm = by_waits d.brought.waits refl
+        where
+          none : (w cap rests : ℕ) → w ≡ 0 → min w cap ≤ rests
+          none w cap rests e = omega arith
+
+          positive : (n w : ℕ) → w ≡ suc n → 0 < w
+          positive n w e = omega arith
+
+          once : min d.brought.waits (2 ^ 64 - 1) ≤ rests_at before.ports → min (suc d.brought.waits) (2 ^ 64 - 1) ≤ rests_at now.ports
+          once few = once_more d.brought.waits (rests_at before.ports) (2 ^ 64 - 1) (rests_at now.ports) few more
+
+          by_waits : (n : ℕ) → d.brought.waits ≡ n
+              → (min (suc d.brought.waits) (2 ^ 64 - 1) ≤ rests_at now.ports) ⊎ (most_postings ≤ length d.brought.given)
+          by_waits zero is = inl (once (none d.brought.waits (2 ^ 64 - 1) (rests_at before.ports) is))
+          by_waits (suc n) is = elim (h.none calm (inr (positive n d.brought.waits is))) [
+            | inl had ↦ inl (once (had.rested yet))
+            | inr many ↦ inr many
+          ]
+
+      none_yet : d.said.halted ≡ false → HadNone now waits_now ⊎ (most_postings ≤ length d.brought.given)
+      none_yet calm = elim (waited-so calm) [
+        | inl waited ↦ elim (rested-so calm) [
+          | inl rested ↦ inl (record {
+            busy = map owes now.links;
+            each = busy-all IsMade parts (leads_of before) now.links h.all h.heard waits_now at_rest h.asked (told_then (suc d.brought.waits) false calm) r.silent;
+            over = λ e. absurd (true≢false (sym e));
+            some = λ e. over_same ∙ some;
+            waited = λ e. elim waited [
+              | inl many ↦ inl (subst (λ n. most_open ≤ n) (sym (busy-count now.links)) many)
+              | inr all ↦ inr all
+            ];
+            rested = λ e. rested;
+          })
+          | inr many ↦ inr many
+        ]
+        | inr many ↦ inr many
+      ]
+
+      yet-so : d.said.halted ≡ false → After (HasDealt IsMade parts first (sides_of now notes)) (Asks parts nexts.NotYet d)
+      yet-so running = (
+        waits_now,
+        none-so r.goes running (suc d.brought.waits) false none_yet,
+        record {
+          came = record { none = gives_none (suc d.brought.waits) false; waits = refl; ended = refl };
+          silent = refl;
+          seen = refl;
+          noted = refl;
+        },
+      )
+
+  -- ---- a posting comes
+
+  module _ (p : Posting) (running : d.said.halted ≡ false) (g : Posts IsMade before.most p (going_of before) (going_of now)) where
+    hands : Hands p (listing g.mid.links g.mid.traffics) (listing now.links now.traffics)
+    hands = g.hands
+
+    mid_serves : Serves IsMade parts (leads_of before) g.mid.links h.all h.heard
+    mid_serves = serves-on IsMade (leads_of before) parts before.links g.mid.links h.all h.heard g.goes.links serves
+
+    long : length g.mid.traffics ≡ length h.all.asked
+    long = ap length g.goes.traffics ∙ sym (ap length h.traffics) ∙ length-map h.all.asked (λ (a : Asked). a.traffic)
+
+    -- whose request it is, and what it brings in
+    abbrev asker : Asked
+    asker = next_of hands.number h.all.asked
+
+    abbrev coming : Incoming
+    coming = came_with hands.one.link.service hands.body
+
+    now_serves : Serves IsMade parts (leads_of before) now.links (one_more h.all asker coming) h.heard
+    now_serves =
+        serves-more IsMade parts (leads_of before) (listing g.mid.links g.mid.traffics) (listing now.links now.traffics) h.all h.heard hands.number hands.body
+        h.places long hands.one mid_serves
+
+    abbrev brought_now : Brought
+    brought_now = record {
+      given = d.brought.given ++ p ∷ [];
+      asked = d.brought.asked ++ asker ∷ [];
+      left = None;
+      waits = 0;
+      ended = false;
+      faults = d.brought.faults;
+      seen = length d.said.told;
+      noted = d.said.noted;
+      seens = d.brought.seens ++ length d.said.told ∷ [];
+    }
+
+    services_now : services_of now ≡ services_of before
+    services_now = ap (map service_of) g.still ∙ services-same before.ports g.mid.ports g.goes.ports
+
+    leads_now : leads_of now ≡ leads_of before
+    leads_now = ap (map lead_of) g.still ∙ leads-same before.ports g.mid.ports g.goes.ports
+
+    -- the services are those of the leads
+    services_led : (ports : List PortTold) → map (λ (lead : Lead). lead.service) (map lead_of ports) ≡ map (λ (p : PortTold). p.service) ports
+    services_led [] = refl
+    services_led (q ∷ qs) = ap (λ ns. q.service ∷ ns) (services_led qs)
+
+    links_now : length now.links ≡ length g.mid.links
+    links_now = ap length hands.one.set ∙ length_set g.mid.links hands.number hands.one.later
+
+    given_now : d.brought.given ++ p ∷ [] ≡ map posting_of (h.all.came ++ coming ∷ [])
+    given_now =
+        ap₂ (λ ps q. ps ++ q ∷ []) h.given hands.posting ∙ sym (map-append posting_of h.all.came (coming ∷ []))
+
+    traffics_now : map (λ (a : Asked). a.traffic) (h.all.asked ++ asker ∷ []) ≡ now.traffics
+    traffics_now =
+        map-append (λ (a : Asked). a.traffic) h.all.asked (asker ∷ [])
+        ∙ ap (λ ts. ts ++ hands.number ∷ []) (h.traffics ∙ sym g.goes.traffics) ∙ sym hands.kept
+
+    -- each request before it on its connection had been told of
+    told_before : (i : ℕ) (a : Asked) → slice_get d.brought.asked i ≡ Some a → a.traffic ≡ asker.traffic
+        → list_any (λ (t : Told). nat_eq i t.place) (take (length d.said.told) d.said.told) ≡ true
+    told_before i a there traffic =
+        told_all (λ (t : Told). nat_eq i t.place) h.heard d.said.told h.told
+        (heard-where_reads IsMade parts (leads_of before) g.mid.links h.all h.heard mid_serves hands.number hands.one.link hands.one.there hands.one.read
+        i a (ap (λ xs. slice_get xs i) h.asked ∙ there) traffic)
+
+    -- and each connection before its own waited for an answer or was over
+    in_turn_now : CameInTurn (record { brought = brought_now; said = d.said }) now.links
+    in_turn_now =
+        in_turn-asked IsMade parts (leads_of before) (listing g.mid.links g.mid.traffics) (listing now.links now.traffics) h.all h.heard
+        (record { brought = without 0 false; said = d.said }) hands.number hands.body hands.one mid_serves h.asked
+        (h.all_told running ∙ take_length d.said.told) refl h.one_by_one.counts (in_turn-goes g.mid.links g.goes.links)
+
+    none_now : GaveNone (record { brought = brought_now; said = d.said }) → ⊥
+    none_now gave = elim gave [ inl e ↦ true≢false (sym e) | inr more ↦ (omega arith) ]
+
+    dealt_now : HasDealt IsMade parts first (sides_of now notes) (record { brought = brought_now; said = d.said })
+    dealt_now = record {
+      services = services_now ∙ h.services;
+      in_place = ap (map place_of) g.still ∙ places-same before.ports g.mid.ports g.goes.ports ∙ h.in_place;
+      most = most ∙ h.most;
+      within = ap (list_all (λ n. nat_lt n (length parts.services))) services_now ∙ h.within;
+      visits = now_serves.visits;
+      links = now_serves.are;
+      came_in = ap (sum_by wires_of) g.still ∙ g.goes.wires h.came_in ∙ sym links_now;
+      led = subst (λ ps. AreLed ps now.links) (sym g.still)
+          (led-asked g.mid.ports hands.number (Some hands.body) (listing g.mid.links g.mid.traffics) (listing now.links now.traffics) hands.one
+          (g.goes.led h.came_in h.led));
+      doors = subst (λ ls. list_all (λ (v : Visit). list_any (is_led v.door v.service) ls) now_serves.visits ≡ true) (sym leads_now) now_serves.doors;
+      accepted = subst (λ n. n ≤ now.most) (sym links_now) (subst (λ n. length g.mid.links ≤ n) (sym most) (g.goes.within h.accepted));
+      all = one_more h.all asker coming;
+      asked = ap (λ xs. xs ++ asker ∷ []) h.asked;
+      traffics = traffics_now;
+      taken = now_serves.taken;
+      came = now_serves.came;
+      given = given_now;
+      heard = h.heard;
+      told = h.told;
+      all_told = h.all_told;
+      heard_by = heard_by-more d.brought.seens h.heard d.said.told (h.all_told running) h.heard_by;
+      places = places_below (length h.all.asked) (length (h.all.asked ++ asker ∷ []))
+          (let one = length_push h.all.asked asker in omega arith) h.heard h.places;
+      answers = now_serves.answers;
+      one_by_one = record {
+        counts = one_count_more d.brought.asked d.brought.seens asker (length d.said.told) h.one_by_one.counts;
+        each = told_first-more d.brought.asked d.brought.seens d.said.told asker h.one_by_one.counts h.one_by_one.each told_before;
+      };
+      in_turn = in_turn_now;
+      said = said_still;
+      noted_by_then = all_taken running;
+      left = refl;
+      faults = h.faults;
+      seen = omega arith;
+      none = λ calm gave. absurd (none_now gave);
+    }
+
+    has_service : nat_lt hands.one.link.service (length parts.services) ≡ true
+    has_service =
+        each_is (λ n. nat_lt n (length parts.services)) hands.one.link.service (services_of before) h.within
+        (subst (λ ns. list_any (nat_eq hands.one.link.service) ns ≡ true) (services_led before.ports)
+        (service_there IsMade parts (leads_of before) (listing g.mid.links g.mid.traffics) (listing now.links now.traffics) h.all h.heard hands.number hands.body
+        h.places long hands.one mid_serves))
+
+    gives_now : Gives parts p d.brought brought_now
+    gives_now = record {
+      given = refl;
+      within = let one = length_push d.brought.given p in let few = g.fewer in let many = given_count in omega arith;
+      whose = asker;
+      asked = refl;
+      request = ap (count_by (is_of hands.number)) h.asked;
+      services = subst (λ (q : Posting). list_all (names_service parts) q.calls ≡ true) (sym hands.posting)
+          (all_named parts hands.one.link.service has_service coming.read.calls);
+      left = subst (λ l. Leaves p l d.brought brought_now) (sym h.left) refl;
+      waits = refl;
+      ended = refl;
+      faults = omega arith;
+      seens = refl;
+    }
+
+    post-so : After (HasDealt IsMade parts first (sides_of now notes)) (Asks parts (nexts.Posting p) d)
+    post-so = (record { brought = brought_now; said = d.said }, dealt_now, record { came = gives_now; silent = refl; seen = refl; noted = refl })
+
+  -- ---- all of it
+
+  -- what the call came to
+  pub asked-so : (which : Next) → d.brought.ended ≡ false → d.said.halted ≡ false → IsQuiet d → Looks IsMade before.most which (going_of before) (going_of now)
+      → After (HasDealt IsMade parts first (sides_of now notes)) (Asks parts which d)
+  asked-so (nexts.Posting p) yet running quiet l = post-so p running l
+  asked-so nexts.NotYet yet running quiet l = yet-so l.0 yet quiet l.1 l.2 running
+  asked-so nexts.End yet running quiet l =
+      elim l [ inl many ↦ most-so running many.1 many.0 | inr rest ↦ over-so rest.0 running rest.1 ]
+
+-- ---- and where memory ran out
+
+module _ (IsMade : WireTold → Type 0) (parts : ProgramParts) (A B : Type 0) (a : A) (b : B) (first : Sides) (notes : SinkTold) (before now : Keeping) (d : Dealings)
+    (most : now.most ≡ before.most) (halted : now.halted ≡ before.halted) (yet : d.brought.ended ≡ false) (running : d.said.halted ≡ false) (quiet : IsQuiet d) where
+  -- the same front, as far as its outside is concerned
+  abbrev Same : Keeping → Dealings → Type 0
+  Same k x = A × B × MayHaveDealt IsMade parts first (sides_of k notes) x
+
+  pub next-so : MayHaveDealt IsMade parts first (sides_of before notes) d → (result : Result Next AllocError)
+      → MatchResult result (λ which. (before.spent ≡ false) × (now.spent ≡ false) × Looks IsMade before.most which (going_of before) (going_of now)) (λ _. now.spent ≡ true)
+      → MatchResult result (λ which. After (Same now) (Asks parts which d)) (λ _. Same now d)
+  next-so may (Ok which) looks = elim may [
+    | inl out ↦ absurd (true≢false (sym out.0 ∙ looks.0))
+    | inr h ↦
+        let passed = asked-so IsMade parts first notes before now d h most halted which yet running quiet looks.2 in
+        (passed.0, (a, b, inr passed.1), passed.2)
+  ]
+  next-so may (Err error) spent = (a, b, inl (spent, elim may [ inl out ↦ out.1 ∙ sym halted | inr h ↦ h.said.halted ∙ sym halted ]))

@@ -1,0 +1,138 @@
+-- Doors behind a rest at the first of them that has not ended.
+use Rattle.std.proofs.Common.{◌≡◌, refl, sym, ap, ◌∙◌, subst, arith, ℕ, zero, suc, ◌+◌, ◌-◌, ◌^◌, ◌<◌, ◌≤◌, min, Bool, true, false, cond, ◌&&◌, List, [], ◌∷◌, length, take, set, get_or}
+use Rattle.std.specs.List.{list_all, sum_by}
+use Rattle.std.proofs.lemmas.Bool.{and_parts, and_from, true≢false}
+use Rattle.std.proofs.lemmas.List.{take_all}
+use Rattle.std.proofs.lemmas.List.Sums.{sum_by-cons}
+use Rattle.outside_doors.specs.Counts.{added, has_ended}
+use Rattle.run_door_front.specs.Keeping.{PortTold, rests_at}
+use Rattle.run_door_front.specs.NextSteps.{GoesOn, AllGoOn, AreTried, rested_at, after_rest}
+use Rattle.run_door_front.proofs.Doors.{not_fallen-same, not_fallen-added, goes-same, all-same}
+
+-- a door has ended
+abbrev pub is_done : PortTold → Bool
+is_done port = has_ended port.door
+
+-- ---- they go on
+
+goes_rested : (p : PortTold) → GoesOn p (rested_at p)
+goes_rested p = record {
+  service = refl;
+  place = refl;
+  ended = λ e. e;
+  waits = not_fallen-same p.door.waits p.door.waits refl;
+  rests = not_fallen-added p.door.rests (added p.door.rests 1) refl;
+}
+
+pub all-rested : (ps : List PortTold) → AllGoOn ps (after_rest ps)
+all-rested [] = tt
+all-rested (p ∷ ps) = at (has_ended p.door) (all-rested ps)
+  where
+    at : (b : Bool) → AllGoOn ps (after_rest ps) → AllGoOn (p ∷ ps) (cond b (p ∷ after_rest ps) (rested_at p ∷ ps))
+    at true rest = (goes-same p, rest)
+    at false rest = (goes_rested p, all-same ps)
+
+-- those that were tried are
+pub tried-rested : (xs ps : List PortTold) → AreTried xs ps → AreTried xs (after_rest ps)
+tried-rested [] [] t = tt
+tried-rested [] (p ∷ ps) t = absurd t
+tried-rested (x ∷ xs) [] t = absurd t
+tried-rested (x ∷ xs) (p ∷ ps) t = at (has_ended p.door) (tried-rested xs ps t.1)
+  where
+    at : (b : Bool) → AreTried xs (after_rest ps) → AreTried (x ∷ xs) (cond b (p ∷ after_rest ps) (rested_at p ∷ ps))
+    at true rest = (t.0, rest)
+    at false rest = (t.0, t.1)
+
+-- what does not speak of rests stays
+pub sums-rested : (f : PortTold → ℕ) → ((p : PortTold) → f (rested_at p) ≡ f p) → (ps : List PortTold) → sum_by f (after_rest ps) ≡ sum_by f ps
+sums-rested f same [] = refl
+sums-rested f same (p ∷ ps) = at (has_ended p.door) (sums-rested f same ps)
+  where
+    at : (b : Bool) → sum_by f (after_rest ps) ≡ sum_by f ps → sum_by f (cond b (p ∷ after_rest ps) (rested_at p ∷ ps)) ≡ sum_by f (p ∷ ps)
+    at true e = sum_by-cons f p (after_rest ps) ∙ ap (λ n. f p + n) e ∙ sym (sum_by-cons f p ps)
+    at false e = sum_by-cons f (rested_at p) ps ∙ ap (λ n. n + sum_by f ps) (same p) ∙ sym (sum_by-cons f p ps)
+
+pub done-rested : (ps : List PortTold) → list_all is_done (after_rest ps) ≡ list_all is_done ps
+done-rested [] = refl
+done-rested (p ∷ ps) = at (has_ended p.door) (done-rested ps)
+  where
+    at : (b : Bool) → list_all is_done (after_rest ps) ≡ list_all is_done ps
+        → list_all is_done (cond b (p ∷ after_rest ps) (rested_at p ∷ ps)) ≡ list_all is_done (p ∷ ps)
+    at true e = ap (λ b. is_done p && b) e
+    at false e = refl
+
+-- ---- how often was rested
+
+-- with any last value of their type
+more_behind : (r s t m n cap : ℕ) → m ≡ r + s → n ≡ r + t → min (s + 1) cap ≤ t → min (m + 1) cap ≤ n
+more_behind r s t m n cap a b h = omega arith
+
+more_here : (r s t m n cap : ℕ) → m ≡ r + s → n ≡ t + s → t ≡ min (r + 1) cap → min (m + 1) cap ≤ n
+more_here r s t m n cap a b e = omega arith
+
+-- once more, where one has not ended
+pub rests-rested : (ps : List PortTold) → list_all is_done ps ≡ false → added (rests_at ps) 1 ≤ rests_at (after_rest ps)
+rests-rested [] some = absurd (true≢false some)
+rests-rested (p ∷ ps) some = at (has_ended p.door) refl (λ rest. rests-rested ps rest)
+  where
+    at : (b : Bool) → has_ended p.door ≡ b → (list_all is_done ps ≡ false → added (rests_at ps) 1 ≤ rests_at (after_rest ps))
+        → added (rests_at (p ∷ ps)) 1 ≤ rests_at (cond b (p ∷ after_rest ps) (rested_at p ∷ ps))
+    at true is rest =
+        more_behind p.door.rests (rests_at ps) (rests_at (after_rest ps)) (rests_at (p ∷ ps)) (rests_at (p ∷ after_rest ps)) (2 ^ 64 - 1)
+        (sum_by-cons (λ (p : PortTold). p.door.rests) p ps) (sum_by-cons (λ (p : PortTold). p.door.rests) p (after_rest ps))
+        (rest (ap (λ b. b && list_all is_done ps) (sym is) ∙ some))
+    at false is rest =
+        more_here p.door.rests (rests_at ps) (added p.door.rests 1) (rests_at (p ∷ ps)) (rests_at (rested_at p ∷ ps)) (2 ^ 64 - 1)
+        (sum_by-cons (λ (p : PortTold). p.door.rests) p ps) (sum_by-cons (λ (p : PortTold). p.door.rests) (rested_at p) ps) refl
+
+-- ---- a loop to the first that has not ended
+
+none_inside : (i : ℕ) → i < 0 → ⊥
+none_inside i h = omega arith
+
+lower : (i n : ℕ) → suc i < suc n → i < n
+lower i n h = omega arith
+
+-- one more has ended
+done_next : (ps : List PortTold) (i : ℕ) (d : PortTold) → i < length ps → list_all is_done (take i ps) ≡ true → is_done (get_or ps i d) ≡ true
+    → list_all is_done (take (suc i) ps) ≡ true
+done_next [] i d inside all here = absurd (none_inside i inside)
+done_next (p ∷ ps) zero d inside all here = and_from (is_done p) true here refl
+done_next (p ∷ ps) (suc i) d inside all here =
+    let both = and_parts (is_done p) (list_all is_done (take i ps)) all in
+    and_from (is_done p) (list_all is_done (take (suc i) ps)) both.0 (done_next ps i d (lower i (length ps) inside) both.1 here)
+
+pub done-next : (ps qs : List PortTold) (i : ℕ) (d : PortTold) → qs ≡ ps → i < length ps → list_all is_done (take i ps) ≡ true
+    → is_done (get_or qs i d) ≡ true → list_all is_done (take (i + 1) ps) ≡ true
+done-next ps qs i d same inside all here =
+    ap (λ n. list_all is_done (take n ps)) (one i) ∙ done_next ps i d inside all (ap (λ xs. is_done (get_or xs i d)) (sym same) ∙ here)
+  where
+    one : (i : ℕ) → i + 1 ≡ suc i
+    one i = omega arith
+
+-- the first has not
+rested_here : (ps : List PortTold) (i : ℕ) (d : PortTold) → i < length ps → list_all is_done (take i ps) ≡ true → is_done (get_or ps i d) ≡ false
+    → set ps i (rested_at (get_or ps i d)) ≡ after_rest ps
+rested_here [] i d inside all here = absurd (none_inside i inside)
+rested_here (p ∷ ps) zero d inside all here = ap (λ b. cond b (p ∷ after_rest ps) (rested_at p ∷ ps)) (sym here)
+rested_here (p ∷ ps) (suc i) d inside all here =
+    let both = and_parts (is_done p) (list_all is_done (take i ps)) all in
+    ap (λ xs. p ∷ xs) (rested_here ps i d (lower i (length ps) inside) both.1 here)
+    ∙ ap (λ b. cond b (p ∷ after_rest ps) (rested_at p ∷ ps)) (sym both.0)
+
+pub rested-here : (ps qs : List PortTold) (i : ℕ) (d now : PortTold) → qs ≡ ps → i < length ps → list_all is_done (take i ps) ≡ true
+    → is_done (get_or qs i d) ≡ false → now ≡ rested_at (get_or qs i d) → set qs i now ≡ after_rest ps
+rested-here ps qs i d now same inside all here is =
+    ap (set qs i) is ∙ ap (λ xs. set xs i (rested_at (get_or xs i d))) same
+    ∙ rested_here ps i d inside all (ap (λ xs. is_done (get_or xs i d)) (sym same) ∙ here)
+
+-- all have
+rested_nowhere : (ps : List PortTold) → list_all is_done ps ≡ true → ps ≡ after_rest ps
+rested_nowhere [] all = refl
+rested_nowhere (p ∷ ps) all =
+    let both = and_parts (is_done p) (list_all is_done ps) all in
+    ap (λ xs. p ∷ xs) (rested_nowhere ps both.1) ∙ ap (λ b. cond b (p ∷ after_rest ps) (rested_at p ∷ ps)) (sym both.0)
+
+pub rested-nowhere : (ps qs : List PortTold) (i : ℕ) → qs ≡ ps → length ps ≤ i → list_all is_done (take i ps) ≡ true → qs ≡ after_rest ps
+rested-nowhere ps qs i same past all =
+    same ∙ rested_nowhere ps (ap (list_all is_done) (sym (take_all i ps past)) ∙ all)

@@ -1,0 +1,98 @@
+//! What a front over doors keeps.
+ghost use Rattle.std.specs.Prelude.{◌≡◌, [], true, false};
+ghost use Rattle.run_door_front.specs.Keeping.{Keeping};
+
+use crate::link::Link;
+use crate::port::Port;
+use outside_doors::Door;
+use std::alloc::Global;
+use std::marker::Model;
+
+/// What a front over doors keeps: its doors, its connections in the order in which they were accepted, of which of them
+/// each posting is, how many it accepts at most, whether it halted, and whether memory ran out.
+#[derive(Drop)]
+pub struct Kept<D: Door + Drop> {
+    pub(crate) ports: Vec<Port<D>>,
+    pub(crate) links: Vec<Link<D::W>>,
+    pub(crate) traffics: Vec<u32>,
+    pub(crate) most: u32,
+    pub(crate) halted: bool,
+    pub(crate) spent: bool,
+}
+
+impl<D: Door + Drop> Model for Kept<D> {
+    ghost use Rattle.std.specs.Coded.{codes};
+    ghost use Rattle.jolie_trees.specs.contracts.tree.Tree as tree;
+    ghost use Rattle.run_door_front.specs.Keeping.{Keeping};
+
+    ghost Value = { Keeping };
+
+    ghost coded = { Prim.hlevel (codes, tree.the_row.coded) };
+
+    ghost view = { λ k. record {
+      ports = k.ports.items;
+      links = k.links.items;
+      traffics = k.traffics.items;
+      most = k.most;
+      halted = k.halted;
+      spent = k.spent;
+    } };
+}
+
+impl<D: Door + Drop> Kept<D> {
+    /// With these doors, and before anything came. So many connections are accepted at most.
+    pub fn new(alloc: Global, ports: Vec<Port<D>>, most: u32) -> Kept<D>
+        ensures ports { result.ports ≡ ports.items }
+        ensures links { result.links ≡ [] }
+        ensures traffics { result.traffics ≡ [] }
+        ensures most { result.most ≡ most }
+        ensures halted { result.halted ≡ false }
+        ensures spent { result.spent ≡ false }
+    {
+        Kept {
+            ports,
+            links: Vec::new(alloc),
+            traffics: Vec::new(alloc),
+            most,
+            halted: false,
+            spent: false,
+        }
+    }
+
+    /// Whether the front halted: its notes failed.
+    pub fn halted(&self) -> bool
+        ensures { result ≡ self.now.halted }
+    {
+        self.halted
+    }
+
+    /// Whether memory ran out in a call: then nothing is said of what passed.
+    pub fn spent(&self) -> bool
+        ensures { result ≡ self.now.spent }
+    {
+        self.spent
+    }
+
+    /// Nothing more is written.
+    pub(crate) fn halt(&mut self)
+        ensures { self.new ≡ record self.old { halted = true } }
+    {
+        self.halted = true;
+    }
+
+    /// The doors and the connections.
+    pub fn into_parts(self) -> (Vec<Port<D>>, Vec<Link<D::W>>)
+        ensures ports { result.0.items ≡ self.ports }
+        ensures links { result.1.items ≡ self.links }
+    {
+        let Kept {
+            ports,
+            links,
+            traffics: _,
+            most: _,
+            halted: _,
+            spent: _,
+        } = self;
+        (ports, links)
+    }
+}

@@ -1,0 +1,11 @@
+pub mod Covered
+pub mod Requests
+pub mod Texts
+pub mod Lists
+pub mod Serving
+pub mod Wires
+pub mod Ending
+pub mod Telling
+pub mod Openings
+pub mod Leading
+pub mod Doored

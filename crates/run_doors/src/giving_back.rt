@@ -1,0 +1,97 @@
+//! What comes back at the end of a run: the wires of its connections, and its doors.
+ghost use Rattle.std.specs.Prelude.{◌≡◌, [], ◌∷◌, map, IfOk, OnOk};
+ghost use Rattle.std.specs.List.{list_any};
+ghost use Rattle.run_theorem.specs.Used.{has_failed};
+ghost use Rattle.run_doors.specs.Steps.{GivesBack, GivesDoors, GivesWires, door_of, traffic_of, wire_of};
+
+use jolie_trees::Bytes;
+use outside_doors::{Door, Doors};
+use run_door_front::{Kept, Link, Port};
+use run_record::Traffic;
+use sqlite_items::Items;
+use std::alloc::{AllocError, Global};
+
+/// What came back: the bytes of the connections, and whether a door had failed.
+#[derive(Drop)]
+pub(crate) struct Back {
+    pub traffic: Items<Traffic>,
+    pub failed: bool,
+}
+
+/// Gives back the wires of all connections in the order in which they were accepted, and then the doors.
+pub(crate) fn give_back<D: Doors>(
+    alloc: Global,
+    doors: &mut D,
+    kept: Kept<D::D>,
+) -> Result<Back, AllocError>
+    ensures traffic { IfOk result (λ back. back.traffic ≡ map traffic_of kept.links) }
+    ensures failed { IfOk result (λ back. back.failed ≡ list_any has_failed (map door_of kept.ports)) }
+    ensures doors { OnOk result (GivesBack (map wire_of kept.links) (map door_of kept.ports)
+        (D.told doors.old)
+        (D.told doors.new)) }
+{
+    let (ports, links) = kept.into_parts();
+    let traffic = wires_back(alloc, doors, links)?;
+    let failed = doors_back(doors, ports);
+    Ok(Back { traffic, failed })
+}
+
+/// Gives back the wires of connections in order. It says what was read and written on each.
+fn wires_back<D: Doors>(
+    alloc: Global,
+    doors: &mut D,
+    links: Vec<Link<<D::D as Door>::W>>,
+) -> Result<Items<Traffic>, AllocError>
+    ensures traffic { IfOk result (λ traffic. traffic ≡ map traffic_of links.items) }
+    ensures doors { OnOk result (GivesWires (map wire_of links.items)
+        (D.told doors.old)
+        (D.told doors.new)) }
+{
+    let mut traffic = Items::new(alloc);
+    for link in links {
+        let passed = wire_back(doors, link);
+        traffic.push(passed)?;
+    }
+    Ok(traffic)
+}
+
+/// Gives back the wire of a connection. It says what was read and written on it.
+fn wire_back<D: Doors>(doors: &mut D, link: Link<<D::D as Door>::W>) -> Traffic
+    ensures traffic { result ≡ traffic_of link }
+    ensures doors { GivesWires (wire_of link ∷ [])
+        (D.told doors.old)
+        (D.told doors.new) }
+{
+    let (wire, read, written) = link.into_parts();
+    doors.wire_back(wire);
+    Traffic {
+        read: Bytes::from_vec(read),
+        written: Bytes::from_vec(written),
+    }
+}
+
+/// Gives back doors in order. It says whether one of them had failed.
+fn doors_back<D: Doors>(doors: &mut D, ports: Vec<Port<D::D>>) -> bool
+    ensures failed { result ≡ list_any has_failed (map door_of ports.items) }
+    ensures doors { GivesDoors (map door_of ports.items)
+        (D.told doors.old)
+        (D.told doors.new) }
+{
+    let mut failed = false;
+    for port in ports {
+        failed |= door_back(doors, port);
+    }
+    failed
+}
+
+/// Gives back a door. It says whether it had failed.
+fn door_back<D: Doors>(doors: &mut D, port: Port<D::D>) -> bool
+    ensures failed { result ≡ has_failed port.door }
+    ensures doors { GivesDoors (port.door ∷ [])
+        (D.told doors.old)
+        (D.told doors.new) }
+{
+    let failed = port.failed();
+    doors.door_back(port.into_door());
+    failed
+}

@@ -1,0 +1,8 @@
+pub mod Passing
+pub mod Told
+pub mod Reading
+pub mod Writing
+pub mod Dealt
+pub mod Keeping
+pub mod FrontSteps
+pub mod Steps

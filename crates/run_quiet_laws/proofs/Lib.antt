@@ -1,0 +1,15 @@
+pub mod Acting
+pub mod Aside
+pub mod Begun
+pub mod CallsOn
+pub mod Cutting
+pub mod Ending
+pub mod Fewer
+pub mod Finished
+pub mod Once
+pub mod Quiet
+pub mod Sessions
+pub mod Since
+pub mod Still
+pub mod Within
+pub mod Workers

@@ -1,0 +1,14 @@
+pub mod Dealings
+pub mod Calls
+pub mod Texts
+pub mod Split
+pub mod Lines
+pub mod Statuses
+pub mod Picks
+pub mod Trips
+pub mod Ports
+pub mod Visits
+pub mod Served
+pub mod Used
+pub mod Through
+pub mod Theorem

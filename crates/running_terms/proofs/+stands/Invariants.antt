@@ -1,7 +1,0 @@
-use Rattle.std.proofs.Common.{◌≡◌, drop}
-use Rattle.calculus.specs.Terms.{is_among}
-use Rattle.running_terms.specs.View.{members_view}
-use Rattle.running_terms.proofs.+stands.Given as goal
-
-abbrev pub invariant-stands::is_among-loop-member : goal.invariant-stands::is_among-loop-member
-invariant-stands::is_among-loop-member l = is_among l.strand (members_view (drop l.member-index l.strands)) ≡ is_among l.strand (members_view l.strands)

@@ -1,7 +1,0 @@
-use Rattle.std.proofs.Common.{◌≡◌, drop}
-use Rattle.calculus.specs.Terms.{all_done}
-use Rattle.running_terms.specs.View.{members_view}
-use Rattle.running_terms.proofs.normal.are_done.Given as goal
-
-abbrev pub invariant-loop-strand : goal.invariant-loop-strand
-invariant-loop-strand l = all_done (members_view (drop l.strand-index l.strands)) ≡ all_done (members_view l.strands)

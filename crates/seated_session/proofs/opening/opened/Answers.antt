@@ -1,8 +1,0 @@
--- Nothing happened yet.
-use Rattle.seated_session.proofs.AtDesk.{opened_ok}
-use Rattle.seated_session.proofs.opening.opened.Goals as goal
-
-pub returns-clause-opened : goal.returns-clause-opened
-returns-clause-opened c =
-    opened_ok c.new.result c.args.program.now c.in_ok-copy.copy c.in_ok-copy.ensures.parts c.new.ensures.program
-    c.new.ensures.entries c.new.ensures.ready

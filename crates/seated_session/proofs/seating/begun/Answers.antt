@@ -1,8 +1,0 @@
--- A session begins at the start of its service.
-use Rattle.run_cells.specs.Crews.{stand_by}
-use Rattle.seated_session.proofs.seating.begun.Goals as goal
-
-pub returns-clause-stand : goal.returns-clause-stand
-returns-clause-stand c =
-    let e = c.in_ok-session.ensures in
-    λ i. stand_by (e.service i) (e.config i) (c.new-events.ensures i)

@@ -1,0 +1,11 @@
+pub mod Asking
+pub mod Binding
+pub mod Branches
+pub mod Counted
+pub mod Faulting
+pub mod Finishing
+pub mod Giftless
+pub mod Goings
+pub mod Starting
+pub mod Ungiven
+pub mod Reading

@@ -1,0 +1,35 @@
+-- A line for the console is a call like any other.
+use Rattle.std.specs.Prelude.{◌≡◌, true, [], ◌∷◌, None, Some}
+use Rattle.std.proofs.Common.{refl}
+use Rattle.std.specs.Fmt.{digits}
+use Rattle.jolie_trees.specs.declared.root.Root.TheVariants as root
+use Rattle.jolie_trees.specs.Data.{node, no_fields}
+use Rattle.behaviour_tree.specs.declared.types.RootKind.TheVariants as kinds
+use Rattle.behaviour_tree.specs.declared.expr.SumOp.TheVariants as sums
+use Rattle.behaviour_tree.specs.declared.program.Execution.TheVariants as execution
+use Rattle.behaviour_tree.specs.declared.words.Kind.TheVariants as kind
+use Rattle.behaviour_tree.specs.declared.words.Need.TheVariants as need
+use Rattle.behaviour_tree.specs.declared.words.Given.TheVariants as given
+use Rattle.behaviour_tree.specs.declared.words.Outcome.TheVariants as outcome
+use Rattle.behaviour_tree.specs.Data.{plain, no_type_fields, here, step, constant, at_path, sum, no_sum_parts, sum_part, nothing, sequence, choice, solicit, no_procs, proc, no_branches, one_way, no_handlers, ProgramParts}
+use Rattle.test_calculus.specs.Told.{told, act, mail, happens}
+
+abbrev program : ProgramParts
+program = record {
+  types = [];
+  interfaces = (record { name = (73 ∷ []); operations = (record { name = (110 ∷ 111 ∷ 116 ∷ 101 ∷ []); request = (plain kinds.Text no_type_fields); response = None; throws = [] } ∷ []) } ∷ []);
+  services = (record { name = (83 ∷ []); execution = execution.Single; ports = (record { name = (73 ∷ 110 ∷ []); input = true; location = (115 ∷ 111 ∷ 99 ∷ 107 ∷ 101 ∷ 116 ∷ 58 ∷ 47 ∷ 47 ∷ 108 ∷ 111 ∷ 99 ∷ 97 ∷ 108 ∷ 104 ∷ 111 ∷ 115 ∷ 116 ∷ 58 ∷ 56 ∷ 48 ∷ 48 ∷ 48 ∷ []); interfaces = (0 ∷ []) } ∷ []); sets = []; init = nothing; main = (sequence (proc (choice (one_way 0 (Some (step (120 ∷ []) here)) nothing no_branches)) (proc (solicit 1 0 (sum (constant (root.Text (103 ∷ 111 ∷ 116 ∷ 32 ∷ []))) (sum_part sums.Plus (at_path (step (120 ∷ []) here)) no_sum_parts)) None no_handlers) no_procs))) } ∷ []);
+  names = ((73 ∷ 79 ∷ 69 ∷ 120 ∷ 99 ∷ 101 ∷ 112 ∷ 116 ∷ 105 ∷ 111 ∷ 110 ∷ []) ∷ (84 ∷ 121 ∷ 112 ∷ 101 ∷ 77 ∷ 105 ∷ 115 ∷ 109 ∷ 97 ∷ 116 ∷ 99 ∷ 104 ∷ []) ∷ (67 ∷ 111 ∷ 114 ∷ 114 ∷ 101 ∷ 108 ∷ 97 ∷ 116 ∷ 105 ∷ 111 ∷ 110 ∷ 69 ∷ 114 ∷ 114 ∷ 111 ∷ 114 ∷ []) ∷ (82 ∷ 101 ∷ 102 ∷ 117 ∷ 115 ∷ 101 ∷ 100 ∷ []) ∷ (85 ∷ 110 ∷ 100 ∷ 101 ∷ 99 ∷ 108 ∷ 97 ∷ 114 ∷ 101 ∷ 100 ∷ 70 ∷ 97 ∷ 117 ∷ 108 ∷ 116 ∷ []) ∷ (69 ∷ 120 ∷ 112 ∷ 114 ∷ 70 ∷ 97 ∷ 117 ∷ 108 ∷ 116 ∷ []) ∷ (72 ∷ 97 ∷ 110 ∷ 100 ∷ 108 ∷ 101 ∷ 114 ∷ 84 ∷ 111 ∷ 111 ∷ 76 ∷ 97 ∷ 114 ∷ 103 ∷ 101 ∷ []) ∷ (83 ∷ 116 ∷ 111 ∷ 114 ∷ 101 ∷ 84 ∷ 111 ∷ 111 ∷ 76 ∷ 97 ∷ 114 ∷ 103 ∷ 101 ∷ []) ∷ (109 ∷ 97 ∷ 105 ∷ 110 ∷ []) ∷ []);
+}
+
+pub noted : happens program 0 (
+    act 0 (mail program 0 0 0 (node (root.Text (97 ∷ [])) no_fields)) ∷
+    act 0 given.Nothing ∷
+    act 0 (given.Answer (outcome.Value (node root.Void no_fields))) ∷
+    act 0 given.Nothing ∷ []) ≡ (
+    told 0 kind.In 0 0 0 (need.Take (0 ∷ [])) ∷
+    told 0 kind.Solicit 0 0 0 (need.Send 0 1 0 (node (root.Text (103 ∷ 111 ∷ 116 ∷ 32 ∷ 97 ∷ [])) no_fields) true) ∷
+    told 0 kind.Answer 0 0 0 (need.Answer 0) ∷
+    told 0 kind.Finish 0 0 0 need.Finish ∷ [])
+unfolding digits
+noted = refl

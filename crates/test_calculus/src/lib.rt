@@ -1,0 +1,2 @@
+//! The calculus tried on recorded runs and on small programs: each lemma in proofs/ computes what a session does.
+#![tactic(auto)]

@@ -1,0 +1,2 @@
+pub mod OwnSets
+mod Services

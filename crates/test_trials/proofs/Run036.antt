@@ -1,0 +1,298 @@
+-- A recorded run.
+use Rattle.std.specs.Prelude.{◌≡◌, ℕ, pos, negsuc, Bool, true, false, List, [], ◌∷◌, take, Option, None, Some}
+use Rattle.std.proofs.Common.{refl}
+use Rattle.std.specs.Fmt.{digits}
+use Rattle.jolie_trees.specs.declared.root.Root.TheVariants as root
+use Rattle.jolie_trees.specs.Data.{Tree, node, Fields, no_fields, field, Trees, no_trees, tree}
+use Rattle.behaviour_tree.specs.declared.types.RootKind.TheVariants as kinds
+use Rattle.behaviour_tree.specs.declared.expr.CompareOp.TheVariants as compare
+use Rattle.behaviour_tree.specs.declared.expr.SumOp.TheVariants as sums
+use Rattle.behaviour_tree.specs.declared.expr.MulOp.TheVariants as muls
+use Rattle.behaviour_tree.specs.declared.expr.CastKind.TheVariants as casts
+use Rattle.behaviour_tree.specs.declared.behaviour.HandlerKey.TheVariants as key
+use Rattle.behaviour_tree.specs.declared.program.Execution.TheVariants as execution
+use Rattle.behaviour_tree.specs.declared.words.Event.{Event}
+use Rattle.behaviour_tree.specs.declared.words.Kind.TheVariants as kind
+use Rattle.behaviour_tree.specs.declared.words.Outcome.TheVariants as outcome
+use Rattle.behaviour_tree.specs.declared.words.Reason.TheVariants as reason
+use Rattle.behaviour_tree.specs.Data.{plain, named, undefined, no_type_fields, type_field, here, step, step_at, constant, at_path, count_at, defined_at, literal, any_of, all_of, compared, sum, product, minus, negation, cast, no_exps, exp, no_sum_parts, sum_part, no_mul_parts, mul_part, no_member_list, member_of, Proc, nothing, assign, undef, copy, bind, sequence, parallel, choose, repeat, choice, notify, solicit, install, throw, comp, inner_handler, scope, block, no_procs, proc, no_branches, one_way, request, no_handlers, handler, ProgramParts}
+use Rattle.correlation.specs.declared.bind_reply.BindReply.TheVariants as binding
+use Rattle.office_core.specs.declared.post.PostReply.TheVariants as answer
+use Rattle.office_core.specs.declared.history.Placed.TheVariants as at
+use Rattle.office_core.specs.declared.history.Act.TheVariants as act
+use Rattle.office_core.specs.declared.history.Entry.{Entry}
+use Rattle.office_core.specs.declared.front.CallIn.TheVariants as call
+use Rattle.office_core.specs.declared.front.Posting.{Posting}
+use Rattle.office_core.specs.Limits.{Setting, run_of, first_worker}
+use Rattle.office_core.specs.Accepted.{past_of}
+use Rattle.office_core.specs.Legal.{IsLegal}
+use Rattle.run_record.specs.Agrees.{IsSession}
+use Rattle.run_record.specs.Quiet.{before_stop, sessions_at}
+use Rattle.run_record.specs.Answered.{stand_together}
+use Rattle.run_record.specs.Postings.{posts_by, posts_of}
+use Rattle.run_record.specs.Order.{order_alone}
+use Rattle.run_record.specs.Outside.{notes}
+use Rattle.test_trials.specs.Counts.{legal_entries, with_at}
+use Rattle.test_trials.specs.Fronts.{told_from}
+use Rattle.test_trials.specs.Sessions.{event, agrees}
+use Rattle.test_trials.specs.Quiet.{is_quiet, is_still}
+use Rattle.test_trials.specs.Collected.{are_collected}
+use Rattle.test_trials.proofs.Told.{is_session}
+use Rattle.std.specs.Prelude.{◌++◌}
+use Rattle.run_record.specs.declared.record.Record.{Record}
+use Rattle.run_record.specs.Run.{alone, workers, IsRun, IsSpent}
+use Rattle.test_trials.proofs.Runs.{is_run, unstopped, unclosed, foreign, missing, too_many, restless}
+use Rattle.run_record.specs.Order.{IsOrder}
+use Rattle.test_trials.proofs.Workers.{is_run_of_workers, stranger, posts_apart, second_first, not_as_posted, not_without_one, not_twice}
+use Rattle.test_trials.specs.Quiet.{can_act}
+use Rattle.test_trials.proofs.Spends.{spends, is_spent, not_spent}
+
+-- the program
+abbrev program : ProgramParts
+program = record {
+  types = ((plain kinds.Void (type_field (115 ∷ []) 0 (Some 1) (plain kinds.Text no_type_fields) (type_field (99 ∷ []) 2 None (plain kinds.Any no_type_fields) no_type_fields))) ∷ (named 0) ∷ (plain kinds.Void (type_field (115 ∷ 105 ∷ 100 ∷ []) 1 (Some 1) (plain kinds.Int no_type_fields) no_type_fields)) ∷ (plain kinds.Void (type_field (115 ∷ 105 ∷ 100 ∷ []) 1 (Some 1) (plain kinds.Int no_type_fields) no_type_fields)) ∷ []);
+  interfaces = (record { name = (73 ∷ 83 ∷ 48 ∷ []); operations = (record { name = (111 ∷ 112 ∷ 48 ∷ 48 ∷ []); request = (plain kinds.Int no_type_fields); response = (Some undefined); throws = [] } ∷ []) } ∷ record { name = (73 ∷ 83 ∷ 49 ∷ []); operations = (record { name = (109 ∷ 111 ∷ 114 ∷ 101 ∷ 49 ∷ []); request = (named 3); response = (Some undefined); throws = [] } ∷ record { name = (111 ∷ 112 ∷ 49 ∷ 48 ∷ []); request = (named 2); response = None; throws = [] } ∷ record { name = (111 ∷ 112 ∷ 49 ∷ 49 ∷ []); request = (named 1); response = None; throws = [] } ∷ []) } ∷ record { name = (82 ∷ []); operations = (record { name = (97 ∷ 115 ∷ 107 ∷ []); request = (plain kinds.Int no_type_fields); response = (Some undefined); throws = (record { fault = 9; ty = (plain kinds.Void no_type_fields) } ∷ []) } ∷ record { name = (116 ∷ 101 ∷ 108 ∷ 108 ∷ []); request = undefined; response = None; throws = [] } ∷ []) } ∷ []);
+  services = (record { name = (83 ∷ 48 ∷ []); execution = execution.Single; ports = (record { name = (73 ∷ 110 ∷ []); input = true; location = (115 ∷ 111 ∷ 99 ∷ 107 ∷ 101 ∷ 116 ∷ 58 ∷ 47 ∷ 47 ∷ 108 ∷ 111 ∷ 99 ∷ 97 ∷ 108 ∷ 104 ∷ 111 ∷ 115 ∷ 116 ∷ 58 ∷ 56 ∷ 48 ∷ 48 ∷ 48 ∷ []); interfaces = (0 ∷ []) } ∷ record { name = (80 ∷ 83 ∷ 49 ∷ []); input = false; location = (108 ∷ 111 ∷ 99 ∷ 97 ∷ 108 ∷ 58 ∷ 47 ∷ 47 ∷ 108 ∷ 49 ∷ []); interfaces = (1 ∷ []) } ∷ []); sets = []; init = (sequence (proc (copy (step (97 ∷ []) here) (constant (root.Int (pos 2)))) (proc (copy (step_at (99 ∷ []) (constant (root.Int (pos 2))) (step_at (99 ∷ []) (constant (root.Int (pos 0))) here)) (literal (member_of (99 ∷ []) (negation (defined_at (step (98 ∷ []) (step (97 ∷ []) here)))) (member_of (99 ∷ []) (sum (constant (root.Text [])) (sum_part sums.Plus (at_path (step_at (98 ∷ []) (constant (root.Int (pos 1))) (step_at (99 ∷ []) (count_at (step (97 ∷ []) here)) (step (98 ∷ []) here)))) no_sum_parts)) no_member_list)))) no_procs))); main = (repeat (constant (root.Bool true)) (scope 10 (sequence (proc (install (handler (key.Fault 9) (sequence (proc (comp 11) (proc (solicit 2 0 (constant (root.Text (116 ∷ 50 ∷ []))) None no_handlers) no_procs))) (handler (key.Fault 12) (solicit 2 0 (sum (constant (root.Text (116 ∷ 51 ∷ []))) (sum_part sums.Plus (cast casts.Text (at_path (step (97 ∷ []) here))) no_sum_parts)) None no_handlers) (handler (key.Fault 13) (solicit 2 0 (constant (root.Text (116 ∷ 53 ∷ []))) None no_handlers) (handler (key.Fault 11) (sequence (proc (comp 11) (proc (solicit 2 0 (sum (constant (root.Text (116 ∷ 56 ∷ []))) (sum_part sums.Plus (cast casts.Text (at_path (step (120 ∷ []) (step (99 ∷ []) here)))) no_sum_parts)) None no_handlers) no_procs))) (handler (key.Fault 5) (assign (step (121 ∷ []) (step (110 ∷ []) here)) (constant (root.Text (69 ∷ 120 ∷ 112 ∷ 114 ∷ 70 ∷ 97 ∷ 117 ∷ 108 ∷ 116 ∷ [])))) (handler (key.Fault 1) (assign (step (121 ∷ []) (step (110 ∷ []) here)) (constant (root.Text (84 ∷ 121 ∷ 112 ∷ 101 ∷ 77 ∷ 105 ∷ 115 ∷ 109 ∷ 97 ∷ 116 ∷ 99 ∷ 104 ∷ [])))) (handler (key.Fault 3) (comp 11) (handler (key.Fault 2) (assign (step (121 ∷ []) (step (110 ∷ []) here)) (constant (root.Text (67 ∷ 111 ∷ 114 ∷ 114 ∷ 101 ∷ 108 ∷ 97 ∷ 116 ∷ 105 ∷ 111 ∷ 110 ∷ 69 ∷ 114 ∷ 114 ∷ 111 ∷ 114 ∷ [])))) (handler (key.Fault 4) nothing (handler (key.Fault 0) (comp 11) (handler (key.Fault 7) (sequence (proc (comp 14) (proc (solicit 2 0 (constant (root.Text (116 ∷ 50 ∷ 50 ∷ []))) None no_handlers) no_procs))) (handler (key.Fault 6) (solicit 2 0 (sum (constant (root.Text (116 ∷ 50 ∷ 51 ∷ []))) (sum_part sums.Plus (cast casts.Text (at_path (step (97 ∷ []) here))) no_sum_parts)) None no_handlers) no_handlers))))))))))))) (proc (choice (request 0 (Some (step (120 ∷ []) here)) (Some (step_at (121 ∷ []) (constant (root.Int (pos 1))) here)) (sequence (proc (assign (step (105 ∷ 49 ∷ []) here) (constant (root.Int (pos 0)))) (proc (repeat (compared (at_path (step (105 ∷ 49 ∷ []) here)) compare.Less (constant (root.Int (pos 2)))) (sequence (proc (sequence (proc (solicit 1 0 (literal (member_of (115 ∷ 105 ∷ 100 ∷ []) (constant (root.Int (pos 6))) no_member_list)) (Some (step (121 ∷ []) here)) no_handlers) (proc (scope 11 (sequence (proc (install (handler (key.Fault 13) (sequence (proc (comp 15) (proc (comp 11) no_procs))) (handler key.This (sequence (proc (assign (step (121 ∷ []) (step (97 ∷ []) here)) (sum (at_path (step (121 ∷ []) (step (97 ∷ []) here))) (sum_part sums.Plus (constant (root.Int (pos 1))) no_sum_parts))) (proc (solicit 2 0 (constant (root.Text (116 ∷ 50 ∷ 57 ∷ []))) None no_handlers) (proc (solicit 2 0 (sum (constant (root.Text (116 ∷ 51 ∷ 48 ∷ []))) (sum_part sums.Plus (count_at (step (97 ∷ []) here)) no_sum_parts)) None no_handlers) (proc nothing no_procs))))) no_handlers))) (proc (block (parallel (proc (scope 15 (sequence (proc (copy (step (99 ∷ []) (step (97 ∷ []) here)) (sum (count_at (step (120 ∷ []) here)) (sum_part sums.Plus (constant (root.Int (pos 2))) no_sum_parts))) (proc (copy (step (99 ∷ []) (step (98 ∷ []) (step (110 ∷ []) here))) (literal no_member_list)) no_procs)))) (proc (throw 13 (constant root.Void)) no_procs)))) no_procs)))) (proc (scope 10 (sequence (proc (install (handler (key.Fault 11) (sequence (proc (comp 11) (proc (solicit 2 0 (sum (constant (root.Text (116 ∷ 51 ∷ 50 ∷ []))) (sum_part sums.Plus (count_at (step (120 ∷ []) here)) no_sum_parts)) None no_handlers) no_procs))) (handler key.This (sequence (proc (assign (step (121 ∷ []) (step (97 ∷ []) here)) (sum (at_path (step (121 ∷ []) (step (97 ∷ []) here))) (sum_part sums.Plus (constant (root.Int (pos 1))) no_sum_parts))) (proc (comp 15) (proc (install (handler (key.Fault 5) (sequence (proc (comp 14) (proc (solicit 2 0 (constant (root.Text (116 ∷ 51 ∷ 55 ∷ []))) None no_handlers) (proc (solicit 2 0 (sum (constant (root.Text (116 ∷ 51 ∷ 56 ∷ []))) (sum_part sums.Plus (count_at (step (97 ∷ []) here)) no_sum_parts)) None no_handlers) no_procs)))) no_handlers)) (proc (throw 0 (constant root.Void)) no_procs))))) no_handlers))) (proc (scope 11 (sequence (proc (install (handler key.This (assign (step (121 ∷ []) (step (98 ∷ []) here)) (sum (at_path (step (121 ∷ []) (step (98 ∷ []) here))) (sum_part sums.Plus (constant (root.Int (pos 1))) no_sum_parts))) no_handlers)) (proc (undef (step (98 ∷ []) here)) no_procs)))) (proc (block (parallel (proc (scope 14 (sequence (proc (notify 1 1 (literal (member_of (115 ∷ 105 ∷ 100 ∷ []) (constant (root.Int (pos 6))) no_member_list))) (proc (assign (step_at (98 ∷ []) (constant (root.Int (pos 1))) (step (110 ∷ []) (step (99 ∷ []) here))) (at_path (step (97 ∷ []) (step (110 ∷ []) here)))) no_procs)))) (proc (throw 11 (at_path (step (98 ∷ []) (step (99 ∷ []) here)))) no_procs)))) no_procs))))) no_procs)))) (proc (assign (step (105 ∷ 49 ∷ []) here) (sum (at_path (step (105 ∷ 49 ∷ []) here)) (sum_part sums.Plus (constant (root.Int (pos 1))) no_sum_parts))) no_procs)))) no_procs))) nothing no_branches)) no_procs))))) } ∷ record { name = (83 ∷ 49 ∷ []); execution = execution.Concurrent; ports = (record { name = (73 ∷ 110 ∷ []); input = true; location = (108 ∷ 111 ∷ 99 ∷ 97 ∷ 108 ∷ 58 ∷ 47 ∷ 47 ∷ 108 ∷ 49 ∷ []); interfaces = (1 ∷ []) } ∷ record { name = (82 ∷ []); input = false; location = (115 ∷ 111 ∷ 99 ∷ 107 ∷ 101 ∷ 116 ∷ 58 ∷ 47 ∷ 47 ∷ 108 ∷ 111 ∷ 99 ∷ 97 ∷ 108 ∷ 104 ∷ 111 ∷ 115 ∷ 116 ∷ 58 ∷ 57 ∷ 47 ∷ 120 ∷ []); interfaces = (2 ∷ []) } ∷ []); sets = (record { variables = (record { name = (115 ∷ 105 ∷ 100 ∷ []); aliases = (record { ty = 2; path = ((115 ∷ 105 ∷ 100 ∷ []) ∷ []) } ∷ record { ty = 3; path = ((115 ∷ 105 ∷ 100 ∷ []) ∷ []) } ∷ []) } ∷ []) } ∷ []); init = nothing; main = (sequence (proc (install (handler (key.Fault 5) (solicit 2 0 (constant (root.Text (116 ∷ 52 ∷ 49 ∷ []))) None no_handlers) (handler (key.Fault 4) (assign (step (121 ∷ []) (step (110 ∷ []) here)) (constant (root.Text (85 ∷ 110 ∷ 100 ∷ 101 ∷ 99 ∷ 108 ∷ 97 ∷ 114 ∷ 101 ∷ 100 ∷ 70 ∷ 97 ∷ 117 ∷ 108 ∷ 116 ∷ [])))) (handler (key.Fault 11) (comp 11) (handler (key.Fault 13) nothing (handler (key.Fault 7) (solicit 2 0 (constant (root.Text (116 ∷ 52 ∷ 57 ∷ []))) None no_handlers) (handler (key.Fault 0) nothing (handler (key.Fault 12) (sequence (proc (comp 10) (proc (solicit 2 0 (sum (constant (root.Text (116 ∷ 53 ∷ 52 ∷ []))) (sum_part sums.Plus (count_at (step (121 ∷ []) here)) no_sum_parts)) None no_handlers) no_procs))) (handler (key.Fault 1) (solicit 2 0 (sum (constant (root.Text (116 ∷ 53 ∷ 53 ∷ []))) (sum_part sums.Plus (cast casts.Text (at_path (step (120 ∷ []) here))) no_sum_parts)) None no_handlers) no_handlers))))))))) (proc (choice (one_way 1 (Some (step (120 ∷ []) here)) (sequence (proc (install (handler key.This (parallel (proc (comp 15) (proc (sequence (proc (solicit 2 0 (sum (constant (root.Text (116 ∷ 53 ∷ 56 ∷ []))) (sum_part sums.Plus (cast casts.Text (at_path (step (99 ∷ []) (step (97 ∷ []) here)))) no_sum_parts)) None no_handlers) (proc (solicit 2 0 (constant (root.Text (116 ∷ 53 ∷ 57 ∷ []))) None no_handlers) no_procs))) no_procs))) (handler (key.Fault 11) (sequence (proc (assign (step (105 ∷ 50 ∷ []) here) (constant (root.Int (pos 0)))) (proc (repeat (compared (at_path (step (105 ∷ 50 ∷ []) here)) compare.Less (constant (root.Int (pos 2)))) (sequence (proc (sequence (proc (scope 14 (sequence (proc (install (handler (key.Fault 11) (sequence (proc (solicit 2 0 (constant (root.Text (116 ∷ 54 ∷ 48 ∷ []))) None no_handlers) (proc (comp 15) no_procs))) no_handlers)) (proc (scope 15 (sequence (proc (install (handler key.This (parallel (proc (assign (step (121 ∷ []) (step (97 ∷ []) here)) (sum (at_path (step (121 ∷ []) (step (97 ∷ []) here))) (sum_part sums.Plus (constant (root.Int (pos 1))) no_sum_parts))) (proc (copy (step (121 ∷ []) here) (sum (constant (root.Text [])) (sum_part sums.Plus (count_at (step (121 ∷ []) (step (99 ∷ []) (step (97 ∷ []) here)))) no_sum_parts))) no_procs))) no_handlers)) (proc (assign (step (97 ∷ []) here) (sum (count_at (step (121 ∷ []) (step (99 ∷ []) (step (97 ∷ []) here)))) (sum_part sums.Plus (constant (root.Int (pos 2))) no_sum_parts))) no_procs)))) (proc (block (parallel (proc (throw 11 (constant root.Void)) (proc (sequence (proc (solicit 1 0 (sum (constant (root.Text (45 ∷ []))) (sum_part sums.Plus (at_path (step_at (121 ∷ []) (constant (root.Int (pos 1))) here)) no_sum_parts)) (Some (step (98 ∷ []) (step (98 ∷ []) here))) no_handlers) (proc (assign (step (120 ∷ []) (step (97 ∷ []) (step (98 ∷ []) here))) (at_path (step (121 ∷ []) here))) no_procs))) no_procs)))) no_procs))))) (proc (scope 11 (solicit 2 0 (sum (constant (root.Text (116 ∷ 54 ∷ 52 ∷ []))) (sum_part sums.Plus (count_at (step (97 ∷ []) here)) no_sum_parts)) None no_handlers)) no_procs))) (proc (assign (step (105 ∷ 50 ∷ []) here) (sum (at_path (step (105 ∷ 50 ∷ []) here)) (sum_part sums.Plus (constant (root.Int (pos 1))) no_sum_parts))) no_procs)))) no_procs))) (handler (key.Fault 0) (sequence (proc (comp 11) (proc inner_handler (proc (throw 11 (constant root.Void)) (proc (assign (step (99 ∷ []) (step (110 ∷ []) here)) (at_path (step (121 ∷ []) (step (110 ∷ []) (step_at (99 ∷ []) (count_at (step (121 ∷ []) (step (98 ∷ []) here))) here))))) no_procs))))) no_handlers)))) (proc (solicit 2 0 (sum (constant (root.Text (116 ∷ 54 ∷ 55 ∷ []))) (sum_part sums.Plus (cast casts.Text (at_path (step (99 ∷ []) (step (97 ∷ []) here)))) no_sum_parts)) None no_handlers) no_procs))) (one_way 2 (Some (step_at (99 ∷ []) (constant (root.Int (pos 1))) here)) (solicit 2 0 (constant (root.Text (116 ∷ 54 ∷ 56 ∷ []))) None no_handlers) no_branches))) (proc (choice (request 0 (Some (step_at (120 ∷ []) (constant (root.Int (pos 1))) here)) (Some (step (121 ∷ []) here)) (solicit 2 0 (constant (root.Text (116 ∷ 54 ∷ 57 ∷ []))) None no_handlers) nothing (one_way 1 (Some (step (121 ∷ []) (step_at (97 ∷ []) (constant (root.Int (pos 1))) here))) nothing no_branches))) (proc nothing (proc (undef (step (120 ∷ []) here)) no_procs)))))) } ∷ []);
+  names = ((73 ∷ 79 ∷ 69 ∷ 120 ∷ 99 ∷ 101 ∷ 112 ∷ 116 ∷ 105 ∷ 111 ∷ 110 ∷ []) ∷ (84 ∷ 121 ∷ 112 ∷ 101 ∷ 77 ∷ 105 ∷ 115 ∷ 109 ∷ 97 ∷ 116 ∷ 99 ∷ 104 ∷ []) ∷ (67 ∷ 111 ∷ 114 ∷ 114 ∷ 101 ∷ 108 ∷ 97 ∷ 116 ∷ 105 ∷ 111 ∷ 110 ∷ 69 ∷ 114 ∷ 114 ∷ 111 ∷ 114 ∷ []) ∷ (82 ∷ 101 ∷ 102 ∷ 117 ∷ 115 ∷ 101 ∷ 100 ∷ []) ∷ (85 ∷ 110 ∷ 100 ∷ 101 ∷ 99 ∷ 108 ∷ 97 ∷ 114 ∷ 101 ∷ 100 ∷ 70 ∷ 97 ∷ 117 ∷ 108 ∷ 116 ∷ []) ∷ (69 ∷ 120 ∷ 112 ∷ 114 ∷ 70 ∷ 97 ∷ 117 ∷ 108 ∷ 116 ∷ []) ∷ (72 ∷ 97 ∷ 110 ∷ 100 ∷ 108 ∷ 101 ∷ 114 ∷ 84 ∷ 111 ∷ 111 ∷ 76 ∷ 97 ∷ 114 ∷ 103 ∷ 101 ∷ []) ∷ (83 ∷ 116 ∷ 111 ∷ 114 ∷ 101 ∷ 84 ∷ 111 ∷ 111 ∷ 76 ∷ 97 ∷ 114 ∷ 103 ∷ 101 ∷ []) ∷ (109 ∷ 97 ∷ 105 ∷ 110 ∷ []) ∷ (102 ∷ []) ∷ (113 ∷ []) ∷ (112 ∷ []) ∷ (103 ∷ []) ∷ (104 ∷ []) ∷ (114 ∷ []) ∷ (115 ∷ []) ∷ []);
+}
+
+-- what its office works by
+abbrev setting : Setting
+setting = run_of program
+
+-- its history
+abbrev history : List Entry
+history = (
+    record { actor = 4096; act = act.Post 0 0 (record { service = 0; op = (111 ∷ 112 ∷ 48 ∷ 48 ∷ []); value = (node (root.Int (pos 9)) no_fields) }) (answer.Accepted 0) } ∷
+    record { actor = 0; act = act.Adopt 0 } ∷
+    record { actor = 0; act = act.Take 0 } ∷
+    record { actor = 0; act = act.Send 0 1 0 (node root.Void (field (115 ∷ 105 ∷ 100 ∷ []) (tree (node (root.Int (pos 6)) no_fields) no_trees) no_fields)) true (at.Refused reason.Correlation) } ∷
+    record { actor = 0; act = act.Answer 0 (outcome.Refused reason.Correlation) } ∷
+    record { actor = 0; act = act.Reply 0 (outcome.Fault (67 ∷ 111 ∷ 114 ∷ 114 ∷ 101 ∷ 108 ∷ 97 ∷ 116 ∷ 105 ∷ 111 ∷ 110 ∷ 69 ∷ 114 ∷ 114 ∷ 111 ∷ 114 ∷ []) (node root.Void no_fields)) } ∷
+    record { actor = 4096; act = act.Collect 0 (outcome.Fault (67 ∷ 111 ∷ 114 ∷ 114 ∷ 101 ∷ 108 ∷ 97 ∷ 116 ∷ 105 ∷ 111 ∷ 110 ∷ 69 ∷ 114 ∷ 114 ∷ 111 ∷ 114 ∷ []) (node root.Void no_fields)) } ∷
+    record { actor = 4096; act = act.Post 1 0 (record { service = 0; op = (111 ∷ 112 ∷ 48 ∷ 48 ∷ []); value = (node root.Void no_fields) }) (answer.Refused reason.NotConforming) } ∷
+    record { actor = 4096; act = act.Post 2 0 (record { service = 0; op = (111 ∷ 112 ∷ 48 ∷ 48 ∷ []); value = (node (root.Int (negsuc 0)) no_fields) }) (answer.Accepted 1) } ∷
+    record { actor = 0; act = act.Take 1 } ∷
+    record { actor = 0; act = act.Send 1 1 0 (node root.Void (field (115 ∷ 105 ∷ 100 ∷ []) (tree (node (root.Int (pos 6)) no_fields) no_trees) no_fields)) true (at.Refused reason.Correlation) } ∷
+    record { actor = 4096; act = act.Post 3 0 (record { service = 0; op = (111 ∷ 112 ∷ 48 ∷ 48 ∷ []); value = (node (root.Int (pos 3)) no_fields) }) (answer.Accepted 2) } ∷
+    record { actor = 4096; act = act.Close } ∷
+    record { actor = 4096; act = act.Stop } ∷
+    record { actor = 4096; act = act.Collect 1 (outcome.Refused reason.Stopped) } ∷
+    record { actor = 4096; act = act.Collect 2 (outcome.Refused reason.Stopped) } ∷ [])
+
+pub legal : IsLegal setting history
+legal = (record { allowed = refl; reply = refl }, (record { allowed = refl; reply = refl }, (record { allowed = refl; reply = refl }, (record { allowed = refl; reply = refl }, (record { allowed = refl; reply = refl }, (record { allowed = refl; reply = refl }, (record { allowed = refl; reply = refl }, (record { allowed = refl; reply = refl }, (record { allowed = refl; reply = refl }, (record { allowed = refl; reply = refl }, (record { allowed = refl; reply = refl }, (record { allowed = refl; reply = refl }, (record { allowed = refl; reply = refl }, (record { allowed = refl; reply = refl }, (record { allowed = refl; reply = refl }, (record { allowed = refl; reply = refl }, tt))))))))))))))))
+
+pub spoilt_answered_twice : legal_entries setting (with_at 5 (record { actor = 0; act = act.Reply 0 (outcome.Fault (67 ∷ 111 ∷ 114 ∷ 114 ∷ 101 ∷ 108 ∷ 97 ∷ 116 ∷ 105 ∷ 111 ∷ 110 ∷ 69 ∷ 114 ∷ 114 ∷ 111 ∷ 114 ∷ []) (node root.Void no_fields)) } ∷ record { actor = 0; act = act.Reply 0 (outcome.Fault (67 ∷ 111 ∷ 114 ∷ 114 ∷ 101 ∷ 108 ∷ 97 ∷ 116 ∷ 105 ∷ 111 ∷ 110 ∷ 69 ∷ 114 ∷ 114 ∷ 111 ∷ 114 ∷ []) (node root.Void no_fields)) } ∷ []) history) ≡ 6
+spoilt_answered_twice = refl
+
+pub spoilt_stopped_twice : legal_entries setting (with_at 13 (record { actor = 4096; act = act.Stop } ∷ record { actor = 4096; act = act.Stop } ∷ []) history) ≡ 14
+spoilt_stopped_twice = refl
+
+pub spoilt_take_before_the_adoption : legal_entries setting (with_at 1 (record { actor = 0; act = act.Take 0 } ∷ []) history) ≡ 1
+spoilt_take_before_the_adoption = refl
+
+-- the events of session 0
+abbrev events_0 : List Event
+events_0 = (
+    event 0 kind.Local 0 0 0 ∷
+    event 0 kind.Local 0 0 0 ∷
+    event 0 kind.Local 0 0 0 ∷
+    event 0 kind.Install 0 0 0 ∷
+    event 0 kind.In 0 0 0 ∷
+    event 0 kind.Local 0 0 0 ∷
+    event 0 kind.Local 0 0 0 ∷
+    event 0 kind.Solicit 0 0 0 ∷
+    event 0 kind.Answer 0 0 0 ∷
+    event 0 kind.Raise 0 10 2 ∷
+    event 0 kind.Reply 0 0 0 ∷
+    event 0 kind.Handle 0 10 2 ∷
+    event 0 kind.Local 0 0 0 ∷
+    event 0 kind.EndScope 0 10 0 ∷
+    event 0 kind.Local 0 0 0 ∷
+    event 0 kind.Install 0 0 0 ∷
+    event 0 kind.In 1 0 0 ∷
+    event 0 kind.Local 0 0 0 ∷
+    event 0 kind.Local 0 0 0 ∷
+    event 0 kind.Solicit 1 0 0 ∷ [])
+
+-- the events of each session
+abbrev sessions : List (List Event)
+sessions = events_0 ∷ []
+
+pub session_0 : IsSession setting history 0 events_0
+unfolding digits
+session_0 = is_session setting history 0 0 events_0 refl refl (refl, ((refl, refl, refl, refl, refl), (refl, ((refl, refl), (refl, ((refl, refl, refl, refl, refl), tt))))))
+
+pub quiet : is_quiet setting 20 (before_stop history) sessions ≡ true
+unfolding digits
+quiet = refl
+
+pub still : is_still setting 20 history sessions ≡ true
+unfolding digits
+still = refl
+
+pub collected : are_collected setting history ≡ true
+unfolding digits
+collected = refl
+
+pub together : stand_together history ≡ true
+together = refl
+
+pub run : (r : Record) → r.history.entries.items ≡ history → r.sessions ≡ sessions
+    → IsRun setting 20 alone false r
+run = is_run setting 20 history sessions
+    (record { legal = legal; stopped = refl; actors = refl; all = refl; each = (session_0, tt); within = refl; quiet = quiet; closed = refl; posted = together; still = still; collected = collected })
+
+pub spoilt_run_without_its_stop : (r : Record) → r.history.entries.items ≡ (with_at 13 [] history) → IsRun setting 20 alone false r → ⊥
+spoilt_run_without_its_stop r has = unstopped setting 20 false (with_at 13 [] history) r has refl
+
+pub spoilt_run_that_is_not_closed : (r : Record) → r.history.entries.items ≡ (with_at 12 [] history) → IsRun setting 20 alone false r → ⊥
+spoilt_run_that_is_not_closed r has = unclosed setting 20 false (with_at 12 [] history) r has refl
+
+pub spoilt_run_stopped_by_another : (r : Record) → r.history.entries.items ≡ (with_at 13 (record { actor = 4097; act = act.Stop } ∷ []) history) → IsRun setting 20 alone false r → ⊥
+spoilt_run_stopped_by_another r has = foreign setting 20 false (with_at 13 (record { actor = 4097; act = act.Stop } ∷ []) history) r has refl
+
+pub spoilt_run_that_lacks_a_session : (r : Record) → r.history.entries.items ≡ history → r.sessions ≡ ([])
+    → IsRun setting 20 alone false r → ⊥
+spoilt_run_that_lacks_a_session r has events = missing setting 20 false history r has ([]) events refl
+
+pub spoilt_run_over_its_budget : (r : Record) → r.history.entries.items ≡ history → r.sessions ≡ sessions
+    → IsRun setting 19 alone false r → ⊥
+spoilt_run_over_its_budget r has events =
+    too_many setting 19 false history r has sessions events 0 events_0 refl refl
+
+-- the run, where it is stopped behind its first 5 entries
+abbrev stopped_early : List Entry
+stopped_early = take 5 history ++ record { actor = 4096; act = act.Stop } ∷ []
+
+abbrev early_0 : List Event
+early_0 = (
+    event 0 kind.Local 0 0 0 ∷
+    event 0 kind.Local 0 0 0 ∷
+    event 0 kind.Local 0 0 0 ∷
+    event 0 kind.Install 0 0 0 ∷
+    event 0 kind.In 0 0 0 ∷
+    event 0 kind.Local 0 0 0 ∷
+    event 0 kind.Local 0 0 0 ∷
+    event 0 kind.Solicit 0 0 0 ∷
+    event 0 kind.Answer 0 0 0 ∷
+    event 0 kind.Raise 0 10 2 ∷ [])
+
+early_session_0 : IsSession setting (before_stop stopped_early) 0 early_0
+unfolding digits
+early_session_0 = is_session setting (before_stop stopped_early) 0 0 early_0 refl refl (refl, ((refl, refl, refl, refl, refl), (refl, tt)))
+
+left_to_do : is_quiet setting 20 (before_stop stopped_early) (early_0 ∷ []) ≡ false
+unfolding digits
+left_to_do = refl
+
+pub spoilt_run_stopped_early : (r : Record) → r.history.entries.items ≡ stopped_early → r.sessions ≡ (early_0 ∷ [])
+    → IsRun setting 20 alone false r → ⊥
+spoilt_run_stopped_early r has events =
+    restless setting 20 false stopped_early r has (early_0 ∷ []) events (early_session_0, tt) left_to_do refl
+
+pub spoilt_event_cut_at_the_end : agrees setting history 0 (
+    event 0 kind.Local 0 0 0 ∷
+    event 0 kind.Local 0 0 0 ∷
+    event 0 kind.Local 0 0 0 ∷
+    event 0 kind.Install 0 0 0 ∷
+    event 0 kind.In 0 0 0 ∷
+    event 0 kind.Local 0 0 0 ∷
+    event 0 kind.Local 0 0 0 ∷
+    event 0 kind.Solicit 0 0 0 ∷
+    event 0 kind.Answer 0 0 0 ∷
+    event 0 kind.Raise 0 10 2 ∷
+    event 0 kind.Reply 0 0 0 ∷
+    event 0 kind.Handle 0 10 2 ∷
+    event 0 kind.Local 0 0 0 ∷
+    event 0 kind.EndScope 0 10 0 ∷
+    event 0 kind.Local 0 0 0 ∷
+    event 0 kind.Install 0 0 0 ∷
+    event 0 kind.In 1 0 0 ∷
+    event 0 kind.Local 0 0 0 ∷
+    event 0 kind.Local 0 0 0 ∷ []) ≡ false
+unfolding digits
+spoilt_event_cut_at_the_end = refl
+
+pub spoilt_events_exchanged : agrees setting history 0 (
+    event 0 kind.Local 0 0 0 ∷
+    event 0 kind.Local 0 0 0 ∷
+    event 0 kind.Install 0 0 0 ∷
+    event 0 kind.Local 0 0 0 ∷
+    event 0 kind.In 0 0 0 ∷
+    event 0 kind.Local 0 0 0 ∷
+    event 0 kind.Local 0 0 0 ∷
+    event 0 kind.Solicit 0 0 0 ∷
+    event 0 kind.Answer 0 0 0 ∷
+    event 0 kind.Raise 0 10 2 ∷
+    event 0 kind.Reply 0 0 0 ∷
+    event 0 kind.Handle 0 10 2 ∷
+    event 0 kind.Local 0 0 0 ∷
+    event 0 kind.EndScope 0 10 0 ∷
+    event 0 kind.Local 0 0 0 ∷
+    event 0 kind.Install 0 0 0 ∷
+    event 0 kind.In 1 0 0 ∷
+    event 0 kind.Local 0 0 0 ∷
+    event 0 kind.Local 0 0 0 ∷
+    event 0 kind.Solicit 1 0 0 ∷ []) ≡ false
+unfolding digits
+spoilt_events_exchanged = refl
+
+pub spoilt_left_in_the_middle : is_quiet setting 20 (take 5 history) (sessions_at setting (take 5 history) 0 sessions) ≡ false
+unfolding digits
+spoilt_left_in_the_middle = refl
+
+pub spoilt_call_left_out : agrees setting (with_at 5 [] history) 0 events_0 ≡ false
+unfolding digits
+spoilt_call_left_out = refl
+
+pub spoilt_posted_too_soon : is_still setting 20 (with_at 5 (record { actor = 4096; act = act.Post 1 0 (record { service = 0; op = (111 ∷ 112 ∷ 48 ∷ 48 ∷ []); value = (node root.Void no_fields) }) (answer.Refused reason.NotConforming) } ∷ record { actor = 0; act = act.Reply 0 (outcome.Fault (67 ∷ 111 ∷ 114 ∷ 114 ∷ 101 ∷ 108 ∷ 97 ∷ 116 ∷ 105 ∷ 111 ∷ 110 ∷ 69 ∷ 114 ∷ 114 ∷ 111 ∷ 114 ∷ []) (node root.Void no_fields)) } ∷ []) (with_at 7 [] history)) sessions ≡ false
+unfolding digits
+spoilt_posted_too_soon = refl
+
+pub spoilt_posted_behind_the_start : is_still setting 20 (record { actor = 0; act = act.Adopt 0 } ∷ with_at 1 [] history) sessions ≡ false
+unfolding digits
+spoilt_posted_behind_the_start = refl
+
+pub spoilt_budget_left : is_quiet setting 21 (before_stop history) sessions ≡ false
+unfolding digits
+spoilt_budget_left = refl
+
+-- what came in
+abbrev postings : List Posting
+postings = (
+    record { calls = (call.Post (record { service = 0; op = (111 ∷ 112 ∷ 48 ∷ 48 ∷ []); value = (node (root.Int (pos 9)) no_fields) }) ∷ []) } ∷
+    record { calls = (call.Post (record { service = 0; op = (111 ∷ 112 ∷ 48 ∷ 48 ∷ []); value = (node root.Void no_fields) }) ∷ []) } ∷
+    record { calls = (call.Post (record { service = 0; op = (111 ∷ 112 ∷ 48 ∷ 48 ∷ []); value = (node (root.Int (negsuc 0)) no_fields) }) ∷ []) } ∷
+    record { calls = (call.Post (record { service = 0; op = (111 ∷ 112 ∷ 48 ∷ 48 ∷ []); value = (node (root.Int (pos 3)) no_fields) }) ∷ []) } ∷
+    record { calls = [] } ∷ [])
+
+pub posted : posts_by first_worker history ≡ posts_of 0 postings
+posted = refl
+
+pub tells : told_from setting (past_of setting history) 0 postings ≡ (
+    Some ((outcome.Fault (67 ∷ 111 ∷ 114 ∷ 114 ∷ 101 ∷ 108 ∷ 97 ∷ 116 ∷ 105 ∷ 111 ∷ 110 ∷ 69 ∷ 114 ∷ 114 ∷ 111 ∷ 114 ∷ []) (node root.Void no_fields)) ∷ []) ∷
+    Some ((outcome.Refused reason.NotConforming) ∷ []) ∷
+    Some ((outcome.Refused reason.Stopped) ∷ []) ∷
+    Some ((outcome.Refused reason.Stopped) ∷ []) ∷
+    Some [] ∷ [])
+tells = refl
+
+pub order : order_alone setting history first_worker 5 ≡ (0 ∷ 1 ∷ 4 ∷ 2 ∷ 3 ∷ [])
+order = refl
+
+pub noted : notes setting history ≡ []
+unfolding digits
+noted = refl
+
+at_the_stop : IsSession setting (before_stop history) 0 events_0
+unfolding digits
+at_the_stop = is_session setting (before_stop history) 0 0 events_0 refl refl (refl, ((refl, refl, refl, refl, refl), (refl, ((refl, refl), (refl, ((refl, refl, refl, refl, refl), tt))))))
+
+could_act : can_act setting (before_stop history) 0 events_0 ≡ true
+unfolding digits
+could_act = refl
+
+pub spent : (r : Record) → r.history.entries.items ≡ history → r.sessions ≡ sessions → IsSpent setting 20 r
+spent = is_spent setting 20 history sessions events_0 at_the_stop refl refl could_act

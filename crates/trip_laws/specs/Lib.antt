@@ -1,3 +1,0 @@
-pub mod Trips
-pub mod Going
-pub mod Laws

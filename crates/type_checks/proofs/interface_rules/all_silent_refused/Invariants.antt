@@ -1,7 +1,0 @@
-use Rattle.std.proofs.Common.{◌≡◌, take, flat_map}
-use Rattle.check_base.specs.Least.{joined}
-use Rattle.type_checks.specs.InterfaceRules.{silent_refused}
-use Rattle.type_checks.proofs.interface_rules.all_silent_refused.Given as goal
-
-abbrev pub invariant-loop-operation : goal.invariant-loop-operation
-invariant-loop-operation l = l.least ≡ joined l.initial.least (flat_map (silent_refused l.types) (take l.operation-index l.operations))

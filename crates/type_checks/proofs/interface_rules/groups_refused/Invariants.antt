@@ -1,7 +1,0 @@
-use Rattle.std.proofs.Common.{◌≡◌, take, flat_map}
-use Rattle.check_base.specs.Least.{joined}
-use Rattle.type_checks.specs.InterfaceRules.{group_refused}
-use Rattle.type_checks.proofs.interface_rules.groups_refused.Given as goal
-
-abbrev pub invariant-loop-group : goal.invariant-loop-group
-invariant-loop-group l = l.least ≡ joined l.initial.least (flat_map (group_refused l.types) (take l.group-index l.groups))

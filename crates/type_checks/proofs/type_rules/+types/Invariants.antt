@@ -1,7 +1,0 @@
-use Rattle.std.proofs.Common.{◌≡◌, take, flat_map}
-use Rattle.check_base.specs.Least.{joined}
-use Rattle.type_checks.specs.TypeRules.{field_refused}
-use Rattle.type_checks.proofs.type_rules.+types.Given as goal
-
-abbrev pub invariant-fields_refused-loop-field : goal.invariant-fields_refused-loop-field
-invariant-fields_refused-loop-field l = l.least ≡ joined l.initial.least (flat_map (field_refused l.types) (take l.field-index l.fields))

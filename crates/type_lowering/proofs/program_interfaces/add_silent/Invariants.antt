@@ -1,8 +1,0 @@
-use Rattle.std.proofs.Common.{◌≡◌, ◌++◌, map, take}
-use Rattle.behaviour_tree.specs.PartsView.{operation_view}
-use Rattle.check_base.specs.Files.{silent}
-use Rattle.type_lowering.specs.LoweredInterfaces.{lowered_operation}
-use Rattle.type_lowering.proofs.program_interfaces.add_silent.Given as goal
-
-abbrev pub invariant-loop-operation : goal.invariant-loop-operation
-invariant-loop-operation l = map operation_view l.lowered.items ≡ map operation_view l.initial.lowered.items ++ map (lowered_operation l.types l.names) (map silent (take l.operation-index l.operations))
