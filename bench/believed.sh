@@ -136,7 +136,7 @@ function definition_line(line,    bare, words, count, i, indent, start) {
 # A line of the root of a library: what it gives to others. The parts of the checks give to `check` alone, which
 # promises.
 function root_line(line,    list, names, count, i) {
-    if (crate ~ /^(check_base|type_checks|port_checks|process_checks|type_lowering|process_lowering)$/) return
+    if (crate ~ /^(check_base|check_types|check_ports|check_processes|lower_types|lower_processes)$/) return
     if (line ~ /^pub mod /) {
         sub(/^pub mod /, "", line)
         sub(/;.*/, "", line)

@@ -3,9 +3,10 @@
     python3 bench/clients.py PROGRAM FOLDER [CLIENT]
 
 PROGRAM is the proved program, FOLDER that of the examples, and CLIENT what bench/client.cpp became, where it could be
-compiled. Ports 8000 and 8080 have to be free. curl is needed; the other clients are left out where they aren't
+compiled. Ports 8000, 8080 and 8443 have to be free. curl is needed; the other clients are left out where they aren't
 installed, each with a line that says so.
 """
+import contextlib
 import http.client
 import json
 import os
@@ -15,6 +16,7 @@ import shutil
 import socket
 import subprocess
 import sys
+import tempfile
 import time
 
 from served import ANSWER, TWICE, Peer, Served, call, connect, full, post, result
@@ -143,7 +145,7 @@ def clients():
 
 def examples():
     """What `run` answers to the lines of an example is what its requests are answered on a connection."""
-    for name in ["calculator", "ledger", "order", "payment", "quotes", "saga", "twice"]:
+    for name in ["calculator", "ledger", "order", "payment", "quotes", "saga", "shop", "twice"]:
         with open(f"{FOLDER}/{name}.jsonl", encoding="utf-8") as file:
             lines = [line for line in file.read().splitlines() if line.strip()]
         with open(f"{FOLDER}/{name}.out", encoding="utf-8") as file:
@@ -266,13 +268,34 @@ def pelix():
 def nginx():
     if not shutil.which("nginx"):
         return left_out("nginx")
-    words = ["nginx", "-p", "/tmp", "-c", f"{FOLDER}/nginx.conf", "-g", "daemon off;"]
-    proxy = subprocess.Popen(words, stderr=subprocess.DEVNULL)
+    call = ["curl", "-s", "-d", TWICE]
+    with proxy("/tmp", f"{FOLDER}/nginx.conf"):
+        done = subprocess.run([*call, "http://localhost:8080/"], capture_output=True, text=True)
+        row("through nginx", done.stdout, ANSWER)
+    if not shutil.which("openssl"):
+        return left_out("nginx with TLS")
+    with tempfile.TemporaryDirectory() as folder:
+        words = ["openssl", "req", "-x509", "-newkey", "rsa:2048", "-nodes", "-subj", "/CN=localhost", "-days", "1"]
+        subprocess.run([*words, "-keyout", "key.pem", "-out", "cert.pem"], cwd=folder, check=True, capture_output=True)
+        shutil.copy(f"{FOLDER}/nginx-tls.conf", folder)
+        with proxy(folder, "nginx-tls.conf"):
+            done = subprocess.run([*call, "-k", "https://localhost:8443/"], capture_output=True, text=True)
+            row("through nginx with TLS", done.stdout, ANSWER)
+            words = ["curl", "-s", "-k", "-o", "/dev/null", "-w", "%{http_code}", "https://localhost:8443/health"]
+            row("the health of nginx", subprocess.run(words, capture_output=True, text=True).stdout, "204")
+
+
+@contextlib.contextmanager
+def proxy(folder, config):
+    """nginx in front, as a configuration says, over the files of a folder."""
+    words = ["nginx", "-p", folder, "-c", config, "-g", "daemon off;"]
+    server = subprocess.Popen(words, stderr=subprocess.DEVNULL)
     time.sleep(1)
-    done = subprocess.run(["curl", "-s", "-d", TWICE, "http://localhost:8080/"], capture_output=True, text=True)
-    row("through nginx", done.stdout, ANSWER)
-    proxy.terminate()
-    proxy.wait()
+    try:
+        yield
+    finally:
+        server.terminate()
+        server.wait()
 
 
 def late():

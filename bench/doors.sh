@@ -5,7 +5,7 @@
 # shellcheck source=bench/common.sh
 . "$(dirname "$0")/common.sh"
 
-make_crate 'door_trials: socket_doors outside_doors outside_sockets outside_traits anyhow' <<'EOF'
+make_crate 'door_trials: outside_socket_doors outside_doors outside_sockets outside_traits anyhow' <<'EOF'
 //! Follows the lines of its input at doors over sockets, and says what came of each: `open LOCATION`; `accept`, `rest`
 //! and `shut` of the door that was opened last; `read`, `write TEXT`, `fill COUNT` and `back` of the wire that came
 //! last; `doors`, what each door told that was shut: connections, waits and failures; `wires`, what was told of each
@@ -13,9 +13,9 @@ make_crate 'door_trials: socket_doors outside_doors outside_sockets outside_trai
 #![tactic(auto)]
 
 use outside_doors::{Door, Doors, Knock};
+use outside_socket_doors::{Patience, PatientStream, SocketDoor, SocketDoors};
 use outside_sockets::SocketWire;
 use outside_traits::Wire;
-use socket_doors::{Patience, PatientStream, SocketDoor, SocketDoors};
 use std::alloc::{AllocError, Global};
 use std::net::Net;
 use std::rt::Clock;

@@ -6,8 +6,13 @@
 #   bench/gate.sh -t FILE          for each crate the processor seconds of its proof, its tests, the check that its
 #                                  edits begin with and its edits, their sum, and the seconds by the clock that its
 #                                  checks took together
+#   bench/gate.sh -u            proves the unit alone and prints its processor seconds
 # What an earlier run kept, where the kit keeps it, costs nothing and is not in it. The proof of a program has its two
 # builds in it. What the whole run took has the tests and programs that ran in it too, and `rt` itself.
+#
+# Machines differ by a factor of more than two, and so does one machine from hour to hour. So the run begins with a
+# unit: the proof of one small crate, always of the same text (post_box as it was at commit 96748dca), with nothing
+# beside it. The table ends with the whole as a multiple of the unit; such figures can be compared.
 set -eu
 
 # The table of a file of times, whose lines are a crate, a stage, processor seconds and seconds by the clock.
@@ -22,6 +27,7 @@ table() {
         split("proof tests seed edits", stages)
         printf "%-20s %8s %8s %8s %8s %8s %8s\n", "crate", "proof", "tests", "seed", "edits", "sum", "clock"
     }
+    $1 == "-" && $2 == "unit" { unit = $3; next }
     $1 == "-" { whole = $3; clock = $4; next }
     !($1 in known) { known[$1]; crates[++count] = $1 }
     { cpu[$1, $2] += $3; cpu[$1, "sum"] += $3; cpu[$1, "clock"] += $4
@@ -36,7 +42,24 @@ table() {
         }
         row("all checks", every)
         printf "the whole run: %.0f processor seconds, %.0f by the clock\n", whole, clock
+        if (unit > 0) printf "the unit: %.1f processor seconds; the whole run: %.0f units\n", unit, whole / unit
     }' "$1"
+}
+
+# Proves the unit, and prints its processor seconds.
+unit() {
+    fixed=96748dca
+    mkdir "$work/unit"
+    git archive "$fixed" crates/post_box | tar -x -C "$work/unit"
+    rm -rf "$work/unit/crates/post_box/must-fail"
+    echo 'post_box: thiserror' > "$work/unit/crates.txt"
+    (
+        cd "$work/unit"
+        git init -q
+        rt ci --anew > "$work/unit.log"
+        times > "$work/unit.times"
+    )
+    awk 'NR == 2 { split($1 "m" $2, part, "m"); printf "%.2f\n", 60 * (part[1] + part[3]) + part[2] + part[4] }' "$work/unit.times"
 }
 
 if [ "${1:-}" = -t ]; then
@@ -45,10 +68,16 @@ if [ "${1:-}" = -t ]; then
 fi
 times=${1:?names the file for the times}
 shift
-: > "$times"
+[ "$times" = -u ] || : > "$times"
 cd "$(dirname "$0")/.."
 work=$(mktemp -d)
 trap 'rm -rf "$work"' EXIT
+one=$(unit)
+if [ "$times" = -u ]; then
+    echo "$one"
+    exit
+fi
+echo "- unit $one 0" >> "$times"
 ticks=$(getconf CLK_TCK)
 
 # What kind of check a process is, by its words and the folder that it runs in.

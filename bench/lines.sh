@@ -5,10 +5,9 @@
 # shellcheck source=bench/common.sh
 . "$(dirname "$0")/common.sh"
 
-make_crate "line_times: jsonrpc_text service_check type_checks port_checks process_checks type_lowering \
-process_lowering check_base jolie_parse jolie_ast jolie_tokens behaviour_tree jolie_trees" \
-    jolie_trees jolie_tokens jolie_ast jolie_parse behaviour_tree check_base type_checks port_checks process_checks \
-    type_lowering process_lowering service_check jsonrpc_text <<'END'
+make_crate "line_times: jsonrpc_text service_check jolie_parse jolie_tokens behaviour_tree jolie_trees" \
+    jolie_trees jolie_tokens jolie_ast jolie_parse behaviour_tree program_locations check_base check_types check_ports \
+    check_processes lower_types lower_processes service_check jsonrpc_text <<'END'
 //! The times of reading the line that the argument names and of writing an answer with its params, in microseconds, and
 //! the bytes of both.
 #![tactic(auto)]

@@ -9,7 +9,7 @@
 # shellcheck source=bench/common.sh
 . "$(dirname "$0")/common.sh"
 
-make_crate "office_costs: test_programs call_conditions plain_office office_core reqresp_book behaviour_tree \
+make_crate "office_costs: test_programs test_conditions office_plain office_core reqresp_book behaviour_tree \
 jolie_trees anyhow" <<'EOF'
 //! An office in which so many sessions are started, each with a key of its own, takes so many messages, each of which
 //! has the key of one of them, and gives each to its session; and how many it took and gave in all. The words are the
@@ -17,13 +17,13 @@ jolie_trees anyhow" <<'EOF'
 #![tactic(auto)]
 
 use behaviour_tree::Program;
-use call_conditions::{acts, is_running, works};
 use jolie_trees::{Root, Text, Tree};
 use office_core::{PostReply, Posted};
-use plain_office::Office;
+use office_plain::Office;
 use reqresp_book::Origin;
 use std::alloc::{AllocError, Global};
 use std::{env, fs};
+use test_conditions::{acts, is_running, works};
 use test_programs::with_program;
 
 const WORKER: u32 = 4_096;

@@ -1,8 +1,8 @@
 #!/usr/bin/env python3
 """The programs of the documents are tests. This makes their rows, and runs rows over a program.
 
-    bench/pages.py make                  makes the rows of all pages in crates/jolie_main_tests/data anew, and the
-                                         lines that the tests print, in crates/jolie_main_tests/stdout
+    bench/pages.py make                  makes the rows of all pages in crates/test_program/data anew, and the
+                                         lines that the tests print, in crates/test_program/stdout
     bench/pages.py example NAME GROUP    the row of examples/NAME.ol, where it notes nothing, for data/examples.txt
     bench/pages.py run PROGRAM DATA ..   runs a program over the rows of such files that say no more than what it reads,
                                          and says which give something else
@@ -24,9 +24,9 @@ import sys
 import tempfile
 
 GO = '{"jsonrpc":"2.0","method":"go","id":1}'
-PAGES = ["language", "traps", "flows"]
+PAGES = ["language", "traps", "flows", "before-you-go-live"]
 TOP = os.path.join(os.path.dirname(os.path.abspath(__file__)), "..")
-TESTS = os.path.join(TOP, "crates", "jolie_main_tests")
+TESTS = os.path.join(TOP, "crates", "test_program")
 
 
 def quoted(text):

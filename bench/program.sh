@@ -61,8 +61,9 @@ row 'a refusal is explained by its line, a mark and the rule' 3 "$work/bad.ol:1:
 service S { main { comp(q) } }
                    ^
 rule: \`comp\` stands in a handler of \`install\`, or of the brackets behind a call" ''
+none="roqsulei: $work/none.ol: No such file or directory (os error 2)"
 over "$work/empty" explain "$work/none.ol"
-row 'a file that is not there is told' 2 "$work/none.ol: cannot be read" ''
+row 'a file that is not there is told' 2 "$work/none.ol: cannot be read" "$none"
 over "$work/empty" print "$work/type.ol"
 row 'what is printed has one space between every two tokens' 0 'type Req : void { n : int }' ''
 over "$work/empty" check "$work/bytes.ol"
@@ -72,9 +73,9 @@ row 'a text is too long from its byte 1,048,577 on' 3 'refused lex TooLong 10485
 over "$work/empty" check "$work/most.ol"
 row 'a text of 1,048,576 bytes is read' 3 'refused parse Syntax 1048576' ''
 over "$work/empty" check "$work/none.ol"
-row 'a file that is not there is nothing that is said' 2 '' ''
+row 'a file that is not there has its reason' 2 '' "$none"
 over "$work/empty" check "$work"
-row 'a directory is no file' 2 '' ''
+row 'a directory is no file' 2 '' "roqsulei: $work: Is a directory (os error 21)"
 over "$work/empty" print "$work/empty"
 row 'an empty file has no token to print' 0 '' ''
 over "$work/empty" check "$work/empty"
@@ -88,7 +89,7 @@ row 'blank lines have no answer' 0 '' ''
 over "$work/empty" run "$twice"
 row 'an empty input is read to its end' 0 '' ''
 over "$work" run "$twice"
-row 'an input that is a directory fails' 4 '' ''
+row 'an input that is a directory fails' 4 '' 'roqsulei: the standard input failed'
 for lines in "$top"/examples/*.jsonl; do
     example=${lines%.jsonl}
     over "$lines" run "$example.ol"
@@ -102,7 +103,8 @@ row 'console output is told on standard error' 0 '{"id":2,"jsonrpc":"2.0","resul
 over "$work/one" run "$twice" --budget 2
 row 'a session that used its budget is stopped' 6 '{"error":{"code":-32004,"message":"stopped"},"id":1,"jsonrpc":"2.0"}' ''
 over "$work/one" run "$twice" --picks 1,,2
-row 'picks that are no list are a usage error' 1 '' 'picks'
+row 'picks that are no list are a usage error' 1 '' \
+    'error: --picks takes numbers from 0 to 4294967295 with commas between'
 over "$work/one" run "$twice" --budget 0
 row 'a budget of nothing is a usage error' 1 '' "error: invalid value '0' for '--budget <N>': 0 is not in 1..=10000
 
@@ -130,6 +132,7 @@ over "$work/empty" --version
 row 'the version has its line' 0 'roqsulei 0.1.0' ''
 
 # An output that takes nothing, and one that is closed.
+full='roqsulei: the standard output or the standard error failed'
 if [ -w /dev/full ]; then
     for words in "check $twice" "print $twice" "run $twice" "--help"; do
         status=0
@@ -137,13 +140,13 @@ if [ -w /dev/full ]; then
         # shellcheck disable=SC2086
         "$program" $words < "$work/one" > /dev/full 2> "$work/notes" || status=$?
         : > "$work/output"
-        row "an output that is full fails: $words" 5 '' ''
+        row "an output that is full fails: $words" 5 '' "$full"
     done
 fi
 status=0
 "$program" run "$twice" < "$work/one" 2> "$work/notes" >&- || status=$?
 : > "$work/output"
-row 'an output that is closed fails' 5 '' ''
+row 'an output that is closed fails' 5 '' "$full"
 
 echo "$rows rows, $odd of them wrong"
 [ "$odd" = 0 ]

@@ -1,10 +1,12 @@
 #!/usr/bin/env python3
-"""Hands random lines to the proved program over each example: calls, batches, notifications, broken, nested and long
-texts. It counts the answers by their ids, and those of a batch by all of its ids in order: each call with an id has to
-be answered once, in its place, and nothing else. The service elsewhere that one example calls need not be there: then
-its calls fail. Outside the gate, where `rt ci` passed:
+"""Hands random lines to the proved program over each example: calls with numbers of any size, with missing and with odd
+values, batches, notifications, broken, nested and long texts. It counts the answers by their ids, and those of a batch
+by all of its ids in order: each call with an id has to be answered once, in its place, and nothing else. The lines go
+to runs of 100, so that no session uses up its events, and the last line of each run is a good call: it has to be
+answered by a result or by a fault that says so, whatever came before. The service elsewhere that one example calls need
+not be there: then its calls fail. Outside the gate, where `rt ci` passed:
 
-    bench/random_lines.py [LINES [SEED]]
+    bench/random_lines.py [LINES [SEED [PROGRAM]]]
 """
 import collections
 import json
@@ -19,6 +21,22 @@ BROKEN = ["{", "[", "nul", '{"a":}', '"', "[1,", '{"jsonrpc":"2.0"', "[]"]
 BLANK = ["", "   ", "\t \r"]
 NO_REQUESTS = [1, "x", None, True, {}, {"a": 1}]
 NO_IDS = [1.5, [], {}, True]
+INTS = [-(2**63), -(2**31), 1 - 2**31, -1, 0, 1, 2, 2**31 - 1, 2**31, 2**63 - 1, 2**63]
+A_RUN = 100
+
+# For each example a good call, and the faults that may answer it.
+GOOD = {
+    "booking": ("book", {"booking": "good", "seats": 1}, ["Full"]),
+    "calculator": ("subtract", {"minuend": 42, "subtrahend": 23}, []),
+    "ledger": ("statement", None, []),
+    "order": ("order", {"id": "good", "sku": "x", "n": 1, "price": 0}, []),
+    "payment": ("pay", {"card": "good", "amount": 1}, []),
+    "quotes": ("quotes", {"item": "bolt", "n": 10}, []),
+    "rates": ("convert", {"cents": 1000, "currency": "USD"}, ["Unknown"]),
+    "saga": ("trip", None, []),
+    "shop": ("price", {"name": "bolt", "n": 5}, []),
+    "twice": ("twice", {"n": 21}, []),
+}
 
 
 class Lines:
@@ -48,7 +66,11 @@ class Lines:
         self.count += 1
         call = json.loads(json.dumps(self.random.choice(self.calls)))
         call["id"] = self.random.choice([self.count, f"s{self.count}"])
-        change = self.random.randrange(10)
+        change = self.random.randrange(20)
+        params = call.get("params")
+        if change >= 10 and isinstance(params, dict) and params:
+            self.change_field(params, change)
+            return call, [call["id"]]
         if change == 0:
             call["method"] = "nope"
         elif change == 1:
@@ -68,6 +90,18 @@ class Lines:
         elif change == 7:
             return self.random.choice(NO_REQUESTS), [None]
         return call, [call["id"]]
+
+    def change_field(self, params, change):
+        """Takes a field away, or gives it another value: mostly a number of any size where it has one."""
+        name = self.random.choice(list(params))
+        if change == 10:
+            del params[name]
+        elif change == 11:
+            params[name] = self.value()
+        else:
+            numbers = [it for it, value in params.items() if isinstance(value, int)]
+            wide = self.random.randrange(-(2**self.random.randrange(1, 64)), 2**self.random.randrange(1, 64))
+            params[self.random.choice(numbers or [name])] = self.random.choice([*INTS, wide, wide])
 
     def line(self):
         """A line, whose answer becomes due."""
@@ -130,21 +164,45 @@ def answers_in(output):
     return given
 
 
+def wrongs_of(program, example, lines, count):
+    """Hands a run of so many lines to the program, and says what is wrong with what it answers."""
+    method, params, faults = GOOD[example.stem]
+    good = {"jsonrpc": "2.0", "method": method, "id": "good"}
+    if params is not None:
+        good["params"] = params
+    text = "".join(lines.line() + "\n" for _ in range(count)) + lines.owing(json.dumps(good), "good") + "\n"
+    ran = subprocess.run([program, "run", example], input=text.encode(), capture_output=True)
+    output = ran.stdout.decode()
+    given = answers_in(output)
+    wrongs = [f"not answered: {it}" for it in (lines.due - given).elements()]
+    wrongs += [f"answered, and not asked: {it}" for it in (given - lines.due).elements()]
+    if ran.returncode:
+        wrongs.append(f"status {ran.returncode}")
+    for line in output.splitlines():
+        said = json.loads(line)
+        if isinstance(said, dict) and said["id"] == "good" and "error" in said:
+            if said["error"]["message"] not in faults:
+                wrongs.append(f"a good call: {line}")
+    return wrongs
+
+
 def main():
     count = int(sys.argv[1]) if len(sys.argv) > 1 else 10000
     seed = int(sys.argv[2]) if len(sys.argv) > 2 else 1
-    if not PROGRAM.exists():
+    program = sys.argv[3] if len(sys.argv) > 3 else PROGRAM
+    if not pathlib.Path(program).exists():
         sys.exit("no proved program: run rt ci first")
     wrong = 0
     for example in sorted((TOP / "examples").rglob("*.ol")):
-        lines = Lines(calls_of(example), seed)
-        text = "".join(lines.line() + "\n" for _ in range(count))
-        ran = subprocess.run([PROGRAM, "run", example], input=text.encode(), capture_output=True)
-        given = answers_in(ran.stdout.decode())
-        missing, more = lines.due - given, given - lines.due
-        wrong += bool(missing or more)
-        print(f"{example.stem}: {count} lines, {sum(given.values())} lines of answers, status {ran.returncode},"
-              f" {sum(missing.values())} missing, {sum(more.values())} too many")
+        calls = calls_of(example)
+        found = 0
+        for run, start in enumerate(range(0, count, A_RUN)):
+            size = min(A_RUN, count - start)
+            for it in wrongs_of(program, example, Lines(calls, f"{seed} {run}"), size):
+                found += 1
+                print(f"{example.stem}, run {run}: {it}")
+        wrong += found
+        print(f"{example.stem}: {count} lines, {found} wrong")
     sys.exit(1 if wrong else 0)
 
 

@@ -8,8 +8,8 @@
 # shellcheck source=bench/common.sh
 . "$(dirname "$0")/common.sh"
 
-make_crate "session_times: term_session service_check type_checks port_checks process_checks type_lowering \
-process_lowering check_base jolie_parse jolie_ast jolie_tokens jolie_expr behaviour_tree jolie_trees anyhow" <<'EOF'
+make_crate "session_times: term_session service_check jolie_parse jolie_tokens jolie_expr behaviour_tree jolie_trees \
+anyhow" <<'EOF'
 //! Does a task so many times with a session of the service of a file, to which the office gives nothing, and says how
 //! much it did. The words are the task, the file, how many events are done first, and how many times the task is done:
 //!

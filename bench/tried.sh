@@ -1,73 +1,48 @@
 #!/bin/sh
-# Lists the must-fail edits that stood at one of six commits and that no crate has any more, by the crate that they
-# were of. They were all refused in the gate of their commit: 31dedfb on 2026-11-28, c85175f, 8fbca77 and ef3915f on
-# 2026-11-29, 1c1d910 and 22356af on 2026-11-30.
-# With -m the list is put between its two marker comments in docs/tried.md. Outside the gate: bench/tried.sh [-m]
+# Tries wrong bodies that the gate does not try: those in crates/CRATE/must-fail/*.md of the crates that are named.
+#   bench/tried.sh CRATE..      each of them alone; the prover has to refuse it. Prints what came of each, and a row for
+#                               docs/tried.md; ends with 1 where one was proved or could not be tried
+#   bench/tried.sh -l CRATE..   lists them
+# Who changes a crate runs it for that crate before the change lands. The crate and those below it are proved first,
+# where no run on this machine has kept that. In a page a body is a heading `## NAME` and a fenced block of the lines
+# `file:`, `old:` and `new:` of an edit; a heading without a block is passed over.
 set -eu
-top=$(cd "$(dirname "$0")/.." && pwd)
-first=31dedfb
-second=c85175f
-third=8fbca77
-fourth=ef3915f
-fifth=1c1d910
-sixth=22356af
-page=docs/tried.md
+list=
+[ "${1:-}" = -l ] && { list=1; shift; }
+: "${1:?names a crate}"
+cd "$(dirname "$0")/.."
 work=$(mktemp -d)
 trap 'rm -rf "$work"' EXIT
-cd "$top"
 
-# The paths of edits that are read, as `crate name` in order.
-names() {
-    sed -n 's|^crates/\([^/]*\)/must-fail/\(.*\)\.edit$|\1 \2|p' | sort
+# Writes the bodies of a page as edits into a folder.
+bodies() {
+    awk -v folder="$2" '
+        /^## / { name = $2; next }
+        /^```/ { inside = !inside; next }
+        inside && name != "" { print > (folder "/" name ".edit") }' "$1"
 }
 
-# The session of the first form was called term_session at the first.
-{
-    git ls-tree -r --name-only "$first" crates | names | sed 's/^term_session /first_session /'
-    git ls-tree -r --name-only "$second" crates | names
-    git ls-tree -r --name-only "$third" crates | names
-    git ls-tree -r --name-only "$fourth" crates | names
-    git ls-tree -r --name-only "$fifth" crates | names
-    git ls-tree -r --name-only "$sixth" crates | names
-} | sort -u > "$work/stood"
-git ls-files --cached --others --exclude-standard crates | while read -r path; do
-    [ -e "$path" ] && echo "$path"
-done | names > "$work/stand"
-cut -d' ' -f2 "$work/stand" | sort -u > "$work/kept"
+mkdir "$work/repo"
+cp crates.txt HANDLES "$work/repo"
+tar -c --exclude=out --exclude=must-fail crates | tar -x -C "$work/repo"
+for crate in "$@"; do
+    edits=$work/repo/crates/$crate/must-fail
+    mkdir "$edits"
+    for page in "crates/$crate/must-fail"/*.md; do
+        if [ -f "$page" ]; then bodies "$page" "$edits"; fi
+    done
+    [ -z "$list" ] || find "$edits" -name '*.edit' | sed "s|.*/|$crate |; s|\.edit$||" | sort
+done
+[ -z "$list" ] || exit 0
 
-# An edit that moved to another crate is still tried: names are looked for in all crates.
-awk 'NR == FNR { kept[$1]; next } !($2 in kept)' "$work/kept" "$work/stood" > "$work/gone"
-
-# An item for each crate: how many went of how many, and which, in lines of at most 120 columns.
-{
-    echo "Of $(wc -l < "$work/stood") edits $(wc -l < "$work/gone") are no longer tried."
-    echo
-    awk -v gone="$work/gone" '
-        # Puts a word behind the line at hand, or begins a new one.
-        function put(word) {
-            if (length(line) + 1 + length(word) > 120) { print line; line = "  " word } else { line = line " " word }
-        }
-        { stood[$1]++; if (!($1 in seen)) { seen[$1]; order[++count] = $1 } }
-        END {
-            while ((getline entry < gone) > 0) { split(entry, part, " "); list[part[1]] = list[part[1]] " " part[2]; went[part[1]]++ }
-            for (n = 1; n <= count; n++) {
-                crate = order[n]
-                if (!(crate in went)) continue
-                line = "- `" crate "` (" went[crate] " of " stood[crate] "):"
-                words = split(list[crate], word, " ")
-                for (w = 1; w <= words; w++) put("`" word[w] "`" (w < words ? "," : ""))
-                print line
-            }
-        }' "$work/stood"
-} > "$work/list"
-
-if [ "${1:-}" != -m ]; then
-    cat "$work/list"
-    exit
-fi
-awk -v list="$work/list" '
-    /^<!-- tried: end -->$/ { inside = 0 }
-    !inside { print }
-    /^<!-- tried: begin -->$/ { inside = 1; found = 1; while ((getline entry < list) > 0) print entry }
-    END { exit !found }' "$page" > "$work/page"
-cat "$work/page" > "$page"
+cd "$work/repo"
+git init -q
+status=0
+rt ci "$@" > "$work/log" 2>&1 || status=$?
+grep -E 'must-fail |BAD EDIT|NOT PROVED|passed, ' "$work/log" || tail -n 20 "$work/log"
+for crate in "$@"; do
+    tried=$(grep -c "must-fail $crate/" "$work/log" || true)
+    refused=$(grep -c "must-fail $crate/.*: refused" "$work/log" || true)
+    echo "| \`$crate\` | $tried | $refused | $(date -u +%Y-%m-%d) |"
+done
+exit "$status"

@@ -2,7 +2,7 @@
 # batch.sh NAME..: makes a module of lemmas of each recorded run (strands/041 ..) and checks them. VECTORS names the
 # folder of the runs; KEPT=--kept asks what holds of each configuration instead. Each session that is told otherwise is
 # an error of its lemma.
-cd "$(dirname "$0")/../../crates/calculus_trials" || exit 1
+cd "$(dirname "$0")/../../crates/test_calculus" || exit 1
 cp proofs/Lib.antt /tmp/trials-lib.$$
 for c in "$@"; do
   n=$(echo "$c" | sed 's#/##;s/strands/Strands/;s/whole/Whole/;s/first/First/')

@@ -755,8 +755,8 @@ use Rattle.behaviour_tree.specs.declared.words.Given.TheVariants as given
 use Rattle.behaviour_tree.specs.declared.words.Outcome.TheVariants as outcome
 use Rattle.behaviour_tree.specs.declared.words.Reason.TheVariants as reason
 use Rattle.behaviour_tree.specs.Data.{{plain, named, undefined, no_type_fields, type_field, here, step, step_at, constant, at_path, count_at, defined_at, literal, any_of, all_of, compared, sum, product, minus, negation, cast, no_exps, exp, no_sum_parts, sum_part, no_mul_parts, mul_part, no_member_list, member_of, Proc, nothing, assign, undef, copy, bind, sequence, parallel, choose, repeat, choice, notify, solicit, install, throw, comp, inner_handler, scope, block, no_procs, proc, no_branches, one_way, request, no_handlers, handler, ProgramParts}}
-use Rattle.calculus_trials.specs.Told.{{Told, told, Act, act, mail, happens, then_tries}}
-use Rattle.calculus_trials.specs.Kept.{{kept}}
+use Rattle.test_calculus.specs.Told.{{Told, told, Act, act, mail, happens, then_tries}}
+use Rattle.test_calculus.specs.Kept.{{kept}}
 
 abbrev program : ProgramParts
 program = {program}

@@ -1,7 +1,7 @@
 #!/bin/bash
 # Makes the lemmas of the written cases: cases/NAME.ol and cases/NAME.steps give proofs/NAME.antt. Doubled is by hand.
 cd "$(dirname "$0")" || exit 1
-to=../../crates/calculus_trials/proofs
+to=../../crates/test_calculus/proofs
 echo "mod Doubled" > $to/Lib.antt
 for steps in cases/*.steps; do
   n=$(basename "$steps" .steps)

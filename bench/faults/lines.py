@@ -48,7 +48,7 @@ def examples():
 
 
 def flows():
-    for name, it in pages.rows_in([str(TOP / "crates/jolie_main_tests/data/flows.txt")]):
+    for name, it in pages.rows_in([str(TOP / "crates/test_program/data/flows.txt")]):
         if "comes" not in it:
             lines, output = it["input"].encode(), it["output"].encode()
             yield Case(name, it["file"], it.get("options", "").split(), lines, output, int(it["status"]))

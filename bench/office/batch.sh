@@ -2,7 +2,7 @@
 # batch.sh NAME..: makes a module of lemmas of each recorded run (strands/041 ..) and checks them.
 # VECTORS names the folder of the runs. WHOLE=--whole asks of its sessions, too, and whether it is quiet and still;
 # SPOILT=N asks for N spoilt copies of each kind instead. A run that is told otherwise is an error of its lemma.
-cd "$(dirname "$0")/../../crates/office_trials" || exit 1
+cd "$(dirname "$0")/../../crates/test_trials" || exit 1
 cp proofs/Lib.antt /tmp/office-lib.$$
 for c in "$@"; do
   n=$(echo "$c" | sed 's#/##;s/strands/Strands/;s/whole/Whole/;s/first/First/')

@@ -164,25 +164,25 @@ IMPORTS = [
     ('run_record.specs.Postings', 'posts_by posts_of'),
     ('run_record.specs.Order', 'order_alone'),
     ('run_record.specs.Outside', 'notes'),
-    ('office_trials.specs.Counts', 'legal_entries with_at'),
-    ('office_trials.specs.Fronts', 'told_from'),
-    ('office_trials.specs.Sessions', 'event agrees'),
-    ('office_trials.specs.Quiet', 'is_quiet is_still'),
-    ('office_trials.proofs.Told', 'is_session'),
+    ('test_trials.specs.Counts', 'legal_entries with_at'),
+    ('test_trials.specs.Fronts', 'told_from'),
+    ('test_trials.specs.Sessions', 'event agrees'),
+    ('test_trials.specs.Quiet', 'is_quiet is_still'),
+    ('test_trials.proofs.Told', 'is_session'),
 ]
 
 
-# what office_trials imports beside that
+# what the runs import beside that
 RUNS = [
     ('std.specs.Prelude', '◌++◌'),
     ('run_record.specs.declared.record.Record', 'Record'),
     ('run_record.specs.Run', 'alone workers IsRun IsSpent'),
-    ('office_trials.proofs.Runs', 'is_run unstopped unclosed foreign missing too_many restless'),
+    ('test_trials.proofs.Runs', 'is_run unstopped unclosed foreign missing too_many restless'),
     ('run_record.specs.Order', 'IsOrder'),
-    ('office_trials.proofs.Workers',
+    ('test_trials.proofs.Workers',
      'is_run_of_workers stranger posts_apart second_first not_as_posted not_without_one not_twice'),
-    ('office_trials.specs.Quiet', 'can_act'),
-    ('office_trials.proofs.Spends', 'spends is_spent not_spent'),
+    ('test_trials.specs.Quiet', 'can_act'),
+    ('test_trials.proofs.Spends', 'spends is_spent not_spent'),
 ]
 
 
@@ -600,7 +600,7 @@ def some_spoils(run, kinds, most):
 # a tuple with a place for each entry has a limit
 MOST = 300
 
-# what line_trials imports beside what the others do, and what it does not
+# what the runs over lines import beside what all do, in the place of what test_trials has itself
 LINES = [
     ('std.specs.Str', 'is_utf8 chars'),
     ('std.specs.Float.Numeral', 'scan_numeral'),
@@ -614,14 +614,12 @@ LINES = [
     ('jsonrpc_text.specs.Posted', 'posted'),
     ('jsonrpc_text.specs.Responses', 'answer batch early_answer'),
     ('run_record.specs.Run', 'alone'),
-    ('branch_workers.specs.Split', 'split all_lines said_lines'),
-    ('run_record.specs.declared.record.Record', 'Record'),
-    ('branch_workers.specs.Lines', 'come_in finished_before noted_before lines_in IsFront IsAnswered in_lines'),
-    ('branch_workers.specs.Headline', 'IsCutShort'),
-    ('std.specs.Prelude', '◌≢◌ length ◌-◌'),
-    ('std.proofs.Common', 'true≢false ap subst sym'),
-    ('line_trials.proofs.Statuses', 'rose'),
-    ('line_trials.proofs.Endings', 'ending'),
+    ('run_theorem.specs.Split', 'split all_lines said_lines'),
+    ('run_theorem.specs.Texts', 'Came posting_of'),
+    ('run_theorem.specs.Lines', 'come_in finished_before lines_in IsPrefix AreDue IsWritten WroteEarly'),
+    ('std.specs.Prelude', '◌≢◌ suc length map'),
+    ('std.proofs.Common', 'true≢false ap subst'),
+    ('test_trials.proofs.Endings', 'causes last_of'),
 ]
 COMPUTED = ('digits escape_byte is_utf8 chars encode scan_numeral value punctuate lex content word after_number number_of root_name '
             'posted answer batch early_answer split')
@@ -630,14 +628,17 @@ COMPUTED = ('digits escape_byte is_utf8 chars encode scan_numeral value punctuat
 def of_lines(run, path, title):
     """That a history answers the lines that were read by those that were written."""
     global IMPORTS
-    IMPORTS = [(m, n) for m, n in IMPORTS if not m.startswith('office_trials')] + LINES
+    IMPORTS = [(m, n) for m, n in IMPORTS if not m.startswith('test_trials')] + LINES
     read, written = (pathlib.Path(path + end).read_text() for end in ('.jsonl', '.stdout'))
     return (given(run, title).replace('use Rattle.std.specs.Fmt', 'use lib.Utf8.{encode}\nuse Rattle.std.specs.Fmt', 1) + f'\n-- what was read\nabbrev read : List ℕ\nread = {text(read)}\n'
             f'\n-- what was written\nabbrev written : List ℕ\nwritten = {text(written)}\n'
-            '\npub answered : IsAnswered alone setting history (come_in (said_lines (all_lines read)))\n'
-            f'    (record {{ written = written; noted = {text(run.notes)} }})\n'
+            '\n-- what came in with the lines\nabbrev came : List Came\ncame = come_in (said_lines (all_lines read))\n'
+            '\npub posted_all : posts_by first_worker history ≡ posts_of 0 (map posting_of came)\n'
+            f'unfolding {COMPUTED}\nposted_all = refl\n'
+            f'\npub noted_nothing : notes setting history ≡ {text(run.notes)}\nnoted_nothing = refl\n'
+            '\npub answered : AreDue alone setting history came written\n'
             f'unfolding {COMPUTED}\n'
-            f'answered = record {{ posted = refl; order = {listed(run.order)}; in_order = refl; written = refl; noted = refl }}\n'
+            f'answered = record {{ order = {listed(run.order)}; in_order = refl; lines = refl }}\n'
             + cut_short(run, written))
 
 
@@ -645,28 +646,15 @@ def cut_short(run, written):
     """The same where the output failed in the midst of its first line, and nothing is noted."""
     line = written[:written.index('\n') + 1] if '\n' in written else ''
     front, rest = line[:len(line) // 2], written[len(line) // 2:]
-    came = 'come_in (said_lines (all_lines read))'
     return (f'\n-- what was not written of it\nabbrev rest : List ℕ\nrest = {text(rest)}\n'
             '\nrest_is_some : rest ≢ []\nrest_is_some h = true≢false (ap (λ l. elim l [ [] ↦ false | b ∷ bs ↦ true ]) h)\n'
             f'\n-- what was written of it\nabbrev cut : List ℕ\ncut = {text(front)}\n'
-            '\npub cut_short : (r : Record) → r.history.entries.items ≡ history\n'
-            f'    → IsCutShort alone setting (record {{ read = read; written = cut }}) (ending r) ({came})\n'
+            '\npub cut_short : IsWritten causes written cut\ncut_short = (rest, rest_is_some, refl)\n'
+            '\npub written_early : WroteEarly setting history came cut\n'
             f'unfolding {COMPUTED}\n'
-            'cut_short r has = record {\n'
-            f'  came = {came};\n'
-            '  front = ([], refl);\n'
-            '  due = record { written = written; noted = [] };\n'
-            f'  answers = subst (λ (h : List Entry). IsAnswered alone setting h ({came}) (record {{ written = written; noted = [] }}))\n'
-            '      (sym has) answered;\n'
-            '  cut = in_lines rose refl (rest, rest_is_some, refl) refl;\n'
-            '  early = λ one.\n'
-            f'      subst (λ (h : List Entry). IsFront (lines_in setting h ({came}) (finished_before setting h\n'
-            f'      (length ({came})) (length ({came}) - 1))) cut)\n'
-            '      (sym has) (_, refl);\n'
-            '  early_notes = λ one.\n'
-            f'      subst (λ (h : List Entry). IsFront (noted_before setting h (length ({came}) - 1)) [])\n'
-            '      (sym has) ([], refl);\n'
-            '}\n')
+            'written_early j long =\n'
+            '    subst (λ (k : ℕ). IsPrefix (lines_in setting history came (finished_before setting history (length came) k)) cut)\n'
+            '    (last_of (length came) j long) (_, refl)\n')
 
 
 def module(run, title, kinds):

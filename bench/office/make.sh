@@ -3,8 +3,11 @@
 # are by hand.
 # A line is NAME, the kinds of spoilt copies (all: one of each kind), and what the case shows.
 cd "$(dirname "$0")" || exit 1
-to=../../crates/office_trials/proofs
-printf 'mod %s\n' Counted Told Standing Acting Quiets Agreeing Runs Workers Spends > $to/Lib.antt
+to=../../crates/test_trials/proofs
+printf 'mod %s\n' CheckedHeads Responses NoResponses CutResponses LinkRequests > $to/Lib.antt
+printf 'mod %s\n' Requests Sent First Parts ConnectionStopped ConnectionSpoilt TwoCalls TwoGuests Pipelined Failed >> $to/Lib.antt
+printf 'mod %s\n' Statuses Endings Cuts Noted >> $to/Lib.antt
+printf 'mod %s\n' Counted Told Standing Acting Quiets Agreeing Runs Workers Spends >> $to/Lib.antt
 while read -r name kinds title; do
   python3 convert.py --case "cases/$name" "$title" "$kinds" > "$to/$name.antt" && echo "mod $name" >> $to/Lib.antt
 done <<'CASES'
@@ -38,11 +41,8 @@ Run057 take_left_out,message_number_skipped,refused_without_cause,another_outcom
 Run068 accepted_against_the_rules,collected_by_another,adopted_after_the_stop A recorded run.
 CASES
 
-# The lines of some of them: cases/NAME.jsonl is what was read, cases/NAME.stdout what was written. Statuses is by hand.
-to=../../crates/line_trials/proofs
-mkdir -p $to
-echo 'mod Statuses' > $to/Lib.antt
+# The lines of some of them: cases/NAME.jsonl is what was read, cases/NAME.stdout what was written.
 for lines in cases/*.jsonl; do
   n=$(basename "$lines" .jsonl)
-  python3 convert.py --lines "cases/$n" "What was read and what was written, in the run $n." > "$to/$n.antt" && echo "mod $n" >> $to/Lib.antt
+  python3 convert.py --lines "cases/$n" "What was read and what was written, in the run $n." > "$to/Line$n.antt" && echo "mod Line$n" >> $to/Lib.antt
 done

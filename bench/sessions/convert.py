@@ -1,4 +1,4 @@
-"""convert.py FOLDER..: turns recorded runs (folders with case.ol and record) into a table for crates/session_tests.
+"""convert.py FOLDER..: turns recorded runs (folders with case.ol and record) into a table for crates/test_sessions.
 
 A session is a row: before each event and at the end every strand that has an event, what each asks and what is open, and each
 event with its gift. All but the events and gifts is found by rules.py, and what that finds of the events and of their office
@@ -144,7 +144,7 @@ class Told:
         return lines + looked(session) + ['ended => ' + ('yes' if session.ended else 'no')]
 
     def table(self):
-        lines = [f'== {self.name}'] + ['program: ' + line for line in self.text.split('\n')]
+        lines = [f'== {self.name}', 'of: sessions'] + ['program: ' + line for line in self.text.split('\n')]
         for s in sorted(self.births):
             lines += [f'-- session {s}', f'service: {self.births[s]}'] + ['does: ' + line for line in self.played(s)]
         return '\n'.join(lines) + '\n\n'

@@ -1,11 +1,11 @@
 #!/bin/sh
 # Refuses each allocation of a short session in turn. Where a step lacks memory the program finds that the session is
 # spent, and ends for want of memory; where a look does, it asks once more. So each run ends so or has the right output.
-# It needs a C compiler and the program of crates/session_tests as `rt ci` proved it, or the one that is named.
+# It needs a C compiler and the program of crates/test_sessions as `rt ci` proved it, or the one that is named.
 # Outside the gate: bench/sessions/memory.sh [PROGRAM]
 set -eu
 here=$(cd "$(dirname "$0")" && pwd)
-program=$(readlink -f "${1:-$here/../../crates/session_tests/out/session_tests}")
+program=$(readlink -f "${1:-$here/../../crates/test_sessions/out/test_sessions}")
 [ -x "$program" ] || { echo "no proved program: run rt ci first, or name one" >&2; exit 2; }
 work=$(mktemp -d)
 trap 'rm -rf "$work"' EXIT

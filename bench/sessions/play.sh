@@ -1,11 +1,11 @@
 #!/bin/sh
 # Plays every session of recorded runs over TermSession: before each event and at the end all strands that have an
 # event, what each asks, and what is open, and each event with the gift that it had. VECTORS names the folder with the
-# runs in folders by kind. It needs the program of crates/session_tests as `rt ci` proved it, or the one that is
+# runs in folders by kind. It needs the program of crates/test_sessions as `rt ci` proved it, or the one that is
 # named. Outside the gate: bench/sessions/play.sh [PROGRAM]
 set -eu
 here=$(cd "$(dirname "$0")" && pwd)
-program=$(readlink -f "${1:-$here/../../crates/session_tests/out/session_tests}")
+program=$(readlink -f "${1:-$here/../../crates/test_sessions/out/test_sessions}")
 [ -x "$program" ] || { echo "no proved program: run rt ci first, or name one" >&2; exit 2; }
 work=$(mktemp -d)
 trap 'rm -rf "$work"' EXIT
