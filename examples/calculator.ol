@@ -15,6 +15,6 @@ service Calc {
     [ sum(x)(y) { y = x.n[0] + x.n[1] + x.n[2] } ] { nullProcess }
     [ get_data()(y) { y.list[0] = "hello" ; y.list[1] = 5 } ] { nullProcess }
     [ update(x) ] { last << x }
-    [ notify_hello(x) ] { greeted = x }
+    [ notify_hello(name) ] { greeted = name }
   }
 }

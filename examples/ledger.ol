@@ -1,5 +1,5 @@
 // A ledger that lives as long as the run. An entry that would overdraw it, or pass what an int holds, is refused, and
-// the next one finds the ledger as it was.
+// the next one finds the ledger as it was. So does one after a statement that is too long for one answer (TypeMismatch).
 type Entry: void { text: string amount: int }
 type Statement: void { balance: int entry*: Entry }
 
@@ -18,7 +18,7 @@ service Ledger {
   main {
     while (true) {
       scope(turn) {
-        install(Overdrawn => nullProcess, ExprFault => nullProcess) ;
+        install(Overdrawn => nullProcess, ExprFault => nullProcess, TypeMismatch => nullProcess) ;
         [ enter(e)(r) {
             sum = balance + e.amount ;
             if (sum < 0) { throw(Overdrawn, -sum) } ;

@@ -1,10 +1,11 @@
 // Orders of a shop: what is ordered is reserved and paid at the same time, and what was done of a failed order is undone.
+// An order whose numbers are out of range is refused before anything is done, with the name of the field.
 type Order: void { id: string sku: string n: int price: int }
 type Item: void { sku: string n: int }
 type Pay: void { id: string amount: int }
 
 interface ShopI {
-  RequestResponse: order(Order)(string)
+  RequestResponse: order(Order)(string) throws Invalid(string)
 }
 
 interface StockI {
@@ -26,6 +27,8 @@ service Shop {
   outputPort Bank { location: "local://bank" interfaces: BankI }
   main {
     order(o)(y) {
+      if (o.n < 1 || o.n > 1000) { throw(Invalid, "n") } ;
+      if (o.price < 0 || o.price > 1000000) { throw(Invalid, "price") } ;
       scope(all) {
         install(
           Short => comp(payment) ; y = "short",
@@ -50,7 +53,8 @@ service Shop {
   }
 }
 
-// The goods: one session, which lives as long as the run. A fault of one turn leaves the next ones as they are.
+// The goods: one session, which lives as long as the run. A fault of one turn leaves the next ones as they are, since the
+// turn's scope names each fault that its body can have: its own, and ExprFault of a number that no int holds.
 service StockS {
   execution: single
   inputPort In { location: "local://stock" interfaces: StockI }
@@ -58,9 +62,9 @@ service StockS {
   main {
     while (true) {
       scope(turn) {
-        install(Short => nullProcess) ;
+        install(Short => nullProcess, ExprFault => nullProcess) ;
         [ reserve(i)(r) {
-            if (i.n > left) { throw(Short) } ;
+            if (i.n < 1 || i.n > left) { throw(Short) } ;
             left = left - i.n ;
             r = left
         } ] { nullProcess }
@@ -81,9 +85,9 @@ service BankS {
   main {
     while (true) {
       scope(turn) {
-        install(NoFunds => nullProcess) ;
+        install(NoFunds => nullProcess, ExprFault => nullProcess) ;
         [ pay(p)(r) {
-            if (p.amount > funds) { throw(NoFunds) } ;
+            if (p.amount < 0 || p.amount > funds) { throw(NoFunds) } ;
             funds = funds - p.amount ;
             r = funds
         } ] { nullProcess }

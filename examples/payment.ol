@@ -3,7 +3,7 @@
 type Pay: void { card: string amount: int }
 
 interface PaymentI {
-  RequestResponse: pay(Pay)(string)
+  RequestResponse: pay(Pay)(string) throws Invalid(string)
 }
 
 interface CardI {
@@ -23,6 +23,7 @@ service Payment {
   outputPort Ledger { location: "local://ledger" interfaces: LedgerI }
   main {
     pay(p)(y) {
+      if (p.amount < 1 || p.amount > 1000000) { throw(Invalid, "amount") } ;
       scope(all) {
         install(
           GaveUp => y = "gave up after " + tries + " tries",
@@ -58,7 +59,7 @@ service CardS {
   main {
     while (true) {
       scope(turn) {
-        install(Busy => nullProcess) ;
+        install(Busy => nullProcess, ExprFault => nullProcess) ;
         [ charge(c)(r) {
             calls++ ;
             if (calls <= 2 || c.card == "slow") { throw(Busy) } ;
@@ -81,7 +82,7 @@ service LedgerS {
   main {
     while (true) {
       scope(turn) {
-        install(OverLimit => nullProcess) ;
+        install(OverLimit => nullProcess, ExprFault => nullProcess) ;
         enter(e)(r) {
           if (e.amount > 500) { throw(OverLimit) } ;
           balance = balance + e.amount ;
