@@ -90,6 +90,10 @@ over "$work/empty" run "$twice"
 row 'an empty input is read to its end' 0 '' ''
 over "$work" run "$twice"
 row 'an input that is a directory fails' 4 '' 'roqsulei: the standard input failed'
+sed 's/localhost:8000/203.0.113.1:8000/' "$top/examples/shop.ol" > "$work/shop.ol"
+over "$work/empty" serve "$work/shop.ol"
+row 'a port at an address of another machine has its status' 7 '' \
+    'roqsulei: a location could not be listened at, or its door failed'
 for lines in "$top"/examples/*.jsonl; do
     example=${lines%.jsonl}
     over "$lines" run "$example.ol"
@@ -142,6 +146,13 @@ if [ -w /dev/full ]; then
         : > "$work/output"
         row "an output that is full fails: $words" 5 '' "$full"
     done
+fi
+# Console output that nobody takes: nothing is answered any more.
+if [ -w /dev/full ]; then
+    status=0
+    "$program" run "$top/examples/quotes.ol" < "$work/quotes" > "$work/output" 2> /dev/full || status=$?
+    : > "$work/notes"
+    row 'a standard error that is full fails' 5 '' ''
 fi
 status=0
 "$program" run "$twice" < "$work/one" 2> "$work/notes" >&- || status=$?

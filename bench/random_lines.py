@@ -4,9 +4,10 @@ values, batches, notifications, broken, nested and long texts. It counts the ans
 by all of its ids in order: each call with an id has to be answered once, in its place, and nothing else. The lines go
 to runs of 100, so that no session uses up its events, and the last line of each run is a good call: it has to be
 answered by a result or by a fault that says so, whatever came before. The service elsewhere that one example calls need
-not be there: then its calls fail. Outside the gate, where `rt ci` passed:
+not be there: then its calls fail. With names after the program it takes these examples alone. Outside the gate, where
+`rt ci` passed:
 
-    bench/random_lines.py [LINES [SEED [PROGRAM]]]
+    bench/random_lines.py [LINES [SEED [PROGRAM [EXAMPLE ..]]]]
 """
 import collections
 import json
@@ -192,8 +193,11 @@ def main():
     program = sys.argv[3] if len(sys.argv) > 3 else PROGRAM
     if not pathlib.Path(program).exists():
         sys.exit("no proved program: run rt ci first")
+    names = sys.argv[4:] or list(GOOD)
     wrong = 0
     for example in sorted((TOP / "examples").rglob("*.ol")):
+        if example.stem not in names:
+            continue
         calls = calls_of(example)
         found = 0
         for run, start in enumerate(range(0, count, A_RUN)):
