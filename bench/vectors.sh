@@ -4,6 +4,7 @@
 # the gate: bench/vectors.sh FOLDER ..
 # shellcheck source=bench/common.sh
 . "$(dirname "$0")/common.sh"
+: "${1:?names a folder of recorded runs}"
 find_program
 
 rows=0
