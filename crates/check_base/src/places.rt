@@ -4,8 +4,8 @@ ghost use Rattle.check_base.specs.Files.{place_in};
 use crate::names::Names;
 use std::alloc::AllocError;
 
-/// How many texts stand before the first that is this one, all of them where none is, as a number of the program. What is
-/// past 32 bits is told as want of memory.
+/// How many texts stand before the first that is this one, all of them where none is, as a number of the program. What
+/// is past 32 bits is told as want of memory.
 #[tactic(auto, using(crate::proofs::PlaceCounts::counted_there, crate::proofs::PlaceCounts::counted_missing))]
 pub fn number(names: &Names<'_>, text: &str) -> Result<u32, AllocError>
     ensures { IfOk result (λ n. n ≡ place_in names.now text.now) }

@@ -17,10 +17,11 @@ pub enum CheckName {
     UnknownPort,
     /// The operation of an output is not among those of its port, or that of an input among those of the input ports.
     UnknownOperation,
-    /// An operation, a location, a protocol, a set or an index of another kind than its place asks for, or a port that is named `Console`.
+    /// An operation, a location, a protocol, a set or an index of another kind than its place asks for, or a port that
+    /// is named `Console`.
     WrongKind,
-    /// Messages of an operation could not find their session, a type has aliases for some variables of a set alone, or `csets` names a
-    /// variable that is not there.
+    /// Messages of an operation could not find their session, a type has aliases for some variables of a set alone, or
+    /// `csets` names a variable that is not there.
     Uncorrelated,
     /// A type stands in two correlation sets of a service.
     TwoSets,

@@ -11,8 +11,8 @@ use check_base::{Interfaces, Least, Mention, Names, add_names, input_port_in, re
 use jolie_ast::{Clause, Name, OneWay, OperationGroup, Port, RequestResponse};
 use std::alloc::{AllocError, Global};
 
-/// The operations that a port brings: those of its interfaces, but of those that are among others. An interface that the
-/// port names again brings its first operation alone, which is refused as all of them would be.
+/// The operations that a port brings: those of its interfaces, but of those that are among others. An interface that
+/// the port names again brings its first operation alone, which is refused as all of them would be.
 fn bring<'a>(
     alloc: Global,
     interfaces: &Interfaces<'a>,
@@ -38,7 +38,8 @@ fn bring_unless<'a>(
     name: &Name,
     mentions: &mut Vec<Mention<'a>>,
 ) -> Result<(), AllocError>
-    ensures { OnOk result (mentions.new.items ≡ mentions.old.items ++ spared_unless interfaces.now others.now seen.now name.now) }
+    ensures { OnOk result (mentions.new.items ≡ mentions.old.items
+        ++ spared_unless interfaces.now others.now seen.now name.now) }
 {
     let text = name.text.as_str();
     if others.has(text) {
@@ -62,7 +63,8 @@ fn bring_first<'a>(
     at: u32,
     mentions: &mut Vec<Mention<'a>>,
 ) -> Result<(), AllocError>
-    ensures { OnOk result (mentions.new.items ≡ mentions.old.items ++ first_alone (flat_map (group_at at) groups.now)) }
+    ensures { OnOk result (mentions.new.items ≡ mentions.old.items
+        ++ first_alone (flat_map (group_at at) groups.now)) }
 {
     if let Some(operation) = first_operation(groups) {
         mentions.push(Mention::new(operation, at))?;
@@ -168,7 +170,8 @@ fn bring_in<'a>(
     mentions: &mut Vec<Mention<'a>>,
 ) -> Result<(), AllocError>
     ensures earlier { OnOk result (earlier.new ≡ earlier.old ++ map (λ (n : Name). n.text) port.now.interfaces) }
-    ensures mentions { OnOk result (mentions.new.items ≡ mentions.old.items ++ spared interfaces.now earlier.old port.now.interfaces) }
+    ensures mentions { OnOk result (mentions.new.items ≡ mentions.old.items
+        ++ spared interfaces.now earlier.old port.now.interfaces) }
 {
     let names = port.interfaces.as_slice();
     bring(alloc, interfaces, earlier, names, mentions)?;
@@ -181,7 +184,8 @@ fn brought_in<'a>(
     interfaces: &Interfaces<'a>,
     clauses: &'a [Clause],
 ) -> Result<Vec<Mention<'a>>, AllocError>
-    ensures { IfOk result (λ mentions. mentions.items ≡ spared_in interfaces.now [] (filter_map input_port_in clauses.now)) }
+    ensures { IfOk result
+        (λ mentions. mentions.items ≡ spared_in interfaces.now [] (filter_map input_port_in clauses.now)) }
 {
     let mut earlier = Names::new(alloc);
     let mut mentions = Vec::new(alloc);
@@ -201,7 +205,8 @@ pub fn input_ports_refused<'a>(
     clauses: &'a [Clause],
     least: &mut Least,
 ) -> Result<(), AllocError>
-    ensures { OnOk result (least.new ≡ joined least.old (input_ports_refused interfaces.now (filter_map input_port_in clauses.now))) }
+    ensures { OnOk result (least.new ≡ joined least.old
+        (input_ports_refused interfaces.now (filter_map input_port_in clauses.now))) }
 {
     let mentions = brought_in(alloc, interfaces, clauses)?;
     repeated_refused(alloc, mentions.as_slice(), least)?;
@@ -215,7 +220,8 @@ fn each_input_repeated(
     clauses: &[Clause],
     least: &mut Least,
 ) -> Result<(), AllocError>
-    ensures { OnOk result (least.new ≡ joined least.old (flat_map (operations_repeated interfaces.now) (filter_map input_port_in clauses.now))) }
+    ensures { OnOk result (least.new ≡ joined least.old
+        (flat_map (operations_repeated interfaces.now) (filter_map input_port_in clauses.now))) }
 {
     for clause in clauses {
         if let Some(port) = input_port_in(clause) {

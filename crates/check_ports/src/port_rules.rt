@@ -50,7 +50,8 @@ fn port_names(alloc: Global, clauses: &[Clause]) -> Result<Vec<Mention<'_>>, All
 
 /// What is refused of each port by itself.
 fn each_port_refused(interfaces: &Interfaces, clauses: &[Clause], least: &mut Least)
-    ensures { least.new ≡ joined least.old (flat_map (sided_refused interfaces.now) (filter_map port_in clauses.now)) }
+    ensures { least.new ≡ joined least.old
+        (flat_map (sided_refused interfaces.now) (filter_map port_in clauses.now)) }
 {
     for clause in clauses {
         if let Some(port) = port_in(clause) {
@@ -66,7 +67,8 @@ fn output_ports_refused(
     clauses: &[Clause],
     least: &mut Least,
 ) -> Result<(), AllocError>
-    ensures { OnOk result (least.new ≡ joined least.old (flat_map (operations_repeated interfaces.now) (filter_map output_port_in clauses.now))) }
+    ensures { OnOk result (least.new ≡ joined least.old
+        (flat_map (operations_repeated interfaces.now) (filter_map output_port_in clauses.now))) }
 {
     for clause in clauses {
         if let Some(port) = output_port_in(clause) {
@@ -180,7 +182,8 @@ pub fn input_locations(alloc: Global, file: &[Definition]) -> Result<Names<'_>, 
 
 /// Adds the locations of the input ports of a service.
 fn add_locations<'a>(clauses: &'a [Clause], locations: &mut Names<'a>) -> Result<(), AllocError>
-    ensures { OnOk result (locations.new ≡ locations.old ++ map (λ (p : Port). p.location.text) (filter_map input_port_in clauses.now)) }
+    ensures { OnOk result (locations.new ≡ locations.old
+        ++ map (λ (p : Port). p.location.text) (filter_map input_port_in clauses.now)) }
 {
     for clause in clauses {
         if let Some(port) = input_port_in(clause) {

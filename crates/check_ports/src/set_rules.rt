@@ -70,7 +70,8 @@ fn each_set_refused(
     clauses: &[Clause],
     least: &mut Least,
 ) -> Result<(), AllocError>
-    ensures { OnOk result (least.new ≡ joined least.old (flat_map (set_refused types.now) (filter_map set_in clauses.now))) }
+    ensures { OnOk result (least.new ≡ joined least.old
+        (flat_map (set_refused types.now) (filter_map set_in clauses.now))) }
 {
     for clause in clauses {
         if let Some(set) = set_in(clause) {
@@ -236,7 +237,8 @@ fn add_alias_names<'a>(
     variable: &'a CorrelationVariable,
     names: &mut Vec<&'a Name>,
 ) -> Result<(), AllocError>
-    ensures { OnOk result (map (λ n. n.now) names.new.items ≡ map (λ n. n.now) names.old.items ++ alias_names variable.now) }
+    ensures { OnOk result (map (λ n. n.now) names.new.items ≡ map (λ n. n.now) names.old.items
+        ++ alias_names variable.now) }
 {
     for alias in variable.aliases.as_slice() {
         names.push(&alias.ty)?;

@@ -8,7 +8,7 @@ use Rattle.jolie_ast.specs.declared.expression.Path.{Path}
 use Rattle.jolie_ast.specs.declared.process.Assignment.{Assignment}
 use Rattle.jolie_ast.specs.declared.process.ForStep.{ForStep}
 use Rattle.jolie_ast.specs.declared.process.Otherwise.TheOpen.{Otherwise-F, Process-F}
-use Rattle.jolie_ast.specs.declared.process.Otherwise.TheFolds.{map-Process, fold-Answer, fold-Branch, fold-Handler, fold-Input, fold-Reply, fold-roll-Answer, fold-roll-Block, fold-roll-Branch, fold-roll-Handler, fold-roll-If, fold-roll-Input, fold-roll-Otherwise, fold-roll-Process, fold-roll-Reply}
+use Rattle.jolie_ast.specs.declared.process.Otherwise.TheFolds.{map-Process}
 use Rattle.jolie_ast.specs.declared.process.Process.{Process, roll-Process}
 use Rattle.jolie_ast.specs.declared.process.Otherwise.{Otherwise}
 use Rattle.jolie_ast.specs.declared.process.Process.TheVariants as process
@@ -27,8 +27,10 @@ use Rattle.check_base.specs.Repeated.{repeated}
 use Rattle.check_base.specs.Files.{Operation, operation_named}
 use Rattle.check_processes.specs.OperationTables.{answers_named, does_answer}
 use Rattle.check_processes.specs.Surroundings.{Surroundings}
-use Rattle.check_processes.specs.ProcessRules.{Found, InputFound, HandlerFound, agree, used, sends, wrong_if_written, lacks_variable, handlers, otherwise_level, process_level, answer_level, block_level, branch_level, handler_level, if_level, input_level, reply_level, process_refused, block_refused}
+use Rattle.check_processes.specs.ProcessRules.{Found, InputFound, HandlerFound, agree, used, sends, wrong_if_written, lacks_variable, handlers, process_level, process_refused, block_refused, parts_refused}
 use Rattle.check_processes.specs.ProcessParts.{used_as, conditional_refused, otherwise_refused, processes_refused, reply_refused, reply_if_written, input_refused, branch_operation, branch_refused, branches_refused, choice_refused, handler_name, handler_refused, bodies_refused, handlers_refused, answer_handlers_refused, answer_refused, output_refused}
+use Rattle.jolie_ast.proofs.Folds.{process_rolls, block_rolls, conditional_rolls, otherwise_rolls, input_rolls, reply_rolls, branch_rolls, answer_rolls, handler_rolls}
+use Rattle.jolie_ast.specs.Folds.{fold_input, fold_reply, fold_branch, fold_answer, fold_handler}
 
 -- ---- operations
 
@@ -45,42 +47,42 @@ used_is operations n answers = used_by (operation_named operations n.text) n ans
 
 -- what is found of a reply part
 abbrev pub reply_found : Surroundings → Reply → Found
-reply_found e = fold-Reply Found Found Found Found InputFound HandlerFound Found InputFound Found otherwise_level (process_level e) answer_level block_level branch_level handler_level if_level (input_level e) reply_level
+reply_found e = fold_reply (parts_refused e)
 
 -- an input with what is found of it
 abbrev pub input_found : Surroundings → Input → InputFound
-input_found e = fold-Input Found Found Found Found InputFound HandlerFound Found InputFound Found otherwise_level (process_level e) answer_level block_level branch_level handler_level if_level (input_level e) reply_level
+input_found e = fold_input (parts_refused e)
 
 -- a branch with what is found of it
 abbrev pub branch_found : Surroundings → Branch → InputFound
-branch_found e = fold-Branch Found Found Found Found InputFound HandlerFound Found InputFound Found otherwise_level (process_level e) answer_level block_level branch_level handler_level if_level (input_level e) reply_level
+branch_found e = fold_branch (parts_refused e)
 
 -- a handler with what is found in it
 abbrev pub handler_found : Surroundings → Handler → HandlerFound
-handler_found e = fold-Handler Found Found Found Found InputFound HandlerFound Found InputFound Found otherwise_level (process_level e) answer_level block_level branch_level handler_level if_level (input_level e) reply_level
+handler_found e = fold_handler (parts_refused e)
 
 -- what is found of what an output awaits
 abbrev pub answer_found : Surroundings → Answer → Found
-answer_found e = fold-Answer Found Found Found Found InputFound HandlerFound Found InputFound Found otherwise_level (process_level e) answer_level block_level branch_level handler_level if_level (input_level e) reply_level
+answer_found e = fold_answer (parts_refused e)
 
 pub reply_is : (e : Surroundings) (r : Reply) (h : Bool) → reply_found e r h ≡ reply_refused e r h
 unfolding process_refused block_refused conditional_refused otherwise_refused
 reply_is e r h =
     ap (λ x. reply_found e x h) (sym (roll-out-Reply r))
-    ∙ ap (λ (f : Found). f h) (fold-roll-Reply Found Found Found Found InputFound HandlerFound Found InputFound Found otherwise_level (process_level e) answer_level block_level branch_level handler_level if_level (input_level e) reply_level (out-Reply r))
+    ∙ ap (λ (f : Found). f h) (reply_rolls (parts_refused e) (out-Reply r))
 
 pub input_operation : (e : Surroundings) (i : Input) → (input_found e i).operation ≡ (out-Input i).operation
 unfolding process_refused block_refused conditional_refused otherwise_refused
 input_operation e i =
     ap (λ x. (input_found e x).operation) (sym (roll-out-Input i))
-    ∙ ap (λ (x : InputFound). x.operation) (fold-roll-Input Found Found Found Found InputFound HandlerFound Found InputFound Found otherwise_level (process_level e) answer_level block_level branch_level handler_level if_level (input_level e) reply_level (out-Input i))
+    ∙ ap (λ (x : InputFound). x.operation) (input_rolls (parts_refused e) (out-Input i))
 
 pub input_made : (e : Surroundings) (operation : Name) (request : Option Path) (reply : Option Reply) (h : Bool) → (input_found e (roll-Input (record { operation = operation; request = request; reply = reply }))).found h ≡ used e.inputs operation (is_some reply) ++ wrong_if_written request ++ reply_if_written e reply h
 unfolding process_refused block_refused conditional_refused otherwise_refused
 input_made e operation request None h =
-    ap (λ (x : InputFound). x.found h) (fold-roll-Input Found Found Found Found InputFound HandlerFound Found InputFound Found otherwise_level (process_level e) answer_level block_level branch_level handler_level if_level (input_level e) reply_level (record { operation = operation; request = request; reply = None }))
+    ap (λ (x : InputFound). x.found h) (input_rolls (parts_refused e) (record { operation = operation; request = request; reply = None }))
 input_made e operation request (Some r) h =
-    ap (λ (x : InputFound). x.found h) (fold-roll-Input Found Found Found Found InputFound HandlerFound Found InputFound Found otherwise_level (process_level e) answer_level block_level branch_level handler_level if_level (input_level e) reply_level (record { operation = operation; request = request; reply = Some r }))
+    ap (λ (x : InputFound). x.found h) (input_rolls (parts_refused e) (record { operation = operation; request = request; reply = Some r }))
     ∙ ap (λ rs. used e.inputs operation true ++ wrong_if_written request ++ rs) (reply_is e r h)
 
 pub input_is : (e : Surroundings) (i : Input) (h : Bool) → (input_found e i).found h ≡ input_refused e i h
@@ -92,14 +94,14 @@ pub branch_operation_is : (e : Surroundings) (b : Branch) → (branch_found e b)
 unfolding process_refused block_refused conditional_refused otherwise_refused
 branch_operation_is e b =
     ap (λ x. (branch_found e x).operation) (sym (roll-out-Branch b))
-    ∙ ap (λ (x : InputFound). x.operation) (fold-roll-Branch Found Found Found Found InputFound HandlerFound Found InputFound Found otherwise_level (process_level e) answer_level block_level branch_level handler_level if_level (input_level e) reply_level (out-Branch b))
+    ∙ ap (λ (x : InputFound). x.operation) (branch_rolls (parts_refused e) (out-Branch b))
     ∙ input_operation e (out-Branch b).input
 
 pub branch_is : (e : Surroundings) (b : Branch) (h : Bool) → (branch_found e b).found h ≡ branch_refused e b h
 unfolding process_refused block_refused conditional_refused otherwise_refused
 branch_is e b h =
     ap (λ x. (branch_found e x).found h) (sym (roll-out-Branch b))
-    ∙ ap (λ (x : InputFound). x.found h) (fold-roll-Branch Found Found Found Found InputFound HandlerFound Found InputFound Found otherwise_level (process_level e) answer_level block_level branch_level handler_level if_level (input_level e) reply_level (out-Branch b))
+    ∙ ap (λ (x : InputFound). x.found h) (branch_rolls (parts_refused e) (out-Branch b))
     ∙ ap (λ rs. rs ++ block_refused e (out-Branch b).after h) (input_is e (out-Branch b).input h)
 
 -- the operations of branches that are found
@@ -116,7 +118,7 @@ pub handler_is : (e : Surroundings) (f : Handler) → handler_found e f ≡ reco
 unfolding process_refused block_refused conditional_refused otherwise_refused
 handler_is e f =
     ap (handler_found e) (sym (roll-out-Handler f))
-    ∙ fold-roll-Handler Found Found Found Found InputFound HandlerFound Found InputFound Found otherwise_level (process_level e) answer_level block_level branch_level handler_level if_level (input_level e) reply_level (out-Handler f)
+    ∙ handler_rolls (parts_refused e) (out-Handler f)
 
 -- the names of handlers that are found
 pub found_names : (e : Surroundings) (fs : List Handler) → map (λ (f : HandlerFound). f.name) (map (handler_found e) fs) ≡ map handler_name fs
@@ -136,9 +138,9 @@ handlers_are e fs =
 pub answer_made : (e : Surroundings) (path : Option Path) (fs : Option (List Handler)) (h : Bool) → answer_found e (roll-Answer (record { path = path; handlers = fs })) h ≡ wrong_if_written path ++ answer_handlers_refused e fs
 unfolding process_refused block_refused conditional_refused otherwise_refused
 answer_made e path None h =
-    ap (λ (f : Found). f h) (fold-roll-Answer Found Found Found Found InputFound HandlerFound Found InputFound Found otherwise_level (process_level e) answer_level block_level branch_level handler_level if_level (input_level e) reply_level (record { path = path; handlers = None }))
+    ap (λ (f : Found). f h) (answer_rolls (parts_refused e) (record { path = path; handlers = None }))
 answer_made e path (Some fs) h =
-    ap (λ (f : Found). f h) (fold-roll-Answer Found Found Found Found InputFound HandlerFound Found InputFound Found otherwise_level (process_level e) answer_level block_level branch_level handler_level if_level (input_level e) reply_level (record { path = path; handlers = Some fs }))
+    ap (λ (f : Found). f h) (answer_rolls (parts_refused e) (record { path = path; handlers = Some fs }))
     ∙ ap (λ rs. wrong_if_written path ++ rs) (handlers_are e fs)
 
 pub answer_is : (e : Surroundings) (a : Answer) (h : Bool) → answer_found e a h ≡ answer_refused e a
@@ -153,8 +155,8 @@ body_refused e (Some p) h = process_refused e p h
 
 pub block_made : (e : Surroundings) (at : ℕ) (body : Option Process) (h : Bool) → block_refused e (roll-Block (record { at = at; body = body })) h ≡ body_refused e body h
 unfolding process_refused block_refused conditional_refused otherwise_refused
-block_made e at None h = ap (λ (f : Found). f h) (fold-roll-Block Found Found Found Found InputFound HandlerFound Found InputFound Found otherwise_level (process_level e) answer_level block_level branch_level handler_level if_level (input_level e) reply_level (record { at = at; body = None }))
-block_made e at (Some p) h = ap (λ (f : Found). f h) (fold-roll-Block Found Found Found Found InputFound HandlerFound Found InputFound Found otherwise_level (process_level e) answer_level block_level branch_level handler_level if_level (input_level e) reply_level (record { at = at; body = Some p }))
+block_made e at None h = ap (λ (f : Found). f h) (block_rolls (parts_refused e) (record { at = at; body = None }))
+block_made e at (Some p) h = ap (λ (f : Found). f h) (block_rolls (parts_refused e) (record { at = at; body = Some p }))
 
 pub block_is : (e : Surroundings) (b : Block) (h : Bool) → block_refused e b h ≡ body_refused e (out-Block b).body h
 block_is e b h = ap (λ x. block_refused e x h) (sym (roll-out-Block b)) ∙ block_made e (out-Block b).at (out-Block b).body h
@@ -163,7 +165,7 @@ pub conditional_is : (e : Surroundings) (i : If) (h : Bool) → conditional_refu
 unfolding process_refused block_refused conditional_refused otherwise_refused
 conditional_is e i h =
     ap (λ x. conditional_refused e x h) (sym (roll-out-If i))
-    ∙ ap (λ (f : Found). f h) (fold-roll-If Found Found Found Found InputFound HandlerFound Found InputFound Found otherwise_level (process_level e) answer_level block_level branch_level handler_level if_level (input_level e) reply_level (out-If i))
+    ∙ ap (λ (f : Found). f h) (conditional_rolls (parts_refused e) (out-If i))
 
 -- ---- what an `if` does where its test fails
 
@@ -171,19 +173,19 @@ pub no_else_refused : (e : Surroundings) (h : Bool) → otherwise_refused e othe
 unfolding process_refused block_refused conditional_refused otherwise_refused
 no_else_refused e h =
     ap (λ o. otherwise_refused e o h) (sym otherwise.rolls-Nothing)
-    ∙ ap (λ (f : Found). f h) (fold-roll-Otherwise Found Found Found Found InputFound HandlerFound Found InputFound Found otherwise_level (process_level e) answer_level block_level branch_level handler_level if_level (input_level e) reply_level Otherwise-F.«Otherwise::Nothing»)
+    ∙ ap (λ (f : Found). f h) (otherwise_rolls (parts_refused e) Otherwise-F.«Otherwise::Nothing»)
 
 pub else_if_refused : (e : Surroundings) (i : If) (h : Bool) → otherwise_refused e (otherwise.ElseIf i) h ≡ conditional_refused e i h
 unfolding process_refused block_refused conditional_refused otherwise_refused
 else_if_refused e i h =
     ap (λ o. otherwise_refused e o h) (sym (otherwise.rolls-ElseIf i))
-    ∙ ap (λ (f : Found). f h) (fold-roll-Otherwise Found Found Found Found InputFound HandlerFound Found InputFound Found otherwise_level (process_level e) answer_level block_level branch_level handler_level if_level (input_level e) reply_level (Otherwise-F.ElseIf i))
+    ∙ ap (λ (f : Found). f h) (otherwise_rolls (parts_refused e) (Otherwise-F.ElseIf i))
 
 pub else_refused : (e : Surroundings) (b : Block) (h : Bool) → otherwise_refused e (otherwise.Else b) h ≡ block_refused e b h
 unfolding process_refused block_refused conditional_refused otherwise_refused
 else_refused e b h =
     ap (λ o. otherwise_refused e o h) (sym (otherwise.rolls-Else b))
-    ∙ ap (λ (f : Found). f h) (fold-roll-Otherwise Found Found Found Found InputFound HandlerFound Found InputFound Found otherwise_level (process_level e) answer_level block_level branch_level handler_level if_level (input_level e) reply_level (Otherwise-F.Else b))
+    ∙ ap (λ (f : Found). f h) (otherwise_rolls (parts_refused e) (Otherwise-F.Else b))
 
 -- ---- processes
 
@@ -191,7 +193,7 @@ else_refused e b h =
 process_made : (e : Surroundings) (h : Bool) (x : Process-F Otherwise Process Answer Block Branch Handler If Input Reply) {p : Process} → roll-Process x ≡ p
     → process_refused e p h ≡ process_level e (map-Process Otherwise Process Answer Block Branch Handler If Input Reply Found Found Found Found InputFound HandlerFound Found InputFound Found (otherwise_refused e) (process_refused e) (answer_found e) (block_refused e) (branch_found e) (handler_found e) (conditional_refused e) (input_found e) (reply_found e) x) h
 unfolding process_refused block_refused conditional_refused otherwise_refused
-process_made e h x made = ap (λ p. process_refused e p h) (sym made) ∙ ap (λ (f : Found). f h) (fold-roll-Process Found Found Found Found InputFound HandlerFound Found InputFound Found otherwise_level (process_level e) answer_level block_level branch_level handler_level if_level (input_level e) reply_level x)
+process_made e h x made = ap (λ p. process_refused e p h) (sym made) ∙ ap (λ (f : Found). f h) (process_rolls (parts_refused e) x)
 
 pub nothing_refused : (e : Surroundings) (at : ℕ) (h : Bool) → process_refused e (process.Nothing at) h ≡ []
 nothing_refused e at h = process_made e h (Process-F.«Process::Nothing» at) (process.rolls-Nothing at)

@@ -2,7 +2,6 @@
 -- What is refused of the parts of processes.
 use Rattle.std.specs.Prelude.{Bool, true, false, not, List, [], ◌∷◌, ◌++◌, map, flat_map, Option, None, Some, is_some}
 use Rattle.jolie_ast.specs.declared.name.Name.{Name}
-use Rattle.jolie_ast.specs.declared.process.Otherwise.TheFolds.{fold-If, fold-Otherwise}
 use Rattle.jolie_ast.specs.declared.process.Otherwise.{Otherwise}
 use Rattle.jolie_ast.specs.declared.process.Process.{Process}
 use Rattle.jolie_ast.specs.declared.process.Answer.{Answer, out-Answer}
@@ -11,6 +10,7 @@ use Rattle.jolie_ast.specs.declared.process.Handler.{Handler, out-Handler}
 use Rattle.jolie_ast.specs.declared.process.If.{If}
 use Rattle.jolie_ast.specs.declared.process.Input.{Input, out-Input}
 use Rattle.jolie_ast.specs.declared.process.Reply.{Reply, out-Reply}
+use Rattle.jolie_ast.specs.Folds.{fold_conditional, fold_otherwise}
 use Rattle.check_base.specs.declared.refusal.CheckName.TheVariants.{DuplicateName, UnknownOperation, WrongKind}
 use Rattle.check_base.specs.declared.refusal.Refusal.{Refusal}
 use Rattle.check_base.specs.Repeated.{repeated}
@@ -18,10 +18,8 @@ use Rattle.check_base.specs.Least.{refused, refused_if}
 use Rattle.check_processes.specs.declared.process_rules.Where.{Where}
 use Rattle.check_processes.specs.declared.process_rules.Where.TheVariants as stands
 use Rattle.check_processes.specs.Surroundings.{Surroundings}
-use Rattle.check_processes.specs.ProcessRules.{agree, used, sends, wrong_if_written, Found, InputFound, HandlerFound}
-use Rattle.check_processes.specs.ProcessRules.{key_name, process_level, block_level, if_level, otherwise_level}
-use Rattle.check_processes.specs.ProcessRules.{input_level, reply_level, branch_level, answer_level, handler_level}
-use Rattle.check_processes.specs.ProcessRules.{process_refused, block_refused}
+use Rattle.check_processes.specs.ProcessRules.{agree, used, sends, wrong_if_written, Found, key_name, process_refused}
+use Rattle.check_processes.specs.ProcessRules.{block_refused, parts_refused}
 
 -- whether processes that stand there are in a handler
 abbrev pub in_handler : Where → Bool
@@ -30,15 +28,11 @@ in_handler stands.Handler = true
 
 -- what is refused of an `if`
 unfoldable pub conditional_refused : Surroundings → If → Found
-conditional_refused e =
-    fold-If Found Found Found Found InputFound HandlerFound Found InputFound Found otherwise_level (process_level e)
-    answer_level block_level branch_level handler_level if_level (input_level e) reply_level
+conditional_refused e = fold_conditional (parts_refused e)
 
 -- what is refused of what an `if` does where its test fails
 unfoldable pub otherwise_refused : Surroundings → Otherwise → Found
-otherwise_refused e =
-    fold-Otherwise Found Found Found Found InputFound HandlerFound Found InputFound Found otherwise_level
-    (process_level e) answer_level block_level branch_level handler_level if_level (input_level e) reply_level
+otherwise_refused e = fold_otherwise (parts_refused e)
 
 -- what is refused of several processes
 abbrev pub processes_refused : Surroundings → List Process → Found

@@ -10,12 +10,10 @@ use Rattle.jolie_ast.specs.declared.expression.Path.{Path, out-Path}
 use Rattle.jolie_ast.specs.declared.expression.Step.{Step, out-Step}
 use Rattle.jolie_ast.specs.declared.process.HandlerKey.{HandlerKey}
 use Rattle.jolie_ast.specs.declared.process.HandlerKey.TheVariants as key
-use Rattle.jolie_ast.specs.declared.process.Otherwise.TheOpen.{Answer-F, Block-F, Branch-F, Handler-F, If-F, Input-F}
-use Rattle.jolie_ast.specs.declared.process.Otherwise.TheOpen.{Otherwise-F, Process-F, Reply-F}
-use Rattle.jolie_ast.specs.declared.process.Otherwise.TheFolds.{fold-Block, fold-Process}
-use Rattle.jolie_ast.specs.declared.process.Otherwise.{Otherwise}
+use Rattle.jolie_ast.specs.declared.process.Otherwise.TheOpen.{Input-F, Otherwise-F, Process-F}
 use Rattle.jolie_ast.specs.declared.process.Process.{Process}
 use Rattle.jolie_ast.specs.declared.process.Block.{Block}
+use Rattle.jolie_ast.specs.Folds.{ProcessResults, ProcessFold, all_are, fold_process, fold_block}
 use Rattle.behaviour_tree.specs.Distinct.{is_in}
 use Rattle.check_base.specs.declared.refusal.CheckName.TheVariants.{DuplicateName, UnknownPort, UnknownOperation}
 use Rattle.check_base.specs.declared.refusal.CheckName.TheVariants.{WrongKind, Uncorrelated, CompOutsideHandler}
@@ -97,6 +95,10 @@ pub record HandlerFound : Type 0 where
   pub name : Name
   pub found : Found
 
+-- what is found of each part of a process
+abbrev pub findings : ProcessResults
+findings = record (all_are Found) { input = InputFound; branch = InputFound; handler = HandlerFound }
+
 -- what is refused of a part that may be there
 abbrev pub maybe : Option Found → Found
 maybe part h = option_map_or (λ (found : Found). found h) part []
@@ -142,14 +144,6 @@ process_level e (Process-F.Sequence statements) h = each statements h
 process_level e (Process-F.Parallel members) h = each members h
 process_level e _ h = []
 
--- one level of a block
-abbrev pub block_level : Block-F Found Found Found Found InputFound HandlerFound Found InputFound Found → Found
-block_level b h = maybe b.body h
-
--- one level of an `if`
-abbrev pub if_level : If-F Found Found Found Found InputFound HandlerFound Found InputFound Found → Found
-if_level i h = i.body h ++ i.otherwise h
-
 -- one level of what an `if` does where its test fails
 abbrev pub otherwise_level : Otherwise-F Found Found Found Found InputFound HandlerFound Found InputFound Found → Found
 otherwise_level Otherwise-F.«Otherwise::Nothing» h = []
@@ -164,31 +158,24 @@ input_level e i = record {
   found = λ h. used e.inputs i.operation (is_some i.reply) ++ wrong_if_written i.request ++ maybe i.reply h;
 }
 
--- one level of a reply part
-abbrev pub reply_level : Reply-F Found Found Found Found InputFound HandlerFound Found InputFound Found → Found
-reply_level r h = wrong_if_written r.path ++ r.body h
-
--- one level of a branch
-abbrev pub branch_level : Branch-F Found Found Found Found InputFound HandlerFound Found InputFound Found → InputFound
-branch_level b = record { operation = b.input.operation; found = λ h. b.input.found h ++ b.after h }
-
--- one level of what an output awaits
-abbrev pub answer_level : Answer-F Found Found Found Found InputFound HandlerFound Found InputFound Found → Found
-answer_level a h = wrong_if_written a.path ++ option_map_or handlers a.handlers []
-
--- one level of a handler
-abbrev pub handler_level : Handler-F Found Found Found Found InputFound HandlerFound Found InputFound Found
-    → HandlerFound
-handler_level f = record { name = key_name f.key; found = f.body }
+-- what is refused of a part, from what is refused of the parts in it
+abbrev pub parts_refused : Surroundings → ProcessFold findings
+parts_refused e = record {
+  process = process_level e;
+  block = λ b h. maybe b.body h;
+  conditional = λ i h. i.body h ++ i.otherwise h;
+  otherwise = otherwise_level;
+  input = input_level e;
+  reply = λ r h. wrong_if_written r.path ++ r.body h;
+  branch = λ b. record { operation = b.input.operation; found = λ h. b.input.found h ++ b.after h };
+  answer = λ a h. wrong_if_written a.path ++ option_map_or handlers a.handlers [];
+  handler = λ f. record { name = key_name f.key; found = f.body };
+}
 
 -- what is refused of a process
 unfoldable pub process_refused : Surroundings → Process → Found
-process_refused e =
-    fold-Process Found Found Found Found InputFound HandlerFound Found InputFound Found otherwise_level
-    (process_level e) answer_level block_level branch_level handler_level if_level (input_level e) reply_level
+process_refused e = fold_process (parts_refused e)
 
 -- what is refused of a block
 unfoldable pub block_refused : Surroundings → Block → Found
-block_refused e =
-    fold-Block Found Found Found Found InputFound HandlerFound Found InputFound Found otherwise_level (process_level e)
-    answer_level block_level branch_level handler_level if_level (input_level e) reply_level
+block_refused e = fold_block (parts_refused e)

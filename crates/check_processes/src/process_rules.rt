@@ -71,7 +71,8 @@ impl<'s, 'a> Checker<'s, 'a> {
     #[cycle(process)]
     #[tactic(auto, using(crate::proofs::ProcessForms::nothing_refused, crate::proofs::ProcessForms::assign_refused, crate::proofs::ProcessForms::undef_refused, crate::proofs::ProcessForms::correlate_refused, crate::proofs::ProcessForms::throw_refused, crate::proofs::ProcessForms::compensate_refused, crate::proofs::ProcessForms::inner_handler_refused))]
     fn process_refused(&self, process: &Process, least: &mut Least) -> Result<(), AllocError>
-        ensures { OnOk result (least.new ≡ joined least.old (process_refused self.now.surroundings.now process.now (in_handler self.now.place))) }
+        ensures { OnOk result (least.new ≡ joined least.old
+            (process_refused self.now.surroundings.now process.now (in_handler self.now.place))) }
     {
         match process {
             Process::Nothing(_) => Ok(()),
@@ -119,7 +120,8 @@ impl<'s, 'a> Checker<'s, 'a> {
     /// What is refused of several processes.
     #[cycle(process)]
     fn processes_refused(&self, processes: &[Process], least: &mut Least) -> Result<(), AllocError>
-        ensures { OnOk result (least.new ≡ joined least.old (processes_refused self.now.surroundings.now processes.now (in_handler self.now.place))) }
+        ensures { OnOk result (least.new ≡ joined least.old
+            (processes_refused self.now.surroundings.now processes.now (in_handler self.now.place))) }
     {
         for process in processes {
             self.process_refused(process, least)?;
@@ -131,7 +133,8 @@ impl<'s, 'a> Checker<'s, 'a> {
     #[cycle(process)]
     #[tactic(auto, using(crate::proofs::ProcessForms::block_is))]
     fn block_refused(&self, block: &Block, least: &mut Least) -> Result<(), AllocError>
-        ensures { OnOk result (least.new ≡ joined least.old (block_refused self.now.surroundings.now block.now (in_handler self.now.place))) }
+        ensures { OnOk result (least.new ≡ joined least.old
+            (block_refused self.now.surroundings.now block.now (in_handler self.now.place))) }
     {
         match &block.body {
             Some(process) => self.process_refused(process.get(), least),
@@ -143,7 +146,8 @@ impl<'s, 'a> Checker<'s, 'a> {
     #[cycle(process)]
     #[tactic(auto, using(check_base::proofs::Joined::joined_append, crate::proofs::ProcessForms::conditional_is))]
     fn conditional_refused(&self, conditional: &If, least: &mut Least) -> Result<(), AllocError>
-        ensures { OnOk result (least.new ≡ joined least.old (conditional_refused self.now.surroundings.now conditional.now (in_handler self.now.place))) }
+        ensures { OnOk result (least.new ≡ joined least.old
+            (conditional_refused self.now.surroundings.now conditional.now (in_handler self.now.place))) }
     {
         self.block_refused(&conditional.body, least)?;
         self.otherwise_refused(&conditional.otherwise, least)
@@ -153,7 +157,8 @@ impl<'s, 'a> Checker<'s, 'a> {
     #[cycle(process)]
     #[tactic(auto, using(crate::proofs::ProcessForms::no_else_refused, crate::proofs::ProcessForms::else_if_refused, crate::proofs::ProcessForms::else_refused))]
     fn otherwise_refused(&self, otherwise: &Otherwise, least: &mut Least) -> Result<(), AllocError>
-        ensures { OnOk result (least.new ≡ joined least.old (otherwise_refused self.now.surroundings.now otherwise.now (in_handler self.now.place))) }
+        ensures { OnOk result (least.new ≡ joined least.old
+            (otherwise_refused self.now.surroundings.now otherwise.now (in_handler self.now.place))) }
     {
         match otherwise {
             Otherwise::Nothing => Ok(()),
@@ -166,7 +171,8 @@ impl<'s, 'a> Checker<'s, 'a> {
     #[cycle(process)]
     #[tactic(auto, using(check_base::proofs::Joined::joined_append, crate::proofs::ProcessForms::used_is))]
     fn input_refused(&self, input: &Input, least: &mut Least) -> Result<(), AllocError>
-        ensures { OnOk result (least.new ≡ joined least.old (input_refused self.now.surroundings.now input.now (in_handler self.now.place))) }
+        ensures { OnOk result (least.new ≡ joined least.old
+            (input_refused self.now.surroundings.now input.now (in_handler self.now.place))) }
     {
         let inputs = self.surroundings.inputs();
         let known = inputs.answers(input.operation.text.as_str());
@@ -178,7 +184,8 @@ impl<'s, 'a> Checker<'s, 'a> {
     /// What is refused of a reply, if it is written.
     #[cycle(process)]
     fn reply_if_written(&self, reply: &Option<Reply>, least: &mut Least) -> Result<(), AllocError>
-        ensures { OnOk result (least.new ≡ joined least.old (reply_if_written self.now.surroundings.now reply.now (in_handler self.now.place))) }
+        ensures { OnOk result (least.new ≡ joined least.old
+            (reply_if_written self.now.surroundings.now reply.now (in_handler self.now.place))) }
     {
         match reply {
             Some(reply) => self.reply_refused(reply, least),
@@ -190,7 +197,8 @@ impl<'s, 'a> Checker<'s, 'a> {
     #[cycle(process)]
     #[tactic(auto, using(check_base::proofs::Joined::joined_append))]
     fn reply_refused(&self, reply: &Reply, least: &mut Least) -> Result<(), AllocError>
-        ensures { OnOk result (least.new ≡ joined least.old (reply_refused self.now.surroundings.now reply.now (in_handler self.now.place))) }
+        ensures { OnOk result (least.new ≡ joined least.old
+            (reply_refused self.now.surroundings.now reply.now (in_handler self.now.place))) }
     {
         wrong_if_written(&reply.path, least);
         self.block_refused(&reply.body, least)
@@ -200,7 +208,8 @@ impl<'s, 'a> Checker<'s, 'a> {
     #[cycle(process)]
     #[tactic(auto, using(check_base::proofs::Joined::joined_append))]
     fn choice_refused(&self, branches: &[Branch], least: &mut Least) -> Result<(), AllocError>
-        ensures { OnOk result (least.new ≡ joined least.old (choice_refused self.now.surroundings.now branches.now (in_handler self.now.place))) }
+        ensures { OnOk result (least.new ≡ joined least.old
+            (choice_refused self.now.surroundings.now branches.now (in_handler self.now.place))) }
     {
         let operations = branch_operations(self.alloc, branches)?;
         repeated_refused(self.alloc, operations.as_slice(), least)?;
@@ -210,7 +219,8 @@ impl<'s, 'a> Checker<'s, 'a> {
     /// What is refused of branches one by one.
     #[cycle(process)]
     fn branches_refused(&self, branches: &[Branch], least: &mut Least) -> Result<(), AllocError>
-        ensures { OnOk result (least.new ≡ joined least.old (branches_refused self.now.surroundings.now branches.now (in_handler self.now.place))) }
+        ensures { OnOk result (least.new ≡ joined least.old
+            (branches_refused self.now.surroundings.now branches.now (in_handler self.now.place))) }
     {
         for branch in branches {
             self.branch_refused(branch, least)?;
@@ -222,7 +232,8 @@ impl<'s, 'a> Checker<'s, 'a> {
     #[cycle(process)]
     #[tactic(auto, using(check_base::proofs::Joined::joined_append))]
     fn branch_refused(&self, branch: &Branch, least: &mut Least) -> Result<(), AllocError>
-        ensures { OnOk result (least.new ≡ joined least.old (branch_refused self.now.surroundings.now branch.now (in_handler self.now.place))) }
+        ensures { OnOk result (least.new ≡ joined least.old
+            (branch_refused self.now.surroundings.now branch.now (in_handler self.now.place))) }
     {
         self.input_refused(&branch.input, least)?;
         self.block_refused(&branch.after, least)
@@ -238,7 +249,8 @@ impl<'s, 'a> Checker<'s, 'a> {
         answer: &Option<Answer>,
         least: &mut Least,
     ) -> Result<(), AllocError>
-        ensures { OnOk result (least.new ≡ joined least.old (output_refused self.now.surroundings.now operation.now port.now answer.now)) }
+        ensures { OnOk result (least.new ≡ joined least.old
+            (output_refused self.now.surroundings.now operation.now port.now answer.now)) }
     {
         sends(operation, port, answer.is_some(), self.surroundings, least);
         match answer {
@@ -264,7 +276,8 @@ impl<'s, 'a> Checker<'s, 'a> {
     #[cycle(process)]
     #[tactic(auto, using(check_base::proofs::Joined::joined_append))]
     fn handlers_refused(&self, handlers: &[Handler], least: &mut Least) -> Result<(), AllocError>
-        ensures { OnOk result (least.new ≡ joined least.old (handlers_refused self.now.surroundings.now handlers.now)) }
+        ensures { OnOk result (least.new ≡ joined least.old
+            (handlers_refused self.now.surroundings.now handlers.now)) }
     {
         let names = handler_names(self.alloc, handlers)?;
         repeated_refused(self.alloc, names.as_slice(), least)?;

@@ -143,7 +143,8 @@ fn with_outlet<'a>(
     interfaces: &Interfaces<'a>,
     clause: &'a Clause,
 ) -> Result<Outlets<'a>, AllocError>
-    ensures { IfOk result (λ more. more ≡ outlets.entry ++ map (outlet interfaces.now) (option_to_list (output_port_in clause.now))) }
+    ensures { IfOk result
+        (λ more. more ≡ outlets.entry ++ map (outlet interfaces.now) (option_to_list (output_port_in clause.now))) }
 {
     match output_port_in(clause) {
         Some(port) => {

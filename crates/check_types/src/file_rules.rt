@@ -20,7 +20,9 @@ pub fn file_parts_refused(
     file: &[Definition],
     least: &mut Least,
 ) -> Result<(), AllocError>
-    ensures { OnOk result (least.new ≡ joined least.old (flat_map (type_refused types.now) (types_of file.now) ++ flat_map (interface_refused types.now) (interfaces_of file.now))) }
+    ensures { OnOk result (least.new ≡ joined least.old
+        (flat_map (type_refused types.now) (types_of file.now)
+        ++ flat_map (interface_refused types.now) (interfaces_of file.now))) }
 {
     types_refused(alloc, types, file, least)?;
     interfaces_refused(alloc, types, file, least)
@@ -47,7 +49,8 @@ fn defined_type_refused(
     definition: &Definition,
     least: &mut Least,
 ) -> Result<(), AllocError>
-    ensures { OnOk result (least.new ≡ joined least.old (flat_map (type_refused circles.now) (option_to_list (type_in definition.now)))) }
+    ensures { OnOk result (least.new ≡ joined least.old
+        (flat_map (type_refused circles.now) (option_to_list (type_in definition.now)))) }
 {
     match type_in(definition) {
         Some(ty) => type_refused(alloc, circles, ty, least),
@@ -61,7 +64,8 @@ fn interfaces_refused(
     file: &[Definition],
     least: &mut Least,
 ) -> Result<(), AllocError>
-    ensures { OnOk result (least.new ≡ joined least.old (flat_map (interface_refused types.now) (interfaces_of file.now))) }
+    ensures { OnOk result (least.new ≡ joined least.old
+        (flat_map (interface_refused types.now) (interfaces_of file.now))) }
 {
     for definition in file {
         defined_interface_refused(alloc, types, definition, least)?;
@@ -75,7 +79,8 @@ fn defined_interface_refused(
     definition: &Definition,
     least: &mut Least,
 ) -> Result<(), AllocError>
-    ensures { OnOk result (least.new ≡ joined least.old (flat_map (interface_refused types.now) (option_to_list (interface_in definition.now)))) }
+    ensures { OnOk result (least.new ≡ joined least.old
+        (flat_map (interface_refused types.now) (option_to_list (interface_in definition.now)))) }
 {
     match interface_in(definition) {
         Some(interface) => interface_refused(alloc, types, interface, least),

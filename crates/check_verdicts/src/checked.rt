@@ -14,7 +14,9 @@ use std::alloc::{AllocError, Global};
 /// The program that a text is, or why it is none.
 #[tactic(auto, using(crate::proofs::TextsAsPrograms::unread, crate::proofs::TextsAsPrograms::passed, crate::proofs::TextsAsPrograms::refused))]
 pub fn program_in(alloc: Global, text: &[u8]) -> Result<Result<Program, Refusal>, AllocError>
-    ensures { IfOk result (λ found. MatchResult found (λ program. IsChecked text.now (parts_of program)) (λ refusal. IsUncheckedBy text.now (refusal_line refusal))) }
+    ensures { IfOk result
+        (λ found. MatchResult found (λ program. IsChecked text.now (parts_of program))
+        (λ refusal. IsUncheckedBy text.now (refusal_line refusal))) }
 {
     let file = match verdict_of(alloc, text)? {
         Verdict::File(file) => file,
@@ -30,7 +32,8 @@ pub fn program_in(alloc: Global, text: &[u8]) -> Result<Result<Program, Refusal>
 /// Why a text is no program, where it is none.
 #[tactic(auto, using(crate::proofs::TextsAsPrograms::is_program))]
 pub fn refusal_in(alloc: Global, text: &[u8]) -> Result<Option<Refusal>, AllocError>
-    ensures { IfOk result (λ found. MatchOption found (IsProgram text.now) (λ refusal. IsUncheckedBy text.now (refusal_line refusal))) }
+    ensures { IfOk result
+        (λ found. MatchOption found (IsProgram text.now) (λ refusal. IsUncheckedBy text.now (refusal_line refusal))) }
 {
     match program_in(alloc, text)? {
         Ok(_) => Ok(None),

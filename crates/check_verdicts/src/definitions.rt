@@ -13,7 +13,9 @@ use std::alloc::{AllocError, Global};
 /// The definitions of a text that is a program, or why it is none.
 #[tactic(auto, using(crate::proofs::TextsAsPrograms::unread, crate::proofs::TextsAsPrograms::is_file_of, crate::proofs::TextsAsPrograms::refused))]
 pub fn definitions_in(alloc: Global, text: &[u8]) -> Result<Result<Ast, Refusal>, AllocError>
-    ensures { IfOk result (λ found. MatchResult found (λ file. IsFileOf text.now file) (λ refusal. IsUncheckedBy text.now (refusal_line refusal))) }
+    ensures { IfOk result
+        (λ found. MatchResult found (λ file. IsFileOf text.now file)
+        (λ refusal. IsUncheckedBy text.now (refusal_line refusal))) }
 {
     let file = match verdict_of(alloc, text)? {
         Verdict::File(file) => file,

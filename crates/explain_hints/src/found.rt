@@ -7,8 +7,8 @@ use crate::hint::{HINTS, Hint, SaidBy};
 use crate::trial::may_stand;
 use std::alloc::{AllocError, Global};
 
-/// What a person may be told of what may stand at a place: the hints that may stand there, in the table's order, without
-/// those that another of them says too. Where the bytes before the place begin no file, there is none.
+/// What a person may be told of what may stand at a place: the hints that may stand there, in the table's order,
+/// without those that another of them says too. Where the bytes before the place begin no file, there is none.
 pub fn hints_at(alloc: Global, text: &[u8], at: usize) -> Result<Vec<Hint>, AllocError>
     ensures { IfOk result (λ told. AreToldAt text.now at told.items) }
 {

@@ -156,8 +156,8 @@ impl Hint {
         }
     }
 
-    /// A sample of it: bytes that may stand there and nowhere else, so far as the grammar has such. What begins alike and is
-    /// something else goes on otherwise, so that some samples have more than one word.
+    /// A sample of it: bytes that may stand there and nowhere else, so far as the grammar has such. What begins alike
+    /// and is something else goes on otherwise, so that some samples have more than one word.
     pub fn sample(self) -> &'static str
         ensures { result.now ≡ sample_of self }
     {

@@ -15,6 +15,7 @@ pub of_the_unmet : (k : NoteKind) (met content : List (List ℕ)) (ms : Seen) �
 of_the_unmet kind.Uncaught met content ms tree literal unanswered = refl
 of_the_unmet kind.UncaughtInLoop met content ms tree literal unanswered = refl
 of_the_unmet kind.EndsService met content ms tree literal unanswered = refl
+of_the_unmet kind.EndsByArithmetic met content ms tree literal unanswered = refl
 of_the_unmet kind.Unthrown met content ms tree literal unanswered = refl
 of_the_unmet kind.NoScope met content ms tree literal unanswered = refl
 of_the_unmet kind.Unsent met content ms tree literal unanswered = refl
@@ -31,6 +32,7 @@ pub met_by_no_text : (declared : List (List ℕ)) (k : NoteKind) → (k ≡ kind
 met_by_no_text declared kind.Uncaught uncaught many unthrown unset = absurd (uncaught refl)
 met_by_no_text declared kind.UncaughtInLoop uncaught many unthrown unset = absurd (many refl)
 met_by_no_text declared kind.EndsService uncaught many unthrown unset = refl
+met_by_no_text declared kind.EndsByArithmetic uncaught many unthrown unset = refl
 met_by_no_text declared kind.Unthrown uncaught many unthrown unset = absurd (unthrown refl)
 met_by_no_text declared kind.NoScope uncaught many unthrown unset = refl
 met_by_no_text declared kind.Unsent uncaught many unthrown unset = refl

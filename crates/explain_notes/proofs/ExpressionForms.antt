@@ -4,7 +4,7 @@ use Rattle.jolie_ast.specs.declared.name.Name.{Name}
 use Rattle.jolie_ast.specs.declared.expression.Comparison.{Comparison}
 use Rattle.jolie_ast.specs.declared.expression.CastTarget.{CastTarget}
 use Rattle.jolie_ast.specs.declared.expression.ExprForm.TheOpen.{ExprForm-F}
-use Rattle.jolie_ast.specs.declared.expression.ExprForm.TheFolds.{map-ExprForm, fold-roll-Expr, fold-roll-ExprForm, fold-roll-Factor, fold-roll-Member, fold-roll-Path, fold-roll-Step, fold-roll-Term}
+use Rattle.jolie_ast.specs.declared.expression.ExprForm.TheFolds.{map-ExprForm}
 use Rattle.jolie_ast.specs.declared.expression.Expr.{Expr, out-Expr, roll-out-Expr}
 use Rattle.jolie_ast.specs.declared.expression.ExprForm.{ExprForm, roll-ExprForm}
 use Rattle.jolie_ast.specs.declared.expression.ExprForm.TheVariants as form
@@ -15,16 +15,17 @@ use Rattle.jolie_ast.specs.declared.expression.Path.{Path, out-Path, roll-out-Pa
 use Rattle.jolie_ast.specs.declared.expression.Step.{Step, out-Step, roll-Step, roll-out-Step}
 use Rattle.explain_notes.specs.declared.role.Role.TheVariants as role
 use Rattle.explain_notes.specs.Mentions.{Seen}
-use Rattle.explain_notes.specs.Expressions.{Walked, read_role, walked, form_level, expr_level, factor_level, member_level, path_level, step_level, term_level, expr_mentions, path_walked, path_mentions}
+use Rattle.explain_notes.specs.Expressions.{Walked, read_role, walked, form_level, expr_mentions, path_walked, path_mentions, expression_seen}
 use Rattle.explain_notes.specs.Parts.{form_mentions, factor_mentions, term_mentions, member_mentions, step_walked, index_mentions}
 use Rattle.explain_notes.specs.Statements.{if_written}
 use Rattle.explain_notes.proofs.Lists.{mapped_joined, mapped_parts}
+use Rattle.jolie_ast.proofs.Folds.{form_rolls, expr_rolls, factor_rolls, term_rolls, member_rolls, path_rolls, step_rolls}
 
 -- what a form mentions, by the form that it is made of
 form_made : (x : ExprForm-F ExprForm Expr Factor Member Path Step Term) {f : ExprForm} → roll-ExprForm x ≡ f
     → form_mentions f ≡ form_level (map-ExprForm ExprForm Expr Factor Member Path Step Term Seen Seen Seen Seen Walked Walked Seen form_mentions expr_mentions factor_mentions member_mentions path_walked step_walked term_mentions x)
 unfolding form_mentions expr_mentions factor_mentions member_mentions path_walked step_walked term_mentions
-form_made x made = ap form_mentions (sym made) ∙ fold-roll-ExprForm Seen Seen Seen Seen Walked Walked Seen form_level expr_level factor_level member_level path_level step_level term_level x
+form_made x made = ap form_mentions (sym made) ∙ form_rolls expression_seen x
 
 pub int_is : (n : ℤ) → form_mentions (form.Int n) ≡ []
 int_is n = form_made (ExprForm-F.Int n) (form.rolls-Int n)
@@ -73,31 +74,31 @@ pub expr_is : (e : Expr) → expr_mentions e ≡ form_mentions (out-Expr e).form
 unfolding form_mentions expr_mentions factor_mentions member_mentions path_walked step_walked term_mentions
 expr_is e =
     ap expr_mentions (sym (roll-out-Expr e))
-    ∙ fold-roll-Expr Seen Seen Seen Seen Walked Walked Seen form_level expr_level factor_level member_level path_level step_level term_level (out-Expr e)
+    ∙ expr_rolls expression_seen (out-Expr e)
 
 pub factor_is : (f : Factor) → factor_mentions f ≡ expr_mentions (out-Factor f).operand
 unfolding form_mentions expr_mentions factor_mentions member_mentions path_walked step_walked term_mentions
 factor_is f =
     ap factor_mentions (sym (roll-out-Factor f))
-    ∙ fold-roll-Factor Seen Seen Seen Seen Walked Walked Seen form_level expr_level factor_level member_level path_level step_level term_level (out-Factor f)
+    ∙ factor_rolls expression_seen (out-Factor f)
 
 pub term_is : (t : Term) → term_mentions t ≡ expr_mentions (out-Term t).operand
 unfolding form_mentions expr_mentions factor_mentions member_mentions path_walked step_walked term_mentions
 term_is t =
     ap term_mentions (sym (roll-out-Term t))
-    ∙ fold-roll-Term Seen Seen Seen Seen Walked Walked Seen form_level expr_level factor_level member_level path_level step_level term_level (out-Term t)
+    ∙ term_rolls expression_seen (out-Term t)
 
 pub member_is : (m : Member) → member_mentions m ≡ expr_mentions (out-Member m).value
 unfolding form_mentions expr_mentions factor_mentions member_mentions path_walked step_walked term_mentions
 member_is m =
     ap member_mentions (sym (roll-out-Member m))
-    ∙ fold-roll-Member Seen Seen Seen Seen Walked Walked Seen form_level expr_level factor_level member_level path_level step_level term_level (out-Member m)
+    ∙ member_rolls expression_seen (out-Member m)
 
 -- a step of its name and its index, if one is written
 step_made : (name : Name) (index : Option Expr) → step_walked (roll-Step (record { name = name; index = index })) ≡ record { name = name; indices = if_written expr_mentions index; read = role.Read }
 unfolding form_mentions expr_mentions factor_mentions member_mentions path_walked step_walked term_mentions
-step_made name None = fold-roll-Step Seen Seen Seen Seen Walked Walked Seen form_level expr_level factor_level member_level path_level step_level term_level (record { name = name; index = None })
-step_made name (Some e) = fold-roll-Step Seen Seen Seen Seen Walked Walked Seen form_level expr_level factor_level member_level path_level step_level term_level (record { name = name; index = Some e })
+step_made name None = step_rolls expression_seen (record { name = name; index = None })
+step_made name (Some e) = step_rolls expression_seen (record { name = name; index = Some e })
 
 step_whole : (s : Step) → step_walked s ≡ record { name = (out-Step s).name; indices = if_written expr_mentions (out-Step s).index; read = role.Read }
 step_whole s = ap step_walked (sym (roll-out-Step s)) ∙ step_made (out-Step s).name (out-Step s).index
@@ -109,7 +110,7 @@ path_made : (p : Path) → path_walked p ≡ record { name = (step_walked (out-P
 unfolding form_mentions expr_mentions factor_mentions member_mentions path_walked step_walked term_mentions
 path_made p =
     ap path_walked (sym (roll-out-Path p))
-    ∙ fold-roll-Path Seen Seen Seen Seen Walked Walked Seen form_level expr_level factor_level member_level path_level step_level term_level (out-Path p)
+    ∙ path_rolls expression_seen (out-Path p)
 
 -- the variable of a path is the name of its first step
 pub variable_is : (p : Path) → (path_walked p).name ≡ (out-Step (out-Path p).first).name

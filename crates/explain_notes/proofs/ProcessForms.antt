@@ -7,7 +7,7 @@ use Rattle.jolie_ast.specs.declared.expression.Path.{Path}
 use Rattle.jolie_ast.specs.declared.process.Assignment.{Assignment}
 use Rattle.jolie_ast.specs.declared.process.ForStep.{ForStep}
 use Rattle.jolie_ast.specs.declared.process.Otherwise.TheOpen.{Otherwise-F, Process-F}
-use Rattle.jolie_ast.specs.declared.process.Otherwise.TheFolds.{map-Otherwise, map-Process, fold-roll-Answer, fold-roll-Block, fold-roll-Branch, fold-roll-Handler, fold-roll-If, fold-roll-Input, fold-roll-Otherwise, fold-roll-Process, fold-roll-Reply}
+use Rattle.jolie_ast.specs.declared.process.Otherwise.TheFolds.{map-Otherwise, map-Process}
 use Rattle.jolie_ast.specs.declared.process.Process.{Process, roll-Process}
 use Rattle.jolie_ast.specs.declared.process.Process.TheVariants as process
 use Rattle.jolie_ast.specs.declared.process.Block.{Block, out-Block, roll-Block, roll-out-Block}
@@ -20,12 +20,13 @@ use Rattle.jolie_ast.specs.declared.process.Branch.{Branch, out-Branch, roll-out
 use Rattle.jolie_ast.specs.declared.process.Answer.{Answer, out-Answer, roll-Answer, roll-out-Answer}
 use Rattle.jolie_ast.specs.declared.process.Handler.{Handler, out-Handler, roll-out-Handler}
 use Rattle.explain_notes.specs.declared.role.Role.TheVariants as role
-use Rattle.explain_notes.specs.Mentions.{Seen, mention, around_scope, in_role, kept_role, looped_role}
+use Rattle.explain_notes.specs.Mentions.{Seen, mention, around_scope, in_role, kept_role, looped_role, turned_role}
 use Rattle.explain_notes.specs.Expressions.{expr_mentions, path_walked}
 use Rattle.explain_notes.specs.Statements.{assigned_mentions, begun_mentions, handler_mentions_of, if_written, received_mentions, request_mentions, stepped_mentions}
-use Rattle.explain_notes.specs.Processes.{process_level, block_level, if_level, otherwise_level, input_level, reply_level, branch_level, answer_level, handler_level, block_mentions}
+use Rattle.explain_notes.specs.Processes.{process_level, otherwise_level, block_mentions, process_seen}
 use Rattle.explain_notes.specs.Parts.{after_input, process_mentions, if_mentions, otherwise_mentions, input_mentions, reply_mentions, branch_mentions, answer_mentions, handler_mentions}
 use Rattle.explain_notes.proofs.Lists.{mapped_joined}
+use Rattle.jolie_ast.proofs.Folds.{process_rolls, block_rolls, conditional_rolls, otherwise_rolls, input_rolls, reply_rolls, branch_rolls, answer_rolls, handler_rolls}
 
 -- ---- processes
 
@@ -33,7 +34,7 @@ use Rattle.explain_notes.proofs.Lists.{mapped_joined}
 process_made : (x : Process-F Otherwise Process Answer Block Branch Handler If Input Reply) {p : Process} → roll-Process x ≡ p
     → process_mentions p ≡ process_level (map-Process Otherwise Process Answer Block Branch Handler If Input Reply Seen Seen Seen Seen Seen Seen Seen (Seen → Seen) (Name → Seen → Seen) otherwise_mentions process_mentions answer_mentions block_mentions branch_mentions handler_mentions if_mentions input_mentions reply_mentions x)
 unfolding otherwise_mentions process_mentions answer_mentions block_mentions branch_mentions handler_mentions if_mentions input_mentions reply_mentions
-process_made x made = ap process_mentions (sym made) ∙ fold-roll-Process Seen Seen Seen Seen Seen Seen Seen (Seen → Seen) (Name → Seen → Seen) otherwise_level process_level answer_level block_level branch_level handler_level if_level input_level reply_level x
+process_made x made = ap process_mentions (sym made) ∙ process_rolls process_seen x
 
 pub nothing_is : (at : ℕ) → process_mentions (process.Nothing at) ≡ []
 nothing_is at = process_made (Process-F.«Process::Nothing» at) (process.rolls-Nothing at)
@@ -50,7 +51,7 @@ correlate_is at variable value = process_made (Process-F.Correlate at variable v
 pub conditional_is : (i : If) → process_mentions (process.If i) ≡ if_mentions i
 conditional_is i = process_made (Process-F.If i) (process.rolls-If i)
 
-pub while_is : (at : ℕ) (test : Expr) (body : Block) → process_mentions (process.While at test body) ≡ expr_mentions test ++ map (in_role looped_role) (block_mentions body)
+pub while_is : (at : ℕ) (test : Expr) (body : Block) → process_mentions (process.While at test body) ≡ expr_mentions test ++ map (in_role turned_role) (block_mentions body)
 while_is at test body = process_made (Process-F.While at test body) (process.rolls-While at test body)
 
 pub for_is : (at : ℕ) (path : Path) (first : Expr) (test : Expr) (stepped : Path) (step : ForStep) (body : Block) → process_mentions (process.For at path first test stepped step body) ≡ begun_mentions path first test ++ (stepped_mentions stepped step ++ map (in_role looped_role) (block_mentions body))
@@ -95,7 +96,7 @@ parallel_is members = process_made (Process-F.Parallel members) (process.rolls-P
 otherwise_made : (x : Otherwise-F Otherwise Process Answer Block Branch Handler If Input Reply) {o : Otherwise} → roll-Otherwise x ≡ o
     → otherwise_mentions o ≡ otherwise_level (map-Otherwise Otherwise Process Answer Block Branch Handler If Input Reply Seen Seen Seen Seen Seen Seen Seen (Seen → Seen) (Name → Seen → Seen) otherwise_mentions process_mentions answer_mentions block_mentions branch_mentions handler_mentions if_mentions input_mentions reply_mentions x)
 unfolding otherwise_mentions process_mentions answer_mentions block_mentions branch_mentions handler_mentions if_mentions input_mentions reply_mentions
-otherwise_made x made = ap otherwise_mentions (sym made) ∙ fold-roll-Otherwise Seen Seen Seen Seen Seen Seen Seen (Seen → Seen) (Name → Seen → Seen) otherwise_level process_level answer_level block_level branch_level handler_level if_level input_level reply_level x
+otherwise_made x made = ap otherwise_mentions (sym made) ∙ otherwise_rolls process_seen x
 
 pub no_else_is : otherwise_mentions otherwise.Nothing ≡ []
 no_else_is = otherwise_made Otherwise-F.«Otherwise::Nothing» otherwise.rolls-Nothing
@@ -110,8 +111,8 @@ else_is b = otherwise_made (Otherwise-F.Else b) (otherwise.rolls-Else b)
 
 block_made : (at : ℕ) (body : Option Process) → block_mentions (roll-Block (record { at = at; body = body })) ≡ if_written process_mentions body
 unfolding otherwise_mentions process_mentions answer_mentions block_mentions branch_mentions handler_mentions if_mentions input_mentions reply_mentions
-block_made at None = fold-roll-Block Seen Seen Seen Seen Seen Seen Seen (Seen → Seen) (Name → Seen → Seen) otherwise_level process_level answer_level block_level branch_level handler_level if_level input_level reply_level (record { at = at; body = None })
-block_made at (Some it) = fold-roll-Block Seen Seen Seen Seen Seen Seen Seen (Seen → Seen) (Name → Seen → Seen) otherwise_level process_level answer_level block_level branch_level handler_level if_level input_level reply_level (record { at = at; body = Some it })
+block_made at None = block_rolls process_seen (record { at = at; body = None })
+block_made at (Some it) = block_rolls process_seen (record { at = at; body = Some it })
 
 pub block_is : (b : Block) → block_mentions b ≡ if_written process_mentions (out-Block b).body
 block_is b = ap block_mentions (sym (roll-out-Block b)) ∙ block_made (out-Block b).at (out-Block b).body
@@ -120,13 +121,13 @@ pub if_is : (i : If) → if_mentions i ≡ expr_mentions (out-If i).test ++ (blo
 unfolding otherwise_mentions process_mentions answer_mentions block_mentions branch_mentions handler_mentions if_mentions input_mentions reply_mentions
 if_is i =
     ap if_mentions (sym (roll-out-If i))
-    ∙ fold-roll-If Seen Seen Seen Seen Seen Seen Seen (Seen → Seen) (Name → Seen → Seen) otherwise_level process_level answer_level block_level branch_level handler_level if_level input_level reply_level (out-If i)
+    ∙ conditional_rolls process_seen (out-If i)
 
 pub reply_is : (r : Reply) (operation : Name) (taken : Seen) → reply_mentions r operation taken ≡ request_mentions operation (out-Reply r).path (taken ++ block_mentions (out-Reply r).body)
 unfolding otherwise_mentions process_mentions answer_mentions block_mentions branch_mentions handler_mentions if_mentions input_mentions reply_mentions
 reply_is r operation taken =
     ap (λ (q : Reply). reply_mentions q operation taken) (sym (roll-out-Reply r))
-    ∙ ap (λ (f : Name → Seen → Seen). f operation taken) (fold-roll-Reply Seen Seen Seen Seen Seen Seen Seen (Seen → Seen) (Name → Seen → Seen) otherwise_level process_level answer_level block_level branch_level handler_level if_level input_level reply_level (out-Reply r))
+    ∙ ap (λ (f : Name → Seen → Seen). f operation taken) (reply_rolls process_seen (out-Reply r))
 
 -- an input by its reply part, before what stands behind it
 abbrev pub asked_before : Name → Option Path → Option Reply → Seen → Seen
@@ -135,8 +136,8 @@ asked_before operation request (Some r) after = reply_mentions r operation (rece
 
 input_made : (operation : Name) (request : Option Path) (reply : Option Reply) (after : Seen) → input_mentions (roll-Input (record { operation = operation; request = request; reply = reply })) after ≡ asked_before operation request reply after
 unfolding otherwise_mentions process_mentions answer_mentions block_mentions branch_mentions handler_mentions if_mentions input_mentions reply_mentions
-input_made operation request None after = ap (λ (f : Seen → Seen). f after) (fold-roll-Input Seen Seen Seen Seen Seen Seen Seen (Seen → Seen) (Name → Seen → Seen) otherwise_level process_level answer_level block_level branch_level handler_level if_level input_level reply_level (record { operation = operation; request = request; reply = None }))
-input_made operation request (Some it) after = ap (λ (f : Seen → Seen). f after) (fold-roll-Input Seen Seen Seen Seen Seen Seen Seen (Seen → Seen) (Name → Seen → Seen) otherwise_level process_level answer_level block_level branch_level handler_level if_level input_level reply_level (record { operation = operation; request = request; reply = Some it }))
+input_made operation request None after = ap (λ (f : Seen → Seen). f after) (input_rolls process_seen (record { operation = operation; request = request; reply = None }))
+input_made operation request (Some it) after = ap (λ (f : Seen → Seen). f after) (input_rolls process_seen (record { operation = operation; request = request; reply = Some it }))
 
 input_before : (i : Input) (after : Seen) → input_mentions i after ≡ asked_before (out-Input i).operation (out-Input i).request (out-Input i).reply after
 input_before i after =
@@ -165,7 +166,7 @@ branch_made : (b : Branch) → branch_mentions b ≡ input_mentions (out-Branch 
 unfolding otherwise_mentions process_mentions answer_mentions block_mentions branch_mentions handler_mentions if_mentions input_mentions reply_mentions
 branch_made b =
     ap branch_mentions (sym (roll-out-Branch b))
-    ∙ fold-roll-Branch Seen Seen Seen Seen Seen Seen Seen (Seen → Seen) (Name → Seen → Seen) otherwise_level process_level answer_level block_level branch_level handler_level if_level input_level reply_level (out-Branch b)
+    ∙ branch_rolls process_seen (out-Branch b)
 
 -- the input of a branch, and what comes after
 pub branch_is : (b : Branch) → branch_mentions b ≡ input_mentions (out-Branch b).input [] ++ after_input (is_some (out-Input (out-Branch b).input).reply) (block_mentions (out-Branch b).after)
@@ -184,10 +185,10 @@ awaited_by path (Some handlers) = received_mentions path ++ flat_map handler_men
 answer_made : (path : Option Path) (handlers : Option (List Handler)) → answer_mentions (roll-Answer (record { path = path; handlers = handlers })) ≡ awaited_by path handlers
 unfolding otherwise_mentions process_mentions answer_mentions block_mentions branch_mentions handler_mentions if_mentions input_mentions reply_mentions
 answer_made path None =
-    fold-roll-Answer Seen Seen Seen Seen Seen Seen Seen (Seen → Seen) (Name → Seen → Seen) otherwise_level process_level answer_level block_level branch_level handler_level if_level input_level reply_level (record { path = path; handlers = None })
+    answer_rolls process_seen (record { path = path; handlers = None })
     ∙ append-nil (received_mentions path)
 answer_made path (Some it) =
-    fold-roll-Answer Seen Seen Seen Seen Seen Seen Seen (Seen → Seen) (Name → Seen → Seen) otherwise_level process_level answer_level block_level branch_level handler_level if_level input_level reply_level (record { path = path; handlers = Some it })
+    answer_rolls process_seen (record { path = path; handlers = Some it })
     ∙ ap (λ ms. received_mentions path ++ ms) (mapped_joined handler_mentions it)
 
 pub answer_is : (a : Answer) → answer_mentions a ≡ awaited_by (out-Answer a).path (out-Answer a).handlers
@@ -197,4 +198,4 @@ pub handler_is : (h : Handler) → handler_mentions h ≡ handler_mentions_of (o
 unfolding otherwise_mentions process_mentions answer_mentions block_mentions branch_mentions handler_mentions if_mentions input_mentions reply_mentions
 handler_is h =
     ap handler_mentions (sym (roll-out-Handler h))
-    ∙ fold-roll-Handler Seen Seen Seen Seen Seen Seen Seen (Seen → Seen) (Name → Seen → Seen) otherwise_level process_level answer_level block_level branch_level handler_level if_level input_level reply_level (out-Handler h)
+    ∙ handler_rolls process_seen (out-Handler h)

@@ -1,11 +1,10 @@
 -- What an expression mentions.
 use Rattle.std.specs.Prelude.{List, [], ◌∷◌, ◌++◌, flat_map, unwrap_or}
 use Rattle.jolie_ast.specs.declared.name.Name.{Name}
-use Rattle.jolie_ast.specs.declared.expression.ExprForm.TheOpen.{Expr-F, ExprForm-F, Factor-F}
-use Rattle.jolie_ast.specs.declared.expression.ExprForm.TheOpen.{Member-F, Path-F, Step-F, Term-F}
-use Rattle.jolie_ast.specs.declared.expression.ExprForm.TheFolds.{fold-Expr, fold-Path}
+use Rattle.jolie_ast.specs.declared.expression.ExprForm.TheOpen.{ExprForm-F}
 use Rattle.jolie_ast.specs.declared.expression.Expr.{Expr}
 use Rattle.jolie_ast.specs.declared.expression.Path.{Path}
+use Rattle.jolie_ast.specs.Folds.{ExprResults, ExprFold, exprs_are, fold_expr, fold_path}
 use Rattle.explain_notes.specs.declared.role.Role.{Role}
 use Rattle.explain_notes.specs.declared.role.Role.TheVariants as role
 use Rattle.explain_notes.specs.Mentions.{Seen, mention}
@@ -49,45 +48,33 @@ form_level (ExprForm-F.And values) = joined values
 form_level (ExprForm-F.Or values) = joined values
 form_level _ = []
 
--- one level of an expression
-abbrev pub expr_level : Expr-F Seen Seen Seen Seen Walked Walked Seen → Seen
-expr_level e = e.form
+-- what is made of each part of an expression
+abbrev pub expression_results : ExprResults
+expression_results = record (exprs_are Seen) { path = Walked; step = Walked }
 
--- one level of a later operand of a product
-abbrev pub factor_level : Factor-F Seen Seen Seen Seen Walked Walked Seen → Seen
-factor_level f = f.operand
-
--- one level of a later operand of a sum
-abbrev pub term_level : Term-F Seen Seen Seen Seen Walked Walked Seen → Seen
-term_level t = t.operand
-
--- one level of a member of a literal
-abbrev pub member_level : Member-F Seen Seen Seen Seen Walked Walked Seen → Seen
-member_level m = m.value
-
--- one level of a path: its name is that of its first step
-abbrev pub path_level : Path-F Seen Seen Seen Seen Walked Walked Seen → Walked
-path_level p = record {
-  name = p.first.name;
-  indices = flat_map (λ (s : Walked). s.indices) (p.first ∷ p.rest);
-  read = read_role p.rest;
+-- what a part mentions, from what the parts in it mention: the name of a path is that of its first step
+abbrev pub expression_seen : ExprFold expression_results
+expression_seen = record {
+  expr = λ e. e.form;
+  form = form_level;
+  path = λ p. record {
+    name = p.first.name;
+    indices = flat_map (λ (s : Walked). s.indices) (p.first ∷ p.rest);
+    read = read_role p.rest;
+  };
+  step = λ s. record { name = s.name; indices = unwrap_or s.index []; read = role.Read };
+  member = λ m. m.value;
+  factor = λ f. f.operand;
+  term = λ t. t.operand;
 }
-
--- one level of a step of a path
-abbrev pub step_level : Step-F Seen Seen Seen Seen Walked Walked Seen → Walked
-step_level s = record { name = s.name; indices = unwrap_or s.index []; read = role.Read }
 
 -- what an expression mentions
 unfoldable pub expr_mentions : Expr → Seen
-expr_mentions =
-    fold-Expr Seen Seen Seen Seen Walked Walked Seen
-    form_level expr_level factor_level member_level path_level step_level term_level
+expr_mentions = fold_expr expression_seen
 
 -- the variable of a path, and what its indices mention
 unfoldable pub path_walked : Path → Walked
-path_walked =
-    fold-Path Seen Seen Seen Seen Walked Walked Seen
-    form_level expr_level factor_level member_level path_level step_level term_level
+path_walked = fold_path expression_seen
 
 -- what a path mentions, its variable in this role
 abbrev pub path_mentions : Role → Path → Seen

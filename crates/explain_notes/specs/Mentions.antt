@@ -1,5 +1,6 @@
 -- A name with what is done with it, and how what stands around changes that.
-use Rattle.std.specs.Prelude.{ℕ, Bool, true, false, ◌&&◌, bytes_eq, if◌then◌else◌, List, [], ◌∷◌, map, flat_map}
+use Rattle.std.specs.Prelude.{ℕ, Bool, true, false, ◌&&◌, bytes_eq, if◌then◌else◌, List, [], ◌∷◌, codes, map}
+use Rattle.std.specs.Prelude.{flat_map}
 use Rattle.std.specs.List.{list_any}
 use Rattle.behaviour_tree.specs.Distinct.{is_in}
 use Rattle.jolie_ast.specs.declared.name.Name.{Name}
@@ -41,10 +42,21 @@ abbrev pub is_handled : Role → Bool
 is_handled role.Handled = true
 is_handled r = false
 
+-- a sum or a product may fail there, and no scope around it handles that yet
+abbrev pub is_reckoned : Role → Bool
+is_reckoned role.Reckoned = true
+is_reckoned role.ReckonedInLoop = true
+is_reckoned r = false
+
 -- in a loop
 abbrev pub looped_role : Role → Role
 looped_role role.Thrown = role.ThrownInLoop
 looped_role r = r
+
+-- in a `while`, as a service has one that takes message after message
+abbrev pub turned_role : Role → Role
+turned_role role.Reckoned = role.ReckonedInLoop
+turned_role r = looped_role r
 
 -- in the braces behind an input that is not answered
 abbrev pub kept_role : Role → Role
@@ -53,7 +65,7 @@ kept_role r = r
 
 -- where faults end by themselves
 abbrev pub caught_role : Role → Role
-caught_role r = if is_free r then role.Caught else r
+caught_role r = if is_free r then role.Caught else if is_reckoned r then role.ReckonedSafely else r
 
 -- in the handler of this fault: thrown again it passes its own scope
 abbrev pub rethrown_role : Role → Role
@@ -73,6 +85,8 @@ freed_role r = r
 abbrev pub handled_role : Role → Role
 handled_role role.Thrown = role.Caught
 handled_role role.ThrownInLoop = role.Caught
+handled_role role.Reckoned = role.ReckonedSafely
+handled_role role.ReckonedInLoop = role.ReckonedSafely
 handled_role r = freed_role r
 
 -- ---- mentions
@@ -97,9 +111,13 @@ sets variable ms = list_any (λ (m : Mentioned). is_set m.role && bytes_eq m.nam
 abbrev pub faults : Seen → Bool
 faults ms = list_any (λ (m : Mentioned). is_free m.role) ms
 
+-- the fault by which a scope is left there: that of arithmetic, or the one of this name
+abbrev pub fault_of : Mentioned → List ℕ
+fault_of m = if is_reckoned m.role then codes "ExprFault" else m.name.text
+
 -- around a scope with handlers for the faults of these names
 abbrev pub out_of_scope : List (List ℕ) → Mentioned → Mentioned
-out_of_scope names m = mention (if is_in m.name.text names then handled_role m.role else freed_role m.role) m.name
+out_of_scope names m = mention (if is_in (fault_of m) names then handled_role m.role else freed_role m.role) m.name
 
 -- a scope of these mentions, seen from around it
 abbrev pub around_scope : Seen → Seen

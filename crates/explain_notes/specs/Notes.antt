@@ -100,7 +100,8 @@ kinds_always =
 -- the kinds that are noted of a service by how its sessions are run
 abbrev pub kinds_by_sessions : Service → List NoteKind
 kinds_by_sessions s =
-    if is_concurrent (execution_of s) then kind.UncaughtInLoop ∷ [] else kind.EndsService ∷ kind.Forgotten ∷ []
+    if is_concurrent (execution_of s) then kind.UncaughtInLoop ∷ []
+    else kind.EndsService ∷ kind.EndsByArithmetic ∷ kind.Forgotten ∷ []
 
 -- what is noted of a service: of one kind after the other
 abbrev pub service_notes : List (List ℕ) → List (List ℕ) → Service → List Noted

@@ -1,15 +1,19 @@
 -- What a process mentions.
 use Rattle.std.specs.Prelude.{[], ◌∷◌, ◌++◌, map, None, Some, unwrap_or}
 use Rattle.jolie_ast.specs.declared.name.Name.{Name}
-use Rattle.jolie_ast.specs.declared.process.Otherwise.TheOpen.{Answer-F, Block-F, Branch-F, Handler-F, If-F}
-use Rattle.jolie_ast.specs.declared.process.Otherwise.TheOpen.{Input-F, Otherwise-F, Process-F, Reply-F}
-use Rattle.jolie_ast.specs.declared.process.Otherwise.TheFolds.{fold-Block}
+use Rattle.jolie_ast.specs.declared.process.Otherwise.TheOpen.{Input-F, Otherwise-F, Process-F}
 use Rattle.jolie_ast.specs.declared.process.Block.{Block}
+use Rattle.jolie_ast.specs.Folds.{ProcessResults, ProcessFold, all_are, fold_block}
 use Rattle.explain_notes.specs.declared.role.Role.TheVariants as role
-use Rattle.explain_notes.specs.Mentions.{Seen, mention, around_scope, in_role, kept_role, looped_role}
+use Rattle.explain_notes.specs.Mentions.{Seen, mention, around_scope, in_role, kept_role, looped_role, turned_role}
 use Rattle.explain_notes.specs.Expressions.{expr_mentions, joined, path_walked}
 use Rattle.explain_notes.specs.Statements.{assigned_mentions, begun_mentions, handler_mentions_of, if_written}
 use Rattle.explain_notes.specs.Statements.{received_mentions, request_mentions, stepped_mentions}
+
+-- what is made of each part of a process: of an input what it mentions before what stands behind it, of a reply part
+-- what a request with it mentions, by its operation and what it takes
+abbrev pub process_results : ProcessResults
+process_results = record (all_are Seen) { input = Seen → Seen; reply = Name → Seen → Seen }
 
 -- one level of a process, with what its parts mention; nothing stands behind an input that stands alone
 abbrev pub process_level : Process-F Seen Seen Seen Seen Seen Seen Seen (Seen → Seen) (Name → Seen → Seen) → Seen
@@ -17,7 +21,7 @@ process_level (Process-F.Assign path assignment) = assigned_mentions path assign
 process_level (Process-F.Undef at path) = (path_walked path).indices
 process_level (Process-F.Correlate at variable value) = expr_mentions value
 process_level (Process-F.If conditional) = conditional
-process_level (Process-F.While at test body) = expr_mentions test ++ map (in_role looped_role) body
+process_level (Process-F.While at test body) = expr_mentions test ++ map (in_role turned_role) body
 process_level (Process-F.For at path first test stepped step body) =
     begun_mentions path first test ++ (stepped_mentions stepped step ++ map (in_role looped_role) body)
 process_level (Process-F.Input input) = input []
@@ -33,14 +37,6 @@ process_level (Process-F.Sequence statements) = joined statements
 process_level (Process-F.Parallel members) = joined members
 process_level _ = []
 
--- one level of a block
-abbrev pub block_level : Block-F Seen Seen Seen Seen Seen Seen Seen (Seen → Seen) (Name → Seen → Seen) → Seen
-block_level b = unwrap_or b.body []
-
--- one level of an `if`
-abbrev pub if_level : If-F Seen Seen Seen Seen Seen Seen Seen (Seen → Seen) (Name → Seen → Seen) → Seen
-if_level i = expr_mentions i.test ++ (i.body ++ i.otherwise)
-
 -- one level of what an `if` does where its test fails
 abbrev pub otherwise_level : Otherwise-F Seen Seen Seen Seen Seen Seen Seen (Seen → Seen) (Name → Seen → Seen) → Seen
 otherwise_level Otherwise-F.«Otherwise::Nothing» = []
@@ -54,25 +50,20 @@ input_level i after = elim i.reply [
   | Some reply ↦ reply i.operation (received_mentions i.request) ++ after
 ]
 
--- one level of a reply part, of a request of this operation that takes this
-abbrev pub reply_level : Reply-F Seen Seen Seen Seen Seen Seen Seen (Seen → Seen) (Name → Seen → Seen)
-    → Name → Seen → Seen
-reply_level r operation taken = request_mentions operation r.path (taken ++ r.body)
-
--- one level of a branch: its input, before what comes after
-abbrev pub branch_level : Branch-F Seen Seen Seen Seen Seen Seen Seen (Seen → Seen) (Name → Seen → Seen) → Seen
-branch_level b = b.input b.after
-
--- one level of what an output awaits: its answer, and handlers if a list is written
-abbrev pub answer_level : Answer-F Seen Seen Seen Seen Seen Seen Seen (Seen → Seen) (Name → Seen → Seen) → Seen
-answer_level a = received_mentions a.path ++ joined (unwrap_or a.handlers [])
-
--- one level of a handler
-abbrev pub handler_level : Handler-F Seen Seen Seen Seen Seen Seen Seen (Seen → Seen) (Name → Seen → Seen) → Seen
-handler_level h = handler_mentions_of h.key h.body
+-- what a part mentions, from what the parts in it mention: an input before what comes after
+abbrev pub process_seen : ProcessFold process_results
+process_seen = record {
+  process = process_level;
+  block = λ b. unwrap_or b.body [];
+  conditional = λ i. expr_mentions i.test ++ (i.body ++ i.otherwise);
+  otherwise = otherwise_level;
+  input = input_level;
+  reply = λ r operation taken. request_mentions operation r.path (taken ++ r.body);
+  branch = λ b. b.input b.after;
+  answer = λ a. received_mentions a.path ++ joined (unwrap_or a.handlers []);
+  handler = λ h. handler_mentions_of h.key h.body;
+}
 
 -- what a block mentions
 unfoldable pub block_mentions : Block → Seen
-block_mentions =
-    fold-Block Seen Seen Seen Seen Seen Seen Seen (Seen → Seen) (Name → Seen → Seen)
-    otherwise_level process_level answer_level block_level branch_level handler_level if_level input_level reply_level
+block_mentions = fold_block process_seen

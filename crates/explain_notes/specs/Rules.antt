@@ -12,6 +12,7 @@ is_noted kind.Uncaught role.Thrown = true
 is_noted kind.Uncaught role.Rethrown = true
 is_noted kind.UncaughtInLoop role.ThrownInLoop = true
 is_noted kind.EndsService role.ThrownInLoop = true
+is_noted kind.EndsByArithmetic role.ReckonedInLoop = true
 is_noted kind.Unthrown role.Handled = true
 is_noted kind.Unthrown role.HandledInside = true
 is_noted kind.NoScope role.Compensated = true

@@ -1,11 +1,13 @@
 -- What the parts of a statement mention.
 use Rattle.std.specs.Prelude.{List, [], ◌∷◌, ◌++◌, map, Option, Some, None, option_map, unwrap_or}
-use Rattle.std.specs.Prelude.{if◌then◌else◌, ◌||◌}
+use Rattle.std.specs.Prelude.{Bool, true, false, not, if◌then◌else◌, ◌||◌}
+use Rattle.std.specs.List.{list_any}
 use Rattle.jolie_ast.specs.declared.name.Name.{Name}
 use Rattle.jolie_ast.specs.declared.expression.Expr.{Expr, out-Expr}
 use Rattle.jolie_ast.specs.declared.expression.ExprForm.{out-ExprForm}
 use Rattle.jolie_ast.specs.declared.expression.ExprForm.TheOpen.{ExprForm-F}
 use Rattle.jolie_ast.specs.declared.expression.Path.{Path, out-Path}
+use Rattle.jolie_ast.specs.declared.expression.Term.{Term, out-Term}
 use Rattle.jolie_ast.specs.declared.expression.Step.{Step, out-Step}
 use Rattle.jolie_ast.specs.declared.process.Assignment.{Assignment}
 use Rattle.jolie_ast.specs.declared.process.Assignment.TheVariants as assignment
@@ -49,12 +51,37 @@ abbrev pub taken_role : List Step → Role
 taken_role [] = role.RootTaken
 taken_role (s ∷ ss) = role.FieldRead
 
+-- a text in quotes
+abbrev pub is_text : Expr → Bool
+is_text value = elim (out-ExprForm (out-Expr value).form) [ ExprForm-F.Str text ↦ true | _ ↦ false ]
+
+-- an operand behind the first is a text in quotes
+abbrev pub adds_text : Term → Bool
+adds_text t = is_text (out-Term t).operand
+
+-- an operand of a sum is a text in quotes, so that it puts texts together
+abbrev pub joins_text : Expr → List Term → Bool
+joins_text first rest = is_text first || list_any adds_text rest
+
+-- arithmetic, which may fail: a product, or a sum without a text in quotes
+abbrev pub reckons : Expr → Bool
+reckons value = elim (out-ExprForm (out-Expr value).form) [
+  | ExprForm-F.Product first rest ↦ true
+  | ExprForm-F.Sum first rest ↦ not (joins_text first rest)
+  | _ ↦ false
+]
+
+-- a value that is no path and no literal, behind the variable that it sets
+abbrev pub worked_mentions : Name → Expr → Seen
+worked_mentions variable value =
+    if reckons value then mention role.Reckoned variable ∷ expr_mentions value else expr_mentions value
+
 -- the right side of `=`, behind this variable
 abbrev pub root_mentions : Name → Expr → Seen
 root_mentions variable value = elim (out-ExprForm (out-Expr value).form) [
   | ExprForm-F.Path path ↦ path_mentions (taken_role (out-Path path).rest) path
   | ExprForm-F.Literal members ↦ where_some members role.Flattened variable ++ expr_mentions value
-  | _ ↦ expr_mentions value
+  | _ ↦ worked_mentions variable value
 ]
 
 -- a path and what is done to it

@@ -30,6 +30,16 @@ impl<'a> Mentions<'a> {
         Ok(())
     }
 
+    /// Adds what stands in a `while`.
+    pub(crate) fn add_turned(&mut self, inner: &Mentions<'a>) -> Result<(), AllocError>
+        ensures { OnOk result (self.new ≡ self.old ++ map (spec.in_role spec.turned_role) inner.now) }
+    {
+        for mention in inner.as_slice() {
+            self.add(mention.role().in_while(), mention.name())?;
+        }
+        Ok(())
+    }
+
     /// Adds what stands behind an input that is not answered.
     pub(crate) fn add_kept(&mut self, inner: &Mentions<'a>) -> Result<(), AllocError>
         ensures { OnOk result (self.new ≡ self.old ++ map (spec.in_role spec.kept_role) inner.now) }
@@ -147,10 +157,21 @@ fn role_out_of_scope(mention: &Mention<'_>, handled: &Names<'_>) -> Role
     ensures { spec.mention result mention.now.name ≡ spec.out_of_scope handled.now mention.now }
 {
     let role = mention.role();
-    if handled.has(mention.name().text.as_str()) {
+    if handled.has(fault_of(mention)) {
         role_handled(role)
     } else {
         role.freed()
+    }
+}
+
+/// The fault by which a scope is left there: that of arithmetic, or the one of this name.
+fn fault_of<'b>(mention: &'b Mention<'_>) -> &'b str
+    ensures { result.now ≡ spec.fault_of mention.now }
+{
+    if mention.role().is_reckoned() {
+        "ExprFault"
+    } else {
+        mention.name().text.as_str()
     }
 }
 
@@ -187,6 +208,8 @@ fn role_handled(role: Role) -> Role
     match role {
         Role::Thrown => Role::Caught,
         Role::ThrownInLoop => Role::Caught,
+        Role::Reckoned => Role::ReckonedSafely,
+        Role::ReckonedInLoop => Role::ReckonedSafely,
         _ => role.freed(),
     }
 }

@@ -94,7 +94,9 @@ fn add_standard(names: &mut Names<'_>) -> Result<(), AllocError>
 
 /// Adds the faults that calls come back with.
 fn add_faults_of_calls(names: &mut Names<'_>) -> Result<(), AllocError>
-    ensures { OnOk result (names.new ≡ names.old ++ codes "IOException" ∷ codes "TypeMismatch" ∷ codes "CorrelationError" ∷ codes "Refused" ∷ codes "UndeclaredFault" ∷ []) }
+    ensures { OnOk result (names.new ≡ names.old
+        ++ codes "IOException" ∷ codes "TypeMismatch" ∷ codes "CorrelationError" ∷ codes "Refused" ∷ codes
+        "UndeclaredFault" ∷ []) }
 {
     names.add("IOException")?;
     names.add("TypeMismatch")?;
@@ -106,7 +108,8 @@ fn add_faults_of_calls(names: &mut Names<'_>) -> Result<(), AllocError>
 
 /// Adds the faults of a session's own statements.
 fn add_faults_of_statements(names: &mut Names<'_>) -> Result<(), AllocError>
-    ensures { OnOk result (names.new ≡ names.old ++ codes "ExprFault" ∷ codes "HandlerTooLarge" ∷ codes "StoreTooLarge" ∷ []) }
+    ensures { OnOk result (names.new ≡ names.old
+        ++ codes "ExprFault" ∷ codes "HandlerTooLarge" ∷ codes "StoreTooLarge" ∷ []) }
 {
     names.add("ExprFault")?;
     names.add("HandlerTooLarge")?;

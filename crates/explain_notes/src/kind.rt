@@ -13,6 +13,8 @@ pub enum NoteKind {
     UncaughtInLoop,
     /// A fault that nothing catches, in a loop of a service of one session.
     EndsService,
+    /// A sum or a product in a `while` of such a service, where no scope around it names the fault of arithmetic.
+    EndsByArithmetic,
     /// A handler of a fault that nothing throws.
     Unthrown,
     /// A scope that is compensated and is not there.
@@ -42,6 +44,7 @@ impl NoteKind {
             NoteKind::Uncaught => matches!(role, Role::Thrown | Role::Rethrown),
             NoteKind::UncaughtInLoop => matches!(role, Role::ThrownInLoop),
             NoteKind::EndsService => matches!(role, Role::ThrownInLoop),
+            NoteKind::EndsByArithmetic => matches!(role, Role::ReckonedInLoop),
             NoteKind::Unthrown => matches!(role, Role::Handled | Role::HandledInside),
             NoteKind::NoScope => matches!(role, Role::Compensated),
             NoteKind::Unsent => matches!(role, Role::Port),
@@ -62,6 +65,7 @@ impl NoteKind {
             NoteKind::Uncaught => false,
             NoteKind::UncaughtInLoop => false,
             NoteKind::EndsService => false,
+            NoteKind::EndsByArithmetic => false,
             NoteKind::Unthrown => throws(role),
             NoteKind::NoScope => matches!(role, Role::Scope),
             NoteKind::Unsent => matches!(role, Role::SentTo),

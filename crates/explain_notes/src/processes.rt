@@ -2,7 +2,7 @@
 
 ghost use Rattle.std.specs.Prelude.{◌≡◌, [], ◌∷◌, ◌++◌, OnOk, flat_map, is_some, map};
 ghost use Rattle.explain_notes.specs.declared.role.Role.TheVariants as role;
-ghost use Rattle.explain_notes.specs.Mentions.{around_scope, in_role, kept_role, looped_role, mention};
+ghost use Rattle.explain_notes.specs.Mentions.{around_scope, in_role, kept_role, looped_role, mention, turned_role};
 ghost use Rattle.explain_notes.specs.Expressions.{expr_mentions};
 ghost use Rattle.explain_notes.specs.Statements.{answered_role, begun_mentions, handler_mentions_of, if_written, received_mentions, request_mentions, stepped_mentions};
 ghost use Rattle.explain_notes.specs.Processes.{block_mentions};
@@ -82,10 +82,21 @@ impl<'a> Mentions<'a> {
     #[cycle(process)]
     #[tactic(auto, using(crate::proofs::Lists::behind_two))]
     fn while_loop(&mut self, body: &'a Block, test: &'a Expr) -> Result<(), AllocError>
-        ensures { OnOk result (self.new ≡ self.old ++ (expr_mentions test.now ++ map (in_role looped_role) (block_mentions body.now))) }
+        ensures { OnOk result (self.new ≡ self.old
+            ++ (expr_mentions test.now ++ map (in_role turned_role) (block_mentions body.now))) }
     {
         self.expr(test)?;
-        self.looped(body)
+        self.turned(body)
+    }
+
+    /// What stands in a `while`.
+    #[cycle(process)]
+    fn turned(&mut self, body: &'a Block) -> Result<(), AllocError>
+        ensures { OnOk result (self.new ≡ self.old ++ map (in_role turned_role) (block_mentions body.now)) }
+    {
+        let mut inner = self.inner();
+        inner.block(body)?;
+        self.add_turned(&inner)
     }
 
     /// A `for` with what stands in its parentheses.
@@ -100,7 +111,9 @@ impl<'a> Mentions<'a> {
         stepped: &'a Path,
         step: &'a ForStep,
     ) -> Result<(), AllocError>
-        ensures { OnOk result (self.new ≡ self.old ++ (begun_mentions path.now first.now test.now ++ (stepped_mentions stepped.now step.now ++ map (in_role looped_role) (block_mentions body.now)))) }
+        ensures { OnOk result (self.new ≡ self.old
+            ++ (begun_mentions path.now first.now test.now
+            ++ (stepped_mentions stepped.now step.now ++ map (in_role looped_role) (block_mentions body.now)))) }
     {
         self.begun(path, first, test)?;
         self.stepped(stepped, step)?;
@@ -116,7 +129,9 @@ impl<'a> Mentions<'a> {
         value: &'a Option<Expr>,
         answer: &'a Option<Answer>,
     ) -> Result<(), AllocError>
-        ensures { OnOk result (self.new ≡ self.old ++ mention role.SentTo port.now ∷ (if_written expr_mentions value.now ++ if_written answer_mentions answer.now)) }
+        ensures { OnOk result (self.new ≡ self.old
+            ++ mention role.SentTo port.now ∷
+            (if_written expr_mentions value.now ++ if_written answer_mentions answer.now)) }
     {
         self.sent(port, value)?;
         self.optional_answer(answer)
@@ -135,7 +150,8 @@ impl<'a> Mentions<'a> {
     /// A scope: what it handles does not pass it.
     #[cycle(process)]
     fn scope(&mut self, name: &'a Name, body: &'a Block) -> Result<(), AllocError>
-        ensures { OnOk result (self.new ≡ self.old ++ mention role.Scope name.now ∷ around_scope (block_mentions body.now)) }
+        ensures { OnOk result (self.new ≡ self.old
+            ++ mention role.Scope name.now ∷ around_scope (block_mentions body.now)) }
     {
         let mut inner = self.inner();
         inner.block(body)?;
@@ -186,7 +202,8 @@ impl<'a> Mentions<'a> {
         request: &'a Option<Path>,
         reply: &'a Reply,
     ) -> Result<(), AllocError>
-        ensures { OnOk result (self.new ≡ self.old ++ reply_mentions reply.now operation.now (received_mentions request.now)) }
+        ensures { OnOk result (self.new ≡ self.old
+            ++ reply_mentions reply.now operation.now (received_mentions request.now)) }
     {
         let mut inside = self.inner();
         inside.received(request)?;
@@ -259,7 +276,8 @@ impl<'a> Mentions<'a> {
     #[cycle(process)]
     #[tactic(auto, using(crate::proofs::Lists::behind_two))]
     fn awaited(&mut self, handlers: &'a [Handler], path: &'a Option<Path>) -> Result<(), AllocError>
-        ensures { OnOk result (self.new ≡ self.old ++ (received_mentions path.now ++ flat_map handler_mentions handlers.now)) }
+        ensures { OnOk result (self.new ≡ self.old
+            ++ (received_mentions path.now ++ flat_map handler_mentions handlers.now)) }
     {
         self.received(path)?;
         self.handlers(handlers)
@@ -321,7 +339,8 @@ impl<'a> Mentions<'a> {
 
     /// What is sent to a port.
     fn sent(&mut self, port: &'a Name, value: &'a Option<Expr>) -> Result<(), AllocError>
-        ensures { OnOk result (self.new ≡ self.old ++ mention role.SentTo port.now ∷ if_written expr_mentions value.now) }
+        ensures { OnOk result (self.new ≡ self.old
+            ++ mention role.SentTo port.now ∷ if_written expr_mentions value.now) }
     {
         self.add(Role::SentTo, port)?;
         self.value(value)
@@ -329,7 +348,8 @@ impl<'a> Mentions<'a> {
 
     /// A fault that is thrown.
     fn thrown(&mut self, fault: &'a Name, value: &'a Option<Expr>) -> Result<(), AllocError>
-        ensures { OnOk result (self.new ≡ self.old ++ mention role.Thrown fault.now ∷ if_written expr_mentions value.now) }
+        ensures { OnOk result (self.new ≡ self.old
+            ++ mention role.Thrown fault.now ∷ if_written expr_mentions value.now) }
     {
         self.add(Role::Thrown, fault)?;
         self.value(value)

@@ -22,6 +22,12 @@ pub enum Role {
     Branched,
     /// A variable that is set by `=` to a literal with members.
     Flattened,
+    /// A variable that `=` sets to a product, or to a sum without a text in quotes.
+    Reckoned,
+    /// The same in a `while`.
+    ReckonedInLoop,
+    /// The same where something ends its fault.
+    ReckonedSafely,
     /// An operation whose body sets a variable that is answered, or should.
     Asked,
     /// The variable that it answers, where its body sets it or a fault may leave the body.
@@ -72,6 +78,13 @@ impl Role {
         matches!(self, Role::Handled)
     }
 
+    /// Whether a sum or a product may fail there, and no scope around it handles that yet.
+    pub(crate) fn is_reckoned(self) -> bool
+        ensures { result ≡ spec.is_reckoned self }
+    {
+        matches!(self, Role::Reckoned | Role::ReckonedInLoop)
+    }
+
     /// The role in a loop.
     pub(crate) fn in_loop(self) -> Role
         ensures { result ≡ spec.looped_role self }
@@ -79,6 +92,16 @@ impl Role {
         match self {
             Role::Thrown => Role::ThrownInLoop,
             _ => self,
+        }
+    }
+
+    /// The role in a `while`.
+    pub(crate) fn in_while(self) -> Role
+        ensures { result ≡ spec.turned_role self }
+    {
+        match self {
+            Role::Reckoned => Role::ReckonedInLoop,
+            _ => self.in_loop(),
         }
     }
 
@@ -96,7 +119,14 @@ impl Role {
     pub(crate) fn caught(self) -> Role
         ensures { result ≡ spec.caught_role self }
     {
-        if self.is_free() { Role::Caught } else { self }
+        if self.is_free() {
+            return Role::Caught;
+        }
+        if self.is_reckoned() {
+            Role::ReckonedSafely
+        } else {
+            self
+        }
     }
 
     /// The role around a scope that does not handle the fault.

@@ -22,7 +22,8 @@ pub fn add_notes<'a>(
     mentions: &[Mention<'a>],
     notes: &mut Vec<Note<'a>>,
 ) -> Result<(), AllocError>
-    ensures { OnOk result (notes.new.items ≡ notes.old.items ++ spec.notes_for declared.now content.now mentions.now kind) }
+    ensures { OnOk result (notes.new.items ≡ notes.old.items
+        ++ spec.notes_for declared.now content.now mentions.now kind) }
 {
     let mut met = texts_met(alloc, kind, declared)?;
     add_met(kind, mentions, &mut met)?;
@@ -108,7 +109,8 @@ fn add_unanswered_after<'a>(
     mentions: &[Mention<'a>],
     notes: &mut Vec<Note<'a>>,
 ) -> Result<(), AllocError>
-    ensures { OnOk result (notes.new.items ≡ notes.old.items ++ spec.unanswered_after content.now known.now false mentions.now) }
+    ensures { OnOk result (notes.new.items ≡ notes.old.items
+        ++ spec.unanswered_after content.now known.now false mentions.now) }
 {
     let mut asks = false;
     for mention in mentions {

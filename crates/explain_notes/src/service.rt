@@ -31,7 +31,11 @@ const ALWAYS: [NoteKind; 9] = [
 const OF_MANY: [NoteKind; 1] = [NoteKind::UncaughtInLoop];
 
 /// The kinds that are noted of a service of one session.
-const OF_ONE: [NoteKind; 2] = [NoteKind::EndsService, NoteKind::Forgotten];
+const OF_ONE: [NoteKind; 3] = [
+    NoteKind::EndsService,
+    NoteKind::EndsByArithmetic,
+    NoteKind::Forgotten,
+];
 
 /// What is noted of a file: of one service after the other.
 pub fn notes_of(alloc: Global, file: &[Definition]) -> Result<Vec<Note<'_>>, AllocError>
@@ -68,7 +72,8 @@ fn add_service<'a>(
     service: &'a Service,
     notes: &mut Vec<Note<'a>>,
 ) -> Result<(), AllocError>
-    ensures { OnOk result (notes.new.items ≡ notes.old.items ++ spec.service_notes declared.now content.now service.now) }
+    ensures { OnOk result (notes.new.items ≡ notes.old.items
+        ++ spec.service_notes declared.now content.now service.now) }
 {
     let mentions = mentions_of(alloc, service)?;
     let seen = mentions.as_slice();
@@ -99,7 +104,8 @@ fn add_kinds<'a>(
     seen: &[Mention<'a>],
     notes: &mut Vec<Note<'a>>,
 ) -> Result<(), AllocError>
-    ensures { OnOk result (notes.new.items ≡ notes.old.items ++ flat_map (spec.notes_for declared.now content.now seen.now) kinds.now) }
+    ensures { OnOk result (notes.new.items ≡ notes.old.items
+        ++ flat_map (spec.notes_for declared.now content.now seen.now) kinds.now) }
 {
     for kind in kinds {
         add_notes(alloc, *kind, declared, content, seen, notes)?;

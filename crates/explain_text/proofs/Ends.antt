@@ -1,7 +1,8 @@
--- When `;` is the last token of bytes, and when no advice suits a place.
-use Rattle.std.proofs.Common.{◌≡◌, ◌<◌, ◌≤◌, ℕ, Bool, true, false, List, length, take, drop, Result, Ok, Err, refl, sym, ap, ◌∙◌, subst}
-use Rattle.std.specs.Prelude.{◌||◌, nat_eq, codes, IsErrOf, MatchBool, ◌↔◌, Option, None, Some, if◌then◌else◌}
-use Rattle.std.specs.List.{starts_with, list_any}
+-- When `;` is the last token of bytes, and what is advised of a place.
+use Rattle.std.proofs.Common.{◌≡◌, ◌<◌, ◌≤◌, ℕ, Bool, true, false, List, length, take, drop, Result, Ok, Err, IfOk, refl, sym, ap, ◌∙◌, subst}
+use Rattle.std.specs.Prelude.{nat_eq, codes, IsErrOf, MatchBool, ◌↔◌, Option, None, Some}
+use Rattle.std.specs.List.{starts_with}
+use Rattle.std.specs.declared.alloc.AllocError.{AllocError}
 use Rattle.std.proofs.lemmas.Bool.{false≢true}
 use Rattle.jolie_tokens.specs.declared.token.Token.{Token}
 use Rattle.jolie_tokens.specs.declared.lex_error.LexError.{LexError}
@@ -10,10 +11,9 @@ use Rattle.jolie_tokens.specs.Texts.{longest, IsRead}
 use Rattle.jolie_tokens.specs.Outcomes.{UnlessMemory}
 use Rattle.explain_hints.specs.MayStand.{IsNoMemory}
 use Rattle.explain_hints.proofs.Trials.{fits, none_read, same_tokens}
-use Rattle.explain_hints.specs.declared.hint.Hint.{Hint}
 use Rattle.explain_text.specs.declared.advice.Advice.{Advice}
 use Rattle.explain_text.specs.declared.advice.Advice.TheVariants as advice
-use Rattle.explain_text.specs.Advised.{LastIsSemicolon, EndsInSemicolon, is_semicolon, begins_statement, comes_from_elsewhere, IsSeparated, Suits, IsAdvisedAt}
+use Rattle.explain_text.specs.Advised.{LastIsSemicolon, EndsInSemicolon, IsBehindSemicolon, IsAdvisedBy}
 
 -- what lex says of bytes that have tokens
 abbrev GivesAll : List ℕ → Result (List Token) LexError → Type 0
@@ -32,39 +32,26 @@ pub ends_nowhere : (bytes : List ℕ) (r : Result (List Token) LexError) (e f : 
 ends_nowhere bytes r e f is same told all x =
     none_read f told x.tokens (subst (λ y. UnlessMemory y (Ok x.tokens)) (is ∙ ap Err same) (all x.tokens x.fits x.read))
 
--- no advice suits
-pub none_suits : (text : List ℕ) (at : ℕ) (hints : List Hint) → starts_with nat_eq (drop at text) (codes "=>") ≡ false
-    → (starts_with nat_eq (drop at text) (codes "+=") || starts_with nat_eq (drop at text) (codes "-=")) ≡ false
-    → list_any is_semicolon hints ≡ false → comes_from_elsewhere hints (drop at text) ≡ false
-    → (starts_with nat_eq (drop at text) (codes "}") ≡ true → EndsInSemicolon (take at text) → ⊥) → IsAdvisedAt text at hints None
-none_suits text at hints no_arrow no_sum no_separator no_elsewhere no_end advice.Handlers suits = false≢true (sym no_arrow ∙ suits)
-none_suits text at hints no_arrow no_sum no_separator no_elsewhere no_end advice.Compound suits = false≢true (sym no_sum ∙ suits)
-none_suits text at hints no_arrow no_sum no_separator no_elsewhere no_end advice.Separator suits =
-    let end : IsSeparated false text at = subst (λ b. IsSeparated b text at) no_separator suits in no_end end.0 end.1
-none_suits text at hints no_arrow no_sum no_separator no_elsewhere no_end advice.Elsewhere suits = false≢true (sym no_elsewhere ∙ suits.1)
-none_suits text at hints no_arrow no_sum no_separator no_elsewhere no_end advice.ByteOrderMark suits = suits
+-- ---- what is advised of a token that may not stand there
 
--- what is advised where `;` may stand
-pub advised_between : (text : List ℕ) (at : ℕ) (hints : List Hint) (advised : Option Advice) → starts_with nat_eq (drop at text) (codes "=>") ≡ false
-    → (starts_with nat_eq (drop at text) (codes "+=") || starts_with nat_eq (drop at text) (codes "-=")) ≡ false
-    → list_any is_semicolon hints ≡ true → advised ≡ (if begins_statement (drop at text) then Some advice.Separator else None)
-    → IsAdvisedAt text at hints advised
-advised_between text at hints advised no_arrow no_sum separator is =
-    by (begins_statement (drop at text)) refl advised is
-  where
-    none : begins_statement (drop at text) ≡ false → (a : Advice) → Suits a text at hints → ⊥
-    none other advice.Handlers suits = false≢true (sym no_arrow ∙ suits)
-    none other advice.Compound suits = false≢true (sym no_sum ∙ suits)
-    none other advice.Separator suits =
-        let here : IsSeparated true text at = subst (λ b. IsSeparated b text at) separator suits in false≢true (sym other ∙ here)
-    none other advice.Elsewhere suits = false≢true (sym suits.0 ∙ separator)
-    none other advice.ByteOrderMark suits = suits
+-- the advice that what stands there has
+pub advised_so : (found : Option Advice) (text : List ℕ) (at : ℕ) (a : Advice) → found ≡ Some a → IsAdvisedBy found text at (Some a)
+advised_so found text at a is = subst (λ f. IsAdvisedBy f text at (Some a)) (sym is) refl
 
-    by : (b : Bool) → begins_statement (drop at text) ≡ b → (a : Option Advice) → a ≡ (if b then Some advice.Separator else None) → IsAdvisedAt text at hints a
-    by true begun a same = subst (IsAdvisedAt text at hints) (sym same) (subst (λ b. IsSeparated b text at) (sym separator) begun)
-    by false other a same = subst (IsAdvisedAt text at hints) (sym same) (none other)
+-- what stands there has none
+pub advised_else : (found : Option Advice) (text : List ℕ) (at : ℕ) (r : Result (Option Advice) AllocError) → found ≡ None
+    → IfOk r (λ advised. IsAdvisedBy None text at advised) → IfOk r (λ advised. IsAdvisedBy found text at advised)
+advised_else found text at r is done = subst (λ f. IfOk r (λ advised. IsAdvisedBy f text at advised)) (sym is) done
+
+-- no `}` stands there
+pub no_brace : (text : List ℕ) (at : ℕ) → starts_with nat_eq (drop at text) (codes "}") ≡ false → IsBehindSemicolon text at → ⊥
+no_brace text at other is = false≢true (sym other ∙ is.0)
+
+-- no `;` stands before it
+pub no_end : (text : List ℕ) (at : ℕ) → (EndsInSemicolon (take at text) → ⊥) → IsBehindSemicolon text at → ⊥
+no_end text at never is = never is.1
 
 -- `;` stands before a `}`
-pub ended : (text : List ℕ) (at : ℕ) (hints : List Hint) → list_any is_semicolon hints ≡ false → starts_with nat_eq (drop at text) (codes "}") ≡ true
-    → EndsInSemicolon (take at text) → IsAdvisedAt text at hints (Some advice.Separator)
-ended text at hints no_separator brace end = subst (λ b. IsSeparated b text at) (sym no_separator) (brace, end)
+pub ended : (text : List ℕ) (at : ℕ) → starts_with nat_eq (drop at text) (codes "}") ≡ true → EndsInSemicolon (take at text)
+    → IsAdvisedBy None text at (Some advice.Separator)
+ended text at brace end = (refl, (brace, end))

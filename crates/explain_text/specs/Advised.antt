@@ -1,6 +1,7 @@
 -- What is advised where the place alone does not help.
-use Rattle.std.specs.Prelude.{◌≡◌, ℕ, ◌-◌, ◌≤◌, Bool, true, false, not, ◌&&◌, ◌||◌, nat_eq, List, codes, length, take}
-use Rattle.std.specs.Prelude.{drop, ◌∷◌, [], slice_get, Option, None, Some, option_map, if◌then◌else◌}
+use Rattle.std.specs.Prelude.{◌≡◌, ℕ, ◌-◌, ◌≤◌, Bool, true, false, not, ◌&&◌, ◌||◌, ◌==◌, nat_eq, List, codes, length}
+use Rattle.std.specs.Prelude.{take, drop, ◌∷◌, [], slice_get, slice_index, Option, None, Some, option_map}
+use Rattle.std.specs.Prelude.{if◌then◌else◌}
 use Rattle.std.specs.List.{starts_with, list_any}
 use Rattle.jolie_tokens.specs.Bytes.{begins, is_letter}
 use Rattle.jolie_tokens.specs.declared.sign.Sign.TheVariants as sign
@@ -58,27 +59,92 @@ goes_over_names hints rest = starts_with nat_eq rest (codes ":") && list_any clo
 abbrev pub comes_from_elsewhere : List Hint → List ℕ → Bool
 comes_from_elsewhere hints rest = is_elsewhere rest || goes_over_names hints rest
 
--- `;` is wanting before what stands at a place, where it may stand there; else it stands before a `}` that does
-abbrev pub IsSeparated : Bool → List ℕ → ℕ → Type 0
-IsSeparated true text at = begins_statement (drop at text) ≡ true
-IsSeparated false text at =
-    (starts_with nat_eq (drop at text) (codes "}") ≡ true) × EndsInSemicolon (take at text)
+-- ---- a token that may not stand there
 
--- the advice suits a token that may not stand at a place, by the bytes from there on, the tokens before, and what may
--- stand there
-abbrev pub Suits : Advice → List ℕ → ℕ → List Hint → Type 0
-Suits advice.Handlers text at hints = starts_with nat_eq (drop at text) (codes "=>") ≡ true
-Suits advice.Compound text at hints =
-    (starts_with nat_eq (drop at text) (codes "+=") || starts_with nat_eq (drop at text) (codes "-=")) ≡ true
-Suits advice.Separator text at hints = IsSeparated (list_any is_semicolon hints) text at
-Suits advice.Elsewhere text at hints =
-    (list_any is_semicolon hints ≡ false) × (comes_from_elsewhere hints (drop at text) ≡ true)
-Suits advice.ByteOrderMark text at hints = ⊥
+-- the bytes end in a dot; no bytes have the end 0 here
+abbrev pub ends_in_dot : List ℕ → Bool
+ends_in_dot bytes = slice_index bytes (length bytes - 1) == 46
 
--- what is advised of a token that may not stand at a place: the one advice that suits, if one does
+-- the hint is `(`
+abbrev pub opens : Hint → Bool
+opens hint.OpenParen = true
+opens _ = false
+
+-- the hint is a clause of a service, or a part of a port behind its location
+abbrev pub is_clause : Hint → Bool
+is_clause hint.Clause = true
+is_clause hint.Protocol = true
+is_clause hint.Interfaces = true
+is_clause _ = false
+
+-- the hint is `interfaces`
+abbrev pub is_interfaces : Hint → Bool
+is_interfaces hint.Interfaces = true
+is_interfaces _ = false
+
+-- the hint is a type behind a colon
+abbrev pub is_type : Hint → Bool
+is_type hint.Type = true
+is_type _ = false
+
+-- the hint is a value
+abbrev pub is_value : Hint → Bool
+is_value hint.Value = true
+is_value _ = false
+
+-- `{` stands there: where a statement may end and `(` go on, behind a protocol, or where a type stands
+abbrev pub advised_of_brace : List Hint → Option Advice
+advised_of_brace hints =
+    if list_any is_semicolon hints && list_any opens hints then Some advice.Braces
+    else if list_any is_interfaces hints then Some advice.Settings
+    else if list_any is_type hints then Some advice.Root
+    else None
+
+-- `,` or `;` stands there
+abbrev pub parts : List ℕ → Bool
+parts rest = starts_with nat_eq rest (codes ",") || starts_with nat_eq rest (codes ";")
+
+-- a word stands there before which `;` may stand
+abbrev pub advised_of_statement : List ℕ → Option Advice
+advised_of_statement rest = if begins_statement rest then Some advice.Separator else None
+
+-- another token stands there: a sign between clauses, `void` for a value, a statement, or what is from elsewhere
+abbrev pub advised_of_other : List ℕ → List Hint → Option Advice
+advised_of_other rest hints =
+    if parts rest && list_any is_clause hints then Some advice.Clauses
+    else if begins_with (codes "void") rest && list_any is_value hints then Some advice.Void
+    else if list_any is_semicolon hints then advised_of_statement rest
+    else if comes_from_elsewhere hints rest then Some advice.Elsewhere
+    else None
+
+-- what is advised by the bytes from a place on and what may stand there, and by whether a dot stands before them
+abbrev pub advised_there : Bool → List ℕ → List Hint → Option Advice
+advised_there behind_dot rest hints =
+    if starts_with nat_eq rest (codes "=>") then Some advice.Handlers
+    else if starts_with nat_eq rest (codes "+=") || starts_with nat_eq rest (codes "-=") then Some advice.Compound
+    else if behind_dot && starts_with nat_eq rest (codes "(") then Some advice.Computed
+    else if starts_with nat_eq rest (codes "{") then advised_of_brace hints
+    else advised_of_other rest hints
+
+-- what is advised by what stands at a place and what may
+abbrev pub advised_at : List ℕ → ℕ → List Hint → Option Advice
+advised_at text at hints = advised_there (ends_in_dot (take at text)) (drop at text) hints
+
+-- `}` stands there, and `;` is the last token before it
+abbrev pub IsBehindSemicolon : List ℕ → ℕ → Type 0
+IsBehindSemicolon text at = (starts_with nat_eq (drop at text) (codes "}") ≡ true) × EndsInSemicolon (take at text)
+
+-- what is advised where this is by what stands there: that, and where it is nothing, that no `;` stands before a `}`
+abbrev pub IsAdvisedBy : Option Advice → List ℕ → ℕ → Option Advice → Type 0
+IsAdvisedBy (Some a) text at advised = advised ≡ Some a
+IsAdvisedBy None text at None = IsBehindSemicolon text at → ⊥
+IsAdvisedBy None text at (Some a) = (a ≡ advice.Separator) × IsBehindSemicolon text at
+
+-- what is advised of a token that may not stand at a place
 abbrev pub IsAdvisedAt : List ℕ → ℕ → List Hint → Option Advice → Type 0
-IsAdvisedAt text at hints None = (a : Advice) → Suits a text at hints → ⊥
-IsAdvisedAt text at hints (Some a) = Suits a text at hints
+IsAdvisedAt text at hints advised = IsAdvisedBy (advised_at text at hints) text at advised
+
+-- ---- other refusals
 
 -- a byte order mark stands there, with which some editors begin a file
 abbrev pub begins_with_mark : List ℕ → Bool

@@ -14,6 +14,7 @@ abbrev pub note_words : NoteKind → List ℕ
 note_words kind.Uncaught = codes "nothing catches this fault, and no `throws` names it"
 note_words kind.UncaughtInLoop = codes "nothing catches this fault, and no `throws` names it"
 note_words kind.EndsService = codes "nothing catches this fault: it ends the loop and the service"
+note_words kind.EndsByArithmetic = codes "nothing here names ExprFault: where this fails, the loop and the service end"
 note_words kind.Unthrown = codes "nothing throws the fault of this handler"
 note_words kind.NoScope = codes "no scope of this service has this name"
 note_words kind.Unsent = codes "nothing is sent to this port"

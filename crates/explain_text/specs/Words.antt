@@ -99,4 +99,15 @@ advice_words advice.Handlers = codes "`,` stands between two handlers, and a han
 advice_words advice.Compound = codes "`y += 1` is `y = y + 1` here"
 advice_words advice.Elsewhere =
     codes "another Jolie has this; docs/language.md says under `A file from elsewhere` what to write"
+advice_words advice.Braces =
+    codes "`with (t) { .a = 1 }` is `t.a = 1` here, `synchronized` is a single service, "
+    ++ codes "and behind an input without an answer stands `;`"
+advice_words advice.Computed =
+    codes "a name behind `.` is written out: in place of `t.(k)` keep `t.key[i]` and `t.value[i]`, "
+    ++ codes "and look for k in a loop"
+advice_words advice.Clauses =
+    codes "nothing stands between the clauses of a service or the parts of a port: no `,` and no `;`"
+advice_words advice.Settings = codes "a protocol has no settings here: `protocol: jsonrpc` alone"
+advice_words advice.Root = codes "a type begins with its root: `type T: void { .. }`, or `type T { .. }` without `:`"
+advice_words advice.Void = codes "`void` is a type and no value: `is_defined(x)` says whether x is there"
 advice_words advice.ByteOrderMark = codes "this is a byte order mark: save the file as UTF-8 without one"

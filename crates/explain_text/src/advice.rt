@@ -1,6 +1,6 @@
 //! What is advised where the place alone does not help.
 
-ghost use Rattle.std.specs.Prelude.{◌≡◌, Some, None, IfOk, MatchBool, if◌then◌else◌};
+ghost use Rattle.std.specs.Prelude.{◌≡◌, None, IfOk, MatchBool};
 ghost use Rattle.std.specs.List.{list_any};
 ghost use Rattle.jolie_tokens.specs.declared.sign.Sign.TheVariants as signs;
 ghost use Rattle.jolie_tokens.specs.declared.token.TokenKind.TheVariants as kinds;
@@ -28,6 +28,18 @@ pub enum Advice {
     Compound,
     /// It is part of another Jolie.
     Elsewhere,
+    /// A `{` stands behind what may be an input.
+    Braces,
+    /// A `(` stands behind a dot.
+    Computed,
+    /// A sign stands between clauses.
+    Clauses,
+    /// A `{` stands behind a protocol.
+    Settings,
+    /// A `{` stands where a type begins.
+    Root,
+    /// `void` stands where a value may.
+    Void,
     /// A byte order mark stands there.
     ByteOrderMark,
 }
@@ -43,6 +55,17 @@ impl Advice {
             Advice::Compound => "`y += 1` is `y = y + 1` here",
             Advice::Elsewhere =>
                 "another Jolie has this; docs/language.md says under `A file from elsewhere` what to write",
+            Advice::Braces =>
+                "`with (t) { .a = 1 }` is `t.a = 1` here, `synchronized` is a single service, and behind an input without an answer stands `;`",
+            Advice::Computed =>
+                "a name behind `.` is written out: in place of `t.(k)` keep `t.key[i]` and `t.value[i]`, and look for k in a loop",
+            Advice::Clauses =>
+                "nothing stands between the clauses of a service or the parts of a port: no `,` and no `;`",
+            Advice::Settings => "a protocol has no settings here: `protocol: jsonrpc` alone",
+            Advice::Root =>
+                "a type begins with its root: `type T: void { .. }`, or `type T { .. }` without `:`",
+            Advice::Void =>
+                "`void` is a type and no value: `is_defined(x)` says whether x is there",
             Advice::ByteOrderMark =>
                 "this is a byte order mark: save the file as UTF-8 without one",
         }
@@ -72,7 +95,7 @@ pub fn advice_for(
 }
 
 /// What is advised of a token that may not stand at a place.
-#[tactic(auto, using(crate::proofs::Ends::none_suits, crate::proofs::Ends::advised_between, crate::proofs::Ends::ended))]
+#[tactic(auto, using(crate::proofs::Ends::advised_so, crate::proofs::Ends::advised_else))]
 fn advice_at(
     alloc: Global,
     text: &[u8],
@@ -81,20 +104,30 @@ fn advice_at(
 ) -> Result<Option<Advice>, AllocError>
     ensures { IfOk result (λ advised. spec.IsAdvisedAt text.now at hints.now advised) }
 {
-    let rest = behind(text, at);
-    if rest.starts_with("=>".as_bytes()) {
-        return Ok(Some(Advice::Handlers));
+    match advised_at(text, at, hints) {
+        Some(advice) => Ok(Some(advice)),
+        None => advice_behind_semicolon(alloc, text, at),
     }
-    if rest.starts_with("+=".as_bytes()) || rest.starts_with("-=".as_bytes()) {
-        return Ok(Some(Advice::Compound));
-    }
-    if has_separator(hints) {
-        return Ok(between(rest));
-    }
-    if comes_from_elsewhere(hints, rest) {
-        return Ok(Some(Advice::Elsewhere));
-    }
-    if !rest.starts_with("}".as_bytes()) {
+}
+
+/// What is advised by what stands at a place and what may.
+fn advised_at(text: &[u8], at: usize, hints: &[Hint]) -> Option<Advice>
+    ensures { result ≡ spec.advised_at text.now at hints.now }
+{
+    let behind_dot = ends_in_dot(before(text, at));
+    advised_there(behind_dot, behind(text, at), hints)
+}
+
+/// What is advised of a `}` that may not stand at a place: that no `;` stands before it.
+#[tactic(auto, using(crate::proofs::Ends::no_brace, crate::proofs::Ends::no_end, crate::proofs::Ends::ended))]
+fn advice_behind_semicolon(
+    alloc: Global,
+    text: &[u8],
+    at: usize,
+) -> Result<Option<Advice>, AllocError>
+    ensures { IfOk result (λ advised. spec.IsAdvisedBy None text.now at advised) }
+{
+    if !behind(text, at).starts_with("}".as_bytes()) {
         return Ok(None);
     }
     if !ends_in_semicolon(alloc, before(text, at))? {
@@ -103,14 +136,84 @@ fn advice_at(
     Ok(Some(Advice::Separator))
 }
 
+/// What is advised by the bytes from a place on and what may stand there, and by whether a dot stands before them.
+fn advised_there(behind_dot: bool, rest: &[u8], hints: &[Hint]) -> Option<Advice>
+    ensures { result ≡ spec.advised_there behind_dot rest.now hints.now }
+{
+    if rest.starts_with("=>".as_bytes()) {
+        return Some(Advice::Handlers);
+    }
+    if rest.starts_with("+=".as_bytes()) || rest.starts_with("-=".as_bytes()) {
+        return Some(Advice::Compound);
+    }
+    if behind_dot && rest.starts_with("(".as_bytes()) {
+        return Some(Advice::Computed);
+    }
+    if rest.starts_with("{".as_bytes()) {
+        return advised_of_brace(hints);
+    }
+    advised_of_other(rest, hints)
+}
+
+/// What is advised of a `{`: where a statement may end and `(` go on, behind a protocol, or where a type stands.
+fn advised_of_brace(hints: &[Hint]) -> Option<Advice>
+    ensures { result ≡ spec.advised_of_brace hints.now }
+{
+    if has_separator(hints) && has_opening(hints) {
+        return Some(Advice::Braces);
+    }
+    if has_interfaces(hints) {
+        return Some(Advice::Settings);
+    }
+    if has_type(hints) {
+        return Some(Advice::Root);
+    }
+    None
+}
+
+/// What is advised of another token: a sign between clauses, `void` for a value, a statement, or what is from
+/// elsewhere.
+fn advised_of_other(rest: &[u8], hints: &[Hint]) -> Option<Advice>
+    ensures { result ≡ spec.advised_of_other rest.now hints.now }
+{
+    if parts(rest) && has_clause(hints) {
+        return Some(Advice::Clauses);
+    }
+    if begins_with("void", rest) && has_value(hints) {
+        return Some(Advice::Void);
+    }
+    if has_separator(hints) {
+        return advised_of_statement(rest);
+    }
+    if comes_from_elsewhere(hints, rest) {
+        return Some(Advice::Elsewhere);
+    }
+    None
+}
+
 /// What is advised of a token before which `;` may stand.
-fn between(rest: &[u8]) -> Option<Advice>
-    ensures { result ≡ (if spec.begins_statement rest.now then Some Advice.Separator else None) }
+fn advised_of_statement(rest: &[u8]) -> Option<Advice>
+    ensures { result ≡ spec.advised_of_statement rest.now }
 {
     if begins_statement(rest) {
         return Some(Advice::Separator);
     }
     None
+}
+
+/// Whether bytes end in a dot.
+fn ends_in_dot(bytes: &[u8]) -> bool
+    ensures { result ≡ spec.ends_in_dot bytes.now }
+{
+    let len = bytes.len();
+    len > 0 && bytes[len - 1] == b'.'
+}
+
+/// Whether `,` or `;` stands there.
+fn parts(rest: &[u8]) -> bool
+    ensures { result ≡ spec.parts rest.now }
+{
+    rest.starts_with(",".as_bytes()) || rest.starts_with(";".as_bytes())
 }
 
 /// Whether `;` is among hints.
@@ -125,6 +228,76 @@ fn is_separator(hint: Hint) -> bool
     ensures { result ≡ spec.is_semicolon hint }
 {
     matches!(hint, Hint::Semicolon)
+}
+
+/// Whether `(` is among hints.
+fn has_opening(hints: &[Hint]) -> bool
+    ensures { result ≡ list_any spec.opens hints.now }
+{
+    hints.iter().any(|hint| opens(*hint))
+}
+
+/// Whether a hint is `(`.
+fn opens(hint: Hint) -> bool
+    ensures { result ≡ spec.opens hint }
+{
+    matches!(hint, Hint::OpenParen)
+}
+
+/// Whether a clause of a service is among hints, or a part of a port behind its location.
+fn has_clause(hints: &[Hint]) -> bool
+    ensures { result ≡ list_any spec.is_clause hints.now }
+{
+    hints.iter().any(|hint| is_clause(*hint))
+}
+
+/// Whether a hint is a clause of a service, or a part of a port behind its location.
+fn is_clause(hint: Hint) -> bool
+    ensures { result ≡ spec.is_clause hint }
+{
+    matches!(hint, Hint::Clause | Hint::Protocol | Hint::Interfaces)
+}
+
+/// Whether `interfaces` is among hints.
+fn has_interfaces(hints: &[Hint]) -> bool
+    ensures { result ≡ list_any spec.is_interfaces hints.now }
+{
+    hints.iter().any(|hint| is_interfaces(*hint))
+}
+
+/// Whether a hint is `interfaces`.
+fn is_interfaces(hint: Hint) -> bool
+    ensures { result ≡ spec.is_interfaces hint }
+{
+    matches!(hint, Hint::Interfaces)
+}
+
+/// Whether a type behind a colon is among hints.
+fn has_type(hints: &[Hint]) -> bool
+    ensures { result ≡ list_any spec.is_type hints.now }
+{
+    hints.iter().any(|hint| is_type(*hint))
+}
+
+/// Whether a hint is a type behind a colon.
+fn is_type(hint: Hint) -> bool
+    ensures { result ≡ spec.is_type hint }
+{
+    matches!(hint, Hint::Type)
+}
+
+/// Whether a value is among hints.
+fn has_value(hints: &[Hint]) -> bool
+    ensures { result ≡ list_any spec.is_value hints.now }
+{
+    hints.iter().any(|hint| is_value(*hint))
+}
+
+/// Whether a hint is a value.
+fn is_value(hint: Hint) -> bool
+    ensures { result ≡ spec.is_value hint }
+{
+    matches!(hint, Hint::Value)
 }
 
 /// Whether a word stands there that may begin a statement.
@@ -200,7 +373,8 @@ fn is_elsewhere(rest: &[u8]) -> bool
 
 /// Whether bytes have tokens, of which the last is `;`.
 fn ends_in_semicolon(alloc: Global, bytes: &[u8]) -> Result<bool, AllocError>
-    ensures { IfOk result (λ ends. MatchBool ends (spec.EndsInSemicolon bytes.now) (spec.EndsInSemicolon bytes.now → ⊥)) }
+    ensures { IfOk result
+        (λ ends. MatchBool ends (spec.EndsInSemicolon bytes.now) (spec.EndsInSemicolon bytes.now → ⊥)) }
 {
     match lex(alloc, bytes) {
         Ok(tokens) => Ok(last_is_semicolon(tokens.as_slice())),

@@ -6,7 +6,8 @@ ghost use Rattle.explain_text.specs.Explained as spec;
 use explain_places::{Place, line_of, mark_of, place_of};
 use std::alloc::{AllocError, Global};
 
-/// Adds words of a place of a file's text: where it is, the line in which it stands as it is shown, and a mark under it.
+/// Adds words of a place of a file's text: where it is, the line in which it stands as it is shown, and a mark under
+/// it.
 #[tactic(auto, using(crate::proofs::Pieces::five_more))]
 pub fn add_pointed(
     alloc: Global,

@@ -17,7 +17,9 @@ use std::alloc::{AllocError, Global};
 /// What a person reads of a program: `ok` and its notes. Of another text it is why it is none.
 #[tactic(auto, using(crate::proofs::Programs::is_refused))]
 pub fn noted(alloc: Global, file: &str, text: &[u8]) -> Result<Result<Vec<u8>, Refusal>, AllocError>
-    ensures { IfOk result (λ found. MatchResult found (λ bytes. spec.IsNoted file.now text.now bytes.items) (λ refusal. IsUncheckedBy text.now (refusal_line refusal))) }
+    ensures { IfOk result
+        (λ found. MatchResult found (λ bytes. spec.IsNoted file.now text.now bytes.items)
+        (λ refusal. IsUncheckedBy text.now (refusal_line refusal))) }
 {
     let definitions = match definitions_in(alloc, text)? {
         Ok(definitions) => definitions,
@@ -99,6 +101,9 @@ fn words(kind: NoteKind) -> &'static str
         NoteKind::Uncaught => "nothing catches this fault, and no `throws` names it",
         NoteKind::UncaughtInLoop => "nothing catches this fault, and no `throws` names it",
         NoteKind::EndsService => "nothing catches this fault: it ends the loop and the service",
+        NoteKind::EndsByArithmetic => {
+            "nothing here names ExprFault: where this fails, the loop and the service end"
+        }
         NoteKind::Unthrown => "nothing throws the fault of this handler",
         NoteKind::NoScope => "no scope of this service has this name",
         NoteKind::Unsent => "nothing is sent to this port",

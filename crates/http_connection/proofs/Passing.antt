@@ -487,7 +487,7 @@ sends text count was now t written read reader next = elim (cases_lt count (leng
     front = take_all count text full;
     written = written;
     taken = t.taken;
-    failures = let within = t.within in t.calm (omega arith);
+    failures = let within = t.within in t.unfailed (omega arith);
     given = t.given;
     left = t.left;
     closed = t.closed;

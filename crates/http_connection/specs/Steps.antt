@@ -57,7 +57,7 @@ FailedWhereCut true before now =
 pub record Takes (text : List ℕ) (count : ℕ) (before now : WireTold) : Type 0 where
   pub within : count ≤ length text
   pub taken : Appends before.written now.written (take count text)
-  pub calm : count ≡ length text → failures_of now ≡ failures_of before
+  pub unfailed : count ≡ length text → failures_of now ≡ failures_of before
   pub cause : count < length text → FailedWhereCut true before now
   pub given : now.read ≡ before.read
   pub left : now.unread ≡ before.unread

@@ -12,7 +12,7 @@ use Rattle.outside_dials.specs.Dials.{WireTraffic}
 use Rattle.http_port.proofs.CallLemmas.{Notes-nil}
 use Rattle.http_link.specs.Responses.{IsUnfinished}
 use Rattle.http_link.specs.Trips.{Reads, no_more, gives, ends, most_read}
-use Rattle.http_link.specs.Steps.{IsCalm, IsLost, IsCut, Heard, HeardInPart}
+use Rattle.http_link.specs.Steps.{IsUnfailed, IsLost, IsCut, Heard, HeardInPart}
 
 -- ---- what a wire tells of its failures and its end
 
@@ -25,12 +25,12 @@ or_true true = refl
 or_true false = refl
 
 -- no call of it failed or told the end
-pub unmoved : (before now : WireTraffic) → now.read_failed ≡ before.read_failed → now.write_failed ≡ before.write_failed → now.ended ≡ before.ended → IsCalm before now false
+pub unmoved : (before now : WireTraffic) → now.read_failed ≡ before.read_failed → now.write_failed ≡ before.write_failed → now.ended ≡ before.ended → IsUnfailed before now false
 unmoved before now lost cut ended = record { lost = lost; cut = cut; end = ended ∙ or_false before.ended }
 
 -- nothing failed, and then nothing more
-pub calm_on : (first mid now : WireTraffic) (ended : Bool) → IsCalm first mid false → IsCalm mid now ended → IsCalm first now ended
-calm_on first mid now ended before c = record {
+pub unfailed_on : (first mid now : WireTraffic) (ended : Bool) → IsUnfailed first mid false → IsUnfailed mid now ended → IsUnfailed first now ended
+unfailed_on first mid now ended before c = record {
   lost = c.lost ∙ before.lost;
   cut = c.cut ∙ before.cut;
   end = c.end ∙ ap (λ b. b || ended) (before.end ∙ sym (or_false first.ended));
@@ -45,14 +45,14 @@ tells_none was now closed room count told is_open some =
     ∙ ap (λ b. was || (not b && (not (room == 0) && (count == 0)))) is_open
     ∙ ap (λ b. was || (not b && (count == 0))) roomy
 
--- so a read that did not fail leaves the wire calm, and one that failed lost it
-pub read_calmly : {E : Type 0} (r : Result ℕ E) (before now : WireTraffic) (closed : Bool) (room : ℕ)
+-- so a read that did not fail leaves the wire unfailed, and one that failed lost it
+pub read_unfailingly : {E : Type 0} (r : Result ℕ E) (before now : WireTraffic) (closed : Bool) (room : ℕ)
     → MatchResult r (λ _. now.read_failed ≡ before.read_failed) (λ _. now.read_failed ≡ true) → now.write_failed ≡ before.write_failed
     → now.ended ≡ (before.ended || tells_end closed room r) → closed ≡ false → 0 < room
-    → MatchResult r (λ count. IsCalm before now (count == 0)) (λ _. IsLost before now)
-read_calmly (Ok count) before now closed room lost cut told is_open some =
+    → MatchResult r (λ count. IsUnfailed before now (count == 0)) (λ _. IsLost before now)
+read_unfailingly (Ok count) before now closed room lost cut told is_open some =
     record { lost = lost; cut = cut; end = tells_none before.ended now.ended closed room count told is_open some }
-read_calmly (Err error) before now closed room lost cut told is_open some =
+read_unfailingly (Err error) before now closed room lost cut told is_open some =
     record { lost = lost; cut = cut; end = told ∙ sym (or_false before.ended) }
 
 -- a write of an open wire that failed cut it
@@ -65,7 +65,7 @@ cuts before now closed lost told ended is_open = record {
 }
 
 -- nothing failed, and then a read did
-pub lost_on : (first mid now : WireTraffic) → IsCalm first mid false → IsLost mid now → IsLost first now
+pub lost_on : (first mid now : WireTraffic) → IsUnfailed first mid false → IsLost mid now → IsLost first now
 lost_on first mid now before f = record {
   lost = f.lost;
   cut = f.cut ∙ before.cut;
@@ -105,7 +105,7 @@ heard_nothing t was bounded = record {
   noted = Notes-nil t.calls;
   reads = no_more was;
   bounded = bounded;
-  calm = unmoved t t refl refl refl;
+  unfailed = unmoved t t refl refl refl;
 }
 
 -- what one read did to what is told of its wire
@@ -113,7 +113,7 @@ pub record Did (before now : WireTraffic) (piece : List ℕ) (count : ℕ) : Typ
   pub given : Appends before.read now.read piece
   pub taken : now.written ≡ before.written
   pub noted : Lists before.calls now.calls (Read count ∷ [])
-  pub calm : IsCalm before now (count == 0)
+  pub unfailed : IsUnfailed before now (count == 0)
 
 -- one more, which gave some bytes
 pub heard_more : (first before now : WireTraffic) (was came next piece : List ℕ) (count : ℕ) → Heard first before was came false → IsUnfinished came
@@ -129,7 +129,7 @@ heard_more first before now was came next piece count h open_ did e long some bo
       (subst (λ n. Reads was (h.calls ++ Read n ∷ []) (came ++ piece) false) long
       (gives was came piece h.calls h.reads open_ (subst (λ (n : ℕ). 0 < n) (sym long) some)));
   bounded = bounded;
-  calm = calm_on first before now false h.calm (subst (λ e. IsCalm before now e) (ne_eqb count 0 (λ e. omega arith)) did.calm);
+  unfailed = unfailed_on first before now false h.unfailed (subst (λ e. IsUnfailed before now e) (ne_eqb count 0 (λ e. omega arith)) did.unfailed);
 }
 
 -- one more, which found that no more come
@@ -145,7 +145,7 @@ heard_end first before now was came next [] count h open_ did e long none bounde
       (Notes-trans first.calls before.calls now.calls h.calls (Read count ∷ []) h.noted did.noted);
   reads = subst (λ l. Reads was (h.calls ++ Read 0 ∷ []) l true) (sym (e ∙ append-nil came)) (ends was came h.calls h.reads open_);
   bounded = bounded;
-  calm = calm_on first before now true h.calm (subst (λ n. IsCalm before now (n == 0)) none did.calm);
+  unfailed = unfailed_on first before now true h.unfailed (subst (λ n. IsUnfailed before now (n == 0)) none did.unfailed);
 }
 heard_end first before now was came next (b ∷ piece) count h open_ did e long none bounded = absurd (omega arith)
 
@@ -163,7 +163,7 @@ heard_cut first before now was came next h open_ e given taken noted failed = re
   reads = subst (λ l. Reads was h.calls l false) (sym e) h.reads;
   unfinished = subst IsUnfinished (sym e) open_;
   bounded = subst (λ l. length l ≤ most_read) (sym e) h.bounded;
-  failed = lost_on first before now h.calm failed;
+  failed = lost_on first before now h.unfailed failed;
 }
 
 -- reads behind reads, with what is told of their wire
@@ -178,7 +178,7 @@ heard_on first mid now was came next ended h k = record {
   noted = Notes-trans first.calls mid.calls now.calls h.calls k.calls h.noted k.noted;
   reads = reads_on was came next h.calls k.calls ended h.reads k.reads;
   bounded = k.bounded;
-  calm = calm_on first mid now ended h.calm k.calm;
+  unfailed = unfailed_on first mid now ended h.unfailed k.unfailed;
 }
 
 pub heard_on_cut : (first mid now : WireTraffic) (was came next : List ℕ) → Heard first mid was came false → HeardInPart mid now came next
@@ -194,7 +194,7 @@ heard_on_cut first mid now was came next h k = record {
   reads = reads_on was came next h.calls k.calls false h.reads k.reads;
   unfinished = k.unfinished;
   bounded = k.bounded;
-  failed = lost_on first mid now h.calm k.failed;
+  failed = lost_on first mid now h.unfailed k.failed;
 }
 
 -- what was read stays unfinished while it is shorter than this

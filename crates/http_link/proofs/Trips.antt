@@ -14,9 +14,9 @@ use Rattle.outside_dials.specs.Dials.{WireTraffic, IsNew, Tells, CountsWire}
 use Rattle.http_port.specs.Writing.{IsWritten}
 use Rattle.http_port.proofs.PartLemmas.{take_min}
 use Rattle.http_link.specs.Trips.{Telling, telling, Shows, TellsEnd, Exchange, Failing, unsent, unheard, unanswered}
-use Rattle.http_link.specs.Steps.{IsCalm, IsLost, IsCut, Heard, HeardInPart, Exchanged, CutOff, in_writing, in_reading, Finds}
+use Rattle.http_link.specs.Steps.{IsUnfailed, IsLost, IsCut, Heard, HeardInPart, Exchanged, CutOff, in_writing, in_reading, Finds}
 use Rattle.http_link.specs.Responses.{IsNoResponse}
-use Rattle.http_link.proofs.Heard.{or_true, calm_on, lost_on, Notes-trans, heard_on, heard_on_cut}
+use Rattle.http_link.proofs.Heard.{or_true, unfailed_on, lost_on, Notes-trans, heard_on, heard_on_cut}
 
 -- ---- on one wire
 
@@ -27,9 +27,9 @@ own_writes before now went whole w = record { calls = w.calls; noted = refl; wri
 
 -- a request that was written, and reads behind it
 pub exchanged : (before mid now : WireTraffic) (sent came : List ℕ) (ended : Bool) → Appends before.written mid.written sent
-    → IsWritten before.calls mid.calls sent true → mid.read ≡ before.read → IsCalm before mid false → Heard mid now [] came ended
+    → IsWritten before.calls mid.calls sent true → mid.read ≡ before.read → IsUnfailed before mid false → Heard mid now [] came ended
     → Exchanged before now sent came ended
-exchanged before mid now sent came ended taken w given calm h = record {
+exchanged before mid now sent came ended taken w given unfailed h = record {
   taken = subst (λ t. Appends before.written t sent) (sym h.taken) taken;
   given = subst (λ g. Appends g now.read came) given (subst (Appends mid.read now.read) (sym h.grown) h.given);
   writes = w.calls;
@@ -38,20 +38,20 @@ exchanged before mid now sent came ended taken w given calm h = record {
   written = own_writes before.calls mid.calls sent true w;
   read = h.reads;
   bounded = h.bounded;
-  calm = calm_on before mid now ended calm h.calm;
+  unfailed = unfailed_on before mid now ended unfailed h.unfailed;
 }
 
 -- a request that was written, and a read behind it that failed
 pub cut_in_reading : (before mid now : WireTraffic) (sent came : List ℕ) → Appends before.written mid.written sent
-    → IsWritten before.calls mid.calls sent true → mid.read ≡ before.read → IsCalm before mid false → HeardInPart mid now [] came
+    → IsWritten before.calls mid.calls sent true → mid.read ≡ before.read → IsUnfailed before mid false → HeardInPart mid now [] came
     → CutOff before now sent
-cut_in_reading before mid now sent came taken w given calm h =
+cut_in_reading before mid now sent came taken w given unfailed h =
     in_reading came w.calls h.calls
     (subst (λ t. Appends before.written t sent) (sym h.taken) taken)
     (subst (λ g. Appends g now.read came) given (subst (Appends mid.read now.read) (sym h.grown) h.given))
     (Notes-trans before.calls mid.calls now.calls w.calls (h.calls ++ Read 0 ∷ []) w.noted h.noted)
     (own_writes before.calls mid.calls sent true w)
-    h.reads h.unfinished h.bounded (lost_on before mid now calm h.failed)
+    h.reads h.unfinished h.bounded (lost_on before mid now unfailed h.failed)
 
 -- a write that failed
 pub cut_in_writing : (before now : WireTraffic) (sent : List ℕ) (count : ℕ) → count < length sent
@@ -78,11 +78,11 @@ told_so P None t e holds = tt
 told_so P (Some last) t e holds = subst P (sym e) holds
 
 -- a new wire on which nothing failed
-calm_end : (blank t : WireTraffic) (ended : Bool) → IsNew blank → IsCalm blank t ended → TellsEnd false false ended t
-calm_end blank t ended new calm = record {
-  lost = calm.lost ∙ new.read_failed;
-  cut = calm.cut ∙ new.write_failed;
-  end = calm.end ∙ ap (λ b. b || ended) new.ended;
+unfailed_end : (blank t : WireTraffic) (ended : Bool) → IsNew blank → IsUnfailed blank t ended → TellsEnd false false ended t
+unfailed_end blank t ended new unfailed = record {
+  lost = unfailed.lost ∙ new.read_failed;
+  cut = unfailed.cut ∙ new.write_failed;
+  end = unfailed.end ∙ ap (λ b. b || ended) new.ended;
 }
 
 -- one on which a write failed
@@ -103,7 +103,7 @@ exchange_told blank t dialled last faults sent came ended new e x = record {
   written = x.written;
   read = x.read;
   bounded = x.bounded;
-  end = told_so (TellsEnd false false ended) last t e (calm_end blank t ended new x.calm);
+  end = told_so (TellsEnd false false ended) last t e (unfailed_end blank t ended new x.unfailed);
 }
 
 starts_with : (count : ℕ) (sent : List ℕ) → StartsWith sent (take count sent)
@@ -129,7 +129,7 @@ failing_told blank t before dialled last faults sent new e (in_reading came writ
 pub count_stands : (blank t : WireTraffic) (sent came : List ℕ) (ended : Bool) (before now : ℕ) → IsNew blank → Exchanged blank t sent came ended
     → CountsWire (t.read_failed || t.write_failed) before now → now ≡ before
 count_stands blank t sent came ended before now new x counts =
-    counts.calm (ap (λ b. b || t.write_failed) (x.calm.lost ∙ new.read_failed) ∙ x.calm.cut ∙ new.write_failed)
+    counts.unfailed (ap (λ b. b || t.write_failed) (x.unfailed.lost ∙ new.read_failed) ∙ x.unfailed.cut ∙ new.write_failed)
 
 -- and rises where it failed
 pub count_rises : (blank t : WireTraffic) (sent : List ℕ) (before now : ℕ) → CutOff blank t sent → CountsWire (t.read_failed || t.write_failed) before now
@@ -144,13 +144,13 @@ count_rises blank t sent before now (in_reading came writes reads taken given no
 -- a request that was written, and what came of the reads behind it
 pub exchanged_or_cut : {E : Type 0} (r : Result (Option Span) E) (before mid now : WireTraffic) (sent was came : List ℕ) → was ≡ []
     → Appends before.written mid.written sent → IsWritten before.calls mid.calls sent true → mid.read ≡ before.read
-    → IsCalm before mid false
+    → IsUnfailed before mid false
     → MatchResult r (λ found. (ended : Bool) × Finds came ended found × Heard mid now was came ended) (λ _. HeardInPart mid now was came)
     → MatchResult r (λ found. (ended : Bool) × Finds came ended found × Exchanged before now sent came ended) (λ _. CutOff before now sent)
-exchanged_or_cut (Ok found) before mid now sent was came e taken w given calm m =
-    (m.0, m.1, exchanged before mid now sent came m.0 taken w given calm (subst (λ l. Heard mid now l came m.0) e m.2))
-exchanged_or_cut (Err x) before mid now sent was came e taken w given calm m =
-    cut_in_reading before mid now sent came taken w given calm (subst (λ l. HeardInPart mid now l came) e m)
+exchanged_or_cut (Ok found) before mid now sent was came e taken w given unfailed m =
+    (m.0, m.1, exchanged before mid now sent came m.0 taken w given unfailed (subst (λ l. Heard mid now l came m.0) e m.2))
+exchanged_or_cut (Err x) before mid now sent was came e taken w given unfailed m =
+    cut_in_reading before mid now sent came taken w given unfailed (subst (λ l. HeardInPart mid now l came) e m)
 
 -- reads of a head, and what came of the reads behind them
 pub found_on : {E : Type 0} (r : Result (Option Span) E) (first mid now : WireTraffic) (was came next : List ℕ) → Heard first mid was came false

@@ -51,7 +51,7 @@ Finds bytes ended None = IsNoResponse bytes ended
 Finds bytes ended (Some span) = IsWithin (length bytes) span × IsResponse bytes ended (span_bytes bytes span)
 
 -- no call of a wire failed meanwhile; ended says whether a read told the end
-pub record IsCalm (before now : WireTraffic) (ended : Bool) : Type 0 where
+pub record IsUnfailed (before now : WireTraffic) (ended : Bool) : Type 0 where
   pub lost : now.read_failed ≡ before.read_failed
   pub cut : now.write_failed ≡ before.write_failed
   pub end : now.ended ≡ (before.ended || ended)
@@ -78,7 +78,7 @@ pub record Heard (before now : WireTraffic) (was came : List ℕ) (ended : Bool)
   pub noted : Lists before.calls now.calls calls
   pub reads : Reads was calls came ended
   pub bounded : length came ≤ most_read
-  pub calm : IsCalm before now ended
+  pub unfailed : IsUnfailed before now ended
 
 -- the same, and then a read failed
 pub record HeardInPart (before now : WireTraffic) (was came : List ℕ) : Type 0 where
@@ -105,7 +105,7 @@ pub record Exchanged (before now : WireTraffic) (sent came : List ℕ) (ended : 
   pub written : IsWritten (Some []) (Some writes) sent true
   pub read : Reads [] reads came ended
   pub bounded : length came ≤ most_read
-  pub calm : IsCalm before now ended
+  pub unfailed : IsUnfailed before now ended
 
 -- the wire failed, behind a front of the request that is not all of it, or in a read behind all of it
 pub data CutOff (before now : WireTraffic) (sent : List ℕ) : Type 0 where

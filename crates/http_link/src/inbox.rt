@@ -7,7 +7,7 @@ ghost use Rattle.httparse.specs.Spans.{IsWithin, span_bytes};
 ghost use Rattle.outside_traits.specs.Told.{Lists};
 ghost use Rattle.outside_traits.specs.declared.calls.WireCall.TheVariants.{Read};
 ghost use Rattle.outside_dials.specs.Dials.{traffic};
-ghost use Rattle.http_link.specs.Steps.{IsCalm, IsLost};
+ghost use Rattle.http_link.specs.Steps.{IsUnfailed, IsLost};
 ghost use Rattle.http_link.specs.Trips.{most_read};
 
 use http_port::{LONGEST_BODY, LONGEST_HEAD};
@@ -74,7 +74,7 @@ impl Inbox {
         ensures taken { (W.told wire.new).written ≡ (W.told wire.old).written }
         ensures open { (W.told wire.new).closed ≡ false }
         ensures told { MatchResult result
-            (λ count. IsCalm (traffic (W.told wire.old)) (traffic (W.told wire.new)) (count == 0))
+            (λ count. IsUnfailed (traffic (W.told wire.old)) (traffic (W.told wire.new)) (count == 0))
             (λ _. IsLost (traffic (W.told wire.old)) (traffic (W.told wire.new))) }
     {
         let mut chunk = [0; CHUNK];
@@ -119,7 +119,7 @@ fn read_some<W: Wire>(wire: &mut W, into: &mut [u8]) -> Result<usize, Failed>
     ensures calls { Lists (W.told wire.old).calls (W.told wire.new).calls (Read (moved result) ∷ []) }
     ensures open { (W.told wire.new).closed ≡ false }
     ensures told { MatchResult result
-        (λ count. IsCalm (traffic (W.told wire.old)) (traffic (W.told wire.new)) (count == 0))
+        (λ count. IsUnfailed (traffic (W.told wire.old)) (traffic (W.told wire.new)) (count == 0))
         (λ _. IsLost (traffic (W.told wire.old)) (traffic (W.told wire.new))) }
 {
     wire.read(into)

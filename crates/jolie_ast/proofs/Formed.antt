@@ -8,7 +8,7 @@ use Rattle.jolie_ast.specs.declared.expression.Multiplicative.{Multiplicative}
 use Rattle.jolie_ast.specs.declared.expression.Comparison.{Comparison}
 use Rattle.jolie_ast.specs.declared.expression.CastTarget.{CastTarget}
 use Rattle.jolie_ast.specs.declared.expression.ExprForm.TheOpen.{ExprForm-F}
-use Rattle.jolie_ast.specs.declared.expression.ExprForm.TheFolds.{map-ExprForm, fold-roll-Expr, fold-roll-ExprForm, fold-roll-Factor, fold-roll-Member, fold-roll-Path, fold-roll-Step, fold-roll-Term}
+use Rattle.jolie_ast.specs.declared.expression.ExprForm.TheFolds.{map-ExprForm}
 use Rattle.jolie_ast.specs.declared.expression.Expr.{Expr, out-Expr, roll-Expr, roll-out-Expr}
 use Rattle.jolie_ast.specs.declared.expression.ExprForm.{ExprForm, roll-ExprForm}
 use Rattle.jolie_ast.specs.declared.expression.ExprForm.TheVariants as form
@@ -21,7 +21,7 @@ use Rattle.jolie_ast.specs.declared.process.Assignment.{Assignment}
 use Rattle.jolie_ast.specs.declared.process.ForStep.{ForStep}
 use Rattle.jolie_ast.specs.declared.process.HandlerKey.{HandlerKey}
 use Rattle.jolie_ast.specs.declared.process.Otherwise.TheOpen.{Otherwise-F, Process-F}
-use Rattle.jolie_ast.specs.declared.process.Otherwise.TheFolds.{map-Otherwise, map-Process, fold-roll-Answer, fold-roll-Block, fold-roll-Branch, fold-roll-Handler, fold-roll-If, fold-roll-Input, fold-roll-Otherwise, fold-roll-Process, fold-roll-Reply}
+use Rattle.jolie_ast.specs.declared.process.Otherwise.TheFolds.{map-Otherwise, map-Process}
 use Rattle.jolie_ast.specs.declared.process.Process.{Process, roll-Process}
 use Rattle.jolie_ast.specs.declared.process.Process.TheVariants as process
 use Rattle.jolie_ast.specs.declared.process.Block.{Block, roll-Block}
@@ -33,7 +33,8 @@ use Rattle.jolie_ast.specs.declared.process.Reply.{Reply, roll-Reply}
 use Rattle.jolie_ast.specs.declared.process.Branch.{Branch, roll-Branch}
 use Rattle.jolie_ast.specs.declared.process.Answer.{Answer, roll-Answer}
 use Rattle.jolie_ast.specs.declared.process.Handler.{Handler, roll-Handler}
-use Rattle.jolie_ast.specs.Formed.{has_one, has_two, each, option_all, form_level, expr_level, factor_level, term_level, member_level, path_level, step_level, form_formed, expr_formed, factor_formed, term_formed, member_formed, path_formed, step_formed, assignment_formed, for_step_formed, process_level, block_level, if_level, otherwise_level, input_level, reply_level, branch_level, answer_level, handler_level, process_formed, block_formed, if_formed, otherwise_formed, input_formed, reply_formed, branch_formed, answer_formed, handler_formed}
+use Rattle.jolie_ast.specs.Formed.{has_one, has_two, each, option_all, form_level, form_formed, expr_formed, factor_formed, term_formed, member_formed, path_formed, step_formed, assignment_formed, for_step_formed, process_level, otherwise_level, process_formed, block_formed, if_formed, otherwise_formed, input_formed, reply_formed, branch_formed, answer_formed, handler_formed, processes_formed, expressions_formed}
+use Rattle.jolie_ast.proofs.Folds.{process_rolls, block_rolls, conditional_rolls, otherwise_rolls, input_rolls, reply_rolls, branch_rolls, answer_rolls, handler_rolls, form_rolls, expr_rolls, factor_rolls, term_rolls, member_rolls, path_rolls, step_rolls}
 
 -- ---- lists
 
@@ -62,7 +63,7 @@ two_and_each test parts = ap (λ b. b && each (map test parts)) (has_two-map tes
 form_made : (x : ExprForm-F ExprForm Expr Factor Member Path Step Term) {f : ExprForm} → roll-ExprForm x ≡ f
     → form_formed f ≡ form_level (map-ExprForm ExprForm Expr Factor Member Path Step Term Bool Bool Bool Bool Bool Bool Bool form_formed expr_formed factor_formed member_formed path_formed step_formed term_formed x)
 unfolding form_formed expr_formed factor_formed member_formed path_formed step_formed term_formed
-form_made x made = ap form_formed (sym made) ∙ fold-roll-ExprForm Bool Bool Bool Bool Bool Bool Bool form_level expr_level factor_level member_level path_level step_level term_level x
+form_made x made = ap form_formed (sym made) ∙ form_rolls expressions_formed x
 
 pub int_forms : (n : ℤ) → form_formed (form.Int n) ≡ true
 int_forms n = form_made (ExprForm-F.Int n) (form.rolls-Int n)
@@ -127,34 +128,34 @@ pub expr_forms : (e : Expr) → expr_formed e ≡ form_formed (out-Expr e).form
 unfolding expr_formed factor_formed form_formed member_formed path_formed step_formed term_formed
 expr_forms e =
     ap expr_formed (sym (roll-out-Expr e))
-    ∙ fold-roll-Expr Bool Bool Bool Bool Bool Bool Bool form_level expr_level factor_level member_level path_level step_level term_level (out-Expr e)
+    ∙ expr_rolls expressions_formed (out-Expr e)
 
 pub placed_forms : (at : ℕ) (inner : ExprForm) → expr_formed (roll-Expr (record { at = at; form = inner })) ≡ form_formed inner
 unfolding expr_formed factor_formed form_formed member_formed path_formed step_formed term_formed
-placed_forms at inner = fold-roll-Expr Bool Bool Bool Bool Bool Bool Bool form_level expr_level factor_level member_level path_level step_level term_level (record { at = at; form = inner })
+placed_forms at inner = expr_rolls expressions_formed (record { at = at; form = inner })
 
 pub factor_forms : (operator : Multiplicative) (operand : Expr) → factor_formed (roll-Factor (record { operator = operator; operand = operand })) ≡ expr_formed operand
 unfolding expr_formed factor_formed form_formed member_formed path_formed step_formed term_formed
-factor_forms operator operand = fold-roll-Factor Bool Bool Bool Bool Bool Bool Bool form_level expr_level factor_level member_level path_level step_level term_level (record { operator = operator; operand = operand })
+factor_forms operator operand = factor_rolls expressions_formed (record { operator = operator; operand = operand })
 
 pub term_forms : (operator : Additive) (operand : Expr) → term_formed (roll-Term (record { operator = operator; operand = operand })) ≡ expr_formed operand
 unfolding expr_formed factor_formed form_formed member_formed path_formed step_formed term_formed
-term_forms operator operand = fold-roll-Term Bool Bool Bool Bool Bool Bool Bool form_level expr_level factor_level member_level path_level step_level term_level (record { operator = operator; operand = operand })
+term_forms operator operand = term_rolls expressions_formed (record { operator = operator; operand = operand })
 
 pub member_forms : (name : Name) (value : Expr) → member_formed (roll-Member (record { name = name; value = value })) ≡ expr_formed value
 unfolding expr_formed factor_formed form_formed member_formed path_formed step_formed term_formed
-member_forms name value = fold-roll-Member Bool Bool Bool Bool Bool Bool Bool form_level expr_level factor_level member_level path_level step_level term_level (record { name = name; value = value })
+member_forms name value = member_rolls expressions_formed (record { name = name; value = value })
 
 pub path_forms : (first : Step) (rest : List Step) → path_formed (roll-Path (record { first = first; rest = rest })) ≡ step_formed first && list_all step_formed rest
 unfolding expr_formed factor_formed form_formed member_formed path_formed step_formed term_formed
 path_forms first rest =
-    fold-roll-Path Bool Bool Bool Bool Bool Bool Bool form_level expr_level factor_level member_level path_level step_level term_level (record { first = first; rest = rest })
+    path_rolls expressions_formed (record { first = first; rest = rest })
     ∙ ap (λ b. step_formed first && b) (each-map step_formed rest)
 
 pub step_forms : (name : Name) (index : Option Expr) → step_formed (roll-Step (record { name = name; index = index })) ≡ option_all expr_formed index
 unfolding expr_formed factor_formed form_formed member_formed path_formed step_formed term_formed
-step_forms name None = fold-roll-Step Bool Bool Bool Bool Bool Bool Bool form_level expr_level factor_level member_level path_level step_level term_level (record { name = name; index = None })
-step_forms name (Some e) = fold-roll-Step Bool Bool Bool Bool Bool Bool Bool form_level expr_level factor_level member_level path_level step_level term_level (record { name = name; index = Some e })
+step_forms name None = step_rolls expressions_formed (record { name = name; index = None })
+step_forms name (Some e) = step_rolls expressions_formed (record { name = name; index = Some e })
 
 -- ---- processes
 
@@ -162,7 +163,7 @@ step_forms name (Some e) = fold-roll-Step Bool Bool Bool Bool Bool Bool Bool for
 process_made : (x : Process-F Otherwise Process Answer Block Branch Handler If Input Reply) {p : Process} → roll-Process x ≡ p
     → process_formed p ≡ process_level (map-Process Otherwise Process Answer Block Branch Handler If Input Reply Bool Bool Bool Bool Bool Bool Bool Bool Bool otherwise_formed process_formed answer_formed block_formed branch_formed handler_formed if_formed input_formed reply_formed x)
 unfolding otherwise_formed process_formed answer_formed block_formed branch_formed handler_formed if_formed input_formed reply_formed
-process_made x made = ap process_formed (sym made) ∙ fold-roll-Process Bool Bool Bool Bool Bool Bool Bool Bool Bool otherwise_level process_level answer_level block_level branch_level handler_level if_level input_level reply_level x
+process_made x made = ap process_formed (sym made) ∙ process_rolls processes_formed x
 
 pub nothing_forms : (at : ℕ) → process_formed (process.Nothing at) ≡ true
 nothing_forms at = process_made (Process-F.«Process::Nothing» at) (process.rolls-Nothing at)
@@ -233,7 +234,7 @@ parallel_forms ps =
 otherwise_made : (x : Otherwise-F Otherwise Process Answer Block Branch Handler If Input Reply) {o : Otherwise} → roll-Otherwise x ≡ o
     → otherwise_formed o ≡ otherwise_level (map-Otherwise Otherwise Process Answer Block Branch Handler If Input Reply Bool Bool Bool Bool Bool Bool Bool Bool Bool otherwise_formed process_formed answer_formed block_formed branch_formed handler_formed if_formed input_formed reply_formed x)
 unfolding otherwise_formed process_formed answer_formed block_formed branch_formed handler_formed if_formed input_formed reply_formed
-otherwise_made x made = ap otherwise_formed (sym made) ∙ fold-roll-Otherwise Bool Bool Bool Bool Bool Bool Bool Bool Bool otherwise_level process_level answer_level block_level branch_level handler_level if_level input_level reply_level x
+otherwise_made x made = ap otherwise_formed (sym made) ∙ otherwise_rolls processes_formed x
 
 pub no_else_forms : otherwise_formed otherwise.Nothing ≡ true
 no_else_forms = otherwise_made Otherwise-F.«Otherwise::Nothing» otherwise.rolls-Nothing
@@ -248,33 +249,33 @@ else_forms b = otherwise_made (Otherwise-F.Else b) (otherwise.rolls-Else b)
 
 pub block_forms : (at : ℕ) (body : Option Process) → block_formed (roll-Block (record { at = at; body = body })) ≡ option_all process_formed body
 unfolding answer_formed block_formed branch_formed handler_formed if_formed input_formed otherwise_formed process_formed reply_formed
-block_forms at None = fold-roll-Block Bool Bool Bool Bool Bool Bool Bool Bool Bool otherwise_level process_level answer_level block_level branch_level handler_level if_level input_level reply_level (record { at = at; body = None })
-block_forms at (Some it) = fold-roll-Block Bool Bool Bool Bool Bool Bool Bool Bool Bool otherwise_level process_level answer_level block_level branch_level handler_level if_level input_level reply_level (record { at = at; body = Some it })
+block_forms at None = block_rolls processes_formed (record { at = at; body = None })
+block_forms at (Some it) = block_rolls processes_formed (record { at = at; body = Some it })
 
 pub if_forms : (at : ℕ) (test : Expr) (body : Block) (rest : Otherwise) → if_formed (roll-If (record { at = at; test = test; body = body; otherwise = rest })) ≡ expr_formed test && (block_formed body && otherwise_formed rest)
 unfolding answer_formed block_formed branch_formed handler_formed if_formed input_formed otherwise_formed process_formed reply_formed
-if_forms at test body rest = fold-roll-If Bool Bool Bool Bool Bool Bool Bool Bool Bool otherwise_level process_level answer_level block_level branch_level handler_level if_level input_level reply_level (record { at = at; test = test; body = body; otherwise = rest })
+if_forms at test body rest = conditional_rolls processes_formed (record { at = at; test = test; body = body; otherwise = rest })
 
 pub input_part_forms : (operation : Name) (request : Option Path) (reply : Option Reply) → input_formed (roll-Input (record { operation = operation; request = request; reply = reply })) ≡ option_all path_formed request && option_all reply_formed reply
 unfolding answer_formed block_formed branch_formed handler_formed if_formed input_formed otherwise_formed process_formed reply_formed
-input_part_forms operation request None = fold-roll-Input Bool Bool Bool Bool Bool Bool Bool Bool Bool otherwise_level process_level answer_level block_level branch_level handler_level if_level input_level reply_level (record { operation = operation; request = request; reply = None })
-input_part_forms operation request (Some it) = fold-roll-Input Bool Bool Bool Bool Bool Bool Bool Bool Bool otherwise_level process_level answer_level block_level branch_level handler_level if_level input_level reply_level (record { operation = operation; request = request; reply = Some it })
+input_part_forms operation request None = input_rolls processes_formed (record { operation = operation; request = request; reply = None })
+input_part_forms operation request (Some it) = input_rolls processes_formed (record { operation = operation; request = request; reply = Some it })
 
 pub reply_forms : (path : Option Path) (body : Block) → reply_formed (roll-Reply (record { path = path; body = body })) ≡ option_all path_formed path && block_formed body
 unfolding answer_formed block_formed branch_formed handler_formed if_formed input_formed otherwise_formed process_formed reply_formed
-reply_forms path body = fold-roll-Reply Bool Bool Bool Bool Bool Bool Bool Bool Bool otherwise_level process_level answer_level block_level branch_level handler_level if_level input_level reply_level (record { path = path; body = body })
+reply_forms path body = reply_rolls processes_formed (record { path = path; body = body })
 
 pub branch_forms : (at : ℕ) (i : Input) (after : Block) → branch_formed (roll-Branch (record { at = at; input = i; after = after })) ≡ input_formed i && block_formed after
 unfolding answer_formed block_formed branch_formed handler_formed if_formed input_formed otherwise_formed process_formed reply_formed
-branch_forms at i after = fold-roll-Branch Bool Bool Bool Bool Bool Bool Bool Bool Bool otherwise_level process_level answer_level block_level branch_level handler_level if_level input_level reply_level (record { at = at; input = i; after = after })
+branch_forms at i after = branch_rolls processes_formed (record { at = at; input = i; after = after })
 
 pub answer_forms : (path : Option Path) (handlers : Option (List Handler)) → answer_formed (roll-Answer (record { path = path; handlers = handlers })) ≡ option_all path_formed path && option_all (list_all handler_formed) handlers
 unfolding answer_formed block_formed branch_formed handler_formed if_formed input_formed otherwise_formed process_formed reply_formed
-answer_forms path None = fold-roll-Answer Bool Bool Bool Bool Bool Bool Bool Bool Bool otherwise_level process_level answer_level block_level branch_level handler_level if_level input_level reply_level (record { path = path; handlers = None })
+answer_forms path None = answer_rolls processes_formed (record { path = path; handlers = None })
 answer_forms path (Some it) =
-    fold-roll-Answer Bool Bool Bool Bool Bool Bool Bool Bool Bool otherwise_level process_level answer_level block_level branch_level handler_level if_level input_level reply_level (record { path = path; handlers = Some it })
+    answer_rolls processes_formed (record { path = path; handlers = Some it })
     ∙ ap (λ b. option_all path_formed path && b) (each-map handler_formed it)
 
 pub handler_forms : (key : HandlerKey) (body : Process) → handler_formed (roll-Handler (record { key = key; body = body })) ≡ process_formed body
 unfolding answer_formed block_formed branch_formed handler_formed if_formed input_formed otherwise_formed process_formed reply_formed
-handler_forms key body = fold-roll-Handler Bool Bool Bool Bool Bool Bool Bool Bool Bool otherwise_level process_level answer_level block_level branch_level handler_level if_level input_level reply_level (record { key = key; body = body })
+handler_forms key body = handler_rolls processes_formed (record { key = key; body = body })

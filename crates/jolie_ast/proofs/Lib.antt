@@ -1,4 +1,5 @@
 pub mod Escapes
+pub mod Folds
 pub mod Formed
 pub mod Members
 pub mod PrintedExpressions

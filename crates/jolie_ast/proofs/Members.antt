@@ -10,7 +10,7 @@ use Rattle.jolie_ast.specs.declared.process.Assignment.{Assignment}
 use Rattle.jolie_ast.specs.declared.process.ForStep.{ForStep}
 use Rattle.jolie_ast.specs.declared.process.HandlerKey.{HandlerKey}
 use Rattle.jolie_ast.specs.declared.process.Otherwise.TheOpen.{Otherwise-F, Process-F}
-use Rattle.jolie_ast.specs.declared.process.Otherwise.TheFolds.{map-Otherwise, map-Process, fold-roll-Answer, fold-roll-Block, fold-roll-Branch, fold-roll-Handler, fold-roll-If, fold-roll-Input, fold-roll-Otherwise, fold-roll-Process, fold-roll-Reply}
+use Rattle.jolie_ast.specs.declared.process.Otherwise.TheFolds.{map-Otherwise, map-Process}
 use Rattle.jolie_ast.specs.declared.process.Process.{Process, roll-Process}
 use Rattle.jolie_ast.specs.declared.process.Process.TheVariants as process
 use Rattle.jolie_ast.specs.declared.process.Block.{Block, roll-Block}
@@ -22,7 +22,8 @@ use Rattle.jolie_ast.specs.declared.process.Reply.{Reply, roll-Reply}
 use Rattle.jolie_ast.specs.declared.process.Branch.{Branch, roll-Branch}
 use Rattle.jolie_ast.specs.declared.process.Answer.{Answer, roll-Answer}
 use Rattle.jolie_ast.specs.declared.process.Handler.{Handler, roll-Handler}
-use Rattle.jolie_ast.specs.Members.{optional_count, process_level, block_level, if_level, otherwise_level, input_level, reply_level, branch_level, answer_level, handler_level, process_members, block_members, if_members, otherwise_members, input_members, reply_members, branch_members, answer_members, handler_members}
+use Rattle.jolie_ast.specs.Members.{optional_count, process_level, otherwise_level, members, process_members, block_members, if_members, otherwise_members, input_members, reply_members, branch_members, answer_members, handler_members}
+use Rattle.jolie_ast.proofs.Folds.{process_rolls, block_rolls, conditional_rolls, otherwise_rolls, input_rolls, reply_rolls, branch_rolls, answer_rolls, handler_rolls}
 
 -- ---- processes
 
@@ -30,7 +31,7 @@ use Rattle.jolie_ast.specs.Members.{optional_count, process_level, block_level, 
 process_made : (x : Process-F Otherwise Process Answer Block Branch Handler If Input Reply) {p : Process} → roll-Process x ≡ p
     → process_members p ≡ process_level (map-Process Otherwise Process Answer Block Branch Handler If Input Reply ℕ ℕ ℕ ℕ ℕ ℕ ℕ ℕ ℕ otherwise_members process_members answer_members block_members branch_members handler_members if_members input_members reply_members x)
 unfolding otherwise_members process_members answer_members block_members branch_members handler_members if_members input_members reply_members
-process_made x made = ap process_members (sym made) ∙ fold-roll-Process ℕ ℕ ℕ ℕ ℕ ℕ ℕ ℕ ℕ otherwise_level process_level answer_level block_level branch_level handler_level if_level input_level reply_level x
+process_made x made = ap process_members (sym made) ∙ process_rolls members x
 
 pub nothing_counts : (at : ℕ) → process_members (process.Nothing at) ≡ 0
 nothing_counts at = process_made (Process-F.«Process::Nothing» at) (process.rolls-Nothing at)
@@ -102,7 +103,7 @@ parallel_counts ps =
 otherwise_made : (x : Otherwise-F Otherwise Process Answer Block Branch Handler If Input Reply) {o : Otherwise} → roll-Otherwise x ≡ o
     → otherwise_members o ≡ otherwise_level (map-Otherwise Otherwise Process Answer Block Branch Handler If Input Reply ℕ ℕ ℕ ℕ ℕ ℕ ℕ ℕ ℕ otherwise_members process_members answer_members block_members branch_members handler_members if_members input_members reply_members x)
 unfolding otherwise_members process_members answer_members block_members branch_members handler_members if_members input_members reply_members
-otherwise_made x made = ap otherwise_members (sym made) ∙ fold-roll-Otherwise ℕ ℕ ℕ ℕ ℕ ℕ ℕ ℕ ℕ otherwise_level process_level answer_level block_level branch_level handler_level if_level input_level reply_level x
+otherwise_made x made = ap otherwise_members (sym made) ∙ otherwise_rolls members x
 
 pub no_else_counts : otherwise_members otherwise.Nothing ≡ 0
 no_else_counts = otherwise_made Otherwise-F.«Otherwise::Nothing» otherwise.rolls-Nothing
@@ -117,31 +118,31 @@ else_counts b = otherwise_made (Otherwise-F.Else b) (otherwise.rolls-Else b)
 
 pub block_counts : (at : ℕ) (body : Option Process) → block_members (roll-Block (record { at = at; body = body })) ≡ optional_count (option_map process_members body)
 unfolding answer_members block_members branch_members handler_members if_members input_members otherwise_members process_members reply_members
-block_counts at None = fold-roll-Block ℕ ℕ ℕ ℕ ℕ ℕ ℕ ℕ ℕ otherwise_level process_level answer_level block_level branch_level handler_level if_level input_level reply_level (record { at = at; body = None })
-block_counts at (Some it) = fold-roll-Block ℕ ℕ ℕ ℕ ℕ ℕ ℕ ℕ ℕ otherwise_level process_level answer_level block_level branch_level handler_level if_level input_level reply_level (record { at = at; body = Some it })
+block_counts at None = block_rolls members (record { at = at; body = None })
+block_counts at (Some it) = block_rolls members (record { at = at; body = Some it })
 
 pub if_counts : (at : ℕ) (test : Expr) (body : Block) (rest : Otherwise) → if_members (roll-If (record { at = at; test = test; body = body; otherwise = rest })) ≡ block_members body + otherwise_members rest
 unfolding answer_members block_members branch_members handler_members if_members input_members otherwise_members process_members reply_members
-if_counts at test body rest = fold-roll-If ℕ ℕ ℕ ℕ ℕ ℕ ℕ ℕ ℕ otherwise_level process_level answer_level block_level branch_level handler_level if_level input_level reply_level (record { at = at; test = test; body = body; otherwise = rest })
+if_counts at test body rest = conditional_rolls members (record { at = at; test = test; body = body; otherwise = rest })
 
 pub input_part_counts : (operation : Name) (request : Option Path) (reply : Option Reply) → input_members (roll-Input (record { operation = operation; request = request; reply = reply })) ≡ optional_count (option_map reply_members reply)
 unfolding answer_members block_members branch_members handler_members if_members input_members otherwise_members process_members reply_members
-input_part_counts operation request None = fold-roll-Input ℕ ℕ ℕ ℕ ℕ ℕ ℕ ℕ ℕ otherwise_level process_level answer_level block_level branch_level handler_level if_level input_level reply_level (record { operation = operation; request = request; reply = None })
-input_part_counts operation request (Some it) = fold-roll-Input ℕ ℕ ℕ ℕ ℕ ℕ ℕ ℕ ℕ otherwise_level process_level answer_level block_level branch_level handler_level if_level input_level reply_level (record { operation = operation; request = request; reply = Some it })
+input_part_counts operation request None = input_rolls members (record { operation = operation; request = request; reply = None })
+input_part_counts operation request (Some it) = input_rolls members (record { operation = operation; request = request; reply = Some it })
 
 pub reply_counts : (path : Option Path) (body : Block) → reply_members (roll-Reply (record { path = path; body = body })) ≡ block_members body
 unfolding answer_members block_members branch_members handler_members if_members input_members otherwise_members process_members reply_members
-reply_counts path body = fold-roll-Reply ℕ ℕ ℕ ℕ ℕ ℕ ℕ ℕ ℕ otherwise_level process_level answer_level block_level branch_level handler_level if_level input_level reply_level (record { path = path; body = body })
+reply_counts path body = reply_rolls members (record { path = path; body = body })
 
 pub branch_counts : (at : ℕ) (i : Input) (after : Block) → branch_members (roll-Branch (record { at = at; input = i; after = after })) ≡ input_members i + block_members after
 unfolding answer_members block_members branch_members handler_members if_members input_members otherwise_members process_members reply_members
-branch_counts at i after = fold-roll-Branch ℕ ℕ ℕ ℕ ℕ ℕ ℕ ℕ ℕ otherwise_level process_level answer_level block_level branch_level handler_level if_level input_level reply_level (record { at = at; input = i; after = after })
+branch_counts at i after = branch_rolls members (record { at = at; input = i; after = after })
 
 pub answer_counts : (path : Option Path) (handlers : Option (List Handler)) → answer_members (roll-Answer (record { path = path; handlers = handlers })) ≡ optional_count (option_map (sum_by handler_members) handlers)
 unfolding answer_members block_members branch_members handler_members if_members input_members otherwise_members process_members reply_members
-answer_counts path None = fold-roll-Answer ℕ ℕ ℕ ℕ ℕ ℕ ℕ ℕ ℕ otherwise_level process_level answer_level block_level branch_level handler_level if_level input_level reply_level (record { path = path; handlers = None })
-answer_counts path (Some it) = fold-roll-Answer ℕ ℕ ℕ ℕ ℕ ℕ ℕ ℕ ℕ otherwise_level process_level answer_level block_level branch_level handler_level if_level input_level reply_level (record { path = path; handlers = Some it }) ∙ sum-map handler_members it
+answer_counts path None = answer_rolls members (record { path = path; handlers = None })
+answer_counts path (Some it) = answer_rolls members (record { path = path; handlers = Some it }) ∙ sum-map handler_members it
 
 pub handler_counts : (key : HandlerKey) (body : Process) → handler_members (roll-Handler (record { key = key; body = body })) ≡ process_members body
 unfolding answer_members block_members branch_members handler_members if_members input_members otherwise_members process_members reply_members
-handler_counts key body = fold-roll-Handler ℕ ℕ ℕ ℕ ℕ ℕ ℕ ℕ ℕ otherwise_level process_level answer_level block_level branch_level handler_level if_level input_level reply_level (record { key = key; body = body })
+handler_counts key body = handler_rolls members (record { key = key; body = body })

@@ -5,7 +5,7 @@ use Rattle.jolie_ast.specs.declared.name.Name.{Name}
 use Rattle.jolie_ast.specs.declared.expression.Comparison.{Comparison}
 use Rattle.jolie_ast.specs.declared.expression.CastTarget.{CastTarget}
 use Rattle.jolie_ast.specs.declared.expression.ExprForm.TheOpen.{ExprForm-F}
-use Rattle.jolie_ast.specs.declared.expression.ExprForm.TheFolds.{map-ExprForm, fold-roll-Expr, fold-roll-ExprForm, fold-roll-Factor, fold-roll-Member, fold-roll-Path, fold-roll-Step, fold-roll-Term}
+use Rattle.jolie_ast.specs.declared.expression.ExprForm.TheFolds.{map-ExprForm}
 use Rattle.jolie_ast.specs.declared.expression.Expr.{Expr, out-Expr, roll-out-Expr}
 use Rattle.jolie_ast.specs.declared.expression.ExprForm.{ExprForm, roll-ExprForm}
 use Rattle.jolie_ast.specs.declared.expression.ExprForm.TheVariants as form
@@ -16,14 +16,15 @@ use Rattle.jolie_ast.specs.declared.expression.Path.{Path, out-Path, roll-out-Pa
 use Rattle.jolie_ast.specs.declared.expression.Step.{Step, out-Step, roll-Step, roll-out-Step}
 use Rattle.jolie_ast.specs.Spacing.{Token, separated, with_token, after}
 use Rattle.jolie_ast.proofs.Spacing.{after_append, mapped_tokens, mapped_separated}
-use Rattle.jolie_ast.specs.PrintedExpressions.{Shown, simple, operation, operand, in_parens, in_braces, long_token, quoted_token, truth_token, cast_token, comparison_token, additive_token, multiplicative_token, form_level, expr_level, factor_level, member_level, path_level, step_level, term_level, form_shown, expr_shown, factor_tokens, term_tokens, member_tokens, path_tokens, step_tokens, expr_tokens, operand_tokens}
+use Rattle.jolie_ast.specs.PrintedExpressions.{Shown, simple, operation, operand, in_parens, in_braces, long_token, quoted_token, truth_token, cast_token, comparison_token, additive_token, multiplicative_token, form_level, form_shown, expr_shown, factor_tokens, term_tokens, member_tokens, path_tokens, step_tokens, expr_tokens, operand_tokens, shown}
 use Rattle.jolie_ast.specs.PrintedParts.{index_tokens, int_token}
+use Rattle.jolie_ast.proofs.Folds.{form_rolls, expr_rolls, factor_rolls, term_rolls, member_rolls, path_rolls, step_rolls}
 
 -- what is shown of a form, by the form that it is made of
 form_made : (x : ExprForm-F ExprForm Expr Factor Member Path Step Term) {f : ExprForm} → roll-ExprForm x ≡ f
     → form_shown f ≡ form_level (map-ExprForm ExprForm Expr Factor Member Path Step Term Shown Shown (List Token) (List Token) (List Token) (List Token) (List Token) form_shown expr_shown factor_tokens member_tokens path_tokens step_tokens term_tokens x)
 unfolding form_shown expr_shown factor_tokens member_tokens path_tokens step_tokens term_tokens
-form_made x made = ap form_shown (sym made) ∙ fold-roll-ExprForm Shown Shown (List Token) (List Token) (List Token) (List Token) (List Token) form_level expr_level factor_level member_level path_level step_level term_level x
+form_made x made = ap form_shown (sym made) ∙ form_rolls shown x
 
 pub int_shown : (n : ℤ) → form_shown (form.Int n) ≡ simple (int_token n ∷ [])
 int_shown n = form_made (ExprForm-F.Int n) (form.rolls-Int n)
@@ -87,38 +88,38 @@ pub expr_is : (e : Expr) → expr_shown e ≡ form_shown (out-Expr e).form
 unfolding expr_shown factor_tokens form_shown member_tokens path_tokens step_tokens term_tokens
 expr_is e =
     ap expr_shown (sym (roll-out-Expr e))
-    ∙ fold-roll-Expr Shown Shown (List Token) (List Token) (List Token) (List Token) (List Token) form_level expr_level factor_level member_level path_level step_level term_level (out-Expr e)
+    ∙ expr_rolls shown (out-Expr e)
 
 pub factor_is : (f : Factor) → factor_tokens f ≡ multiplicative_token (out-Factor f).operator ∷ operand_tokens (out-Factor f).operand
 unfolding expr_shown factor_tokens form_shown member_tokens path_tokens step_tokens term_tokens
 factor_is f =
     ap factor_tokens (sym (roll-out-Factor f))
-    ∙ fold-roll-Factor Shown Shown (List Token) (List Token) (List Token) (List Token) (List Token) form_level expr_level factor_level member_level path_level step_level term_level (out-Factor f)
+    ∙ factor_rolls shown (out-Factor f)
 
 pub term_is : (t : Term) → term_tokens t ≡ additive_token (out-Term t).operator ∷ operand_tokens (out-Term t).operand
 unfolding expr_shown factor_tokens form_shown member_tokens path_tokens step_tokens term_tokens
 term_is t =
     ap term_tokens (sym (roll-out-Term t))
-    ∙ fold-roll-Term Shown Shown (List Token) (List Token) (List Token) (List Token) (List Token) form_level expr_level factor_level member_level path_level step_level term_level (out-Term t)
+    ∙ term_rolls shown (out-Term t)
 
 pub member_is : (m : Member) → member_tokens m ≡ (out-Member m).name.text ∷ (codes "=" ∷ expr_tokens (out-Member m).value)
 unfolding expr_shown factor_tokens form_shown member_tokens path_tokens step_tokens term_tokens
 member_is m =
     ap member_tokens (sym (roll-out-Member m))
-    ∙ fold-roll-Member Shown Shown (List Token) (List Token) (List Token) (List Token) (List Token) form_level expr_level factor_level member_level path_level step_level term_level (out-Member m)
+    ∙ member_rolls shown (out-Member m)
 
 pub path_is : (p : Path) → path_tokens p ≡ step_tokens (out-Path p).first ++ flat_map (λ s. codes "." ∷ step_tokens s) (out-Path p).rest
 unfolding expr_shown factor_tokens form_shown member_tokens path_tokens step_tokens term_tokens
 path_is p =
     ap path_tokens (sym (roll-out-Path p))
-    ∙ fold-roll-Path Shown Shown (List Token) (List Token) (List Token) (List Token) (List Token) form_level expr_level factor_level member_level path_level step_level term_level (out-Path p)
+    ∙ path_rolls shown (out-Path p)
     ∙ ap (λ ts. step_tokens (out-Path p).first ++ ts) (mapped_tokens (λ ts. codes "." ∷ ts) step_tokens (out-Path p).rest)
 
 -- a step of its name and its index, if one is written
 pub step_made : (name : Name) (index : Option Expr) → step_tokens (roll-Step (record { name = name; index = index })) ≡ name.text ∷ index_tokens (option_map expr_shown index)
 unfolding expr_shown factor_tokens form_shown member_tokens path_tokens step_tokens term_tokens
-step_made name None = fold-roll-Step Shown Shown (List Token) (List Token) (List Token) (List Token) (List Token) form_level expr_level factor_level member_level path_level step_level term_level (record { name = name; index = None })
-step_made name (Some e) = fold-roll-Step Shown Shown (List Token) (List Token) (List Token) (List Token) (List Token) form_level expr_level factor_level member_level path_level step_level term_level (record { name = name; index = Some e })
+step_made name None = step_rolls shown (record { name = name; index = None })
+step_made name (Some e) = step_rolls shown (record { name = name; index = Some e })
 
 pub step_is : (s : Step) → step_tokens s ≡ (out-Step s).name.text ∷ index_tokens (option_map expr_shown (out-Step s).index)
 step_is s = ap step_tokens (sym (roll-out-Step s)) ∙ step_made (out-Step s).name (out-Step s).index

@@ -7,7 +7,7 @@ use Rattle.jolie_ast.specs.declared.expression.Path.{Path}
 use Rattle.jolie_ast.specs.declared.process.Assignment.{Assignment}
 use Rattle.jolie_ast.specs.declared.process.ForStep.{ForStep}
 use Rattle.jolie_ast.specs.declared.process.Otherwise.TheOpen.{Otherwise-F, Process-F}
-use Rattle.jolie_ast.specs.declared.process.Otherwise.TheFolds.{map-Otherwise, map-Process, fold-roll-Answer, fold-roll-Block, fold-roll-Branch, fold-roll-Handler, fold-roll-If, fold-roll-Input, fold-roll-Otherwise, fold-roll-Process, fold-roll-Reply}
+use Rattle.jolie_ast.specs.declared.process.Otherwise.TheFolds.{map-Otherwise, map-Process}
 use Rattle.jolie_ast.specs.declared.process.Process.{Process, roll-Process}
 use Rattle.jolie_ast.specs.declared.process.Process.TheVariants as process
 use Rattle.jolie_ast.specs.declared.process.Block.{Block, out-Block, roll-Block, roll-out-Block}
@@ -22,8 +22,9 @@ use Rattle.jolie_ast.specs.declared.process.Handler.{Handler, out-Handler, roll-
 use Rattle.jolie_ast.specs.Spacing.{Token, separated}
 use Rattle.jolie_ast.specs.PrintedExpressions.{in_parens, in_brackets, in_braces, expr_tokens, path_tokens}
 use Rattle.jolie_ast.specs.PrintedParts.{maybe}
-use Rattle.jolie_ast.specs.PrintedProcesses.{assignment_tokens, for_step_tokens, key_token, path_parens, value_parens, thrown_tokens, process_level, block_level, if_level, otherwise_level, input_level, reply_level, branch_level, answer_level, handler_level, process_tokens, block_tokens, if_tokens, otherwise_tokens, input_tokens, reply_tokens, branch_tokens, answer_tokens, handler_tokens}
+use Rattle.jolie_ast.specs.PrintedProcesses.{assignment_tokens, for_step_tokens, key_token, path_parens, value_parens, thrown_tokens, process_level, otherwise_level, process_tokens, block_tokens, if_tokens, otherwise_tokens, input_tokens, reply_tokens, branch_tokens, answer_tokens, handler_tokens, printed}
 use Rattle.jolie_ast.proofs.Spacing.{mapped_tokens, mapped_separated}
+use Rattle.jolie_ast.proofs.Folds.{process_rolls, block_rolls, conditional_rolls, otherwise_rolls, input_rolls, reply_rolls, branch_rolls, answer_rolls, handler_rolls}
 
 -- ---- processes
 
@@ -31,7 +32,7 @@ use Rattle.jolie_ast.proofs.Spacing.{mapped_tokens, mapped_separated}
 process_made : (x : Process-F Otherwise Process Answer Block Branch Handler If Input Reply) {p : Process} → roll-Process x ≡ p
     → process_tokens p ≡ process_level (map-Process Otherwise Process Answer Block Branch Handler If Input Reply (List Token) (List Token) (List Token) (List Token) (List Token) (List Token) (List Token) (List Token) (List Token) otherwise_tokens process_tokens answer_tokens block_tokens branch_tokens handler_tokens if_tokens input_tokens reply_tokens x)
 unfolding otherwise_tokens process_tokens answer_tokens block_tokens branch_tokens handler_tokens if_tokens input_tokens reply_tokens
-process_made x made = ap process_tokens (sym made) ∙ fold-roll-Process (List Token) (List Token) (List Token) (List Token) (List Token) (List Token) (List Token) (List Token) (List Token) otherwise_level process_level answer_level block_level branch_level handler_level if_level input_level reply_level x
+process_made x made = ap process_tokens (sym made) ∙ process_rolls printed x
 
 pub nothing_shown : (at : ℕ) → process_tokens (process.Nothing at) ≡ codes "nullProcess" ∷ []
 nothing_shown at = process_made (Process-F.«Process::Nothing» at) (process.rolls-Nothing at)
@@ -102,7 +103,7 @@ parallel_shown members =
 otherwise_made : (x : Otherwise-F Otherwise Process Answer Block Branch Handler If Input Reply) {o : Otherwise} → roll-Otherwise x ≡ o
     → otherwise_tokens o ≡ otherwise_level (map-Otherwise Otherwise Process Answer Block Branch Handler If Input Reply (List Token) (List Token) (List Token) (List Token) (List Token) (List Token) (List Token) (List Token) (List Token) otherwise_tokens process_tokens answer_tokens block_tokens branch_tokens handler_tokens if_tokens input_tokens reply_tokens x)
 unfolding otherwise_tokens process_tokens answer_tokens block_tokens branch_tokens handler_tokens if_tokens input_tokens reply_tokens
-otherwise_made x made = ap otherwise_tokens (sym made) ∙ fold-roll-Otherwise (List Token) (List Token) (List Token) (List Token) (List Token) (List Token) (List Token) (List Token) (List Token) otherwise_level process_level answer_level block_level branch_level handler_level if_level input_level reply_level x
+otherwise_made x made = ap otherwise_tokens (sym made) ∙ otherwise_rolls printed x
 
 pub no_else_shown : otherwise_tokens otherwise.Nothing ≡ []
 no_else_shown = otherwise_made Otherwise-F.«Otherwise::Nothing» otherwise.rolls-Nothing
@@ -117,8 +118,8 @@ else_shown b = otherwise_made (Otherwise-F.Else b) (otherwise.rolls-Else b)
 
 pub block_made : (at : ℕ) (body : Option Process) → block_tokens (roll-Block (record { at = at; body = body })) ≡ in_braces (maybe (option_map process_tokens body))
 unfolding answer_tokens block_tokens branch_tokens handler_tokens if_tokens input_tokens otherwise_tokens process_tokens reply_tokens
-block_made at None = fold-roll-Block (List Token) (List Token) (List Token) (List Token) (List Token) (List Token) (List Token) (List Token) (List Token) otherwise_level process_level answer_level block_level branch_level handler_level if_level input_level reply_level (record { at = at; body = None })
-block_made at (Some it) = fold-roll-Block (List Token) (List Token) (List Token) (List Token) (List Token) (List Token) (List Token) (List Token) (List Token) otherwise_level process_level answer_level block_level branch_level handler_level if_level input_level reply_level (record { at = at; body = Some it })
+block_made at None = block_rolls printed (record { at = at; body = None })
+block_made at (Some it) = block_rolls printed (record { at = at; body = Some it })
 
 pub block_is : (b : Block) → block_tokens b ≡ in_braces (maybe (option_map process_tokens (out-Block b).body))
 block_is b = ap block_tokens (sym (roll-out-Block b)) ∙ block_made (out-Block b).at (out-Block b).body
@@ -127,12 +128,12 @@ pub if_is : (i : If) → if_tokens i ≡ codes "if" ∷ (in_parens (expr_tokens 
 unfolding answer_tokens block_tokens branch_tokens handler_tokens if_tokens input_tokens otherwise_tokens process_tokens reply_tokens
 if_is i =
     ap if_tokens (sym (roll-out-If i))
-    ∙ fold-roll-If (List Token) (List Token) (List Token) (List Token) (List Token) (List Token) (List Token) (List Token) (List Token) otherwise_level process_level answer_level block_level branch_level handler_level if_level input_level reply_level (out-If i)
+    ∙ conditional_rolls printed (out-If i)
 
 pub input_made : (operation : Name) (request : Option Path) (reply : Option Reply) → input_tokens (roll-Input (record { operation = operation; request = request; reply = reply })) ≡ operation.text ∷ (path_parens request ++ maybe (option_map reply_tokens reply))
 unfolding answer_tokens block_tokens branch_tokens handler_tokens if_tokens input_tokens otherwise_tokens process_tokens reply_tokens
-input_made operation request None = fold-roll-Input (List Token) (List Token) (List Token) (List Token) (List Token) (List Token) (List Token) (List Token) (List Token) otherwise_level process_level answer_level block_level branch_level handler_level if_level input_level reply_level (record { operation = operation; request = request; reply = None })
-input_made operation request (Some it) = fold-roll-Input (List Token) (List Token) (List Token) (List Token) (List Token) (List Token) (List Token) (List Token) (List Token) otherwise_level process_level answer_level block_level branch_level handler_level if_level input_level reply_level (record { operation = operation; request = request; reply = Some it })
+input_made operation request None = input_rolls printed (record { operation = operation; request = request; reply = None })
+input_made operation request (Some it) = input_rolls printed (record { operation = operation; request = request; reply = Some it })
 
 pub input_is : (i : Input) → input_tokens i ≡ (out-Input i).operation.text ∷ (path_parens (out-Input i).request ++ maybe (option_map reply_tokens (out-Input i).reply))
 input_is i = ap input_tokens (sym (roll-out-Input i)) ∙ input_made (out-Input i).operation (out-Input i).request (out-Input i).reply
@@ -141,13 +142,13 @@ pub reply_is : (r : Reply) → reply_tokens r ≡ path_parens (out-Reply r).path
 unfolding answer_tokens block_tokens branch_tokens handler_tokens if_tokens input_tokens otherwise_tokens process_tokens reply_tokens
 reply_is r =
     ap reply_tokens (sym (roll-out-Reply r))
-    ∙ fold-roll-Reply (List Token) (List Token) (List Token) (List Token) (List Token) (List Token) (List Token) (List Token) (List Token) otherwise_level process_level answer_level block_level branch_level handler_level if_level input_level reply_level (out-Reply r)
+    ∙ reply_rolls printed (out-Reply r)
 
 pub branch_is : (b : Branch) → branch_tokens b ≡ in_brackets (input_tokens (out-Branch b).input) ++ block_tokens (out-Branch b).after
 unfolding answer_tokens block_tokens branch_tokens handler_tokens if_tokens input_tokens otherwise_tokens process_tokens reply_tokens
 branch_is b =
     ap branch_tokens (sym (roll-out-Branch b))
-    ∙ fold-roll-Branch (List Token) (List Token) (List Token) (List Token) (List Token) (List Token) (List Token) (List Token) (List Token) otherwise_level process_level answer_level block_level branch_level handler_level if_level input_level reply_level (out-Branch b)
+    ∙ branch_rolls printed (out-Branch b)
 
 -- handlers in brackets, if a list is written
 abbrev pub bracketed : Option (List Handler) → List Token
@@ -156,8 +157,8 @@ bracketed (Some handlers) = in_brackets (separated (codes ",") handler_tokens ha
 
 pub answer_made : (path : Option Path) (handlers : Option (List Handler)) → answer_tokens (roll-Answer (record { path = path; handlers = handlers })) ≡ path_parens path ++ bracketed handlers
 unfolding answer_tokens block_tokens branch_tokens handler_tokens if_tokens input_tokens otherwise_tokens process_tokens reply_tokens
-answer_made path None = fold-roll-Answer (List Token) (List Token) (List Token) (List Token) (List Token) (List Token) (List Token) (List Token) (List Token) otherwise_level process_level answer_level block_level branch_level handler_level if_level input_level reply_level (record { path = path; handlers = None })
-answer_made path (Some it) = fold-roll-Answer (List Token) (List Token) (List Token) (List Token) (List Token) (List Token) (List Token) (List Token) (List Token) otherwise_level process_level answer_level block_level branch_level handler_level if_level input_level reply_level (record { path = path; handlers = Some it }) ∙ ap (λ ts. path_parens path ++ in_brackets ts) (mapped_separated (codes ",") (λ ts. ts) handler_tokens it)
+answer_made path None = answer_rolls printed (record { path = path; handlers = None })
+answer_made path (Some it) = answer_rolls printed (record { path = path; handlers = Some it }) ∙ ap (λ ts. path_parens path ++ in_brackets ts) (mapped_separated (codes ",") (λ ts. ts) handler_tokens it)
 
 pub answer_is : (a : Answer) → answer_tokens a ≡ path_parens (out-Answer a).path ++ bracketed (out-Answer a).handlers
 answer_is a = ap answer_tokens (sym (roll-out-Answer a)) ∙ answer_made (out-Answer a).path (out-Answer a).handlers
@@ -166,4 +167,4 @@ pub handler_is : (h : Handler) → handler_tokens h ≡ key_token (out-Handler h
 unfolding answer_tokens block_tokens branch_tokens handler_tokens if_tokens input_tokens otherwise_tokens process_tokens reply_tokens
 handler_is h =
     ap handler_tokens (sym (roll-out-Handler h))
-    ∙ fold-roll-Handler (List Token) (List Token) (List Token) (List Token) (List Token) (List Token) (List Token) (List Token) (List Token) otherwise_level process_level answer_level block_level branch_level handler_level if_level input_level reply_level (out-Handler h)
+    ∙ handler_rolls printed (out-Handler h)

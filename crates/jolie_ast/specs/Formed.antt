@@ -2,10 +2,7 @@
 -- each choice one branch.
 use Rattle.std.specs.Prelude.{Bool, true, false, ◌&&◌, List, [], ◌∷◌, Option, Some, None}
 use Rattle.std.specs.List.{list_all}
-use Rattle.jolie_ast.specs.declared.expression.ExprForm.TheOpen.{Expr-F, ExprForm-F, Factor-F}
-use Rattle.jolie_ast.specs.declared.expression.ExprForm.TheOpen.{Member-F, Path-F, Step-F, Term-F}
-use Rattle.jolie_ast.specs.declared.expression.ExprForm.TheFolds.{fold-Expr, fold-ExprForm, fold-Factor}
-use Rattle.jolie_ast.specs.declared.expression.ExprForm.TheFolds.{fold-Member, fold-Path, fold-Step, fold-Term}
+use Rattle.jolie_ast.specs.declared.expression.ExprForm.TheOpen.{ExprForm-F}
 use Rattle.jolie_ast.specs.declared.expression.Expr.{Expr}
 use Rattle.jolie_ast.specs.declared.expression.ExprForm.{ExprForm}
 use Rattle.jolie_ast.specs.declared.expression.Factor.{Factor}
@@ -17,11 +14,7 @@ use Rattle.jolie_ast.specs.declared.process.Assignment.{Assignment}
 use Rattle.jolie_ast.specs.declared.process.Assignment.TheVariants as assignment
 use Rattle.jolie_ast.specs.declared.process.ForStep.{ForStep}
 use Rattle.jolie_ast.specs.declared.process.ForStep.TheVariants as for_step
-use Rattle.jolie_ast.specs.declared.process.Otherwise.TheOpen.{Answer-F, Block-F, Branch-F, Handler-F, If-F}
-use Rattle.jolie_ast.specs.declared.process.Otherwise.TheOpen.{Input-F, Otherwise-F, Process-F, Reply-F}
-use Rattle.jolie_ast.specs.declared.process.Otherwise.TheFolds.{fold-Answer, fold-Block, fold-Branch}
-use Rattle.jolie_ast.specs.declared.process.Otherwise.TheFolds.{fold-Handler, fold-If, fold-Input}
-use Rattle.jolie_ast.specs.declared.process.Otherwise.TheFolds.{fold-Otherwise, fold-Process, fold-Reply}
+use Rattle.jolie_ast.specs.declared.process.Otherwise.TheOpen.{Otherwise-F, Process-F}
 use Rattle.jolie_ast.specs.declared.process.Process.{Process}
 use Rattle.jolie_ast.specs.declared.process.Block.{Block}
 use Rattle.jolie_ast.specs.declared.process.If.{If}
@@ -35,6 +28,10 @@ use Rattle.jolie_ast.specs.declared.service.Clause.{Clause}
 use Rattle.jolie_ast.specs.declared.service.Clause.TheVariants as clause
 use Rattle.jolie_ast.specs.declared.tree.Definition.{Definition}
 use Rattle.jolie_ast.specs.declared.tree.Definition.TheVariants as definition
+use Rattle.jolie_ast.specs.Folds.{ExprFold, exprs_are, fold_form, fold_expr, fold_factor, fold_term, fold_member}
+use Rattle.jolie_ast.specs.Folds.{fold_path, fold_step}
+use Rattle.jolie_ast.specs.Folds.{ProcessFold, all_are, fold_process, fold_block, fold_conditional, fold_otherwise}
+use Rattle.jolie_ast.specs.Folds.{fold_input, fold_reply, fold_branch, fold_answer, fold_handler}
 
 -- ---- lists and parts that may be missing
 
@@ -82,71 +79,45 @@ form_level (ExprForm-F.Compare left compared right) = left && right
 form_level (ExprForm-F.And values) = has_two values && each values
 form_level (ExprForm-F.Or values) = has_two values && each values
 
--- one level of an expression
-abbrev pub expr_level : Expr-F Bool Bool Bool Bool Bool Bool Bool → Bool
-expr_level e = e.form
-
--- one level of a later operand of a product
-abbrev pub factor_level : Factor-F Bool Bool Bool Bool Bool Bool Bool → Bool
-factor_level f = f.operand
-
--- one level of a later operand of a sum
-abbrev pub term_level : Term-F Bool Bool Bool Bool Bool Bool Bool → Bool
-term_level t = t.operand
-
--- one level of a member of a literal
-abbrev pub member_level : Member-F Bool Bool Bool Bool Bool Bool Bool → Bool
-member_level m = m.value
-
--- one level of a path
-abbrev pub path_level : Path-F Bool Bool Bool Bool Bool Bool Bool → Bool
-path_level p = p.first && each p.rest
-
--- one level of a step of a path
-abbrev pub step_level : Step-F Bool Bool Bool Bool Bool Bool Bool → Bool
-step_level s = if_there s.index
+-- whether a part of an expression is formed, from whether the parts in it are
+abbrev pub expressions_formed : ExprFold (exprs_are Bool)
+expressions_formed = record {
+  expr = λ e. e.form;
+  form = form_level;
+  path = λ p. p.first && each p.rest;
+  step = λ s. if_there s.index;
+  member = λ m. m.value;
+  factor = λ f. f.operand;
+  term = λ t. t.operand;
+}
 
 -- whether a form is formed
 unfoldable pub form_formed : ExprForm → Bool
-form_formed =
-    fold-ExprForm Bool Bool Bool Bool Bool Bool Bool
-    form_level expr_level factor_level member_level path_level step_level term_level
+form_formed = fold_form expressions_formed
 
 -- whether an expression is formed
 unfoldable pub expr_formed : Expr → Bool
-expr_formed =
-    fold-Expr Bool Bool Bool Bool Bool Bool Bool
-    form_level expr_level factor_level member_level path_level step_level term_level
+expr_formed = fold_expr expressions_formed
 
 -- whether a later operand of a product is formed
 unfoldable pub factor_formed : Factor → Bool
-factor_formed =
-    fold-Factor Bool Bool Bool Bool Bool Bool Bool
-    form_level expr_level factor_level member_level path_level step_level term_level
+factor_formed = fold_factor expressions_formed
 
 -- whether a later operand of a sum is formed
 unfoldable pub term_formed : Term → Bool
-term_formed =
-    fold-Term Bool Bool Bool Bool Bool Bool Bool
-    form_level expr_level factor_level member_level path_level step_level term_level
+term_formed = fold_term expressions_formed
 
 -- whether a member of a literal is formed
 unfoldable pub member_formed : Member → Bool
-member_formed =
-    fold-Member Bool Bool Bool Bool Bool Bool Bool
-    form_level expr_level factor_level member_level path_level step_level term_level
+member_formed = fold_member expressions_formed
 
 -- whether a path is formed
 unfoldable pub path_formed : Path → Bool
-path_formed =
-    fold-Path Bool Bool Bool Bool Bool Bool Bool
-    form_level expr_level factor_level member_level path_level step_level term_level
+path_formed = fold_path expressions_formed
 
 -- whether a step of a path is formed
 unfoldable pub step_formed : Step → Bool
-step_formed =
-    fold-Step Bool Bool Bool Bool Bool Bool Bool
-    form_level expr_level factor_level member_level path_level step_level term_level
+step_formed = fold_step expressions_formed
 
 -- ---- processes
 
@@ -185,93 +156,61 @@ process_level (Process-F.Block part) = part
 process_level (Process-F.Sequence parts) = has_two parts && each parts
 process_level (Process-F.Parallel parts) = has_two parts && each parts
 
--- one level of a block
-abbrev pub block_level : Block-F Bool Bool Bool Bool Bool Bool Bool Bool Bool → Bool
-block_level b = if_there b.body
-
--- one level of an `if`
-abbrev pub if_level : If-F Bool Bool Bool Bool Bool Bool Bool Bool Bool → Bool
-if_level i = expr_formed i.test && (i.body && i.otherwise)
-
 -- one level of what an `if` does where its test fails
 abbrev pub otherwise_level : Otherwise-F Bool Bool Bool Bool Bool Bool Bool Bool Bool → Bool
 otherwise_level Otherwise-F.«Otherwise::Nothing» = true
 otherwise_level (Otherwise-F.ElseIf part) = part
 otherwise_level (Otherwise-F.Else part) = part
 
--- one level of an input
-abbrev pub input_level : Input-F Bool Bool Bool Bool Bool Bool Bool Bool Bool → Bool
-input_level i = option_all path_formed i.request && if_there i.reply
-
--- one level of a reply part
-abbrev pub reply_level : Reply-F Bool Bool Bool Bool Bool Bool Bool Bool Bool → Bool
-reply_level r = option_all path_formed r.path && r.body
-
--- one level of a branch
-abbrev pub branch_level : Branch-F Bool Bool Bool Bool Bool Bool Bool Bool Bool → Bool
-branch_level b = b.input && b.after
-
--- one level of what an output awaits
-abbrev pub answer_level : Answer-F Bool Bool Bool Bool Bool Bool Bool Bool Bool → Bool
-answer_level a = option_all path_formed a.path && option_all each a.handlers
-
--- one level of a handler
-abbrev pub handler_level : Handler-F Bool Bool Bool Bool Bool Bool Bool Bool Bool → Bool
-handler_level h = h.body
+-- whether a part of a process is formed, from whether the parts in it are
+abbrev pub processes_formed : ProcessFold (all_are Bool)
+processes_formed = record {
+  process = process_level;
+  block = λ b. if_there b.body;
+  conditional = λ i. expr_formed i.test && (i.body && i.otherwise);
+  otherwise = otherwise_level;
+  input = λ i. option_all path_formed i.request && if_there i.reply;
+  reply = λ r. option_all path_formed r.path && r.body;
+  branch = λ b. b.input && b.after;
+  answer = λ a. option_all path_formed a.path && option_all each a.handlers;
+  handler = λ h. h.body;
+}
 
 -- whether a process is formed
 unfoldable pub process_formed : Process → Bool
-process_formed =
-    fold-Process Bool Bool Bool Bool Bool Bool Bool Bool Bool
-    otherwise_level process_level answer_level block_level branch_level handler_level if_level input_level reply_level
+process_formed = fold_process processes_formed
 
 -- whether a block is formed
 unfoldable pub block_formed : Block → Bool
-block_formed =
-    fold-Block Bool Bool Bool Bool Bool Bool Bool Bool Bool
-    otherwise_level process_level answer_level block_level branch_level handler_level if_level input_level reply_level
+block_formed = fold_block processes_formed
 
 -- whether an `if` is formed
 unfoldable pub if_formed : If → Bool
-if_formed =
-    fold-If Bool Bool Bool Bool Bool Bool Bool Bool Bool
-    otherwise_level process_level answer_level block_level branch_level handler_level if_level input_level reply_level
+if_formed = fold_conditional processes_formed
 
 -- whether what an `if` does where its test fails is formed
 unfoldable pub otherwise_formed : Otherwise → Bool
-otherwise_formed =
-    fold-Otherwise Bool Bool Bool Bool Bool Bool Bool Bool Bool
-    otherwise_level process_level answer_level block_level branch_level handler_level if_level input_level reply_level
+otherwise_formed = fold_otherwise processes_formed
 
 -- whether an input is formed
 unfoldable pub input_formed : Input → Bool
-input_formed =
-    fold-Input Bool Bool Bool Bool Bool Bool Bool Bool Bool
-    otherwise_level process_level answer_level block_level branch_level handler_level if_level input_level reply_level
+input_formed = fold_input processes_formed
 
 -- whether a reply part is formed
 unfoldable pub reply_formed : Reply → Bool
-reply_formed =
-    fold-Reply Bool Bool Bool Bool Bool Bool Bool Bool Bool
-    otherwise_level process_level answer_level block_level branch_level handler_level if_level input_level reply_level
+reply_formed = fold_reply processes_formed
 
 -- whether a branch is formed
 unfoldable pub branch_formed : Branch → Bool
-branch_formed =
-    fold-Branch Bool Bool Bool Bool Bool Bool Bool Bool Bool
-    otherwise_level process_level answer_level block_level branch_level handler_level if_level input_level reply_level
+branch_formed = fold_branch processes_formed
 
 -- whether what an output awaits is formed
 unfoldable pub answer_formed : Answer → Bool
-answer_formed =
-    fold-Answer Bool Bool Bool Bool Bool Bool Bool Bool Bool
-    otherwise_level process_level answer_level block_level branch_level handler_level if_level input_level reply_level
+answer_formed = fold_answer processes_formed
 
 -- whether a handler is formed
 unfoldable pub handler_formed : Handler → Bool
-handler_formed =
-    fold-Handler Bool Bool Bool Bool Bool Bool Bool Bool Bool
-    otherwise_level process_level answer_level block_level branch_level handler_level if_level input_level reply_level
+handler_formed = fold_handler processes_formed
 
 -- ---- files
 

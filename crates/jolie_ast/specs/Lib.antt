@@ -1,3 +1,4 @@
+pub mod Folds
 pub mod Formed
 pub mod Members
 pub mod Spacing

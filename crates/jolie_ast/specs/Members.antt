@@ -1,10 +1,6 @@
 -- How many members the parallels of a file have in all, and how many they may have.
 use Rattle.std.specs.Prelude.{ℕ, ◌+◌, List, length, sum, sum_by, Option, Some, None}
-use Rattle.jolie_ast.specs.declared.process.Otherwise.TheOpen.{Answer-F, Block-F, Branch-F, Handler-F, If-F}
-use Rattle.jolie_ast.specs.declared.process.Otherwise.TheOpen.{Input-F, Otherwise-F, Process-F, Reply-F}
-use Rattle.jolie_ast.specs.declared.process.Otherwise.TheFolds.{fold-Answer, fold-Block, fold-Branch}
-use Rattle.jolie_ast.specs.declared.process.Otherwise.TheFolds.{fold-Handler, fold-If, fold-Input}
-use Rattle.jolie_ast.specs.declared.process.Otherwise.TheFolds.{fold-Otherwise, fold-Process, fold-Reply}
+use Rattle.jolie_ast.specs.declared.process.Otherwise.TheOpen.{Otherwise-F, Process-F}
 use Rattle.jolie_ast.specs.declared.process.Process.{Process}
 use Rattle.jolie_ast.specs.declared.process.Block.{Block}
 use Rattle.jolie_ast.specs.declared.process.If.{If}
@@ -18,6 +14,8 @@ use Rattle.jolie_ast.specs.declared.service.Clause.{Clause}
 use Rattle.jolie_ast.specs.declared.service.Clause.TheVariants as clause
 use Rattle.jolie_ast.specs.declared.tree.Definition.{Definition}
 use Rattle.jolie_ast.specs.declared.tree.Definition.TheVariants as definition
+use Rattle.jolie_ast.specs.Folds.{ProcessFold, all_are, fold_process, fold_block, fold_conditional, fold_otherwise}
+use Rattle.jolie_ast.specs.Folds.{fold_input, fold_reply, fold_branch, fold_answer, fold_handler}
 
 -- the most members that the parallels of a file have in all
 abbrev pub most_members : ℕ
@@ -54,93 +52,61 @@ process_level (Process-F.Block n) = n
 process_level (Process-F.Sequence ns) = sum ns
 process_level (Process-F.Parallel ns) = length ns + sum ns
 
--- one level of a block
-abbrev pub block_level : Block-F ℕ ℕ ℕ ℕ ℕ ℕ ℕ ℕ ℕ → ℕ
-block_level b = optional_count b.body
-
--- one level of an `if`
-abbrev pub if_level : If-F ℕ ℕ ℕ ℕ ℕ ℕ ℕ ℕ ℕ → ℕ
-if_level i = i.body + i.otherwise
-
 -- one level of what an `if` does where its test fails
 abbrev pub otherwise_level : Otherwise-F ℕ ℕ ℕ ℕ ℕ ℕ ℕ ℕ ℕ → ℕ
 otherwise_level Otherwise-F.«Otherwise::Nothing» = 0
 otherwise_level (Otherwise-F.ElseIf n) = n
 otherwise_level (Otherwise-F.Else n) = n
 
--- one level of an input
-abbrev pub input_level : Input-F ℕ ℕ ℕ ℕ ℕ ℕ ℕ ℕ ℕ → ℕ
-input_level i = optional_count i.reply
-
--- one level of a reply part
-abbrev pub reply_level : Reply-F ℕ ℕ ℕ ℕ ℕ ℕ ℕ ℕ ℕ → ℕ
-reply_level r = r.body
-
--- one level of a branch
-abbrev pub branch_level : Branch-F ℕ ℕ ℕ ℕ ℕ ℕ ℕ ℕ ℕ → ℕ
-branch_level b = b.input + b.after
-
--- one level of what an output awaits
-abbrev pub answer_level : Answer-F ℕ ℕ ℕ ℕ ℕ ℕ ℕ ℕ ℕ → ℕ
-answer_level a = optional_sum a.handlers
-
--- one level of a handler
-abbrev pub handler_level : Handler-F ℕ ℕ ℕ ℕ ℕ ℕ ℕ ℕ ℕ → ℕ
-handler_level h = h.body
+-- how many members the parallels in a part have in all, from those of the parts in it
+abbrev pub members : ProcessFold (all_are ℕ)
+members = record {
+  process = process_level;
+  block = λ b. optional_count b.body;
+  conditional = λ i. i.body + i.otherwise;
+  otherwise = otherwise_level;
+  input = λ i. optional_count i.reply;
+  reply = λ r. r.body;
+  branch = λ b. b.input + b.after;
+  answer = λ a. optional_sum a.handlers;
+  handler = λ h. h.body;
+}
 
 -- how many members the parallels in a process have in all
 unfoldable pub process_members : Process → ℕ
-process_members =
-    fold-Process ℕ ℕ ℕ ℕ ℕ ℕ ℕ ℕ ℕ
-    otherwise_level process_level answer_level block_level branch_level handler_level if_level input_level reply_level
+process_members = fold_process members
 
 -- those in a block
 unfoldable pub block_members : Block → ℕ
-block_members =
-    fold-Block ℕ ℕ ℕ ℕ ℕ ℕ ℕ ℕ ℕ
-    otherwise_level process_level answer_level block_level branch_level handler_level if_level input_level reply_level
+block_members = fold_block members
 
 -- those in an `if`
 unfoldable pub if_members : If → ℕ
-if_members =
-    fold-If ℕ ℕ ℕ ℕ ℕ ℕ ℕ ℕ ℕ
-    otherwise_level process_level answer_level block_level branch_level handler_level if_level input_level reply_level
+if_members = fold_conditional members
 
 -- those in what an `if` does where its test fails
 unfoldable pub otherwise_members : Otherwise → ℕ
-otherwise_members =
-    fold-Otherwise ℕ ℕ ℕ ℕ ℕ ℕ ℕ ℕ ℕ
-    otherwise_level process_level answer_level block_level branch_level handler_level if_level input_level reply_level
+otherwise_members = fold_otherwise members
 
 -- those in an input
 unfoldable pub input_members : Input → ℕ
-input_members =
-    fold-Input ℕ ℕ ℕ ℕ ℕ ℕ ℕ ℕ ℕ
-    otherwise_level process_level answer_level block_level branch_level handler_level if_level input_level reply_level
+input_members = fold_input members
 
 -- those in a reply part
 unfoldable pub reply_members : Reply → ℕ
-reply_members =
-    fold-Reply ℕ ℕ ℕ ℕ ℕ ℕ ℕ ℕ ℕ
-    otherwise_level process_level answer_level block_level branch_level handler_level if_level input_level reply_level
+reply_members = fold_reply members
 
 -- those in a branch
 unfoldable pub branch_members : Branch → ℕ
-branch_members =
-    fold-Branch ℕ ℕ ℕ ℕ ℕ ℕ ℕ ℕ ℕ
-    otherwise_level process_level answer_level block_level branch_level handler_level if_level input_level reply_level
+branch_members = fold_branch members
 
 -- those in what an output awaits
 unfoldable pub answer_members : Answer → ℕ
-answer_members =
-    fold-Answer ℕ ℕ ℕ ℕ ℕ ℕ ℕ ℕ ℕ
-    otherwise_level process_level answer_level block_level branch_level handler_level if_level input_level reply_level
+answer_members = fold_answer members
 
 -- those in a handler
 unfoldable pub handler_members : Handler → ℕ
-handler_members =
-    fold-Handler ℕ ℕ ℕ ℕ ℕ ℕ ℕ ℕ ℕ
-    otherwise_level process_level answer_level block_level branch_level handler_level if_level input_level reply_level
+handler_members = fold_handler members
 
 -- those in a clause of a service
 abbrev pub clause_members : Clause → ℕ

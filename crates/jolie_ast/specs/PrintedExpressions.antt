@@ -11,10 +11,7 @@ use Rattle.jolie_ast.specs.declared.expression.Comparison.{Comparison}
 use Rattle.jolie_ast.specs.declared.expression.Comparison.TheVariants as comparison
 use Rattle.jolie_ast.specs.declared.expression.CastTarget.{CastTarget}
 use Rattle.jolie_ast.specs.declared.expression.CastTarget.TheVariants as target
-use Rattle.jolie_ast.specs.declared.expression.ExprForm.TheOpen.{Expr-F, ExprForm-F, Factor-F}
-use Rattle.jolie_ast.specs.declared.expression.ExprForm.TheOpen.{Member-F, Path-F, Step-F, Term-F}
-use Rattle.jolie_ast.specs.declared.expression.ExprForm.TheFolds.{fold-Expr, fold-ExprForm, fold-Factor}
-use Rattle.jolie_ast.specs.declared.expression.ExprForm.TheFolds.{fold-Member, fold-Path, fold-Step, fold-Term}
+use Rattle.jolie_ast.specs.declared.expression.ExprForm.TheOpen.{ExprForm-F}
 use Rattle.jolie_ast.specs.declared.expression.Expr.{Expr}
 use Rattle.jolie_ast.specs.declared.expression.ExprForm.{ExprForm}
 use Rattle.jolie_ast.specs.declared.expression.Factor.{Factor}
@@ -22,6 +19,8 @@ use Rattle.jolie_ast.specs.declared.expression.Term.{Term}
 use Rattle.jolie_ast.specs.declared.expression.Member.{Member}
 use Rattle.jolie_ast.specs.declared.expression.Path.{Path}
 use Rattle.jolie_ast.specs.declared.expression.Step.{Step}
+use Rattle.jolie_ast.specs.Folds.{ExprResults, ExprFold, exprs_are, fold_form, fold_expr, fold_factor, fold_term}
+use Rattle.jolie_ast.specs.Folds.{fold_member, fold_path, fold_step}
 use Rattle.jolie_ast.specs.Spacing.{Token, Tokens, separated}
 
 -- ---- words, numbers and strings
@@ -134,71 +133,50 @@ form_level (ExprForm-F.Compare left compared right) =
 form_level (ExprForm-F.And values) = operation (separated (codes "&&") operand values)
 form_level (ExprForm-F.Or values) = operation (separated (codes "||") operand values)
 
--- one level of an expression
-abbrev pub expr_level : Expr-F Shown Shown Tokens Tokens Tokens Tokens Tokens → Shown
-expr_level e = e.form
+-- what is shown of each part of an expression: tokens, of a form and of an expression also whether it is an operation
+abbrev pub shown_parts : ExprResults
+shown_parts = record (exprs_are Tokens) { expr = Shown; form = Shown }
 
--- one level of a later operand of a product
-abbrev pub factor_level : Factor-F Shown Shown Tokens Tokens Tokens Tokens Tokens → Tokens
-factor_level f = multiplicative_token f.operator ∷ operand f.operand
-
--- one level of a later operand of a sum
-abbrev pub term_level : Term-F Shown Shown Tokens Tokens Tokens Tokens Tokens → Tokens
-term_level t = additive_token t.operator ∷ operand t.operand
-
--- one level of a member of a literal
-abbrev pub member_level : Member-F Shown Shown Tokens Tokens Tokens Tokens Tokens → Tokens
-member_level m = m.name.text ∷ (codes "=" ∷ m.value.tokens)
-
--- one level of a path: its first step, and each further one behind a dot
-abbrev pub path_level : Path-F Shown Shown Tokens Tokens Tokens Tokens Tokens → Tokens
-path_level p = p.first ++ flat_map (λ ts. codes "." ∷ ts) p.rest
-
--- one level of a step of a path: its name, and its index, if one is written
-abbrev pub step_level : Step-F Shown Shown Tokens Tokens Tokens Tokens Tokens → Tokens
-step_level s = s.name.text ∷ option_map_or (λ (value : Shown). in_brackets value.tokens) s.index []
+-- what is shown of a part, from what is shown of the parts in it: further steps of a path stand behind dots, an index
+-- in brackets
+abbrev pub shown : ExprFold shown_parts
+shown = record {
+  expr = λ e. e.form;
+  form = form_level;
+  path = λ p. p.first ++ flat_map (λ ts. codes "." ∷ ts) p.rest;
+  step = λ s. s.name.text ∷ option_map_or (λ (value : Shown). in_brackets value.tokens) s.index [];
+  member = λ m. m.name.text ∷ (codes "=" ∷ m.value.tokens);
+  factor = λ f. multiplicative_token f.operator ∷ operand f.operand;
+  term = λ t. additive_token t.operator ∷ operand t.operand;
+}
 
 -- the tokens of a form, and whether it has several operands
 unfoldable pub form_shown : ExprForm → Shown
-form_shown =
-    fold-ExprForm Shown Shown Tokens Tokens Tokens Tokens Tokens
-    form_level expr_level factor_level member_level path_level step_level term_level
+form_shown = fold_form shown
 
 -- the tokens of an expression, and whether it has several operands
 unfoldable pub expr_shown : Expr → Shown
-expr_shown =
-    fold-Expr Shown Shown Tokens Tokens Tokens Tokens Tokens
-    form_level expr_level factor_level member_level path_level step_level term_level
+expr_shown = fold_expr shown
 
 -- the tokens of a later operand of a product, with its operator
 unfoldable pub factor_tokens : Factor → Tokens
-factor_tokens =
-    fold-Factor Shown Shown Tokens Tokens Tokens Tokens Tokens
-    form_level expr_level factor_level member_level path_level step_level term_level
+factor_tokens = fold_factor shown
 
 -- the tokens of a later operand of a sum, with its operator
 unfoldable pub term_tokens : Term → Tokens
-term_tokens =
-    fold-Term Shown Shown Tokens Tokens Tokens Tokens Tokens
-    form_level expr_level factor_level member_level path_level step_level term_level
+term_tokens = fold_term shown
 
 -- the tokens of a member of a literal
 unfoldable pub member_tokens : Member → Tokens
-member_tokens =
-    fold-Member Shown Shown Tokens Tokens Tokens Tokens Tokens
-    form_level expr_level factor_level member_level path_level step_level term_level
+member_tokens = fold_member shown
 
 -- the tokens of a path
 unfoldable pub path_tokens : Path → Tokens
-path_tokens =
-    fold-Path Shown Shown Tokens Tokens Tokens Tokens Tokens
-    form_level expr_level factor_level member_level path_level step_level term_level
+path_tokens = fold_path shown
 
 -- the tokens of a step of a path
 unfoldable pub step_tokens : Step → Tokens
-step_tokens =
-    fold-Step Shown Shown Tokens Tokens Tokens Tokens Tokens
-    form_level expr_level factor_level member_level path_level step_level term_level
+step_tokens = fold_step shown
 
 -- the tokens of an expression that is no operand
 abbrev pub expr_tokens : Expr → Tokens

@@ -11,11 +11,7 @@ use Rattle.jolie_ast.specs.declared.process.ForStep.{ForStep}
 use Rattle.jolie_ast.specs.declared.process.ForStep.TheVariants as for_step
 use Rattle.jolie_ast.specs.declared.process.HandlerKey.{HandlerKey}
 use Rattle.jolie_ast.specs.declared.process.HandlerKey.TheVariants as key
-use Rattle.jolie_ast.specs.declared.process.Otherwise.TheOpen.{Answer-F, Block-F, Branch-F, Handler-F, If-F}
-use Rattle.jolie_ast.specs.declared.process.Otherwise.TheOpen.{Input-F, Otherwise-F, Process-F, Reply-F}
-use Rattle.jolie_ast.specs.declared.process.Otherwise.TheFolds.{fold-Answer, fold-Block, fold-Branch}
-use Rattle.jolie_ast.specs.declared.process.Otherwise.TheFolds.{fold-Handler, fold-If, fold-Input}
-use Rattle.jolie_ast.specs.declared.process.Otherwise.TheFolds.{fold-Otherwise, fold-Process, fold-Reply}
+use Rattle.jolie_ast.specs.declared.process.Otherwise.TheOpen.{Answer-F, Otherwise-F, Process-F}
 use Rattle.jolie_ast.specs.declared.process.Process.{Process}
 use Rattle.jolie_ast.specs.declared.process.Block.{Block}
 use Rattle.jolie_ast.specs.declared.process.If.{If}
@@ -26,6 +22,8 @@ use Rattle.jolie_ast.specs.declared.process.Branch.{Branch}
 use Rattle.jolie_ast.specs.declared.process.Answer.{Answer}
 use Rattle.jolie_ast.specs.declared.process.Handler.{Handler}
 use Rattle.jolie_ast.specs.Spacing.{Token, Tokens, separated}
+use Rattle.jolie_ast.specs.Folds.{ProcessFold, all_are, fold_process, fold_block, fold_conditional, fold_otherwise}
+use Rattle.jolie_ast.specs.Folds.{fold_input, fold_reply, fold_branch, fold_answer, fold_handler}
 use Rattle.jolie_ast.specs.PrintedExpressions.{in_parens, in_brackets, in_braces, expr_tokens, path_tokens}
 
 -- the sign of a count: `++` or `--`
@@ -90,31 +88,11 @@ process_level (Process-F.Block block) = block
 process_level (Process-F.Sequence statements) = separated (codes ";") (λ ts. ts) statements
 process_level (Process-F.Parallel members) = separated (codes "|") (λ ts. ts) members
 
--- one level of a block: braces, and what stands in them
-abbrev pub block_level : Block-F Tokens Tokens Tokens Tokens Tokens Tokens Tokens Tokens Tokens → Tokens
-block_level b = in_braces (unwrap_or b.body [])
-
--- one level of an `if`
-abbrev pub if_level : If-F Tokens Tokens Tokens Tokens Tokens Tokens Tokens Tokens Tokens → Tokens
-if_level i = codes "if" ∷ (in_parens (expr_tokens i.test) ++ i.body ++ i.otherwise)
-
 -- one level of what an `if` does where its test fails
 abbrev pub otherwise_level : Otherwise-F Tokens Tokens Tokens Tokens Tokens Tokens Tokens Tokens Tokens → Tokens
 otherwise_level Otherwise-F.«Otherwise::Nothing» = []
 otherwise_level (Otherwise-F.ElseIf conditional) = codes "else" ∷ conditional
 otherwise_level (Otherwise-F.Else block) = codes "else" ∷ block
-
--- one level of an input
-abbrev pub input_level : Input-F Tokens Tokens Tokens Tokens Tokens Tokens Tokens Tokens Tokens → Tokens
-input_level i = i.operation.text ∷ (path_parens i.request ++ unwrap_or i.reply [])
-
--- one level of a reply part
-abbrev pub reply_level : Reply-F Tokens Tokens Tokens Tokens Tokens Tokens Tokens Tokens Tokens → Tokens
-reply_level r = path_parens r.path ++ r.body
-
--- one level of a branch: its input in brackets, and what comes after
-abbrev pub branch_level : Branch-F Tokens Tokens Tokens Tokens Tokens Tokens Tokens Tokens Tokens → Tokens
-branch_level b = in_brackets b.input ++ b.after
 
 -- one level of what an output awaits: a path, and handlers in brackets, if a list is written
 abbrev pub answer_level : Answer-F Tokens Tokens Tokens Tokens Tokens Tokens Tokens Tokens Tokens → Tokens
@@ -122,60 +100,52 @@ answer_level a =
     path_parens a.path
     ++ option_map_or (λ handlers. in_brackets (separated (codes ",") (λ ts. ts) handlers)) a.handlers []
 
--- one level of a handler
-abbrev pub handler_level : Handler-F Tokens Tokens Tokens Tokens Tokens Tokens Tokens Tokens Tokens → Tokens
-handler_level h = key_token h.key ∷ (codes "=>" ∷ h.body)
+-- the tokens of a part, from those of the parts in it: a block is in braces, the input of a branch in brackets
+abbrev pub printed : ProcessFold (all_are Tokens)
+printed = record {
+  process = process_level;
+  block = λ b. in_braces (unwrap_or b.body []);
+  conditional = λ i. codes "if" ∷ (in_parens (expr_tokens i.test) ++ i.body ++ i.otherwise);
+  otherwise = otherwise_level;
+  input = λ i. i.operation.text ∷ (path_parens i.request ++ unwrap_or i.reply []);
+  reply = λ r. path_parens r.path ++ r.body;
+  branch = λ b. in_brackets b.input ++ b.after;
+  answer = answer_level;
+  handler = λ h. key_token h.key ∷ (codes "=>" ∷ h.body);
+}
 
 -- the tokens of a process
 unfoldable pub process_tokens : Process → Tokens
-process_tokens =
-    fold-Process Tokens Tokens Tokens Tokens Tokens Tokens Tokens Tokens Tokens
-    otherwise_level process_level answer_level block_level branch_level handler_level if_level input_level reply_level
+process_tokens = fold_process printed
 
 -- the tokens of a block
 unfoldable pub block_tokens : Block → Tokens
-block_tokens =
-    fold-Block Tokens Tokens Tokens Tokens Tokens Tokens Tokens Tokens Tokens
-    otherwise_level process_level answer_level block_level branch_level handler_level if_level input_level reply_level
+block_tokens = fold_block printed
 
 -- the tokens of an `if`
 unfoldable pub if_tokens : If → Tokens
-if_tokens =
-    fold-If Tokens Tokens Tokens Tokens Tokens Tokens Tokens Tokens Tokens
-    otherwise_level process_level answer_level block_level branch_level handler_level if_level input_level reply_level
+if_tokens = fold_conditional printed
 
 -- the tokens of what an `if` does where its test fails
 unfoldable pub otherwise_tokens : Otherwise → Tokens
-otherwise_tokens =
-    fold-Otherwise Tokens Tokens Tokens Tokens Tokens Tokens Tokens Tokens Tokens
-    otherwise_level process_level answer_level block_level branch_level handler_level if_level input_level reply_level
+otherwise_tokens = fold_otherwise printed
 
 -- the tokens of an input
 unfoldable pub input_tokens : Input → Tokens
-input_tokens =
-    fold-Input Tokens Tokens Tokens Tokens Tokens Tokens Tokens Tokens Tokens
-    otherwise_level process_level answer_level block_level branch_level handler_level if_level input_level reply_level
+input_tokens = fold_input printed
 
 -- the tokens of a reply part
 unfoldable pub reply_tokens : Reply → Tokens
-reply_tokens =
-    fold-Reply Tokens Tokens Tokens Tokens Tokens Tokens Tokens Tokens Tokens
-    otherwise_level process_level answer_level block_level branch_level handler_level if_level input_level reply_level
+reply_tokens = fold_reply printed
 
 -- the tokens of a branch
 unfoldable pub branch_tokens : Branch → Tokens
-branch_tokens =
-    fold-Branch Tokens Tokens Tokens Tokens Tokens Tokens Tokens Tokens Tokens
-    otherwise_level process_level answer_level block_level branch_level handler_level if_level input_level reply_level
+branch_tokens = fold_branch printed
 
 -- the tokens of what an output awaits
 unfoldable pub answer_tokens : Answer → Tokens
-answer_tokens =
-    fold-Answer Tokens Tokens Tokens Tokens Tokens Tokens Tokens Tokens Tokens
-    otherwise_level process_level answer_level block_level branch_level handler_level if_level input_level reply_level
+answer_tokens = fold_answer printed
 
 -- the tokens of a handler
 unfoldable pub handler_tokens : Handler → Tokens
-handler_tokens =
-    fold-Handler Tokens Tokens Tokens Tokens Tokens Tokens Tokens Tokens Tokens
-    otherwise_level process_level answer_level block_level branch_level handler_level if_level input_level reply_level
+handler_tokens = fold_handler printed

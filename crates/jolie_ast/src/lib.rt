@@ -1,8 +1,8 @@
 //! The tree of a Jolie text.
 //!
-//! There is one node for each form of the grammar. Each name, string, statement and expression has the place of its first token. A
-//! sequence, a parallel or a level of one member is that member, parentheses leave no node, and neither do
-//! the optional dots and commas of fields and literals.
+//! There is one node for each form of the grammar. Each name, string, statement and expression has the place of its
+//! first token. A sequence, a parallel or a level of one member is that member, parentheses leave no node, and neither
+//! do the optional dots and commas of fields and literals.
 #![tactic(auto)]
 
 mod expression;

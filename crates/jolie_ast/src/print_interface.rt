@@ -50,7 +50,8 @@ impl Printer {
 
     #[tactic(auto, using(crate::proofs::Spacing::after_append, crate::proofs::Spacing::after_more))]
     fn request_responses(&mut self, operations: &[RequestResponse]) -> Result<(), AllocError>
-        ensures { OnOk result (self.new ≡ after self.old (separated (codes ",") request_response_tokens operations.now)) }
+        ensures { OnOk result (self.new ≡ after self.old
+            (separated (codes ",") request_response_tokens operations.now)) }
     {
         if let [first, rest @ ..] = operations {
             self.request_response(first)?;

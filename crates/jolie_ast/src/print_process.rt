@@ -119,7 +119,8 @@ impl Printer {
 
     #[tactic(auto, using(crate::proofs::Spacing::after_append))]
     fn correlate(&mut self, variable: &Name, value: &Expr) -> Result<(), AllocError>
-        ensures { OnOk result (self.new ≡ after self.old (codes "csets" ∷ (codes "." ∷ (variable.now.text ∷ (codes "=" ∷ expr_tokens value.now))))) }
+        ensures { OnOk result (self.new ≡ after self.old
+            (codes "csets" ∷ (codes "." ∷ (variable.now.text ∷ (codes "=" ∷ expr_tokens value.now))))) }
     {
         self.token("csets")?;
         self.token(".")?;
@@ -136,7 +137,8 @@ impl Printer {
         port: &Name,
         value: &Option<Expr>,
     ) -> Result<(), AllocError>
-        ensures { OnOk result (self.new ≡ after self.old (operation.now.text ∷ (codes "@" ∷ (port.now.text ∷ value_parens value.now)))) }
+        ensures { OnOk result (self.new ≡ after self.old
+            (operation.now.text ∷ (codes "@" ∷ (port.now.text ∷ value_parens value.now)))) }
     {
         self.token(operation.text.as_str())?;
         self.token("@")?;
@@ -147,7 +149,8 @@ impl Printer {
     /// A path that is given a value.
     #[tactic(auto, using(crate::proofs::Spacing::after_append))]
     fn path_given(&mut self, path: &Path, value: &Expr) -> Result<(), AllocError>
-        ensures { OnOk result (self.new ≡ after self.old (path_tokens path.now ++ codes "=" ∷ expr_tokens value.now)) }
+        ensures { OnOk result (self.new ≡ after self.old
+            (path_tokens path.now ++ codes "=" ∷ expr_tokens value.now)) }
     {
         self.path(path)?;
         self.token("=")?;
@@ -173,7 +176,11 @@ impl Printer {
         stepped: &Path,
         step: &ForStep,
     ) -> Result<(), AllocError>
-        ensures { OnOk result (self.new ≡ after self.old (codes "for" ∷ in_parens (path_tokens path.now ++ codes "=" ∷ (expr_tokens first.now ++ codes "," ∷ (expr_tokens test.now ++ codes "," ∷ (path_tokens stepped.now ++ for_step_tokens step.now)))))) }
+        ensures { OnOk result (self.new ≡ after self.old
+            (codes "for" ∷ in_parens (path_tokens path.now
+            ++ codes "=" ∷ (expr_tokens first.now
+            ++ codes "," ∷ (expr_tokens test.now
+            ++ codes "," ∷ (path_tokens stepped.now ++ for_step_tokens step.now)))))) }
     {
         self.token("for")?;
         self.token("(")?;
@@ -390,7 +397,8 @@ impl Printer {
     #[cycle(process)]
     #[tactic(auto, using(crate::proofs::Spacing::after_append))]
     fn handlers_in_parens(&mut self, handlers: &[Handler]) -> Result<(), AllocError>
-        ensures { OnOk result (self.new ≡ after self.old (in_parens (separated (codes ",") handler_tokens handlers.now))) }
+        ensures { OnOk result (self.new ≡ after self.old
+            (in_parens (separated (codes ",") handler_tokens handlers.now))) }
     {
         self.token("(")?;
         self.handlers(handlers)?;
@@ -400,7 +408,8 @@ impl Printer {
     #[cycle(process)]
     #[tactic(auto, using(crate::proofs::Spacing::after_append))]
     fn handlers_in_brackets(&mut self, handlers: &[Handler]) -> Result<(), AllocError>
-        ensures { OnOk result (self.new ≡ after self.old (in_brackets (separated (codes ",") handler_tokens handlers.now))) }
+        ensures { OnOk result (self.new ≡ after self.old
+            (in_brackets (separated (codes ",") handler_tokens handlers.now))) }
     {
         self.token("[")?;
         self.handlers(handlers)?;

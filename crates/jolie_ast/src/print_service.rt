@@ -88,7 +88,8 @@ impl Printer {
     }
 
     fn location(&mut self, location: &Quoted) -> Result<(), AllocError>
-        ensures { OnOk result (self.new ≡ after self.old (codes "location" ∷ (codes ":" ∷ (quoted_token location.now.text ∷ [])))) }
+        ensures { OnOk result (self.new ≡ after self.old
+            (codes "location" ∷ (codes ":" ∷ (quoted_token location.now.text ∷ [])))) }
     {
         self.token("location")?;
         self.token(":")?;
@@ -109,7 +110,8 @@ impl Printer {
     }
 
     fn interfaces(&mut self, names: &[Name]) -> Result<(), AllocError>
-        ensures { OnOk result (self.new ≡ after self.old (codes "interfaces" ∷ (codes ":" ∷ separated (codes ",") name_tokens names.now))) }
+        ensures { OnOk result (self.new ≡ after self.old
+            (codes "interfaces" ∷ (codes ":" ∷ separated (codes ",") name_tokens names.now))) }
     {
         self.token("interfaces")?;
         self.token(":")?;
@@ -176,7 +178,8 @@ impl Printer {
     /// Fields, each behind a dot.
     #[tactic(auto, using(crate::proofs::Spacing::after_append, crate::proofs::Spacing::after_more))]
     fn further_fields(&mut self, fields: &[Name]) -> Result<(), AllocError>
-        ensures { OnOk result (self.new ≡ after self.old (flat_map (λ name. codes "." ∷ name_tokens name) fields.now)) }
+        ensures { OnOk result (self.new ≡ after self.old
+            (flat_map (λ name. codes "." ∷ name_tokens name) fields.now)) }
     {
         for field in fields {
             self.token(".")?;

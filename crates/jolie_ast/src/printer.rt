@@ -116,7 +116,8 @@ fn push_escaped(quoted: &mut String, text: &str) -> Result<(), AllocError>
 }
 
 fn push_escaped_char(quoted: &mut String, c: char) -> Result<(), AllocError>
-    ensures { OnOk result (string_bytes quoted.new ≡ string_bytes quoted.old ++ flat_map escaped_byte (encode_utf8 c)) }
+    ensures { OnOk result (string_bytes quoted.new ≡ string_bytes quoted.old
+        ++ flat_map escaped_byte (encode_utf8 c)) }
 {
     match c {
         '\n' => quoted.push_str("\\n"),

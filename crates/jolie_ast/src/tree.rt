@@ -16,9 +16,10 @@ pub enum Definition {
     Service(Service),
 }
 
-/// The tree of a file: its definitions in the order of the text. Each member of a parallel has a token of its own in the
-/// text, so that the parallels of a tree have no more members in all than a text may have bytes. A sequence, a parallel,
-/// an `And` and an `Or` have two members at least, since one alone is itself, and a choice has a branch at least.
+/// The tree of a file: its definitions in the order of the text. Each member of a parallel has a token of its own in
+/// the text, so that the parallels of a tree have no more members in all than a text may have bytes. A sequence, a
+/// parallel, an `And` and an `Or` have two members at least, since one alone is itself, and a choice has a branch at
+/// least.
 #[derive(Drop)]
 pub struct Ast {
     definitions: Items<Definition>,

@@ -215,7 +215,7 @@ DoesBy IsMade c text did act = elim act [
 
 module _ (IsMade : WireTold → Type 0) (c : Command) (held : List ℕ → Option (List ℕ)) (name text : List ℕ) (named : name ≡ c.file)
     (read : IfSome (held name) (λ all. text ≡ program_bytes all)) (files files_now : FilesTold)
-    (asks : HasAskedFor name files files_now) (calm : files_now.faults ≡ files.faults) where
+    (asks : HasAskedFor name files files_now) (unfailed : files_now.faults ≡ files.faults) where
   obeys : (act : Action) (ended : Ended) (a : Around) → c.action ≡ act → HasAskedFor name a.before.files a.now.files
       → a.now.files.faults ≡ a.before.files.faults → DoesBy IsMade c text (ended, a) act → Obeys IsMade c (held c.file) ended a
   obeys act ended a is asked still does =
@@ -230,7 +230,7 @@ module _ (IsMade : WireTold → Type 0) (c : Command) (held : List ℕ → Optio
       (around (outside files source output notes doors trips) (outside files_now source output_now notes doors trips)))
   obeys_check shown source output output_now notes doors trips (Ok ended) is same shows empty =
       obeys action.Check ended (around (outside files source output notes doors trips)
-      (outside files_now source output_now notes doors trips)) is asks calm (
+      (outside files_now source output_now notes doors trips)) is asks unfailed (
         subst (λ t. Checks t ended.status output output_now) same shows,
         record { empty = empty; input = refl; notes = refl; doors = refl; links = refl },
       )
@@ -244,7 +244,7 @@ module _ (IsMade : WireTold → Type 0) (c : Command) (held : List ℕ → Optio
       (around (outside files source output notes doors trips) (outside files_now source output_now notes doors trips)))
   obeys_explain shown source output output_now notes doors trips (Ok ended) is same called by shows empty =
       obeys action.Explain ended (around (outside files source output notes doors trips)
-      (outside files_now source output_now notes doors trips)) is asks calm (
+      (outside files_now source output_now notes doors trips)) is asks unfailed (
         subst (λ n. Explains n text ended.status output output_now) by (subst (λ t. Explains called t ended.status output output_now) same shows),
         record { empty = empty; input = refl; notes = refl; doors = refl; links = refl },
       )
@@ -257,7 +257,7 @@ module _ (IsMade : WireTold → Type 0) (c : Command) (held : List ℕ → Optio
       (around (outside files source output notes doors trips) (outside files_now source output_now notes doors trips)))
   obeys_print shown source output output_now notes doors trips (Ok ended) is same shows empty =
       obeys action.Print ended (around (outside files source output notes doors trips)
-      (outside files_now source output_now notes doors trips)) is asks calm (
+      (outside files_now source output_now notes doors trips)) is asks unfailed (
         subst (λ t. Prints t ended.status output output_now) same shows,
         record { empty = empty; input = refl; notes = refl; doors = refl; links = refl },
       )
@@ -297,7 +297,7 @@ module _ (IsMade : WireTold → Type 0) (c : Command) (held : List ℕ → Optio
       (around (outside files input output notes doors trips) (outside files_now input_now output_now notes_now doors trips_now)))
   obeys_run shown input input_now output output_now notes notes_now doors trips trips_now (Ok ended) is same runs =
       let a = around (outside files input output notes doors trips) (outside files_now input_now output_now notes_now doors trips_now) in
-      obeys action.Run ended a is asks calm
+      obeys action.Run ended a is asks unfailed
       (subst (λ t. Runs c t ended a) same
       (again shown ended files files_now
       (around (outside files input output notes doors trips) (outside files input_now output_now notes_now doors trips_now))
@@ -319,7 +319,7 @@ module _ (IsMade : WireTold → Type 0) (c : Command) (held : List ℕ → Optio
       (around (outside files source output notes doors trips) (outside files_now source output_now notes_now doors_now trips_now)))
   obeys_serve shown source output output_now notes notes_now doors doors_now trips trips_now (Ok ended) is same serves =
       let a = around (outside files source output notes doors trips) (outside files_now source output_now notes_now doors_now trips_now) in
-      obeys action.Serve ended a is asks calm
+      obeys action.Serve ended a is asks unfailed
       (subst (λ t. Serves IsMade c t ended a) same
       (once_more shown ended files files_now
       (around (outside files source output notes doors trips) (outside files source output_now notes_now doors_now trips_now))

@@ -42,7 +42,7 @@ HasAskedFor name before now = Lists before.asked now.asked (name ∷ [])
 -- All of the text went out.
 pub record IsWhole (text : List ℕ) (before now : SinkTold) : Type 0 where
   pub bytes : Appends before.written now.written text
-  pub calm : now.faults ≡ before.faults
+  pub unfailed : now.faults ≡ before.faults
 
 -- The output failed, and a part of the text went out before.
 pub record IsCut (text : List ℕ) (before now : SinkTold) : Type 0 where

@@ -20,7 +20,8 @@ pub fn explain_text<K: Sink>(
     text: &[u8],
     output: &mut K,
 ) -> Result<Ended, AllocError>
-    ensures explains { IfOk result (λ ended. Explains file.now text.now ended.status (K.told output.old) (K.told output.new)) }
+    ensures explains { IfOk result
+        (λ ended. Explains file.now text.now ended.status (K.told output.old) (K.told output.new)) }
     ensures empty { IfOk result (λ ended. IsEmptyRecord ended.report) }
 {
     let refusal = match noted(alloc, file, text)? {
@@ -54,7 +55,8 @@ pub fn file_failed<K: Sink>(
 /// Says that a file can't be read: the status is 2.
 fn explain_failed<K: Sink>(alloc: Global, file: &str, output: &mut K) -> Result<Ended, AllocError>
     ensures status { IfOk result (λ ended. ended.status ≡ 2) }
-    ensures written { IfOk result (λ ended. IsWritten (unreadable_line file.now) (K.told output.old) (K.told output.new)) }
+    ensures written { IfOk result
+        (λ ended. IsWritten (unreadable_line file.now) (K.told output.old) (K.told output.new)) }
     ensures empty { IfOk result (λ ended. IsEmptyRecord ended.report) }
 {
     let line = unreadable(alloc, file)?;

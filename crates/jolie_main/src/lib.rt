@@ -1,4 +1,5 @@
-//! What the program does: it checks and prints a text of Jolie, or runs its services over lines of JSON-RPC or over HTTP.
+//! What the program does: it checks and prints a text of Jolie, or runs its services over lines of JSON-RPC or over
+//! HTTP.
 #![tactic(auto)]
 
 mod explain;

@@ -48,7 +48,8 @@ pub fn refuse<K: Sink>(
     output: &mut K,
 ) -> Result<Ended, AllocError>
     ensures status { IfOk result (λ ended. ended.status ≡ 3) }
-    ensures written { IfOk result (λ ended. IsWritten (refusal_line refusal.now) (K.told output.old) (K.told output.new)) }
+    ensures written { IfOk result
+        (λ ended. IsWritten (refusal_line refusal.now) (K.told output.old) (K.told output.new)) }
     ensures empty { IfOk result (λ ended. IsEmptyRecord ended.report) }
 {
     let line = refusal.line(alloc)?;

@@ -31,13 +31,13 @@ const MOST: u64 = 1_048_577;
 
 /// Does what the words of the command line say: `check FILE` says whether the file is a program, `explain FILE` says in
 /// words why it is none, or what is likely not meant in it, `print FILE` prints its definitions, `run FILE` runs its
-/// services over the lines of the input, and `serve FILE` runs them over the connections that come in at the doors of their
-/// ports. Calls to services elsewhere go by the first link, and console output goes to the notes.
+/// services over the lines of the input, and `serve FILE` runs them over the connections that come in at the doors of
+/// their ports. Calls to services elsewhere go by the first link, and console output goes to the notes.
 ///
 /// The status is 0 where all that was asked for was done, 1 for a usage error, 2 where the file can't be read, 3 for a
 /// file that is refused, 4 where the input failed, 5 where the output or the notes failed, 7 where a door could not be
-/// opened or failed, and 6 where none of these failed and a session used its whole budget of events and could act all the
-/// same.
+/// opened or failed, and 6 where none of these failed and a session used its whole budget of events and could act all
+/// the same.
 pub fn run<F: Files, S: Source, K: Sink, N: Sink, D: Doors, L: Link>(
     alloc: Global,
     words: &[String],
@@ -47,7 +47,10 @@ pub fn run<F: Files, S: Source, K: Sink, N: Sink, D: Doors, L: Link>(
     // The headline.
     ensures promises { IfOk result (λ ended. (said : Said) × IsUnderstood (spelled words.now) said
         × Promises ⟦<World<F, S, K, N, D, L> as Telling>⟧.made said (F.held world.old.files) ended
-        (record { before = ⟦<World<F, S, K, N, D, L> as Telling>⟧.told world.old; now = ⟦<World<F, S, K, N, D, L> as Telling>⟧.told world.new })) }
+        (record {
+          before = ⟦<World<F, S, K, N, D, L> as Telling>⟧.told world.old;
+          now = ⟦<World<F, S, K, N, D, L> as Telling>⟧.told world.new;
+        })) }
     ensures others { drop 1 world.new.links.items ≡ drop 1 world.old.links.items }
 {
     match understood(alloc, words)? {
@@ -66,8 +69,13 @@ fn obey<F: Files, S: Source, K: Sink, N: Sink, D: Doors, L: Link>(
     world: &mut World<F, S, K, N, D, L>,
 ) -> Result<Ended, AllocError>
     requires link { 0 < length world.old.links.items }
-    ensures obeyed { IfOk result (λ ended. Obeys ⟦<World<F, S, K, N, D, L> as Telling>⟧.made command.now (F.held world.old.files command.now.file) ended
-        (record { before = ⟦<World<F, S, K, N, D, L> as Telling>⟧.told world.old; now = ⟦<World<F, S, K, N, D, L> as Telling>⟧.told world.new })) }
+    ensures obeyed { IfOk result
+        (λ ended. Obeys ⟦<World<F, S, K, N, D, L> as Telling>⟧.made command.now
+        (F.held world.old.files command.now.file) ended
+        (record {
+          before = ⟦<World<F, S, K, N, D, L> as Telling>⟧.told world.old;
+          now = ⟦<World<F, S, K, N, D, L> as Telling>⟧.told world.new;
+        })) }
     ensures others { drop 1 world.new.links.items ≡ drop 1 world.old.links.items }
 {
     let text = match world.files.read(command.file.as_str(), MOST) {
@@ -113,8 +121,22 @@ fn run_text<S: Source, K: Sink, N: Sink, L: Link>(
     requires link { 0 < length links.old.items }
     ensures runs { (files : FilesTold) (doors : DoorsTold) → IfOk result (λ ended. Runs command.now text.now ended
         (record {
-          before = record { files = files; input = S.told input.old; output = K.told output.old; notes = N.told notes.old; doors = doors; links = map (λ l. L.told l) links.old.items };
-          now = record { files = files; input = S.told input.new; output = K.told output.new; notes = N.told notes.new; doors = doors; links = map (λ l. L.told l) links.new.items };
+          before = record {
+            files = files;
+            input = S.told input.old;
+            output = K.told output.old;
+            notes = N.told notes.old;
+            doors = doors;
+            links = map (λ l. L.told l) links.old.items;
+          };
+          now = record {
+            files = files;
+            input = S.told input.new;
+            output = K.told output.new;
+            notes = N.told notes.new;
+            doors = doors;
+            links = map (λ l. L.told l) links.new.items;
+          };
         })) }
     ensures others { drop 1 links.new.items ≡ drop 1 links.old.items }
 {
@@ -139,10 +161,29 @@ fn run_program<S: Source, K: Sink, N: Sink, L: Link>(
     requires some { 0 < length (parts_of program).services }
     requires link { 0 < length links.old.items }
     ensures lined { (files : FilesTold) (doors : DoorsTold) → IfOk result (λ ended. ByFirst
-        (λ run. IsLined (record { parts = parts_of program; text = text.now; budget = command.now.budget; picks = command.now.picks }) run ended)
+        (λ run. IsLined (record {
+          parts = parts_of program;
+          text = text.now;
+          budget = command.now.budget;
+          picks = command.now.picks;
+        }) run ended)
         (record {
-          before = record { files = files; input = S.told input.old; output = K.told output.old; notes = N.told notes.old; doors = doors; links = map (λ l. L.told l) links.old.items };
-          now = record { files = files; input = S.told input.new; output = K.told output.new; notes = N.told notes.new; doors = doors; links = map (λ l. L.told l) links.new.items };
+          before = record {
+            files = files;
+            input = S.told input.old;
+            output = K.told output.old;
+            notes = N.told notes.old;
+            doors = doors;
+            links = map (λ l. L.told l) links.old.items;
+          };
+          now = record {
+            files = files;
+            input = S.told input.new;
+            output = K.told output.new;
+            notes = N.told notes.new;
+            doors = doors;
+            links = map (λ l. L.told l) links.new.items;
+          };
         })) }
     ensures others { drop 1 links.new.items ≡ drop 1 links.old.items }
 {
@@ -174,8 +215,22 @@ fn serve_text<K: Sink, N: Sink, D: Doors, L: Link>(
         (λ line. (wire : D.D.W) × (line ≡ D.D.W.told wire))
         command.now text.now ended
         (record {
-          before = record { files = files; input = input; output = K.told output.old; notes = N.told notes.old; doors = D.told doors.old; links = map (λ l. L.told l) links.old.items };
-          now = record { files = files; input = input; output = K.told output.new; notes = N.told notes.new; doors = D.told doors.new; links = map (λ l. L.told l) links.new.items };
+          before = record {
+            files = files;
+            input = input;
+            output = K.told output.old;
+            notes = N.told notes.old;
+            doors = D.told doors.old;
+            links = map (λ l. L.told l) links.old.items;
+          };
+          now = record {
+            files = files;
+            input = input;
+            output = K.told output.new;
+            notes = N.told notes.new;
+            doors = D.told doors.new;
+            links = map (λ l. L.told l) links.new.items;
+          };
         })) }
     ensures others { drop 1 links.new.items ≡ drop 1 links.old.items }
 {
@@ -203,8 +258,22 @@ fn serve_program<N: Sink, D: Doors, L: Link>(
         (λ line. (wire : D.D.W) × (line ≡ D.D.W.told wire))
         command.now.connections (record { parts = parts_of program; text = text.now; budget = command.now.budget; picks = [] }) run ended)
         (record {
-          before = record { files = files; input = input; output = output; notes = N.told notes.old; doors = D.told doors.old; links = map (λ l. L.told l) links.old.items };
-          now = record { files = files; input = input; output = output; notes = N.told notes.new; doors = D.told doors.new; links = map (λ l. L.told l) links.new.items };
+          before = record {
+            files = files;
+            input = input;
+            output = output;
+            notes = N.told notes.old;
+            doors = D.told doors.old;
+            links = map (λ l. L.told l) links.old.items;
+          };
+          now = record {
+            files = files;
+            input = input;
+            output = output;
+            notes = N.told notes.new;
+            doors = D.told doors.new;
+            links = map (λ l. L.told l) links.new.items;
+          };
         })) }
     ensures others { drop 1 links.new.items ≡ drop 1 links.old.items }
 {

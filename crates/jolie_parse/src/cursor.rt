@@ -197,7 +197,8 @@ impl<'a> Cursor<'a> {
         close: Sign,
         levels: u32,
     ) -> Result<T, Stop>
-        ensures { (o : Outcome T) → Reads o part self.old → Reads (closing o (Class.Sign close) levels) result self.new }
+        ensures { (o : Outcome T) → Reads o part self.old
+            → Reads (closing o (Class.Sign close) levels) result self.new }
     {
         match self.close(part, close) {
             Err(Stop::Syntax) if levels == 0 => Err(self.why(&OPEN_BRACKETS)),

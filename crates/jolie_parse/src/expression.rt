@@ -520,7 +520,8 @@ impl<'a> Cursor<'a> {
     #[tactic(auto, using(crate::proofs::Lists::passes, crate::proofs::Inside::between_unopened, crate::proofs::Inside::between_reads))]
     #[cycle(expression)]
     fn expression_in_brackets(&mut self, levels: u32) -> Result<Expr, Stop>
-        ensures { Reads (read levels (syntax.between c.sign_open_bracket syntax.an_expression c.sign_close_bracket) self.old) result self.new }
+        ensures { Reads (read levels (syntax.between c.sign_open_bracket syntax.an_expression c.sign_close_bracket)
+            self.old) result self.new }
     {
         self.open(&[Class::Sign(Sign::OpenBracket)], levels)?;
         let part = self.expression(levels - 1);

@@ -104,7 +104,8 @@ impl<'a> Cursor<'a> {
     /// The inside of a block.
     #[cycle(process)]
     fn body(&mut self, levels: u32) -> Result<Option<Boxed<Process>>, Stop>
-        ensures { Reads (read levels (syntax.optional (spec.in_parallel factored.one_statement)) self.old) result self.new }
+        ensures { Reads (read levels (syntax.optional (spec.in_parallel factored.one_statement)) self.old) result
+            self.new }
     {
         if !self.sees(&STATEMENT_FIRSTS) {
             return Ok(None);
@@ -124,7 +125,8 @@ impl<'a> Cursor<'a> {
 
     #[cycle(process)]
     fn sequences(&mut self, levels: u32) -> Result<Items<Process>, Stop>
-        ensures { Reads (read levels (syntax.separated c.sign_bar (spec.in_sequence factored.one_statement)) self.old) result self.new }
+        ensures { Reads (read levels (syntax.separated c.sign_bar (spec.in_sequence factored.one_statement))
+            self.old) result self.new }
     {
         let first = self.sequence(levels)?;
         let mut sequences = one(self.alloc, first)?;
@@ -145,7 +147,8 @@ impl<'a> Cursor<'a> {
 
     #[cycle(process)]
     fn statements(&mut self, levels: u32) -> Result<Items<Process>, Stop>
-        ensures { Reads (read levels (syntax.separated c.sign_semicolon factored.one_statement) self.old) result self.new }
+        ensures { Reads (read levels (syntax.separated c.sign_semicolon factored.one_statement) self.old) result
+            self.new }
     {
         let first = self.statement(levels)?;
         let mut statements = one(self.alloc, first)?;
@@ -250,7 +253,8 @@ impl<'a> Cursor<'a> {
     #[tactic(auto, using(crate::proofs::Lists::passes, crate::proofs::Lists::stops_then), unfolding(crate::specs::Grammar::output_parts, crate::specs::Grammar::id))]
     #[cycle(process)]
     fn named_output(&mut self, levels: u32, operation: &Taken) -> Result<Process, Stop>
-        ensures { Reads (read levels (factored.of_name operation.now factored.named_output) self.old) result self.new }
+        ensures { Reads (read levels (factored.of_name operation.now factored.named_output) self.old) result
+            self.new }
     {
         self.sign(Sign::At)?;
         let port = self.take(&IDS)?;
@@ -269,7 +273,8 @@ impl<'a> Cursor<'a> {
     #[tactic(auto, using(crate::proofs::Lists::passes, crate::proofs::Lists::stops_then))]
     #[cycle(process)]
     fn message(&mut self, levels: u32) -> Result<(Option<Expr>, Option<Answer>), Stop>
-        ensures { Reads (read levels (syntax.both (spec.parens syntax.maybe_expression) (syntax.optional spec.answer)) self.old) result self.new }
+        ensures { Reads (read levels (syntax.both (spec.parens syntax.maybe_expression)
+            (syntax.optional spec.answer)) self.old) result self.new }
     {
         let value = self.maybe_expression_in_parens(levels)?;
         let answer = self.maybe_answer(levels)?;
@@ -362,7 +367,9 @@ impl<'a> Cursor<'a> {
 
     #[cycle(process)]
     fn maybe_handlers(&mut self, levels: u32) -> Result<Option<Items<Handler>>, Stop>
-        ensures { Reads (read levels (syntax.optional (syntax.between c.sign_open_bracket syntax.some_handlers c.sign_close_bracket)) self.old) result self.new }
+        ensures { Reads (read levels (syntax.optional
+            (syntax.between c.sign_open_bracket syntax.some_handlers c.sign_close_bracket)) self.old) result
+            self.new }
     {
         if !self.sees_sign(Sign::OpenBracket) {
             return Ok(None);
@@ -373,7 +380,8 @@ impl<'a> Cursor<'a> {
     #[tactic(auto, using(crate::proofs::Lists::passes, crate::proofs::Inside::between_unopened, crate::proofs::Inside::between_reads))]
     #[cycle(process)]
     fn handlers_in_brackets(&mut self, levels: u32) -> Result<Items<Handler>, Stop>
-        ensures { Reads (read levels (syntax.between c.sign_open_bracket syntax.some_handlers c.sign_close_bracket) self.old) result self.new }
+        ensures { Reads (read levels (syntax.between c.sign_open_bracket syntax.some_handlers c.sign_close_bracket)
+            self.old) result self.new }
     {
         self.open(&[Class::Sign(Sign::OpenBracket)], levels)?;
         let part = self.handlers(levels - 1);

@@ -40,7 +40,8 @@ impl<'a> Cursor<'a> {
     /// A dot and the name of a field.
     #[tactic(auto, using(crate::proofs::Lists::passes, crate::proofs::Lists::stops_then), unfolding(crate::specs::Grammar::word))]
     fn next_field_name(&mut self) -> Result<Name, Stop>
-        ensures { Reads (read 0 (syntax.means means_as.name_of (syntax.behind c.sign_dot spec.word)) self.old) result self.new }
+        ensures { Reads (read 0 (syntax.means means_as.name_of (syntax.behind c.sign_dot spec.word)) self.old) result
+            self.new }
     {
         self.sign(Sign::Dot)?;
         let word = self.take(&WORDS)?;
@@ -48,7 +49,8 @@ impl<'a> Cursor<'a> {
     }
 
     fn field_names(&mut self) -> Result<Items<Name>, Stop>
-        ensures { Reads (more 0 (syntax.means means_as.name_of (syntax.behind c.sign_dot spec.word)) [] self.old) result self.new }
+        ensures { Reads (more 0 (syntax.means means_as.name_of (syntax.behind c.sign_dot spec.word)) [] self.old)
+            result self.new }
     {
         let mut names = Items::new(self.alloc);
         while self.sees_sign(Sign::Dot) {
@@ -138,7 +140,8 @@ impl<'a> Cursor<'a> {
 
     #[tactic(auto, using(crate::proofs::Lists::passes, crate::proofs::Lists::stops_then))]
     fn location(&mut self) -> Result<Quoted, Stop>
-        ensures { Reads (read 0 (syntax.means means_as.quoted (spec.labelled c.the_location (spec.one c.quoted_text))) self.old) result self.new }
+        ensures { Reads (read 0 (syntax.means means_as.quoted
+            (spec.labelled c.the_location (spec.one c.quoted_text))) self.old) result self.new }
     {
         self.word(Word::Location)?;
         self.sign(Sign::Colon)?;
@@ -160,7 +163,8 @@ impl<'a> Cursor<'a> {
 
     #[tactic(auto, using(crate::proofs::Lists::passes, crate::proofs::Lists::stops_then))]
     fn interfaces(&mut self) -> Result<Items<Name>, Stop>
-        ensures { Reads (read 0 (spec.labelled c.the_interfaces (syntax.separated c.sign_comma spec.name)) self.old) result self.new }
+        ensures { Reads (read 0 (spec.labelled c.the_interfaces (syntax.separated c.sign_comma spec.name)) self.old)
+            result self.new }
     {
         self.word(Word::Interfaces)?;
         self.sign(Sign::Colon)?;

@@ -197,7 +197,8 @@ impl<'a> Cursor<'a> {
     /// The test of a `for` and what it does after each turn.
     #[tactic(auto, using(crate::proofs::Lists::passes, crate::proofs::Lists::stops_then))]
     fn turn_parts(&mut self, levels: u32) -> Result<(Expr, (Path, ForStep)), Stop>
-        ensures { Reads (read levels (syntax.both (syntax.behind c.sign_comma spec.expr) (syntax.both (syntax.behind c.sign_comma spec.path) spec.last_change)) self.old) result self.new }
+        ensures { Reads (read levels (syntax.both (syntax.behind c.sign_comma spec.expr)
+            (syntax.both (syntax.behind c.sign_comma spec.path) spec.last_change)) self.old) result self.new }
     {
         let test = self.next_expression(levels)?;
         let stepped = self.next_path(levels)?;
@@ -228,7 +229,8 @@ impl<'a> Cursor<'a> {
 
     /// The data of a fault, behind a comma, if any are written.
     fn thrown_value(&mut self, levels: u32) -> Result<Option<Expr>, Stop>
-        ensures { Reads (read levels (syntax.optional (syntax.behind c.sign_comma spec.expr)) self.old) result self.new }
+        ensures { Reads (read levels (syntax.optional (syntax.behind c.sign_comma spec.expr)) self.old) result
+            self.new }
     {
         if !self.sees_sign(Sign::Comma) {
             return Ok(None);
@@ -302,7 +304,8 @@ impl<'a> Cursor<'a> {
     /// `this`, as what a handler is for.
     #[tactic(auto, using(crate::proofs::Lists::passes, crate::proofs::Lists::stops_then))]
     fn this(&mut self) -> Result<HandlerKey, Stop>
-        ensures { Reads (read 0 (syntax.means (λ t. HandlerKey.This (place t)) (spec.one c.the_this)) self.old) result self.new }
+        ensures { Reads (read 0 (syntax.means (λ t. HandlerKey.This (place t)) (spec.one c.the_this)) self.old)
+            result self.new }
     {
         let word = self.word(Word::This)?;
         Ok(HandlerKey::This(word.at()))

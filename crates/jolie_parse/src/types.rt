@@ -51,7 +51,8 @@ impl<'a> Cursor<'a> {
     }
 
     fn bounds_in_brackets(&mut self, levels: u32) -> Result<Cardinality, Stop>
-        ensures { Reads (read levels (syntax.between c.sign_open_bracket syntax.some_bounds c.sign_close_bracket) self.old) result self.new }
+        ensures { Reads (read levels (syntax.between c.sign_open_bracket syntax.some_bounds c.sign_close_bracket)
+            self.old) result self.new }
     {
         self.open(&[Class::Sign(Sign::OpenBracket)], levels)?;
         let part = self.bounds();

@@ -33,7 +33,9 @@ fn text_by(
     operation: Option<&Operation>,
     types: &[TypeDef],
 ) -> Result<Text, AllocError>
-    ensures { IfOk result (λ text. text ≡ spec.call_by (map type_view types.now) (option_map operation_view (option_copied operation.entry)) out.now) }
+    ensures { IfOk result
+        (λ text. text ≡ spec.call_by (map type_view types.now)
+        (option_map operation_view (option_copied operation.entry)) out.now) }
 {
     match operation {
         None => Ok(Text::from_string(String::new(alloc))),
@@ -48,7 +50,8 @@ fn text_to(
     operation: &Operation,
     types: &[TypeDef],
 ) -> Result<Text, AllocError>
-    ensures { IfOk result (λ text. text ≡ spec.call_to (map type_view types.now) (operation_view operation.now) out.now) }
+    ensures { IfOk result
+        (λ text. text ≡ spec.call_to (map type_view types.now) (operation_view operation.now) out.now) }
 {
     written(alloc, &call_to(alloc, out, operation, types)?)
 }
@@ -67,7 +70,8 @@ fn call_to(
     operation: &Operation,
     types: &[TypeDef],
 ) -> Result<Value, AllocError>
-    ensures { IfOk result (λ value. view value ≡ spec.call_data (map type_view types.now) (operation_view operation.now) out.now) }
+    ensures { IfOk result
+        (λ value. view value ≡ spec.call_data (map type_view types.now) (operation_view operation.now) out.now) }
 {
     let params = params_of(alloc, &out.value, &operation.request, types)?;
     let name = operation.name.as_str();
@@ -93,7 +97,8 @@ fn params_of(
     ty: &TypeDef,
     types: &[TypeDef],
 ) -> Result<Option<Value>, AllocError>
-    ensures { IfOk result (λ params. option_map view params ≡ spec.params_of (map type_view types.now) (type_view ty.now) value.now) }
+    ensures { IfOk result
+        (λ params. option_map view params ≡ spec.params_of (map type_view types.now) (type_view ty.now) value.now) }
 {
     let found = json_of(alloc, value, ty, types)?;
     let params = params_from(alloc, found)?;

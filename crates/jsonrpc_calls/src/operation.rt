@@ -10,7 +10,8 @@ use office_core::Outgoing;
 
 /// The operation that a call is to, at its port.
 pub fn operation_called<'a>(program: &'a Program, out: &Outgoing) -> Option<&'a Operation>
-    ensures { option_map operation_view (option_copied result) ≡ spec.operation_called (parts_of program.now) out.now }
+    ensures { option_map operation_view (option_copied result)
+        ≡ spec.operation_called (parts_of program.now) out.now }
 {
     let parts = program.parts();
     match port_called(parts, out) {

@@ -44,7 +44,9 @@ fn said_by(
     error: Option<&Value>,
     found: Option<&Value>,
 ) -> Result<Option<Outcome>, AllocError>
-    ensures { IfOk result (λ outcome. outcome ≡ spec.said_by (option_map view (option_copied error.entry)) (option_map view (option_copied found.entry))) }
+    ensures { IfOk result
+        (λ outcome. outcome ≡ spec.said_by (option_map view (option_copied error.entry))
+        (option_map view (option_copied found.entry))) }
 {
     let Some(error) = error else {
         return value_said(alloc, found);
@@ -89,7 +91,8 @@ fn error_by(
     message: &str,
     detail: Option<&Value>,
 ) -> Result<Option<Outcome>, AllocError>
-    ensures { IfOk result (λ outcome. outcome ≡ spec.error_by code message.now (option_map view (option_copied detail.entry))) }
+    ensures { IfOk result
+        (λ outcome. outcome ≡ spec.error_by code message.now (option_map view (option_copied detail.entry))) }
 {
     if code != FAULT {
         return Ok(Some(Outcome::Refused(reason_of(code))));
@@ -103,7 +106,8 @@ fn fault_said(
     name: &str,
     detail: Option<&Value>,
 ) -> Result<Option<Outcome>, AllocError>
-    ensures { IfOk result (λ outcome. outcome ≡ spec.fault_said name.now (option_map view (option_copied detail.entry))) }
+    ensures { IfOk result
+        (λ outcome. outcome ≡ spec.fault_said name.now (option_map view (option_copied detail.entry))) }
 {
     let name = Text::new(alloc, name)?;
     match data_tree(alloc, detail)? {

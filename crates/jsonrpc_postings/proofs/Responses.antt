@@ -7,7 +7,7 @@ use Rattle.office_core.specs.Limits.{Setting, first_worker}
 use Rattle.office_core.specs.Past.{Past}
 use Rattle.office_core.specs.Keys.{all_there}
 use Rattle.run_record.specs.Postings.{outcome_of, outcomes_from, told}
-use Rattle.run_theorem.specs.Texts.{Came, call_in, posting_of, said_to, texts_from, response_of, response}
+use Rattle.run_theorem.specs.Texts.{Came, call_in, posting_of, sent_to, texts_from, response_of, response}
 use Rattle.jsonrpc_postings.specs.Told.{texts_told, response_told}
 
 -- ---- outcomes that are all there
@@ -41,7 +41,7 @@ module _ (w : Setting) (past : Past) where
   texts_told-from j i service (c ∷ cs) os h =
       let k = there (outcome_of w past first_worker (j, i) (call_in service c)) (outcomes_from w past first_worker (j, suc i) (map (call_in service) cs)) os h in
       ap (texts_told w.parts service (c ∷ cs)) k.all
-      ∙ ap₂ (λ o ts. said_to w.parts service c o ++ ts) (sym k.is) (texts_told-from j (suc i) service cs k.others k.are)
+      ∙ ap₂ (λ o ts. sent_to w.parts service c o ++ ts) (sym k.is) (texts_told-from j (suc i) service cs k.others k.are)
 
   -- the response to a posting that was told of
   pub response_told-of : (c : Came) (j : ℕ) (os : List Outcome) → told w past first_worker j (posting_of c) ≡ Some os

@@ -3,7 +3,7 @@
 ghost use Rattle.std.specs.Prelude.{◌≡◌, ◌++◌, [], ◌∷◌, option_map, IfOk, OnOk, Some};
 ghost use Rattle.std.specs.Option.{option_copied};
 ghost use Rattle.behaviour_tree.specs.PartsView.{operation_view, parts_of};
-ghost use Rattle.run_theorem.specs.Texts.{has_id as asks, operation_of as operation, response_of, said_by as said, said_to};
+ghost use Rattle.run_theorem.specs.Texts.{has_id as asks, operation_of as operation, response_of, sent_by, sent_to};
 ghost use Rattle.jsonrpc_postings.specs.Told.{came_for, response_told, texts_told};
 
 use behaviour_tree::{Operation, Outcome, Program, TypeDef};
@@ -21,7 +21,8 @@ pub fn response_to(
     read: &Read,
     outcomes: &[Outcome],
 ) -> Result<Option<Text>, AllocError>
-    ensures { IfOk result (λ text. text ≡ response_told (parts_of program.now) (came_for service read.now) outcomes.now) }
+    ensures { IfOk result
+        (λ text. text ≡ response_told (parts_of program.now) (came_for service read.now) outcomes.now) }
 {
     let texts = texts_told(alloc, program, service, read.calls.as_slice(), outcomes)?;
     response_of(alloc, read.batch, texts)
@@ -53,7 +54,8 @@ fn put_text(
     outcome: &Outcome,
     texts: &mut Items<Text>,
 ) -> Result<(), AllocError>
-    ensures { OnOk result (texts.new ≡ texts.old ++ said_to (parts_of program.now) service call.now (Some outcome.now)) }
+    ensures { OnOk result (texts.new ≡ texts.old
+        ++ sent_to (parts_of program.now) service call.now (Some outcome.now)) }
 {
     if !has_id(&call.id) {
         return Ok(());
@@ -70,7 +72,7 @@ fn text_of(
     call: &ReadCall,
     outcome: &Outcome,
 ) -> Result<Text, AllocError>
-    ensures { IfOk result (λ text. text ∷ [] ≡ said (parts_of program.now) service call.now (Some outcome.now)) }
+    ensures { IfOk result (λ text. text ∷ [] ≡ sent_by (parts_of program.now) service call.now (Some outcome.now)) }
 {
     match &call.what {
         Err(early) => early_text(alloc, &call.id, early),

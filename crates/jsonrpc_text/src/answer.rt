@@ -17,9 +17,9 @@ use std::alloc::{AllocError, Global};
 /// The code of an error that is a fault of a session.
 const FAULT: i64 = -32_000;
 
-/// The text of the response to a call that ended so, whose result is written under a type: compact,
-/// its members in the order of their names. Only the error of a fault, -32000, has data. An absent id is written as null:
-/// that a notification gets no response is up to who calls.
+/// The text of the response to a call that ended so, whose result is written under a type: compact, its members in the
+/// order of their names. Only the error of a fault, -32000, has data. An absent id is written as null: that a
+/// notification gets no response is up to who calls.
 pub fn answer_text(
     alloc: Global,
     id: &Id,
@@ -27,8 +27,12 @@ pub fn answer_text(
     ty: &TypeDef,
     program: &Program,
 ) -> Result<Text, AllocError>
-    ensures text { IfOk result (λ text. text ≡ spec.answer (parts_of program.now).types (type_view ty.now) id.now outcome.now) }
-    ensures reads_back { IfOk result (λ text. depth (spec.answer_data (parts_of program.now).types (type_view ty.now) id.now outcome.now) ≤ max_depth → read text ≡ Some (spec.answer_data (parts_of program.now).types (type_view ty.now) id.now outcome.now)) }
+    ensures text { IfOk result
+        (λ text. text ≡ spec.answer (parts_of program.now).types (type_view ty.now) id.now outcome.now) }
+    ensures reads_back { IfOk result
+        (λ text. depth (spec.answer_data (parts_of program.now).types (type_view ty.now) id.now outcome.now) ≤
+        max_depth → read text ≡ Some (spec.answer_data (parts_of program.now).types (type_view ty.now) id.now
+        outcome.now)) }
 {
     written(alloc, &response(alloc, id, outcome, ty, program)?)
 }
@@ -61,7 +65,8 @@ pub fn batch_text(alloc: Global, texts: &[Text]) -> Result<Text, AllocError>
 /// A value as a compact text.
 fn written(alloc: Global, value: &Value) -> Result<Text, AllocError>
     ensures text { IfOk result (λ text. has_float (view value.now) ≡ false → text ≡ compact_text (view value.now)) }
-    ensures reads_back { IfOk result (λ text. depth (view value.now) ≤ max_depth → read text ≡ Some (view value.now)) }
+    ensures reads_back { IfOk result
+        (λ text. depth (view value.now) ≤ max_depth → read text ≡ Some (view value.now)) }
 {
     Ok(Text::from_string(value.to_string(alloc)?))
 }
@@ -74,7 +79,8 @@ fn response(
     ty: &TypeDef,
     program: &Program,
 ) -> Result<Value, AllocError>
-    ensures { IfOk result (λ value. view value ≡ spec.answer_data (parts_of program.now).types (type_view ty.now) id.now outcome.now) }
+    ensures { IfOk result
+        (λ value. view value ≡ spec.answer_data (parts_of program.now).types (type_view ty.now) id.now outcome.now) }
 {
     let types = program.parts().types.as_slice();
     match outcome {
@@ -116,7 +122,8 @@ fn fault_error(alloc: Global, fault: &str, detail: Value) -> Result<Value, Alloc
 
 /// A response with an error without data.
 fn refusal(alloc: Global, id: &Id, code: i64, message: &str) -> Result<Value, AllocError>
-    ensures { IfOk result (λ value. view value ≡ spec.error_data (spec.id_data id.now) (spec.bare_error code message.now)) }
+    ensures { IfOk result
+        (λ value. view value ≡ spec.error_data (spec.id_data id.now) (spec.bare_error code message.now)) }
 {
     let error = json!(in alloc; {"code": code, "message": message})?;
     error_response(alloc, id, error)

@@ -127,7 +127,8 @@ fn with_children(
     members: &Map<String, Value>,
     root: Root,
 ) -> Result<Option<Tree>, AllocError>
-    ensures { IfOk result (λ tree. tree ≡ spec.of_both node (Some root) (spec.children_in (members_view members.now.entries))) }
+    ensures { IfOk result
+        (λ tree. tree ≡ spec.of_both node (Some root) (spec.children_in (members_view members.now.entries))) }
 {
     let mut node = Tree::of_root(alloc, root);
     for (name, value) in members.iter() {

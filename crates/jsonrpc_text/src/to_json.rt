@@ -32,7 +32,8 @@ pub fn json_of(
 
 /// The fields of the type behind the names, where it has any.
 fn fields_behind<'a>(ty: &'a TypeDef, types: &'a [TypeDef]) -> &'a [Field]
-    ensures { type_fields_of (map field_view result.now) ≡ spec.fields_of_type (map type_view types.now) (type_view ty.now) }
+    ensures { type_fields_of (map field_view result.now)
+        ≡ spec.fields_of_type (map type_view types.now) (type_view ty.now) }
 {
     match behind_names(ty, types) {
         Some(TypeDef::Plain { fields, .. }) => fields.as_slice(),
@@ -50,7 +51,9 @@ fn node(
     fields: &[Field],
     types: &[TypeDef],
 ) -> Result<Value, AllocError>
-    ensures { IfOk result (λ value. view value ≡ walks.node_json (map type_view types.now) tree.now (type_fields_of (map field_view fields.now))) }
+    ensures { IfOk result
+        (λ value. view value ≡ walks.node_json (map type_view types.now) tree.now
+        (type_fields_of (map field_view fields.now))) }
 {
     let mut members = Map::new(alloc);
     for (name, trees) in tree.children() {
@@ -67,7 +70,8 @@ fn node(
 /// Puts a root at its name, unless it is void.
 #[tactic(auto, unfolding(crate::specs::FromJson::root_name))]
 fn put_root(alloc: Global, members: &mut Map<String, Value>, root: &Root) -> Result<(), AllocError>
-    ensures { IfOk result (λ _. members_view members.new.entries ≡ spec.with_root root.now (members_view members.old.entries)) }
+    ensures { IfOk result
+        (λ _. members_view members.new.entries ≡ spec.with_root root.now (members_view members.old.entries)) }
 {
     match root {
         Root::Void => Ok(()),
@@ -90,7 +94,8 @@ fn put(
     name: &str,
     value: Value,
 ) -> Result<(), AllocError>
-    ensures { IfOk result (λ _. members_view members.new.entries ≡ json.put name.now (view value) (members_view members.old.entries)) }
+    ensures { IfOk result
+        (λ _. members_view members.new.entries ≡ json.put name.now (view value) (members_view members.old.entries)) }
 {
     members.insert(String::from_str(alloc, name)?, value)?;
     Ok(())
@@ -104,7 +109,9 @@ fn members_of(
     field: Option<&Field>,
     types: &[TypeDef],
 ) -> Result<Value, AllocError>
-    ensures { IfOk result (λ value. view value ≡ spec.vector_json (map type_view types.now) (trees_of trees.now) (walks.part_of (option_map field_view (option_copied field.entry)))) }
+    ensures { IfOk result
+        (λ value. view value ≡ spec.vector_json (map type_view types.now) (trees_of trees.now)
+        (walks.part_of (option_map field_view (option_copied field.entry)))) }
 {
     let undefined = TypeDef::Undefined;
     let ty = member_type(field, trees.len(), &undefined);
@@ -129,7 +136,9 @@ fn array(
     ty: &TypeDef,
     types: &[TypeDef],
 ) -> Result<Value, AllocError>
-    ensures { IfOk result (λ value. view value ≡ array (spec.items_json (map type_view types.now) (trees_of trees.now) (type_view ty.now))) }
+    ensures { IfOk result
+        (λ value. view value ≡ array (spec.items_json (map type_view types.now) (trees_of trees.now)
+        (type_view ty.now))) }
 {
     let mut items = Vec::new(alloc);
     for tree in trees {
@@ -140,7 +149,8 @@ fn array(
 
 /// The first field of a name.
 fn field_named<'a>(name: &Text, fields: &'a [Field]) -> Option<&'a Field>
-    ensures { walks.part_of (option_map field_view (option_copied result)) ≡ spec.field_part name.now (type_fields_of (map field_view fields.now)) }
+    ensures { walks.part_of (option_map field_view (option_copied result))
+        ≡ spec.field_part name.now (type_fields_of (map field_view fields.now)) }
 {
     for field in fields {
         if field.name == *name {
@@ -166,7 +176,8 @@ fn repeats(field: Option<&Field>) -> bool
 /// The type under which so many members of one name are written: that of their field where it allows as many.
 fn member_type<'a>(field: Option<&'a Field>, count: usize, undefined: &'a TypeDef) -> &'a TypeDef
     requires { type_view undefined.now ≡ undefined_type }
-    ensures { type_view result.now ≡ spec.member_type (walks.part_of (option_map field_view (option_copied field.entry))) count }
+    ensures { type_view result.now ≡ spec.member_type
+        (walks.part_of (option_map field_view (option_copied field.entry))) count }
 {
     match field {
         None => undefined,

@@ -7,7 +7,7 @@ use Rattle.jolie_ast.specs.declared.name.Name.{Name}
 use Rattle.jolie_ast.specs.declared.expression.Comparison.{Comparison}
 use Rattle.jolie_ast.specs.declared.expression.CastTarget.{CastTarget}
 use Rattle.jolie_ast.specs.declared.expression.ExprForm.TheOpen.{ExprForm-F}
-use Rattle.jolie_ast.specs.declared.expression.ExprForm.TheFolds.{map-ExprForm, fold-roll-Expr, fold-roll-ExprForm, fold-roll-Factor, fold-roll-Member, fold-roll-Path, fold-roll-Step, fold-roll-Term}
+use Rattle.jolie_ast.specs.declared.expression.ExprForm.TheFolds.{map-ExprForm}
 use Rattle.jolie_ast.specs.declared.expression.Expr.{Expr, out-Expr, roll-out-Expr}
 use Rattle.jolie_ast.specs.declared.expression.ExprForm.{ExprForm, roll-ExprForm}
 use Rattle.jolie_ast.specs.declared.expression.ExprForm.TheVariants as form
@@ -19,13 +19,14 @@ use Rattle.jolie_ast.specs.declared.expression.Step.{Step, out-Step, roll-Step, 
 use Rattle.behaviour_tree.specs.Data as plain
 use Rattle.behaviour_tree.specs.Data.{PathTree, Exp}
 use Rattle.behaviour_tree.specs.View.{StepView, SumPartView, MulPartView, MemberView, path_of, exps_of, sum_parts_of, mul_parts_of, member_list_of}
-use Rattle.lower_processes.specs.Expressions.{sum_op, mul_op, compare_op, cast_kind, form_level, expr_level, factor_level, member_level, path_level, step_level, term_level, lowered_expr, lowered_form, lowered_factor, lowered_member, lowered_path, lowered_place, lowered_term}
+use Rattle.lower_processes.specs.Expressions.{sum_op, mul_op, compare_op, cast_kind, form_level, lowered_expr, lowered_form, lowered_factor, lowered_member, lowered_path, lowered_place, lowered_term, expression_lowering}
+use Rattle.jolie_ast.proofs.Folds.{form_rolls, expr_rolls, factor_rolls, term_rolls, member_rolls, path_rolls, step_rolls}
 
 -- what an expression means, by the form that it is made of
 form_made : (x : ExprForm-F ExprForm Expr Factor Member Path Step Term) {f : ExprForm} → roll-ExprForm x ≡ f
     → lowered_form f ≡ form_level (map-ExprForm ExprForm Expr Factor Member Path Step Term Exp Exp MulPartView MemberView PathTree StepView SumPartView lowered_form lowered_expr lowered_factor lowered_member lowered_path lowered_place lowered_term x)
 unfolding lowered_expr lowered_form lowered_factor lowered_member lowered_path lowered_place lowered_term
-form_made x made = ap lowered_form (sym made) ∙ fold-roll-ExprForm Exp Exp MulPartView MemberView PathTree StepView SumPartView form_level expr_level factor_level member_level path_level step_level term_level x
+form_made x made = ap lowered_form (sym made) ∙ form_rolls expression_lowering x
 
 pub int_lowered : (n : ℤ) → lowered_form (form.Int n) ≡ plain.constant (root.Int n)
 int_lowered n = form_made (ExprForm-F.Int n) (form.rolls-Int n)
@@ -79,31 +80,31 @@ pub expr_is : (e : Expr) → lowered_expr e ≡ lowered_form (out-Expr e).form
 unfolding lowered_expr lowered_form lowered_factor lowered_member lowered_path lowered_place lowered_term
 expr_is e =
     ap lowered_expr (sym (roll-out-Expr e))
-    ∙ fold-roll-Expr Exp Exp MulPartView MemberView PathTree StepView SumPartView form_level expr_level factor_level member_level path_level step_level term_level (out-Expr e)
+    ∙ expr_rolls expression_lowering (out-Expr e)
 
 pub factor_is : (f : Factor) → lowered_factor f ≡ record { op = mul_op (out-Factor f).operator; value = lowered_expr (out-Factor f).operand }
 unfolding lowered_expr lowered_form lowered_factor lowered_member lowered_path lowered_place lowered_term
 factor_is f =
     ap lowered_factor (sym (roll-out-Factor f))
-    ∙ fold-roll-Factor Exp Exp MulPartView MemberView PathTree StepView SumPartView form_level expr_level factor_level member_level path_level step_level term_level (out-Factor f)
+    ∙ factor_rolls expression_lowering (out-Factor f)
 
 pub term_is : (t : Term) → lowered_term t ≡ record { op = sum_op (out-Term t).operator; value = lowered_expr (out-Term t).operand }
 unfolding lowered_expr lowered_form lowered_factor lowered_member lowered_path lowered_place lowered_term
 term_is t =
     ap lowered_term (sym (roll-out-Term t))
-    ∙ fold-roll-Term Exp Exp MulPartView MemberView PathTree StepView SumPartView form_level expr_level factor_level member_level path_level step_level term_level (out-Term t)
+    ∙ term_rolls expression_lowering (out-Term t)
 
 pub member_is : (m : Member) → lowered_member m ≡ record { name = (out-Member m).name.text; value = lowered_expr (out-Member m).value }
 unfolding lowered_expr lowered_form lowered_factor lowered_member lowered_path lowered_place lowered_term
 member_is m =
     ap lowered_member (sym (roll-out-Member m))
-    ∙ fold-roll-Member Exp Exp MulPartView MemberView PathTree StepView SumPartView form_level expr_level factor_level member_level path_level step_level term_level (out-Member m)
+    ∙ member_rolls expression_lowering (out-Member m)
 
 pub path_is : (p : Path) → lowered_path p ≡ path_of (lowered_place (out-Path p).first ∷ map lowered_place (out-Path p).rest)
 unfolding lowered_expr lowered_form lowered_factor lowered_member lowered_path lowered_place lowered_term
 path_is p =
     ap lowered_path (sym (roll-out-Path p))
-    ∙ fold-roll-Path Exp Exp MulPartView MemberView PathTree StepView SumPartView form_level expr_level factor_level member_level path_level step_level term_level (out-Path p)
+    ∙ path_rolls expression_lowering (out-Path p)
 
 -- a path whose steps were read one after the other
 pub steps_read : (p : Path) (views : List StepView) (steps : List Step) (n : ℕ) → views ≡ lowered_place (out-Path p).first ∷ map lowered_place (take n steps) → length steps ≤ n → steps ≡ (out-Path p).rest → path_of views ≡ lowered_path p
@@ -114,8 +115,8 @@ steps_read p views steps n read all rest =
 -- a step of its name and its index, if one is written
 pub step_made : (name : Name) (index : Option Expr) → lowered_place (roll-Step (record { name = name; index = index })) ≡ record { name = name.text; index = option_map lowered_expr index }
 unfolding lowered_expr lowered_form lowered_factor lowered_member lowered_path lowered_place lowered_term
-step_made name None = fold-roll-Step Exp Exp MulPartView MemberView PathTree StepView SumPartView form_level expr_level factor_level member_level path_level step_level term_level (record { name = name; index = None })
-step_made name (Some e) = fold-roll-Step Exp Exp MulPartView MemberView PathTree StepView SumPartView form_level expr_level factor_level member_level path_level step_level term_level (record { name = name; index = Some e })
+step_made name None = step_rolls expression_lowering (record { name = name; index = None })
+step_made name (Some e) = step_rolls expression_lowering (record { name = name; index = Some e })
 
 pub step_is : (s : Step) → lowered_place s ≡ record { name = (out-Step s).name.text; index = option_map lowered_expr (out-Step s).index }
 step_is s = ap lowered_place (sym (roll-out-Step s)) ∙ step_made (out-Step s).name (out-Step s).index

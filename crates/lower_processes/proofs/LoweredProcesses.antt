@@ -7,7 +7,7 @@ use Rattle.jolie_ast.specs.declared.expression.Path.{Path}
 use Rattle.jolie_ast.specs.declared.process.Assignment.{Assignment}
 use Rattle.jolie_ast.specs.declared.process.ForStep.{ForStep}
 use Rattle.jolie_ast.specs.declared.process.Otherwise.TheOpen.{Otherwise-F, Process-F}
-use Rattle.jolie_ast.specs.declared.process.Otherwise.TheFolds.{map-Process, fold-roll-Answer, fold-roll-Block, fold-roll-Branch, fold-roll-Handler, fold-roll-If, fold-roll-Input, fold-roll-Otherwise, fold-roll-Process, fold-roll-Reply}
+use Rattle.jolie_ast.specs.declared.process.Otherwise.TheFolds.{map-Process}
 use Rattle.jolie_ast.specs.declared.process.Otherwise.TheVariants as otherwise
 use Rattle.jolie_ast.specs.declared.process.Process.TheVariants as process
 use Rattle.jolie_ast.specs.declared.process.Process.{Process, roll-Process}
@@ -24,13 +24,14 @@ use Rattle.behaviour_tree.specs.Data.{Proc}
 use Rattle.behaviour_tree.specs.View.{HandlerView, BranchView, ReplyView, procs_of, branches_of, handlers_of}
 use Rattle.check_base.specs.Files.{place_in}
 use Rattle.lower_processes.specs.Expressions.{lowered_expr, lowered_path, lowered_if_written}
-use Rattle.lower_processes.specs.Behaviours.{Numbering, AnswerView, InputView, alone, branch_after, sent, lowered_port, lowered_assignment, lowered_for, lowered_step, key_of, otherwise_level, process_level, answer_level, block_level, branch_level, handler_level, if_level, input_level, reply_level, lowered_process, lowered_conditional, lowered_otherwise, lowered_input, lowered_reply, lowered_branch, lowered_answer, lowered_handler, lowered_block}
+use Rattle.lower_processes.specs.Behaviours.{Numbering, AnswerView, InputView, alone, branch_after, sent, lowered_port, lowered_assignment, lowered_for, lowered_step, key_of, process_level, lowered_process, lowered_conditional, lowered_otherwise, lowered_input, lowered_reply, lowered_branch, lowered_answer, lowered_handler, lowered_block, lowering}
+use Rattle.jolie_ast.proofs.Folds.{process_rolls, block_rolls, conditional_rolls, otherwise_rolls, input_rolls, reply_rolls, branch_rolls, answer_rolls, handler_rolls}
 
 -- what a process means, by the form that it is made of
 process_made : (e : Numbering) (x : Process-F Otherwise Process Answer Block Branch Handler If Input Reply) {p : Process} → roll-Process x ≡ p
     → lowered_process e p ≡ process_level e (map-Process Otherwise Process Answer Block Branch Handler If Input Reply Proc Proc AnswerView Proc BranchView HandlerView Proc InputView ReplyView (lowered_otherwise e) (lowered_process e) (lowered_answer e) (lowered_block e) (lowered_branch e) (lowered_handler e) (lowered_conditional e) (lowered_input e) (lowered_reply e) x)
 unfolding lowered_process lowered_conditional lowered_otherwise lowered_input lowered_reply lowered_branch lowered_answer lowered_handler lowered_block
-process_made e x made = ap (lowered_process e) (sym made) ∙ fold-roll-Process Proc Proc AnswerView Proc BranchView HandlerView Proc InputView ReplyView otherwise_level (process_level e) answer_level block_level branch_level (handler_level e) if_level (input_level e) reply_level x
+process_made e x made = ap (lowered_process e) (sym made) ∙ process_rolls (lowering e) x
 
 pub nothing_lowered : (e : Numbering) (at : ℕ) → lowered_process e (process.Nothing at) ≡ plain.nothing
 nothing_lowered e at = process_made e (Process-F.«Process::Nothing» at) (process.rolls-Nothing at)
@@ -93,19 +94,19 @@ pub no_else_lowered : (e : Numbering) → lowered_otherwise e otherwise.Nothing 
 unfolding lowered_process lowered_conditional lowered_otherwise lowered_input lowered_reply lowered_branch lowered_answer lowered_handler lowered_block
 no_else_lowered e =
     ap (lowered_otherwise e) (sym otherwise.rolls-Nothing)
-    ∙ fold-roll-Otherwise Proc Proc AnswerView Proc BranchView HandlerView Proc InputView ReplyView otherwise_level (process_level e) answer_level block_level branch_level (handler_level e) if_level (input_level e) reply_level Otherwise-F.«Otherwise::Nothing»
+    ∙ otherwise_rolls (lowering e) Otherwise-F.«Otherwise::Nothing»
 
 pub else_if_lowered : (e : Numbering) (i : If) → lowered_otherwise e (otherwise.ElseIf i) ≡ lowered_conditional e i
 unfolding lowered_process lowered_conditional lowered_otherwise lowered_input lowered_reply lowered_branch lowered_answer lowered_handler lowered_block
 else_if_lowered e i =
     ap (lowered_otherwise e) (sym (otherwise.rolls-ElseIf i))
-    ∙ fold-roll-Otherwise Proc Proc AnswerView Proc BranchView HandlerView Proc InputView ReplyView otherwise_level (process_level e) answer_level block_level branch_level (handler_level e) if_level (input_level e) reply_level (Otherwise-F.ElseIf i)
+    ∙ otherwise_rolls (lowering e) (Otherwise-F.ElseIf i)
 
 pub else_lowered : (e : Numbering) (b : Block) → lowered_otherwise e (otherwise.Else b) ≡ lowered_block e b
 unfolding lowered_process lowered_conditional lowered_otherwise lowered_input lowered_reply lowered_branch lowered_answer lowered_handler lowered_block
 else_lowered e b =
     ap (lowered_otherwise e) (sym (otherwise.rolls-Else b))
-    ∙ fold-roll-Otherwise Proc Proc AnswerView Proc BranchView HandlerView Proc InputView ReplyView otherwise_level (process_level e) answer_level block_level branch_level (handler_level e) if_level (input_level e) reply_level (Otherwise-F.Else b)
+    ∙ otherwise_rolls (lowering e) (Otherwise-F.Else b)
 
 -- ---- the parts of processes
 
@@ -113,30 +114,30 @@ pub if_is : (e : Numbering) (i : If) → lowered_conditional e i ≡ plain.choos
 unfolding lowered_process lowered_conditional lowered_otherwise lowered_input lowered_reply lowered_branch lowered_answer lowered_handler lowered_block
 if_is e i =
     ap (lowered_conditional e) (sym (roll-out-If i))
-    ∙ fold-roll-If Proc Proc AnswerView Proc BranchView HandlerView Proc InputView ReplyView otherwise_level (process_level e) answer_level block_level branch_level (handler_level e) if_level (input_level e) reply_level (out-If i)
+    ∙ conditional_rolls (lowering e) (out-If i)
 
 pub branch_is : (e : Numbering) (b : Branch) → lowered_branch e b ≡ branch_after (lowered_input e (out-Branch b).input) (lowered_block e (out-Branch b).after)
 unfolding lowered_process lowered_conditional lowered_otherwise lowered_input lowered_reply lowered_branch lowered_answer lowered_handler lowered_block
 branch_is e b =
     ap (lowered_branch e) (sym (roll-out-Branch b))
-    ∙ fold-roll-Branch Proc Proc AnswerView Proc BranchView HandlerView Proc InputView ReplyView otherwise_level (process_level e) answer_level block_level branch_level (handler_level e) if_level (input_level e) reply_level (out-Branch b)
+    ∙ branch_rolls (lowering e) (out-Branch b)
 
 pub reply_is : (e : Numbering) (r : Reply) → lowered_reply e r ≡ record { path = option_map lowered_path (out-Reply r).path; body = lowered_block e (out-Reply r).body }
 unfolding lowered_process lowered_conditional lowered_otherwise lowered_input lowered_reply lowered_branch lowered_answer lowered_handler lowered_block
 reply_is e r =
     ap (lowered_reply e) (sym (roll-out-Reply r))
-    ∙ fold-roll-Reply Proc Proc AnswerView Proc BranchView HandlerView Proc InputView ReplyView otherwise_level (process_level e) answer_level block_level branch_level (handler_level e) if_level (input_level e) reply_level (out-Reply r)
+    ∙ reply_rolls (lowering e) (out-Reply r)
 
 pub handler_is : (e : Numbering) (h : Handler) → lowered_handler e h ≡ record { key = key_of e.names (out-Handler h).key; body = lowered_process e (out-Handler h).body }
 unfolding lowered_process lowered_conditional lowered_otherwise lowered_input lowered_reply lowered_branch lowered_answer lowered_handler lowered_block
 handler_is e h =
     ap (lowered_handler e) (sym (roll-out-Handler h))
-    ∙ fold-roll-Handler Proc Proc AnswerView Proc BranchView HandlerView Proc InputView ReplyView otherwise_level (process_level e) answer_level block_level branch_level (handler_level e) if_level (input_level e) reply_level (out-Handler h)
+    ∙ handler_rolls (lowering e) (out-Handler h)
 
 pub block_made : (e : Numbering) (at : ℕ) (body : Option Process) → lowered_block e (roll-Block (record { at = at; body = body })) ≡ unwrap_or (option_map (lowered_process e) body) plain.nothing
 unfolding lowered_process lowered_conditional lowered_otherwise lowered_input lowered_reply lowered_branch lowered_answer lowered_handler lowered_block
-block_made e at None = fold-roll-Block Proc Proc AnswerView Proc BranchView HandlerView Proc InputView ReplyView otherwise_level (process_level e) answer_level block_level branch_level (handler_level e) if_level (input_level e) reply_level (record { at = at; body = None })
-block_made e at (Some it) = fold-roll-Block Proc Proc AnswerView Proc BranchView HandlerView Proc InputView ReplyView otherwise_level (process_level e) answer_level block_level branch_level (handler_level e) if_level (input_level e) reply_level (record { at = at; body = Some it })
+block_made e at None = block_rolls (lowering e) (record { at = at; body = None })
+block_made e at (Some it) = block_rolls (lowering e) (record { at = at; body = Some it })
 
 pub block_is : (e : Numbering) (b : Block) → lowered_block e b ≡ unwrap_or (option_map (lowered_process e) (out-Block b).body) plain.nothing
 block_is e b = ap (lowered_block e) (sym (roll-out-Block b)) ∙ block_made e (out-Block b).at (out-Block b).body
@@ -144,8 +145,8 @@ block_is e b = ap (lowered_block e) (sym (roll-out-Block b)) ∙ block_made e (o
 pub input_made : (e : Numbering) (operation : Name) (request : Option Path) (reply : Option Reply)
     → lowered_input e (roll-Input (record { operation = operation; request = request; reply = reply })) ≡ record { op = place_in e.inputs operation.text; target = option_map lowered_path request; reply = option_map (lowered_reply e) reply }
 unfolding lowered_process lowered_conditional lowered_otherwise lowered_input lowered_reply lowered_branch lowered_answer lowered_handler lowered_block
-input_made e operation request None = fold-roll-Input Proc Proc AnswerView Proc BranchView HandlerView Proc InputView ReplyView otherwise_level (process_level e) answer_level block_level branch_level (handler_level e) if_level (input_level e) reply_level (record { operation = operation; request = request; reply = None })
-input_made e operation request (Some it) = fold-roll-Input Proc Proc AnswerView Proc BranchView HandlerView Proc InputView ReplyView otherwise_level (process_level e) answer_level block_level branch_level (handler_level e) if_level (input_level e) reply_level (record { operation = operation; request = request; reply = Some it })
+input_made e operation request None = input_rolls (lowering e) (record { operation = operation; request = request; reply = None })
+input_made e operation request (Some it) = input_rolls (lowering e) (record { operation = operation; request = request; reply = Some it })
 
 pub input_is : (e : Numbering) (i : Input) → lowered_input e i ≡ record { op = place_in e.inputs (out-Input i).operation.text; target = option_map lowered_path (out-Input i).request; reply = option_map (lowered_reply e) (out-Input i).reply }
 input_is e i = ap (lowered_input e) (sym (roll-out-Input i)) ∙ input_made e (out-Input i).operation (out-Input i).request (out-Input i).reply
@@ -157,8 +158,8 @@ handlers_lowered e (Some handlers) = handlers_of (map (lowered_handler e) handle
 
 pub answer_made : (e : Numbering) (path : Option Path) (handlers : Option (List Handler)) → lowered_answer e (roll-Answer (record { path = path; handlers = handlers })) ≡ record { target = option_map lowered_path path; handlers = handlers_lowered e handlers }
 unfolding lowered_process lowered_conditional lowered_otherwise lowered_input lowered_reply lowered_branch lowered_answer lowered_handler lowered_block
-answer_made e path None = fold-roll-Answer Proc Proc AnswerView Proc BranchView HandlerView Proc InputView ReplyView otherwise_level (process_level e) answer_level block_level branch_level (handler_level e) if_level (input_level e) reply_level (record { path = path; handlers = None })
-answer_made e path (Some it) = fold-roll-Answer Proc Proc AnswerView Proc BranchView HandlerView Proc InputView ReplyView otherwise_level (process_level e) answer_level block_level branch_level (handler_level e) if_level (input_level e) reply_level (record { path = path; handlers = Some it })
+answer_made e path None = answer_rolls (lowering e) (record { path = path; handlers = None })
+answer_made e path (Some it) = answer_rolls (lowering e) (record { path = path; handlers = Some it })
 
 pub answer_is : (e : Numbering) (a : Answer) → lowered_answer e a ≡ record { target = option_map lowered_path (out-Answer a).path; handlers = handlers_lowered e (out-Answer a).handlers }
 answer_is e a = ap (lowered_answer e) (sym (roll-out-Answer a)) ∙ answer_made e (out-Answer a).path (out-Answer a).handlers

@@ -11,11 +11,7 @@ use Rattle.jolie_ast.specs.declared.process.ForStep.{ForStep}
 use Rattle.jolie_ast.specs.declared.process.ForStep.TheVariants as for_step
 use Rattle.jolie_ast.specs.declared.process.HandlerKey as ast_key
 use Rattle.jolie_ast.specs.declared.process.HandlerKey.TheVariants as key
-use Rattle.jolie_ast.specs.declared.process.Otherwise.TheOpen.{Answer-F, Block-F, Branch-F, Handler-F, If-F, Input-F}
-use Rattle.jolie_ast.specs.declared.process.Otherwise.TheOpen.{Otherwise-F, Process-F, Reply-F}
-use Rattle.jolie_ast.specs.declared.process.Otherwise.TheFolds.{fold-Answer, fold-Block, fold-Branch, fold-Handler}
-use Rattle.jolie_ast.specs.declared.process.Otherwise.TheFolds.{fold-If, fold-Input, fold-Otherwise, fold-Process}
-use Rattle.jolie_ast.specs.declared.process.Otherwise.TheFolds.{fold-Reply}
+use Rattle.jolie_ast.specs.declared.process.Otherwise.TheOpen.{Input-F, Otherwise-F, Process-F}
 use Rattle.jolie_ast.specs.declared.process.Answer.{Answer}
 use Rattle.jolie_ast.specs.declared.process.Block.{Block}
 use Rattle.jolie_ast.specs.declared.process.Branch.{Branch}
@@ -25,6 +21,8 @@ use Rattle.jolie_ast.specs.declared.process.Input.{Input}
 use Rattle.jolie_ast.specs.declared.process.Otherwise.{Otherwise}
 use Rattle.jolie_ast.specs.declared.process.Process.{Process}
 use Rattle.jolie_ast.specs.declared.process.Reply.{Reply}
+use Rattle.jolie_ast.specs.Folds.{ProcessResults, ProcessFold, all_are, fold_process, fold_block, fold_conditional}
+use Rattle.jolie_ast.specs.Folds.{fold_otherwise, fold_input, fold_reply, fold_branch, fold_answer, fold_handler}
 use Rattle.behaviour_tree.specs.declared.expr.SumOp.{SumOp}
 use Rattle.behaviour_tree.specs.declared.expr.SumOp.TheVariants.{Plus, Minus}
 use Rattle.behaviour_tree.specs.declared.behaviour.HandlerKey.{HandlerKey}
@@ -140,6 +138,16 @@ lowered_handlers handlers = option_map_or handlers_of handlers plain.no_handlers
 
 -- ---- processes
 
+-- what each part of a process means
+abbrev pub process_views : ProcessResults
+process_views = record (all_are Proc) {
+  input = InputView;
+  reply = ReplyView;
+  branch = BranchView;
+  answer = AnswerView;
+  handler = HandlerView;
+}
+
 -- one level of a process
 abbrev pub process_level : Numbering
     → Process-F Proc Proc AnswerView Proc BranchView HandlerView Proc InputView ReplyView → Proc
@@ -166,14 +174,6 @@ process_level e (Process-F.Block body) = plain.block body
 process_level e (Process-F.Sequence statements) = plain.sequence (procs_of statements)
 process_level e (Process-F.Parallel members) = plain.parallel (procs_of members)
 
--- one level of a block: what stands in it, or nothing
-abbrev pub block_level : Block-F Proc Proc AnswerView Proc BranchView HandlerView Proc InputView ReplyView → Proc
-block_level b = unwrap_or b.body plain.nothing
-
--- one level of an `if`
-abbrev pub if_level : If-F Proc Proc AnswerView Proc BranchView HandlerView Proc InputView ReplyView → Proc
-if_level i = plain.choose (lowered_expr i.test) i.body i.otherwise
-
 -- one level of what an `if` does where its test fails
 abbrev pub otherwise_level : Otherwise-F Proc Proc AnswerView Proc BranchView HandlerView Proc InputView ReplyView
     → Proc
@@ -190,78 +190,55 @@ input_level e i = record {
   reply = i.reply;
 }
 
--- one level of a reply part
-abbrev pub reply_level : Reply-F Proc Proc AnswerView Proc BranchView HandlerView Proc InputView ReplyView → ReplyView
-reply_level r = record { path = option_map lowered_path r.path; body = r.body }
-
--- one level of a branch
-abbrev pub branch_level : Branch-F Proc Proc AnswerView Proc BranchView HandlerView Proc InputView ReplyView
-    → BranchView
-branch_level b = branch_after b.input b.after
-
--- one level of what an output awaits
-abbrev pub answer_level : Answer-F Proc Proc AnswerView Proc BranchView HandlerView Proc InputView ReplyView
-    → AnswerView
-answer_level a = record { target = option_map lowered_path a.path; handlers = lowered_handlers a.handlers }
-
--- one level of a handler
-abbrev pub handler_level : Numbering
-    → Handler-F Proc Proc AnswerView Proc BranchView HandlerView Proc InputView ReplyView → HandlerView
-handler_level e h = record { key = key_of e.names h.key; body = h.body }
+-- what a part means, from what the parts in it mean: a block what stands in it, or nothing
+abbrev pub lowering : Numbering → ProcessFold process_views
+lowering e = record {
+  process = process_level e;
+  block = λ b. unwrap_or b.body plain.nothing;
+  conditional = λ i. plain.choose (lowered_expr i.test) i.body i.otherwise;
+  otherwise = otherwise_level;
+  input = input_level e;
+  reply = λ r. record { path = option_map lowered_path r.path; body = r.body };
+  branch = λ b. branch_after b.input b.after;
+  answer = λ a. record { target = option_map lowered_path a.path; handlers = lowered_handlers a.handlers };
+  handler = λ h. record { key = key_of e.names h.key; body = h.body };
+}
 
 -- the behaviour that a block means
 unfoldable pub lowered_block : Numbering → Block → Proc
-lowered_block e = fold-Block Proc Proc AnswerView Proc BranchView HandlerView Proc InputView ReplyView
-    otherwise_level (process_level e) answer_level block_level branch_level (handler_level e) if_level (input_level e)
-    reply_level
+lowered_block e = fold_block (lowering e)
 
 -- the behaviour that a process means
 unfoldable pub lowered_process : Numbering → Process → Proc
-lowered_process e = fold-Process Proc Proc AnswerView Proc BranchView HandlerView Proc InputView ReplyView
-    otherwise_level (process_level e) answer_level block_level branch_level (handler_level e) if_level (input_level e)
-    reply_level
+lowered_process e = fold_process (lowering e)
 
 -- the behaviour that an `if` means
 unfoldable pub lowered_conditional : Numbering → If → Proc
-lowered_conditional e = fold-If Proc Proc AnswerView Proc BranchView HandlerView Proc InputView ReplyView
-    otherwise_level (process_level e) answer_level block_level branch_level (handler_level e) if_level (input_level e)
-    reply_level
+lowered_conditional e = fold_conditional (lowering e)
 
 -- the behaviour that what follows an `if` means
 unfoldable pub lowered_otherwise : Numbering → Otherwise → Proc
-lowered_otherwise e = fold-Otherwise Proc Proc AnswerView Proc BranchView HandlerView Proc InputView ReplyView
-    otherwise_level (process_level e) answer_level block_level branch_level (handler_level e) if_level (input_level e)
-    reply_level
+lowered_otherwise e = fold_otherwise (lowering e)
 
 -- what an input means
 unfoldable pub lowered_input : Numbering → Input → InputView
-lowered_input e = fold-Input Proc Proc AnswerView Proc BranchView HandlerView Proc InputView ReplyView
-    otherwise_level (process_level e) answer_level block_level branch_level (handler_level e) if_level (input_level e)
-    reply_level
+lowered_input e = fold_input (lowering e)
 
 -- what the reply part of an input means
 unfoldable pub lowered_reply : Numbering → Reply → ReplyView
-lowered_reply e = fold-Reply Proc Proc AnswerView Proc BranchView HandlerView Proc InputView ReplyView
-    otherwise_level (process_level e) answer_level block_level branch_level (handler_level e) if_level (input_level e)
-    reply_level
+lowered_reply e = fold_reply (lowering e)
 
 -- the branch that a branch of the text means
 unfoldable pub lowered_branch : Numbering → Branch → BranchView
-lowered_branch e = fold-Branch Proc Proc AnswerView Proc BranchView HandlerView Proc InputView ReplyView
-    otherwise_level (process_level e) answer_level block_level branch_level (handler_level e) if_level (input_level e)
-    reply_level
+lowered_branch e = fold_branch (lowering e)
 
 -- what the answer to an output means
 unfoldable pub lowered_answer : Numbering → Answer → AnswerView
-lowered_answer e = fold-Answer Proc Proc AnswerView Proc BranchView HandlerView Proc InputView ReplyView
-    otherwise_level (process_level e) answer_level block_level branch_level (handler_level e) if_level (input_level e)
-    reply_level
+lowered_answer e = fold_answer (lowering e)
 
 -- the handler that a handler of the text means
 unfoldable pub lowered_handler : Numbering → Handler → HandlerView
-lowered_handler e = fold-Handler Proc Proc AnswerView Proc BranchView HandlerView Proc InputView ReplyView
-    otherwise_level (process_level e) answer_level block_level branch_level (handler_level e) if_level (input_level e)
-    reply_level
+lowered_handler e = fold_handler (lowering e)
 
 -- the behaviour of a block that may be missing
 abbrev pub lowered_if_there : Numbering → Option Block → Proc

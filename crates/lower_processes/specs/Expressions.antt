@@ -10,10 +10,7 @@ use Rattle.jolie_ast.specs.declared.expression.Comparison.{Comparison}
 use Rattle.jolie_ast.specs.declared.expression.Comparison.TheVariants as comparison
 use Rattle.jolie_ast.specs.declared.expression.CastTarget.{CastTarget}
 use Rattle.jolie_ast.specs.declared.expression.CastTarget.TheVariants as target
-use Rattle.jolie_ast.specs.declared.expression.ExprForm.TheOpen.{Expr-F, ExprForm-F, Factor-F, Member-F, Path-F, Step-F}
-use Rattle.jolie_ast.specs.declared.expression.ExprForm.TheOpen.{Term-F}
-use Rattle.jolie_ast.specs.declared.expression.ExprForm.TheFolds.{fold-Expr, fold-ExprForm, fold-Factor, fold-Member}
-use Rattle.jolie_ast.specs.declared.expression.ExprForm.TheFolds.{fold-Path, fold-Step, fold-Term}
+use Rattle.jolie_ast.specs.declared.expression.ExprForm.TheOpen.{ExprForm-F}
 use Rattle.jolie_ast.specs.declared.expression.Expr as ast_expr
 use Rattle.jolie_ast.specs.declared.expression.ExprForm.{ExprForm}
 use Rattle.jolie_ast.specs.declared.expression.Factor.{Factor}
@@ -21,6 +18,8 @@ use Rattle.jolie_ast.specs.declared.expression.Member.{Member}
 use Rattle.jolie_ast.specs.declared.expression.Path as ast_path
 use Rattle.jolie_ast.specs.declared.expression.Step.{Step}
 use Rattle.jolie_ast.specs.declared.expression.Term.{Term}
+use Rattle.jolie_ast.specs.Folds.{ExprResults, ExprFold, exprs_are, fold_form, fold_expr, fold_factor, fold_term}
+use Rattle.jolie_ast.specs.Folds.{fold_member, fold_path, fold_step}
 use Rattle.behaviour_tree.specs.declared.expr.SumOp.{SumOp}
 use Rattle.behaviour_tree.specs.declared.expr.SumOp.TheVariants.{Plus, Minus}
 use Rattle.behaviour_tree.specs.declared.expr.MulOp.{MulOp}
@@ -79,71 +78,55 @@ form_level (ExprForm-F.Compare left op right) = plain.compared left (compare_op 
 form_level (ExprForm-F.And operands) = plain.all_of (exps_of operands)
 form_level (ExprForm-F.Or operands) = plain.any_of (exps_of operands)
 
--- an expression is its form
-abbrev pub expr_level : Expr-F Exp Exp MulPartView MemberView PathTree StepView SumPartView → Exp
-expr_level e = e.form
+-- what each part of an expression means
+abbrev pub expression_views : ExprResults
+expression_views = record (exprs_are Exp) {
+  path = PathTree;
+  step = StepView;
+  member = MemberView;
+  factor = MulPartView;
+  term = SumPartView;
+}
 
--- one level of a later operand of a product
-abbrev pub factor_level : Factor-F Exp Exp MulPartView MemberView PathTree StepView SumPartView → MulPartView
-factor_level f = record { op = mul_op f.operator; value = f.operand }
-
--- one level of a member of a literal
-abbrev pub member_level : Member-F Exp Exp MulPartView MemberView PathTree StepView SumPartView → MemberView
-member_level m = record { name = m.name.text; value = m.value }
-
--- one level of a path
-abbrev pub path_level : Path-F Exp Exp MulPartView MemberView PathTree StepView SumPartView → PathTree
-path_level p = path_of (p.first ∷ p.rest)
-
--- one level of a step
-abbrev pub step_level : Step-F Exp Exp MulPartView MemberView PathTree StepView SumPartView → StepView
-step_level s = record { name = s.name.text; index = s.index }
-
--- one level of a later operand of a sum
-abbrev pub term_level : Term-F Exp Exp MulPartView MemberView PathTree StepView SumPartView → SumPartView
-term_level t = record { op = sum_op t.operator; value = t.operand }
+-- what a part means, from what the parts in it mean: an expression is its form
+abbrev pub expression_lowering : ExprFold expression_views
+expression_lowering = record {
+  expr = λ e. e.form;
+  form = form_level;
+  path = λ p. path_of (p.first ∷ p.rest);
+  step = λ s. record { name = s.name.text; index = s.index };
+  member = λ m. record { name = m.name.text; value = m.value };
+  factor = λ f. record { op = mul_op f.operator; value = f.operand };
+  term = λ t. record { op = sum_op t.operator; value = t.operand };
+}
 
 -- the expression that an expression of the text means
 unfoldable pub lowered_expr : ast_expr.Expr → Exp
-lowered_expr =
-    fold-Expr Exp Exp MulPartView MemberView PathTree StepView SumPartView form_level expr_level factor_level
-    member_level path_level step_level term_level
+lowered_expr = fold_expr expression_lowering
 
 -- the path that a path of the text means
 unfoldable pub lowered_path : ast_path.Path → PathTree
-lowered_path =
-    fold-Path Exp Exp MulPartView MemberView PathTree StepView SumPartView form_level expr_level factor_level
-    member_level path_level step_level term_level
+lowered_path = fold_path expression_lowering
 
 -- the expression that a form of the text means
 unfoldable pub lowered_form : ExprForm → Exp
-lowered_form =
-    fold-ExprForm Exp Exp MulPartView MemberView PathTree StepView SumPartView form_level expr_level factor_level
-    member_level path_level step_level term_level
+lowered_form = fold_form expression_lowering
 
 -- the part of a product that a later operand of the text means
 unfoldable pub lowered_factor : Factor → MulPartView
-lowered_factor =
-    fold-Factor Exp Exp MulPartView MemberView PathTree StepView SumPartView form_level expr_level factor_level
-    member_level path_level step_level term_level
+lowered_factor = fold_factor expression_lowering
 
 -- the member that a member of the text means
 unfoldable pub lowered_member : Member → MemberView
-lowered_member =
-    fold-Member Exp Exp MulPartView MemberView PathTree StepView SumPartView form_level expr_level factor_level
-    member_level path_level step_level term_level
+lowered_member = fold_member expression_lowering
 
 -- the step that a step of the text means
 unfoldable pub lowered_place : Step → StepView
-lowered_place =
-    fold-Step Exp Exp MulPartView MemberView PathTree StepView SumPartView form_level expr_level factor_level
-    member_level path_level step_level term_level
+lowered_place = fold_step expression_lowering
 
 -- the part of a sum that a later operand of the text means
 unfoldable pub lowered_term : Term → SumPartView
-lowered_term =
-    fold-Term Exp Exp MulPartView MemberView PathTree StepView SumPartView form_level expr_level factor_level
-    member_level path_level step_level term_level
+lowered_term = fold_term expression_lowering
 
 -- an expression that may be left out is void
 abbrev pub lowered_if_written : Option ast_expr.Expr → Exp

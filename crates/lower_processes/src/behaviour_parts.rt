@@ -98,7 +98,9 @@ pub fn looped(
     test: &jolie_ast::Expr,
     turn: Box<Behaviour>,
 ) -> Result<Behaviour, AllocError>
-    ensures { IfOk result (λ p. behaviour_view p ≡ in_turn (assign (lowered_path path.now) (lowered_expr first.now)) (repeat (lowered_expr test.now) (behaviour_view turn.value))) }
+    ensures { IfOk result
+        (λ p. behaviour_view p ≡ in_turn (assign (lowered_path path.now) (lowered_expr first.now))
+        (repeat (lowered_expr test.now) (behaviour_view turn.value))) }
 {
     let repeated = repeated(alloc, test, turn)?;
     let first = assigned(alloc, path, first)?;
@@ -177,7 +179,8 @@ pub fn bound(
     value: &jolie_ast::Expr,
     numbers: &Numbers<'_>,
 ) -> Result<Behaviour, AllocError>
-    ensures { IfOk result (λ p. behaviour_view p ≡ bind (place_in numbers.now.variables variable.now.text) (lowered_expr value.now)) }
+    ensures { IfOk result
+        (λ p. behaviour_view p ≡ bind (place_in numbers.now.variables variable.now.text) (lowered_expr value.now)) }
 {
     let variable = number(&numbers.variables, variable.text.as_str())?;
     Ok(Behaviour::Bind {
@@ -193,7 +196,8 @@ pub fn throwing(
     value: &Option<jolie_ast::Expr>,
     names: &Names<'_>,
 ) -> Result<Behaviour, AllocError>
-    ensures { IfOk result (λ p. behaviour_view p ≡ throw (place_in names.now fault.now.text) (lowered_if_written value.now)) }
+    ensures { IfOk result
+        (λ p. behaviour_view p ≡ throw (place_in names.now fault.now.text) (lowered_if_written value.now)) }
 {
     let fault = number(names, fault.text.as_str())?;
     Ok(Behaviour::Throw {

@@ -116,7 +116,8 @@ fn lowered_processes(
     numbers: &Numbers<'_>,
     names: &Names<'_>,
 ) -> Result<Vec<Behaviour>, AllocError>
-    ensures { IfOk result (λ v. map behaviour_view v.items ≡ map (lowered_process (numbering_of numbers.now names.now)) processes.now) }
+    ensures { IfOk result
+        (λ v. map behaviour_view v.items ≡ map (lowered_process (numbering_of numbers.now names.now)) processes.now) }
 {
     let mut lowered = Vec::new(alloc);
     for process in processes {
@@ -148,7 +149,8 @@ fn boxed_block(
     numbers: &Numbers<'_>,
     names: &Names<'_>,
 ) -> Result<Box<Behaviour>, AllocError>
-    ensures { IfOk result (λ b. behaviour_view b.value ≡ lowered_block (numbering_of numbers.now names.now) block.now) }
+    ensures { IfOk result
+        (λ b. behaviour_view b.value ≡ lowered_block (numbering_of numbers.now names.now) block.now) }
 {
     let body = lowered_block(alloc, block, numbers, names)?;
     Ok(Box::new(alloc, body)?)
@@ -161,7 +163,8 @@ fn lowered_conditional(
     numbers: &Numbers<'_>,
     names: &Names<'_>,
 ) -> Result<Behaviour, AllocError>
-    ensures { IfOk result (λ p. behaviour_view p ≡ lowered_conditional (numbering_of numbers.now names.now) conditional.now) }
+    ensures { IfOk result
+        (λ p. behaviour_view p ≡ lowered_conditional (numbering_of numbers.now names.now) conditional.now) }
 {
     let then = boxed_block(alloc, &conditional.body, numbers, names)?;
     let other = lowered_otherwise(alloc, &conditional.otherwise, numbers, names)?;
@@ -179,7 +182,8 @@ fn lowered_otherwise(
     numbers: &Numbers<'_>,
     names: &Names<'_>,
 ) -> Result<Box<Behaviour>, AllocError>
-    ensures { IfOk result (λ b. behaviour_view b.value ≡ lowered_otherwise (numbering_of numbers.now names.now) otherwise.now) }
+    ensures { IfOk result
+        (λ b. behaviour_view b.value ≡ lowered_otherwise (numbering_of numbers.now names.now) otherwise.now) }
 {
     match otherwise {
         Otherwise::Nothing => Ok(Box::new(alloc, Behaviour::Nothing)?),
@@ -199,7 +203,8 @@ fn lowered_alone(
     numbers: &Numbers<'_>,
     names: &Names<'_>,
 ) -> Result<Behaviour, AllocError>
-    ensures { IfOk result (λ p. behaviour_view p ≡ alone (lowered_input (numbering_of numbers.now names.now) input.now)) }
+    ensures { IfOk result
+        (λ p. behaviour_view p ≡ alone (lowered_input (numbering_of numbers.now names.now) input.now)) }
 {
     let nothing = Box::new(alloc, Behaviour::Nothing)?;
     let mut branches = Vec::new(alloc);
@@ -214,7 +219,8 @@ fn lowered_branches(
     numbers: &Numbers<'_>,
     names: &Names<'_>,
 ) -> Result<Vec<Branch>, AllocError>
-    ensures { IfOk result (λ v. map branch_view v.items ≡ map (lowered_branch (numbering_of numbers.now names.now)) branches.now) }
+    ensures { IfOk result
+        (λ v. map branch_view v.items ≡ map (lowered_branch (numbering_of numbers.now names.now)) branches.now) }
 {
     let mut lowered = Vec::new(alloc);
     for branch in branches {
@@ -245,7 +251,9 @@ fn lowered_input(
     numbers: &Numbers<'_>,
     names: &Names<'_>,
 ) -> Result<Branch, AllocError>
-    ensures { IfOk result (λ b. branch_view b ≡ branch_after (lowered_input (numbering_of numbers.now names.now) input.now) (behaviour_view after.value)) }
+    ensures { IfOk result
+        (λ b. branch_view b ≡ branch_after (lowered_input (numbering_of numbers.now names.now) input.now)
+        (behaviour_view after.value)) }
 {
     let op = number(&numbers.inputs, input.operation.text.as_str())?;
     let target = lowered_target(alloc, &input.request)?;
@@ -265,7 +273,8 @@ fn lowered_optional_reply(
     numbers: &Numbers<'_>,
     names: &Names<'_>,
 ) -> Result<Option<ReplyPart>, AllocError>
-    ensures { IfOk result (λ r. option_map reply_view r ≡ option_map (lowered_reply (numbering_of numbers.now names.now)) reply.now) }
+    ensures { IfOk result
+        (λ r. option_map reply_view r ≡ option_map (lowered_reply (numbering_of numbers.now names.now)) reply.now) }
 {
     match reply {
         None => Ok(None),
@@ -299,7 +308,9 @@ fn lowered_output(
     numbers: &Numbers<'_>,
     names: &Names<'_>,
 ) -> Result<Behaviour, AllocError>
-    ensures { IfOk result (λ p. behaviour_view p ≡ sent operation.port operation.op (lowered_if_written value.now) (option_map (lowered_answer (numbering_of numbers.now names.now)) answer.now)) }
+    ensures { IfOk result
+        (λ p. behaviour_view p ≡ sent operation.port operation.op (lowered_if_written value.now)
+        (option_map (lowered_answer (numbering_of numbers.now names.now)) answer.now)) }
 {
     match answer {
         None => Ok(Behaviour::Notify {
@@ -328,7 +339,8 @@ fn answer_handlers(
     numbers: &Numbers<'_>,
     names: &Names<'_>,
 ) -> Result<Handlers, AllocError>
-    ensures { IfOk result (λ h. handlers_view h ≡ (lowered_answer (numbering_of numbers.now names.now) answer.now).handlers) }
+    ensures { IfOk result
+        (λ h. handlers_view h ≡ (lowered_answer (numbering_of numbers.now names.now) answer.now).handlers) }
 {
     match &answer.handlers {
         None => Ok(Handlers {
@@ -345,7 +357,9 @@ fn lowered_handlers(
     numbers: &Numbers<'_>,
     names: &Names<'_>,
 ) -> Result<Handlers, AllocError>
-    ensures { IfOk result (λ h. handlers_view h ≡ handlers_of (map (lowered_handler (numbering_of numbers.now names.now)) handlers.now)) }
+    ensures { IfOk result
+        (λ h. handlers_view h ≡ handlers_of
+        (map (lowered_handler (numbering_of numbers.now names.now)) handlers.now)) }
 {
     let mut list = Vec::new(alloc);
     for handler in handlers {
@@ -378,7 +392,8 @@ pub fn lowered_if_there(
     numbers: &Numbers<'_>,
     names: &Names<'_>,
 ) -> Result<Behaviour, AllocError>
-    ensures { IfOk result (λ p. behaviour_view p ≡ lowered_if_there (numbering_of numbers.now names.now) (option_copied block.entry)) }
+    ensures { IfOk result
+        (λ p. behaviour_view p ≡ lowered_if_there (numbering_of numbers.now names.now) (option_copied block.entry)) }
 {
     match block {
         None => Ok(Behaviour::Nothing),

@@ -82,7 +82,8 @@ impl<'a> Ports<'a> {
         number: u32,
         operations: Names<'a>,
     ) -> Result<(), AllocError>
-        ensures { OnOk result (self.new ≡ self.old ++ record { name = name.now; number = number; operations = operations.entry } ∷ []) }
+        ensures { OnOk result (self.new ≡ self.old
+            ++ record { name = name.now; number = number; operations = operations.entry } ∷ []) }
     {
         self.ports.push(NumberedPort {
             name,
@@ -122,7 +123,8 @@ impl<'a> Numbers<'a> {
         port: &str,
         operation: &str,
     ) -> Result<NumberedOperation, AllocError>
-        ensures { IfOk result (λ o. IsNumberedOperation o (lowered_port (numbering_of self.now []) port.now) operation.now) }
+        ensures { IfOk result
+            (λ o. IsNumberedOperation o (lowered_port (numbering_of self.now []) port.now) operation.now) }
     {
         if port == CONSOLE {
             return Ok(self.console_operation(operation));

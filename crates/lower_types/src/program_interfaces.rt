@@ -18,7 +18,8 @@ pub fn lowered_interfaces(
     types: &Names<'_>,
     names: &Names<'_>,
 ) -> Result<Vec<Interface>, AllocError>
-    ensures { IfOk result (λ v. map interface_view v.items ≡ map (lowered_interface types.now names.now) (interfaces_of file.now)) }
+    ensures { IfOk result
+        (λ v. map interface_view v.items ≡ map (lowered_interface types.now names.now) (interfaces_of file.now)) }
 {
     let mut lowered = Vec::new(alloc);
     for definition in file {
@@ -35,7 +36,8 @@ fn add_interface(
     names: &Names<'_>,
     lowered: &mut Vec<Interface>,
 ) -> Result<(), AllocError>
-    ensures { OnOk result (map interface_view lowered.new.items ≡ map interface_view lowered.old.items ++ map (lowered_interface types.now names.now) (option_to_list (interface_in definition.now))) }
+    ensures { OnOk result (map interface_view lowered.new.items ≡ map interface_view lowered.old.items
+        ++ map (lowered_interface types.now names.now) (option_to_list (interface_in definition.now))) }
 {
     match interface_in(definition) {
         Some(interface) => {
@@ -69,7 +71,9 @@ fn lowered_operations(
     types: &Names<'_>,
     names: &Names<'_>,
 ) -> Result<Vec<Operation>, AllocError>
-    ensures { IfOk result (λ v. map operation_view v.items ≡ map (lowered_operation types.now names.now) (flat_map group_operations groups.now)) }
+    ensures { IfOk result
+        (λ v. map operation_view v.items ≡ map (lowered_operation types.now names.now)
+        (flat_map group_operations groups.now)) }
 {
     let mut operations = Vec::new(alloc);
     for group in groups {
@@ -86,7 +90,8 @@ fn add_group(
     names: &Names<'_>,
     lowered: &mut Vec<Operation>,
 ) -> Result<(), AllocError>
-    ensures { OnOk result (map operation_view lowered.new.items ≡ map operation_view lowered.old.items ++ map (lowered_operation types.now names.now) (group_operations group.now)) }
+    ensures { OnOk result (map operation_view lowered.new.items ≡ map operation_view lowered.old.items
+        ++ map (lowered_operation types.now names.now) (group_operations group.now)) }
 {
     match group {
         OperationGroup::RequestResponse { operations, .. } => {
@@ -107,7 +112,8 @@ fn add_answering(
     names: &Names<'_>,
     lowered: &mut Vec<Operation>,
 ) -> Result<(), AllocError>
-    ensures { OnOk result (map operation_view lowered.new.items ≡ map operation_view lowered.old.items ++ map (lowered_operation types.now names.now) (map answering operations.now)) }
+    ensures { OnOk result (map operation_view lowered.new.items ≡ map operation_view lowered.old.items
+        ++ map (lowered_operation types.now names.now) (map answering operations.now)) }
 {
     for operation in operations {
         lowered.push(lowered_answering(alloc, operation, types, names)?)?;
@@ -124,7 +130,8 @@ fn add_silent(
     names: &Names<'_>,
     lowered: &mut Vec<Operation>,
 ) -> Result<(), AllocError>
-    ensures { OnOk result (map operation_view lowered.new.items ≡ map operation_view lowered.old.items ++ map (lowered_operation types.now names.now) (map silent operations.now)) }
+    ensures { OnOk result (map operation_view lowered.new.items ≡ map operation_view lowered.old.items
+        ++ map (lowered_operation types.now names.now) (map silent operations.now)) }
 {
     for operation in operations {
         lowered.push(lowered_silent(alloc, operation, types)?)?;

@@ -34,7 +34,8 @@ fn add_type(
     types: &Names<'_>,
     lowered: &mut Vec<TypeDef>,
 ) -> Result<(), AllocError>
-    ensures { OnOk result (map type_view lowered.new.items ≡ map type_view lowered.old.items ++ map (lowered_definition types.now) (option_to_list (type_in definition.now))) }
+    ensures { OnOk result (map type_view lowered.new.items ≡ map type_view lowered.old.items
+        ++ map (lowered_definition types.now) (option_to_list (type_in definition.now))) }
 {
     match type_in(definition) {
         Some(ty) => {

@@ -24,8 +24,8 @@ pub const MEANINGS: &str = "Status:
   1  invalid usage
   2  FILE can't be read
   3  FILE is refused: the reason and the place are told
-  4  the input failed
-  5  the output or the notes failed
-  6  a session used its whole budget and could act all the same
-  7  a location could not be listened at, or its door failed
+  4  standard input failed
+  5  standard output or standard error failed
+  6  a session used its whole budget of events and was not done
+  7  a location could not be listened at, or its listener failed
   9  out of memory";

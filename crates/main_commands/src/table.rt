@@ -53,7 +53,7 @@ const FILE: OperandRow = OperandRow {
 /// How many events a session may have.
 const BUDGET: OptionRow = OptionRow {
     name: "budget",
-    help: "The most events of a session, from 1 to 10000; without it 10000",
+    help: "The most events, or steps, of a session, from 1 to 10000; without it 10000",
     takes: Takes::Number {
         least: 1,
         most: 10_000,
@@ -63,7 +63,7 @@ const BUDGET: OptionRow = OptionRow {
 /// Which of the strands of a session a turn looks at first.
 const PICKS: OptionRow = OptionRow {
     name: "picks",
-    help: "The strands that turns look at first, as numbers with commas between",
+    help: "Which parallel branch goes first, turn by turn, as numbers with commas between",
     takes: Takes::List,
 };
 

@@ -3,7 +3,7 @@ use Rattle.std.specs.Prelude.{◌≡◌, ◌≤◌, ℕ, Bool, true, false, List
 use Rattle.std.specs.Prelude.{Result, Ok, Err}
 use Rattle.outside_traits.specs.Causes.{Rose}
 use Rattle.outside_traits.specs.Told.{WireTold}
-use Rattle.outside_traits.specs.Wires.{CalmLine, ScriptedLine}
+use Rattle.outside_traits.specs.Wires.{UnfailingLine, ScriptedLine}
 use Rattle.outside_traits.specs.declared.calls.WireCall.{WireCall}
 
 -- What was done with a wire: the bytes that were read of it, those that were written on it and its calls in order, each
@@ -60,7 +60,7 @@ Tells told t = IfSome told (λ last. last ≡ t)
 -- a dialler's count of faults rises with a wire that comes back exactly where that had failed
 pub record CountsWire (had_failed : Bool) (before now : ℕ) : Type 0 where
   pub later : before ≤ now
-  pub calm : had_failed ≡ false → now ≡ before
+  pub unfailed : had_failed ≡ false → now ≡ before
   pub failed : had_failed ≡ true → Rose before now
 
 -- ---- in memory
@@ -77,7 +77,7 @@ blank_in_memory = record {
 }
 
 -- a wire in memory as it is made: nothing was done with it, no call of it failed or told an end, and it is open
-pub record IsFreshCalm (w : CalmLine) : Type 0 where
+pub record IsFreshUnfailing (w : UnfailingLine) : Type 0 where
   pub given : w.tape.given ≡ []
   pub taken : w.shelf.taken ≡ []
   pub calls : w.calls ≡ Some []
@@ -96,8 +96,8 @@ pub record IsFreshScripted (w : ScriptedLine) : Type 0 where
   pub ended : w.ended ≡ false
 
 -- what was done with a wire in memory
-abbrev pub calm_traffic : CalmLine → WireTraffic
-calm_traffic w = record {
+abbrev pub unfailed_traffic : UnfailingLine → WireTraffic
+unfailed_traffic w = record {
   read = Some w.tape.given;
   written = Some w.shelf.taken;
   calls = w.calls;
@@ -123,9 +123,9 @@ wire_given (Ok wire) = Some wire
 wire_given (Err cause) = None
 
 -- the wire that comes next of these: the first, none behind the last
-abbrev pub next_calm : List CalmLine → Option CalmLine
-next_calm [] = None
-next_calm (wire ∷ rest) = Some wire
+abbrev pub next_unfailed : List UnfailingLine → Option UnfailingLine
+next_unfailed [] = None
+next_unfailed (wire ∷ rest) = Some wire
 
 -- the same of scripted ones, and none where there is none in the first place
 abbrev pub next_scripted : List (Option ScriptedLine) → Option ScriptedLine
@@ -134,10 +134,10 @@ next_scripted (first ∷ rest) = first
 
 -- a dialler in memory: the wires that it gives next, the locations that it dialled, which are told while there is
 -- memory for them, the last wire that came back, and its count of faults
-pub record CalmSwitch : Type 0 where
-  pub coming : List CalmLine
+pub record UnfailingSwitch : Type 0 where
+  pub coming : List UnfailingLine
   pub dialled : Option (List (List ℕ))
-  pub last : Option CalmLine
+  pub last : Option UnfailingLine
   pub faults : ℕ
 
 -- the same of scripted wires; where it has none in a place, that call fails

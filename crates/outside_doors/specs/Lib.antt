@@ -1,3 +1,3 @@
 pub mod Counts
-pub mod Knocks
+pub mod Attempts
 pub mod Returns

@@ -1,5 +1,5 @@
 ghost use Rattle.std.specs.Prelude.{◌≡◌, Some};
-ghost use Rattle.outside_doors.specs.Knocks.{ComesAt, IsFresh};
+ghost use Rattle.outside_doors.specs.Attempts.{ComesAt, IsFresh};
 ghost use Rattle.outside_doors.specs.Returns.{placed};
 
 use outside_traits::{Failed, Wire};

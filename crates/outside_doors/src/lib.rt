@@ -13,4 +13,4 @@ pub use book::Book;
 pub use counted_wire::CountedWire;
 pub use counts::{Counts, DoorCounts};
 pub use returns::{Return, ReturnedDoors, Tries, Try};
-pub use traits::{Door, Doors, Knock};
+pub use traits::{Accept, Door, Doors};

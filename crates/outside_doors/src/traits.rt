@@ -1,7 +1,7 @@
 ghost use Rattle.std.specs.Prelude.{◌≡◌, ◌<◌, [], ◌∷◌, Ok, IsTrue, IfOk, OnErr, is_ok};
 ghost use Rattle.outside_traits.specs.Causes.{HasCause, Rose};
 ghost use Rattle.outside_doors.specs.Counts.{DoorTold, rested, untried, with_door, with_opened, with_wire};
-ghost use Rattle.outside_doors.specs.Knocks.{ComesAt, IfCame, closed_after, waits_after, wires_after};
+ghost use Rattle.outside_doors.specs.Attempts.{ComesAt, IfCame, closed_after, waits_after, wires_after};
 ghost use Rattle.outside_traits.specs.Told.{Lists, shut};
 ghost use Rattle.outside_doors.specs.Returns.{DoorsTold, try_told};
 
@@ -9,7 +9,7 @@ use outside_traits::{Failed, Wire};
 
 /// What a try at a door finds: a connection, nobody yet, or that nobody comes any more.
 #[derive(Drop)]
-pub enum Knock<W> {
+pub enum Accept<W> {
     Came(W),
     NotYet,
     Closed,
@@ -23,14 +23,14 @@ pub trait Door {
     ghost told: { Self → DoorTold };
 
     /// The next connection, if one has come. It tells at which door it came.
-    fn try_accept(&mut self) -> Result<Knock<Self::W>, Failed>
+    fn try_accept(&mut self) -> Result<Accept<Self::W>, Failed>
         ensures comes { IfCame result (λ wire. ComesAt (told self.old).place (Self.W.told wire)) }
         ensures place { (told self.new).place ≡ (told self.old).place }
         ensures wires { (told self.new).wires ≡ wires_after result (told self.old).wires }
         ensures waits { (told self.new).waits ≡ waits_after result (told self.old).waits }
         ensures rests { (told self.new).rests ≡ (told self.old).rests }
         ensures closed { (told self.new).closed ≡ closed_after result (told self.old).closed }
-        ensures stays { IsTrue (told self.old).closed → result ≡ Ok Knock.Closed }
+        ensures stays { IsTrue (told self.old).closed → result ≡ Ok Accept.Closed }
         ensures cause { HasCause (told self.old).faults (told self.new).faults result };
 
     /// Waits for a while where nobody has come yet. A real door waits for at most 1,000 ms, and one in memory not at all.
@@ -70,5 +70,5 @@ pub trait Doors {
         ensures tries { (told self.new).tries ≡ (told self.old).tries }
         ensures returned { (told self.new).returned ≡ (told self.old).returned }
         ensures raised { 0 < (Self.D.told door).faults → Rose (told self.old).faults (told self.new).faults }
-        ensures calm { (Self.D.told door).faults ≡ 0 → (told self.new).faults ≡ (told self.old).faults };
+        ensures unfailed { (Self.D.told door).faults ≡ 0 → (told self.new).faults ≡ (told self.old).faults };
 }

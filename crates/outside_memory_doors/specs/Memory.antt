@@ -3,17 +3,17 @@ use Rattle.std.specs.Prelude.{◌≡◌, ◌==◌, ◌-◌, ℕ, false, if◌the
 use Rattle.std.specs.Prelude.{List, [], ◌∷◌, Option, Some, None, Result, Ok, IsErr}
 use Rattle.outside_doors.specs.Counts.{DoorTold, untried}
 use Rattle.outside_doors.specs.Returns.{DoorsTold, Placed, placed}
-use Rattle.outside_doors.specs.declared.traits.Knock.{Knock}
-use Rattle.outside_doors.specs.declared.traits.Knock.TheVariants.{Came, NotYet, Closed}
+use Rattle.outside_doors.specs.declared.traits.Accept.{Accept}
+use Rattle.outside_doors.specs.declared.traits.Accept.TheVariants.{Came, NotYet, Closed}
 use Rattle.outside_memory_doors.specs.declared.visit.Visit.{Visit}
 use Rattle.outside_memory_doors.specs.declared.visit.Visit.TheVariants.{Comes, Nobody, Fails}
 use Rattle.outside_traits.specs.Memory.{plan_of}
-use Rattle.outside_traits.specs.Wires.{CalmLine, ScriptedLine, readable}
+use Rattle.outside_traits.specs.Wires.{UnfailingLine, ScriptedLine, readable}
 use Rattle.outside_traits.specs.Told.{WireTold}
 
 -- a door that never fails: the wires that are to come, for how many tries then nobody comes, and what it tells
-pub record CalmEntry : Type 0 where
-  pub coming : List CalmLine
+pub record UnfailingEntry : Type 0 where
+  pub coming : List UnfailingLine
   pub quiet : ℕ
   pub told : DoorTold
 
@@ -23,8 +23,8 @@ pub record ScriptedEntry : Type 0 where
   pub told : DoorTold
 
 -- doors that never fail to open: those that are to be opened in order, and what they tell
-pub record CalmHouse : Type 0 where
-  pub coming : List CalmEntry
+pub record UnfailingHouse : Type 0 where
+  pub coming : List UnfailingEntry
   pub book : DoorsTold
 
 -- doors that follow a script: those that are to be opened in order, none of one that fails, and what they tell
@@ -32,9 +32,9 @@ pub record ScriptedHouse : Type 0 where
   pub coming : List (Option ScriptedEntry)
   pub book : DoorsTold
 
--- a calm wire that was not used yet, on which these bytes come in, and for so many that go out there is room
-abbrev pub calm_line : List ℕ → ℕ → CalmLine
-calm_line bytes room = record {
+-- a unfailed wire that was not used yet, on which these bytes come in, and for so many that go out there is room
+abbrev pub unfailed_line : List ℕ → ℕ → UnfailingLine
+unfailed_line bytes room = record {
   tape = record { given = []; left = bytes };
   shelf = record { taken = []; room = room };
   calls = Some [];
@@ -57,9 +57,9 @@ scripted_line failing piece bytes room = record {
   ended = false;
 }
 
--- what a calm wire tells that came at a door
-abbrev pub told_by_calm : Placed CalmLine → WireTold
-told_by_calm came = record {
+-- what a unfailed wire tells that came at a door
+abbrev pub told_by_unfailed : Placed UnfailingLine → WireTold
+told_by_unfailed came = record {
   read = Some came.wire.tape.given;
   unread = Some (readable came.wire.closed came.wire.tape);
   written = Some came.wire.shelf.taken;
@@ -85,35 +85,35 @@ told_by_scripted came = record {
   door = Some came.door;
 }
 
--- what a calm door answers: its wires in order, then for so many tries that nobody has come yet, then that nobody comes
+-- what a unfailed door answers: its wires in order, then for so many tries that nobody has come yet, then that nobody comes
 -- any more
-abbrev pub CalmlyAnswersBy : {E : Type 0} → ℕ → List CalmLine → ℕ → Result (Knock (Placed CalmLine)) E → Type 0
-CalmlyAnswersBy place (wire ∷ rest) quiet result = result ≡ Ok (Came (placed place wire))
-CalmlyAnswersBy place [] quiet result = result ≡ Ok (if quiet == 0 then Closed else NotYet)
+abbrev pub UnfailinglyAnswersBy : {E : Type 0} → ℕ → List UnfailingLine → ℕ → Result (Accept (Placed UnfailingLine)) E → Type 0
+UnfailinglyAnswersBy place (wire ∷ rest) quiet result = result ≡ Ok (Came (placed place wire))
+UnfailinglyAnswersBy place [] quiet result = result ≡ Ok (if quiet == 0 then Closed else NotYet)
 
 -- the same by what is seen of the door
-abbrev pub CalmlyAnswers : {E : Type 0} → CalmEntry → Result (Knock (Placed CalmLine)) E → Type 0
-CalmlyAnswers door result = CalmlyAnswersBy door.told.place door.coming door.quiet result
+abbrev pub UnfailinglyAnswers : {E : Type 0} → UnfailingEntry → Result (Accept (Placed UnfailingLine)) E → Type 0
+UnfailinglyAnswers door result = UnfailinglyAnswersBy door.told.place door.coming door.quiet result
 
--- for how many tries nobody comes behind a try at a calm door: one fewer, where no wire was left
-abbrev pub quiet_after : List CalmLine → ℕ → ℕ
+-- for how many tries nobody comes behind a try at a unfailed door: one fewer, where no wire was left
+abbrev pub quiet_after : List UnfailingLine → ℕ → ℕ
 quiet_after [] quiet = quiet - 1
 quiet_after (wire ∷ rest) quiet = quiet
 
 -- what a scripted door answers: what its next visit is, and behind the last of them that nobody comes any more
-abbrev pub AnswersBy : {E : Type 0} → ℕ → List Visit → Result (Knock (Placed ScriptedLine)) E → Type 0
+abbrev pub AnswersBy : {E : Type 0} → ℕ → List Visit → Result (Accept (Placed ScriptedLine)) E → Type 0
 AnswersBy place [] result = result ≡ Ok Closed
 AnswersBy place (Comes wire ∷ rest) result = result ≡ Ok (Came (placed place wire))
 AnswersBy place (Nobody ∷ rest) result = result ≡ Ok NotYet
 AnswersBy place (Fails ∷ rest) result = IsErr result
 
 -- the same by what is seen of the door
-abbrev pub Answers : {E : Type 0} → ScriptedEntry → Result (Knock (Placed ScriptedLine)) E → Type 0
+abbrev pub Answers : {E : Type 0} → ScriptedEntry → Result (Accept (Placed ScriptedLine)) E → Type 0
 Answers door result = AnswersBy door.told.place door.visits result
 
--- the calm door of this place that is opened next: the first that is to be, and behind the last of them one at which
+-- the unfailed door of this place that is opened next: the first that is to be, and behind the last of them one at which
 -- nobody comes
-abbrev pub next_entry : ℕ → List CalmEntry → CalmEntry
+abbrev pub next_entry : ℕ → List UnfailingEntry → UnfailingEntry
 next_entry place [] = record { coming = []; quiet = 0; told = untried place }
 next_entry place (door ∷ rest) = record door { told = untried place }
 

@@ -1,5 +1,5 @@
 ghost use Rattle.std.specs.Prelude.{◌≡◌, Some};
-ghost use Rattle.outside_doors.specs.Knocks.{ComesAt, IsFresh};
+ghost use Rattle.outside_doors.specs.Attempts.{ComesAt, IsFresh};
 ghost use Rattle.outside_doors.specs.Returns.{placed};
 
 use outside_doors::CountedWire;
@@ -13,7 +13,7 @@ pub(crate) struct NewWire<W: Wire + Drop> {
 }
 
 impl<W: Wire + Drop> Model for NewWire<W> {
-    ghost use Rattle.outside_doors.specs.Knocks.{IsFresh};
+    ghost use Rattle.outside_doors.specs.Attempts.{IsFresh};
 
     ghost Value = { W };
 

@@ -1,14 +1,14 @@
 ghost use Rattle.std.specs.Prelude.{◌≡◌, ◌<◌, ◌++◌, [], ◌∷◌, Ok, Some, false, IsTrue, OnErr, OnOk, IfOk, drop};
 ghost use Rattle.outside_traits.specs.Causes.{HasCause};
 ghost use Rattle.outside_doors.specs.Counts.{rested, untried};
-ghost use Rattle.outside_doors.specs.Knocks.{ComesAt, IfCame, closed_after, waits_after, wires_after};
+ghost use Rattle.outside_doors.specs.Attempts.{ComesAt, IfCame, closed_after, waits_after, wires_after};
 ghost use Rattle.outside_memory_doors.specs.Memory.{Answers, scripted_line, told_by_scripted};
 ghost use Rattle.outside_memory_doors.specs.declared.visit.Visit.TheVariants.{Comes, Fails, Nobody};
 
 use crate::new_wire::NewWire;
 use crate::queue::Queue;
 use crate::visit::Visit;
-use outside_doors::{CountedWire, Door, DoorCounts, Knock};
+use outside_doors::{Accept, CountedWire, Door, DoorCounts};
 use outside_traits::{Failed, Script, ScriptedWire};
 use std::alloc::{AllocError, Global};
 use std::marker::Model;
@@ -106,7 +106,7 @@ impl Door for ScriptedDoor {
 
     ghost told = { λ d. d.told };
 
-    fn try_accept(&mut self) -> Result<Knock<CountedWire<ScriptedWire>>, Failed>
+    fn try_accept(&mut self) -> Result<Accept<CountedWire<ScriptedWire>>, Failed>
         ensures scripted { self.old.told.closed ≡ false → Answers self.old result }
         ensures visits { self.old.told.closed ≡ false → self.new.visits ≡ drop 1 self.old.visits }
         ensures comes { IfCame result (λ wire. ComesAt self.old.told.place (told_by_scripted wire)) }
@@ -115,24 +115,24 @@ impl Door for ScriptedDoor {
         ensures waits { self.new.told.waits ≡ waits_after result self.old.told.waits }
         ensures rests { self.new.told.rests ≡ self.old.told.rests }
         ensures closed { self.new.told.closed ≡ closed_after result self.old.told.closed }
-        ensures stays { IsTrue self.old.told.closed → result ≡ Ok Knock.Closed }
+        ensures stays { IsTrue self.old.told.closed → result ≡ Ok Accept.Closed }
         ensures cause { HasCause self.old.told.faults self.new.told.faults result }
     {
         if self.counts.is_closed() {
-            return Ok(Knock::Closed);
+            return Ok(Accept::Closed);
         }
         match self.visits.next() {
             None => {
                 self.counts.close();
-                Ok(Knock::Closed)
+                Ok(Accept::Closed)
             }
             Some(Visit::Comes(wire)) => {
                 self.counts.add_wire();
-                Ok(Knock::Came(wire.into_counted(self.counts.place())))
+                Ok(Accept::Came(wire.into_counted(self.counts.place())))
             }
             Some(Visit::Nobody) => {
                 self.counts.add_wait();
-                Ok(Knock::NotYet)
+                Ok(Accept::NotYet)
             }
             Some(Visit::Fails) => {
                 self.counts.add_fault();

@@ -7,8 +7,8 @@ use Rattle.std.specs.declared.io.ErrorKind.{ErrorKind}
 use Rattle.std.specs.declared.io.ErrorKind.TheVariants.{WouldBlock, Interrupted, ConnectionAborted, ConnectionReset}
 use Rattle.std.specs.declared.io.ErrorKind.TheVariants.{NetworkDown, NetworkUnreachable, HostUnreachable, TimedOut}
 use Rattle.outside_doors.specs.Counts.{DoorTold, untried}
-use Rattle.outside_doors.specs.declared.traits.Knock.{Knock}
-use Rattle.outside_doors.specs.declared.traits.Knock.TheVariants.{Came, NotYet, Closed}
+use Rattle.outside_doors.specs.declared.traits.Accept.{Accept}
+use Rattle.outside_doors.specs.declared.traits.Accept.TheVariants.{Came, NotYet, Closed}
 use Rattle.outside_socket_doors.specs.declared.obstacle.Obstacle.{Obstacle}
 use Rattle.outside_socket_doors.specs.declared.obstacle.Obstacle.TheVariants.{Nobody, Want, Fault}
 
@@ -49,7 +49,7 @@ obstacle_of error = if is_absence (error_kind error) || is_lost (number_of error
     else if is_want (number_of error) then Want else Fault
 
 -- a try at a door gave a connection
-abbrev pub GivesWire : {W E : Type 0} → Result (Knock W) E → Type 0
+abbrev pub GivesWire : {W E : Type 0} → Result (Accept W) E → Type 0
 GivesWire (Ok (Came wire)) = Unit {0}
 GivesWire (Ok NotYet) = ⊥
 GivesWire (Ok Closed) = ⊥

@@ -1,4 +1,5 @@
-//! Doors over the TCP sockets of the system: listeners, and the connections that come in at them. They count what they give and what fails, and tell no bytes.
+//! Doors over the TCP sockets of the system: listeners, and the connections that come in at them. They count what they
+//! give and what fails, and tell no bytes.
 #![tactic(auto)]
 
 mod obstacle;

@@ -3,7 +3,7 @@ ghost use Rattle.std.specs.Duration.{as_nanos};
 ghost use Rattle.outside_traits.specs.Causes.{HasCause};
 ghost use Rattle.outside_doors.specs.Counts.{rested};
 ghost use Rattle.outside_sockets.specs.Sockets.{new_socket, told_by_socket};
-ghost use Rattle.outside_doors.specs.Knocks.{ComesAt, IfCame, closed_after, waits_after, wires_after};
+ghost use Rattle.outside_doors.specs.Attempts.{ComesAt, IfCame, closed_after, waits_after, wires_after};
 ghost use Rattle.outside_socket_doors.specs.declared.obstacle.Obstacle.TheVariants as Obstacles;
 ghost use Rattle.outside_socket_doors.specs.Arrivals.{GivesWire, obstacle_of, unvisited};
 
@@ -12,7 +12,7 @@ use crate::patience::Patience;
 use crate::patient_stream::PatientStream;
 use libc::net as c;
 use libc::types::pollfd;
-use outside_doors::{Door, DoorCounts, Knock};
+use outside_doors::{Accept, Door, DoorCounts};
 use outside_sockets::SocketWire;
 use outside_traits::Failed;
 use std::marker::Model;
@@ -25,10 +25,11 @@ use std::{io, thread};
 /// The most milliseconds of a rest.
 const LONGEST_REST: u128 = 1_000;
 
-/// A door over a listener of the system, at which somebody may come for as long as it is open: it never answers that nobody comes any more.
+/// A door over a listener of the system, at which somebody may come for as long as it is open: it never answers that
+/// nobody comes any more.
 ///
-/// A rest ends when somebody comes only where nobody was there at the last look, of a try or of a rest. Else who is there
-/// can't be let in now, or is not to be, and a rest that ended at once would be none.
+/// A rest ends when somebody comes only where nobody was there at the last look, of a try or of a rest. Else who is
+/// there can't be let in now, or is not to be, and a rest that ended at once would be none.
 #[derive(Drop)]
 pub struct SocketDoor<H: Net + Clock + Copy + Drop> {
     host: H,
@@ -80,11 +81,14 @@ impl<H: Net + Clock + Copy + Drop> SocketDoor<H> {
     fn answer(
         &mut self,
         accepted: io::Result<(H::Stream, SocketAddr)>,
-    ) -> Result<Knock<SocketWire<PatientStream<H::Stream, H>>>, Failed>
+    ) -> Result<Accept<SocketWire<PatientStream<H::Stream, H>>>, Failed>
         ensures came { IsOk accepted → GivesWire result }
-        ensures nobody { IfErr accepted (λ error. obstacle_of error ≡ Obstacles.Nobody → (result ≡ Ok Knock.NotYet) × (self.new.empty ≡ true)) }
-        ensures want { IfErr accepted (λ error. obstacle_of error ≡ Obstacles.Want → (result ≡ Ok Knock.NotYet) × (self.new.empty ≡ false)) }
-        ensures failed { IfErr accepted (λ error. obstacle_of error ≡ Obstacles.Fault → IsErr result × (self.new.empty ≡ false)) }
+        ensures nobody { IfErr accepted
+            (λ error. obstacle_of error ≡ Obstacles.Nobody → (result ≡ Ok Accept.NotYet) × (self.new.empty ≡ true)) }
+        ensures want { IfErr accepted
+            (λ error. obstacle_of error ≡ Obstacles.Want → (result ≡ Ok Accept.NotYet) × (self.new.empty ≡ false)) }
+        ensures failed { IfErr accepted
+            (λ error. obstacle_of error ≡ Obstacles.Fault → IsErr result × (self.new.empty ≡ false)) }
         ensures occupied { IsOk accepted → self.new.empty ≡ false }
         ensures comes { IfCame result (λ wire. ComesAt self.old.counts.place (told_by_socket wire)) }
         ensures place { self.new.counts.place ≡ self.old.counts.place }
@@ -98,7 +102,7 @@ impl<H: Net + Clock + Copy + Drop> SocketDoor<H> {
         match accepted {
             Ok((stream, _)) => {
                 self.counts.add_wire();
-                Ok(Knock::Came(self.wire(stream)))
+                Ok(Accept::Came(self.wire(stream)))
             }
             Err(error) => self.answer_without(obstacle_of(&error)),
         }
@@ -108,9 +112,9 @@ impl<H: Net + Clock + Copy + Drop> SocketDoor<H> {
     fn answer_without(
         &mut self,
         obstacle: Obstacle,
-    ) -> Result<Knock<SocketWire<PatientStream<H::Stream, H>>>, Failed>
-        ensures nobody { obstacle ≡ Obstacles.Nobody → (result ≡ Ok Knock.NotYet) × (self.new.empty ≡ true) }
-        ensures want { obstacle ≡ Obstacles.Want → (result ≡ Ok Knock.NotYet) × (self.new.empty ≡ self.old.empty) }
+    ) -> Result<Accept<SocketWire<PatientStream<H::Stream, H>>>, Failed>
+        ensures nobody { obstacle ≡ Obstacles.Nobody → (result ≡ Ok Accept.NotYet) × (self.new.empty ≡ true) }
+        ensures want { obstacle ≡ Obstacles.Want → (result ≡ Ok Accept.NotYet) × (self.new.empty ≡ self.old.empty) }
         ensures failed { obstacle ≡ Obstacles.Fault → IsErr result × (self.new.empty ≡ self.old.empty) }
         ensures comes { IfCame result (λ wire. ComesAt self.old.counts.place (told_by_socket wire)) }
         ensures place { self.new.counts.place ≡ self.old.counts.place }
@@ -124,11 +128,11 @@ impl<H: Net + Clock + Copy + Drop> SocketDoor<H> {
             Obstacle::Nobody => {
                 self.counts.add_wait();
                 self.empty = true;
-                Ok(Knock::NotYet)
+                Ok(Accept::NotYet)
             }
             Obstacle::Want => {
                 self.counts.add_wait();
-                Ok(Knock::NotYet)
+                Ok(Accept::NotYet)
             }
             Obstacle::Fault => {
                 self.counts.add_fault();
@@ -167,7 +171,7 @@ impl<H: Net + Clock + Copy + Drop> Door for SocketDoor<H> {
 
     ghost told = { λ d. d.counts };
 
-    fn try_accept(&mut self) -> Result<Knock<SocketWire<PatientStream<H::Stream, H>>>, Failed> {
+    fn try_accept(&mut self) -> Result<Accept<SocketWire<PatientStream<H::Stream, H>>>, Failed> {
         let accepted = self.listener.accept();
         self.answer(accepted)
     }

@@ -17,7 +17,9 @@ use std::marker::Model;
 use std::net::{Net, OpenListener, TcpListener};
 use std::rt::Clock;
 
-/// Doors over the TCP sockets of the system. They tell what they count, and for as long as there is memory to keep it the tries to open a door, how the calls of each wire had gone that came back, and what each door counted. They tell none of the bytes.
+/// Doors over the TCP sockets of the system. They tell what they count, and for as long as there is memory to keep it
+/// the tries to open a door, how the calls of each wire had gone that came back, and what each door counted. They tell
+/// none of the bytes.
 #[derive(Drop)]
 pub struct SocketDoors<H: Net + Clock + Copy + Drop> {
     host: H,
@@ -144,8 +146,8 @@ impl<H: Net + Clock + Copy + Drop> Doors for SocketDoors<H> {
 
 /// A listener at the location of a socket whose accept does not wait, none where there can't be one.
 ///
-/// A name may have several addresses. The first is taken at which the system lets it listen, and no other: a listener has
-/// one address, and a door one listener, so that a rest can wait for all who come to it.
+/// A name may have several addresses. The first is taken at which the system lets it listen, and no other: a listener
+/// has one address, and a door one listener, so that a rest can wait for all who come to it.
 fn listener_at<H: Net>(host: &H, location: &str) -> Option<H::Listener>
     ensures { IfSome result (λ _. IsTrue (is_of_socket location.now)) }
 {

@@ -12,7 +12,8 @@ use std::net::{Net, TcpStream, ToSocketAddrs};
 use std::rt::Clock;
 use std::time::Duration;
 
-/// A dialler over the TCP sockets of the system, which tells its count of faults, and of the last wire that came back whether it failed and whether a read told the end.
+/// A dialler over the TCP sockets of the system, which tells its count of faults, and of the last wire that came back
+/// whether it failed and whether a read told the end.
 ///
 /// A wire has so much time, from the moment at which it is dialled on: connecting, each read and each write fail where
 /// it is over, also where a peer sends its bytes one by one. What the system needs to look up the name of a host counts
@@ -74,7 +75,8 @@ impl<H: Net + Clock + Copy + Drop> Dial for SocketDial<H> {
     }
 }
 
-/// A connection to the host and the port of a location, none where it is of another form or nobody answers there in time.
+/// A connection to the host and the port of a location, none where it is of another form or nobody answers there in
+/// time.
 fn connected<H: Net + Clock + Copy + Drop>(
     host: H,
     location: &str,

@@ -34,7 +34,8 @@ impl<S: Read + Write + OpenStream + Drop> Model for SocketWire<S> {
 }
 
 impl<S: Read + Write + OpenStream + Drop> SocketWire<S> {
-    /// A connection over a stream, of which no call has failed, and which came at the door behind so many others, or at none.
+    /// A connection over a stream, of which no call has failed, and which came at the door behind so many others, or at
+    /// none.
     pub fn new(stream: S, door: Option<u64>) -> SocketWire<S>
         ensures { result ≡ new_socket door }
     {

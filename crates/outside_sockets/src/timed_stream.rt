@@ -4,7 +4,8 @@ use std::io::{Read, Write};
 use std::net::{OpenStream, Shutdown};
 use std::rt::Clock;
 
-/// A stream whose reads and writes have so much time in all: what is under way when it is over fails, and so does what follows.
+/// A stream whose reads and writes have so much time in all: what is under way when it is over fails, and so does what
+/// follows.
 #[derive(Drop)]
 pub struct TimedStream<S: Read + Write + OpenStream + Drop, C: Clock + Drop> {
     stream: S,

@@ -12,12 +12,12 @@ Rose before now = min (before + 1) (2 ^ 64 - 1) ≤ now
 pub record HasCause {T E : Type 0} (before now : ℕ) (result : Result T E) : Type 0 where
   pub later : before ≤ now
   pub failed : OnErr result (Rose before now)
-  pub calm : OnOk result (now ≡ before)
+  pub unfailed : OnOk result (now ≡ before)
 
 -- the same for a call that takes memory: `Failed` comes only where the count rose, and want of memory leaves it as it
 -- was
 pub record HasCallCause {T : Type 0} (before now : ℕ) (result : Result T CallError) : Type 0 where
   pub later : before ≤ now
   pub failed : IsErrOf result Failed → Rose before now
-  pub calm : OnOk result (now ≡ before)
+  pub unfailed : OnOk result (now ≡ before)
   pub memory : IsErrOf result (Memory alloc_error) → now ≡ before

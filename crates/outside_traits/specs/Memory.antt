@@ -43,7 +43,7 @@ pub record ScriptedOutput : Type 0 where
   pub piece : ℕ
 
 -- files, each of these bytes, and the names that were asked for, which are told while there is memory for them
-pub record CalmStore : Type 0 where
+pub record UnfailingStore : Type 0 where
   pub content : List ℕ
   pub asked : Option (List (List ℕ))
 

@@ -10,7 +10,7 @@ pub record Taped : Type 0 where
 
 -- a wire that fails only for want of room, or because it is closed; its calls are told while there is memory for them;
 -- whether a write failed before it was closed; and whether a read told the end of what comes in
-pub record CalmLine : Type 0 where
+pub record UnfailingLine : Type 0 where
   pub tape : Taped
   pub shelf : Shelved
   pub calls : Option (List WireCall)

@@ -38,7 +38,7 @@ impl Script {
         ensures fails { IsTrue result ↔ Contains self.old.failing self.old.call }
         ensures rose { IsTrue result → Rose self.old.faults self.new.faults }
         ensures later { self.old.faults ≤ self.new.faults }
-        ensures calm { result ≡ false → self.new.faults ≡ self.old.faults }
+        ensures unfailed { result ≡ false → self.new.faults ≡ self.old.faults }
         ensures next { IsNext self.old self.new }
     {
         let call = self.call;

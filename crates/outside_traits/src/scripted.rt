@@ -5,12 +5,12 @@ ghost use Rattle.outside_traits.specs.Causes.{HasCause, HasCallCause};
 ghost use Rattle.outside_traits.specs.Memory.{room_left, IsNext};
 ghost use Rattle.outside_traits.specs.Told.{Lists};
 
-use crate::calm::front_of;
 use crate::errors::{CallError, Failed};
 use crate::memory::{Shelf, Supply};
 use crate::names::Names;
 use crate::script::Script;
 use crate::traits::{Files, Sink, Source};
+use crate::unfailed::front_of;
 use std::alloc::{AllocError, Global};
 use std::marker::Model;
 

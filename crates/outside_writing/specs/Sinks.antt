@@ -8,6 +8,6 @@ use Rattle.outside_traits.specs.Told.{SinkTold}
 pub record Takes (text : List ℕ) (count : ℕ) (before now : SinkTold) : Type 0 where
   pub within : count ≤ length text
   pub taken : Appends before.written now.written (take count text)
-  pub calm : count ≡ length text → now.faults ≡ before.faults
+  pub unfailed : count ≡ length text → now.faults ≡ before.faults
   pub cause : count < length text → Rose before.faults now.faults
   pub later : before.faults ≤ now.faults

@@ -72,7 +72,7 @@ fn say_why(rt: &HostRuntime, words: &[String], status: u8) -> io::Result<()> {
             "roqsulei: the standard output or the standard error failed"
         ),
         DOOR_FAILED => {
-            eprintln!(rt; "roqsulei: a location could not be listened at, or its door failed")
+            eprintln!(rt; "roqsulei: a location could not be listened at, or its listener failed")
         }
         OUT_OF_MEMORY => eprintln!(rt; "roqsulei: out of memory"),
         _ => Ok(()),

@@ -12,7 +12,7 @@ use Rattle.office_core.specs.Past.{closes}
 use Rattle.office_core.specs.Accepted.{past_of}
 use Rattle.office_core.specs.Calls.{outgoing}
 use Rattle.office_core.specs.Legal.{IsLegal}
-use Rattle.run_theorem.specs.Dealings.{Dealings, Told}
+use Rattle.run_theorem.specs.Exchange.{Exchange, Told}
 use Rattle.run_quiet_laws.specs.Ends.{CameThrough, Ended, is_by_worker, is_close, is_collect, stop_entry}
 use Rattle.run_quiet_laws.proofs.Ending.{Looked, spent_exact}
 use Rattle.run_quiet_laws.proofs.Finished.{is_run}
@@ -20,9 +20,9 @@ use Rattle.run_record.specs.Order.{order_alone}
 use Rattle.run_record.specs.Outside.{note_of, notes}
 use Rattle.run_record.specs.Quiet.{outstanding}
 use Rattle.run_trip_laws.specs.Going.{AreSettled, NotedSoFar, is_inward, is_silent}
-use Rattle.run_trip_laws.proofs.Settling.{all_noted, brought_over, noted_on, over_all, quiet_none, settled_on}
-use Rattle.run_trip_laws.proofs.Touring.{void_is}
-use Rattle.run_posts.specs.Fates.{Wait}
+use Rattle.run_trip_laws.proofs.Settling.{all_noted, received_over, noted_on, over_all, quiet_none, settled_on}
+use Rattle.run_trip_laws.proofs.Completing.{void_is}
+use Rattle.run_posts.specs.CallStates.{Wait}
 use Rattle.run_posts.proofs.Ending.{told_each}
 use Rattle.run_posts.proofs.Opening.{IsOpen}
 use Rattle.run_record.specs.Collected.{AreCollected}
@@ -82,18 +82,18 @@ module _ {h now : List Entry} (x : Ended h now) where
 -- ---- the run
 
 -- What one worker has at the end of a run, of a history h before its end.
-pub record HasEnded (r : Rules) (h : List Entry) (xs : List Wait) (new d : Dealings) (finished : Finished) : Type 0 where
-  pub came : CameThrough r.setting r.budget d.said.notes_failed h finished.report.sessions
+pub record HasEnded (r : Rules) (h : List Entry) (xs : List Wait) (new d : Exchange) (finished : Finished) : Type 0 where
+  pub came : CameThrough r.setting r.budget d.sent.notes_failed h finished.report.sessions
   pub end : Ended h finished.report.history.entries.items
   pub legal : IsLegal r.setting finished.report.history.entries.items
-  pub opens : IsOpen r.setting finished.report.history.entries.items d.brought.given d.said.told xs
-  pub order : map (λ (t : Told). t.place) d.said.told
-      ≡ order_alone r.setting finished.report.history.entries.items first_worker (length d.brought.given)
+  pub opens : IsOpen r.setting finished.report.history.entries.items d.received.given d.sent.told xs
+  pub order : map (λ (t : Told). t.place) d.sent.told
+      ≡ order_alone r.setting finished.report.history.entries.items first_worker (length d.received.given)
   pub settled : AreSettled r.setting h
-  pub noted : NotedSoFar r.setting h d.said.noted
+  pub noted : NotedSoFar r.setting h d.sent.noted
   pub over : IsOver d
   pub left : LeavesNone new d
-  pub asked : length d.brought.seens ≡ length d.brought.given
+  pub asked : length d.received.seens ≡ length d.received.given
   pub told_before : ToldBefore r.setting finished.report.history.entries.items d
   pub gathered : AreCollected r.setting finished.report.history.entries.items
   pub collected : CollectedBefore r.setting finished.report.history.entries.items d
@@ -102,35 +102,35 @@ pub record HasEnded (r : Rules) (h : List Entry) (xs : List Wait) (new d : Deali
   pub looked : Looked r.setting r.budget h finished.report.sessions finished.spent
   pub traffic : finished.report.traffic ≡ []
 
-notes_of : (r : Rules) (h : List Entry) (xs : List Wait) (new d : Dealings) (finished : Finished)
+notes_of : (r : Rules) (h : List Entry) (xs : List Wait) (new d : Exchange) (finished : Finished)
     → HasEnded r h xs new d finished
-    → AreNotes d.said.notes_failed d.said.noted (notes r.setting finished.report.history.entries.items)
+    → AreNotes d.sent.notes_failed d.sent.noted (notes r.setting finished.report.history.entries.items)
 notes_of r h xs new d finished x = (
   (
     flat_map note_of (outgoing r.setting (past_of r.setting finished.report.history.entries.items) kind.Console),
-    sym (noted_end x.end r.setting d.said.noted x.legal x.noted),
+    sym (noted_end x.end r.setting d.sent.noted x.legal x.noted),
   ),
-  λ calm.
-      all_noted r.setting finished.report.history.entries.items d.said.noted
+  λ unfailed.
+      all_noted r.setting finished.report.history.entries.items d.sent.noted
       (quiet_none r.setting finished.report.history.entries.items kind.Console (settled_end x.end r.setting x.legal x.settled)
       (subst (λ (l : List Entry). outstanding (past_of r.setting l) ≡ []) (added_is x.end)
-      (brought_over r.setting h (added x.end) (silent_end x.end) (subst (IsLegal r.setting) (sym (added_is x.end)) x.legal)
-      x.settled (x.came.quiet calm).brought)))
-      (noted_end x.end r.setting d.said.noted x.legal x.noted),
+      (received_over r.setting h (added x.end) (silent_end x.end) (subst (IsLegal r.setting) (sym (added_is x.end)) x.legal)
+      x.settled (x.came.quiet unfailed).received)))
+      (noted_end x.end r.setting d.sent.noted x.legal x.noted),
 )
 
-pub ran : (r : Rules) (text : List ℕ) (h : List Entry) (xs : List Wait) (new d : Dealings) (finished : Finished)
+pub ran : (r : Rules) (text : List ℕ) (h : List Entry) (xs : List Wait) (new d : Exchange) (finished : Finished)
     → finished.report.program ≡ text → HasEnded r h xs new d finished → Ran r text new d finished
 ran r text h xs new d finished program x = record {
   run = is_run {h = h} x.came x.end x.legal x.opens.posted.hands x.opens.posted.together x.gathered;
   program = program;
   traffic = x.traffic;
-  dealt = record {
+  exchanged = record {
     posted = x.opens.posted.posted;
     posters = x.opens.posted.posters;
     order = x.order;
     told = λ t c.
-        told_each r.setting (past_of r.setting finished.report.history.entries.items) d.brought.given d.said.told t
+        told_each r.setting (past_of r.setting finished.report.history.entries.items) d.received.given d.sent.told t
         x.opens.told c;
     noted = notes_of r h xs new d finished x;
     over = x.over;

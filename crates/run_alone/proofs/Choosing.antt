@@ -19,8 +19,8 @@ use Rattle.session_turn.specs.Seen.{Seat}
 use Rattle.session_turn.specs.Turns.{AreEnabled, FirstDone, from_pick}
 use Rattle.session_turn.proofs.Agreeing.{agrees}
 use Rattle.session_turn.proofs.Telling.{is_told}
-use Rattle.run_cells.specs.Crews.{State, Team, moment_at, seat_at}
-use Rattle.run_cells.specs.Turns.{IsTurn, Spot, Turned, is_did, play, spot}
+use Rattle.run_cells.specs.RunStates.{State, Team, moment_at, seat_at}
+use Rattle.run_cells.specs.Turns.{IsTurn, Position, Turned, is_did, play, position}
 use Rattle.run_cells.specs.Turns.{did as was_did, ended as was_ended, idle as was_idle, spent as was_spent}
 use Rattle.run_theorem.specs.Picks.{CanActBy, Chose, HasStrands, TakenTurn, strand_at}
 use Rattle.run_alone.specs.Ran.{Rules}
@@ -48,9 +48,10 @@ module _ {a : Seat} {es : List Event} {old new : Moment} {strands : List ℕ} {p
   passed_cannot : (n : ℕ) → n < first.skipped
       → CanActBy a.setting old.seen a.session es (strand_at strands (pick + n)) → ⊥
   passed_cannot n less by =
-      passed_not alone (first.passed n less) k.here k.at by.0.gift by.0.done
-      (subst (λ (m : ℕ). after a.setting.parts old.service k.here m by.0.gift ≡ Some by.0.done) by.1 (acted k by.0))
-      by.0.given
+      let y = by.0.acts in
+      passed_not alone (first.passed n less) k.here k.at y.gift y.done
+      (subst (λ (m : ℕ). after a.setting.parts old.service k.here m y.gift ≡ Some y.done) by.1 (acted k by.0))
+      y.given
 
   -- the event is of the strand at which the turn stopped
   strand_is : event.strand ≡ strand_at strands (pick + first.skipped)
@@ -109,12 +110,12 @@ came_of {n} {old} {new} team x = go x.turned
         let y = agrees kept in
         (y.0, y.2)
 
-    none : ◌≡◌ {A = Spot} (spot x.now new.history) (spot x.was old.history)
+    none : ◌≡◌ {A = Position} (position x.now new.history) (position x.was old.history)
         → (old.budget ≤ length x.was.events) ⊎ (CanAct old.setting old.history n x.was.events → ⊥)
         → CameOf (rules_at old) old.history (turn_now old n false) x.was.events x.now.events
     none same why = record {
       more = [];
-      events = ap (λ (p : Spot). p.stand.events) same ∙ sym (append-nil x.was.events);
+      events = ap (λ (p : Position). p.stand.events) same ∙ sym (append-nil x.was.events);
       count = refl;
       adopted = adopted;
       agreed = agreed;
@@ -122,7 +123,7 @@ came_of {n} {old} {new} team x = go x.turned
       rested = λ e. why;
     }
 
-    go : {o : Turn} → Turned (play old n) (spot x.was old.history) (spot x.now new.history) o
+    go : {o : Turn} → Turned (play old n) (position x.was old.history) (position x.now new.history) o
         → CameOf (rules_at old) old.history (turn_now old n (is_did o)) x.was.events x.now.events
     go (was_did event strands enabled first events within) = record {
       more = event ∷ [];

@@ -18,7 +18,7 @@ use Rattle.office_core.specs.Past.{Past, closes, some_entry}
 use Rattle.office_core.specs.Accepted.{past_of}
 use Rattle.office_core.specs.Answers.{answers}
 use Rattle.office_core.specs.Legal.{collects, posts_as}
-use Rattle.run_theorem.specs.Dealings.{Brought, Dealings, Told}
+use Rattle.run_theorem.specs.Exchange.{Received, Exchange, Told}
 use Rattle.run_order_laws.specs.Entries.{is_other, posts_over, posts_under}
 use Rattle.run_order_laws.specs.Ordering.{is_answered}
 use Rattle.run_order_laws.proofs.Growing.{entries_past}
@@ -29,13 +29,13 @@ use Rattle.run_record.specs.Order.{accepted_as, message_in, messages_for, number
 use Rattle.run_record.specs.Quiet.{begins_posting, posts, posts_for}
 use Rattle.run_record.specs.Collected.{uncollected, was_collected}
 use Rattle.session_turn.proofs.Histories.{some_of}
-use Rattle.run_posts.specs.Fates.{Wait, all_collected, is_finished, is_open, told_of}
+use Rattle.run_posts.specs.CallStates.{Wait, all_collected, is_finished, is_open, told_of}
 use Rattle.run_posts.specs.Open.{told_places}
 use Rattle.run_posts.proofs.Ending.{AreSettled, other_all}
 use Rattle.run_posts.proofs.Opening.{all_posts_of, is_between}
 use Rattle.run_alone.specs.Between.{AllWait, IsGathered}
 use Rattle.run_alone.specs.Ran.{AllCollected, CollectedBefore}
-use Rattle.run_alone.proofs.Stepping.{CanStep, after_step, after_sweep, between_other, collected_all, gathered, in_one, over_step, posted, said_now, settled_step, settled_waits, waiting}
+use Rattle.run_alone.proofs.Stepping.{CanStep, after_step, after_sweep, between_other, collected_all, gathered, in_one, over_step, posted, sent_now, settled_step, settled_waits, waiting}
 use Rattle.run_alone.proofs.Stepping.{all_weaker as entries_weaker}
 use Rattle.run_alone.proofs.Waiting.{none_are, unanswered_by_collects, unanswered_by_telling, wait_by_collects, wait_by_others, wait_by_posts, wait_by_telling}
 
@@ -310,18 +310,18 @@ first_collected past k ts all =
     ∙ all)).0
 
 -- what had been told when a posting was asked for was collected where it begins
-abbrev pub ToldThere : Setting → Dealings → ℕ → List Entry → Entry → Type 0
+abbrev pub ToldThere : Setting → Exchange → ℕ → List Entry → Entry → Type 0
 ToldThere w d j before e =
-    (n : ℕ) → slice_get d.brought.seens j ≡ Some n → AllCollected (past_of w before) (take n d.said.told)
+    (n : ℕ) → slice_get d.received.seens j ≡ Some n → AllCollected (past_of w before) (take n d.sent.told)
 
 module _ (w : Setting) (h : List Entry) (all : List Posting) (xs : List Wait) (p : Posting) (swept : List Entry)
     (ts : List Told) (can : CanStep w h all xs p swept ts) where
   -- what had been told before
-  pub told_before_step : (d : Dealings) → d.said.told ≡ ts → AllCollected (past_of w h) ts → CollectedBefore w h d
+  pub told_before_step : (d : Exchange) → d.sent.told ≡ ts → AllCollected (past_of w h) ts → CollectedBefore w h d
       → CollectedBefore w (after_step w h all xs p swept) d
   told_before_step d told was before =
       well_step w h all xs p swept can.between (ToldThere w d)
-      (λ e is n at. first_collected (past_of w h) n d.said.told
+      (λ e is n at. first_collected (past_of w h) n d.sent.told
       (subst (AllCollected (past_of w h)) (sym told) was))
       before
 
@@ -330,7 +330,7 @@ module _ (w : Setting) (h : List Entry) (all : List Posting) (xs : List Wait) (p
     (g : IsGathered w h xs) where
   -- what was told then was collected
   pub told_step : AllCollected (past_of w h) ts
-      → AllCollected (past_of w (after_step w h all xs p swept)) (said_now w h all xs p swept ts can)
+      → AllCollected (past_of w (after_step w h all xs p swept)) (sent_now w h all xs p swept ts can)
   told_step was =
       all_append (λ (t : Told). was_collected (past_of w (after_step w h all xs p swept)) first_worker t.place) ts
       (map told_of (filter is_finished (settled_waits w h all xs p swept)))
@@ -341,14 +341,14 @@ module _ (w : Setting) (h : List Entry) (all : List Posting) (xs : List Wait) (p
       (settled_step w h all xs p swept ts can))
 
 -- with more that was told
-pub told_more : (w : Setting) (h : List Entry) (before now : Dealings) (more : List Told) → now.brought ≡ before.brought
-    → now.said.told ≡ before.said.told ++ more
-    → ((j k : ℕ) → slice_get before.brought.seens j ≡ Some k → k ≤ length before.said.told)
+pub told_more : (w : Setting) (h : List Entry) (before now : Exchange) (more : List Told) → now.received ≡ before.received
+    → now.sent.told ≡ before.sent.told ++ more
+    → ((j k : ℕ) → slice_get before.received.seens j ≡ Some k → k ≤ length before.sent.told)
     → CollectedBefore w h before → CollectedBefore w h now
-told_more w h before now more brought told inside was j front later e p begins k at =
-    let there = ap (λ (b : Brought). slice_get b.seens j) (sym brought) ∙ at in
+told_more w h before now more received told inside was j front later e p begins k at =
+    let there = ap (λ (b : Received). slice_get b.seens j) (sym received) ∙ at in
     subst (AllCollected (past_of w front))
-    (sym (ap (take k) told ∙ take-append-le k before.said.told more (inside j k there)))
+    (sym (ap (take k) told ∙ take-append-le k before.sent.told more (inside j k there)))
     (was j front later e p begins k there)
 
 -- ---- a posting is asked for

@@ -1,4 +1,4 @@
--- The turns of a course, one after the other: what is said of them holds from its beginning to its end.
+-- The turns of a course, one after the other: what is sent of them holds from its beginning to its end.
 use Rattle.std.proofs.Common.{◌≡◌, ◌≤◌, ℕ, suc, ◌+◌, ◌-◌, Bool, true, false, ◌||◌, List, [], ◌∷◌, ◌++◌, length, map, take, drop, Option, None, Some, nat_eq, get_or, refl, sym, ap, subst, ◌∙◌, le_refl}
 use Rattle.std.specs.Prelude.{slice_get, slice_set, unwrap_or}
 use Rattle.std.specs.List.{list_all}
@@ -14,7 +14,7 @@ use Rattle.office_core.specs.Accepted.{past_of}
 use Rattle.run_record.specs.Quiet.{outstanding}
 use Rattle.run_record.specs.Steps.{is_call_of}
 use Rattle.session_turn.specs.declared.turn.Turn.{Turn}
-use Rattle.run_cells.specs.Crews.{Stand, State, Stays, Team, events_of}
+use Rattle.run_cells.specs.RunStates.{Stand, State, Stays, Team, events_of}
 use Rattle.run_cells.specs.Turns.{Comes, IsAdoption, IsNoBirth, IsTurn, RoundFrom, TurnsOf, adoption, fresh, is_did}
 use Rattle.run_cells.specs.Turns.{last as last_turn, more as more_turns, next as next_session, now as comes_now}
 use Rattle.run_cells.specs.Turns.{over as round_over, there as is_there}
@@ -280,11 +280,11 @@ round_on {r} team u (next_session n old here mid new a b c turns rest) =
 pub course_on : {r : Rules} {picks : List ℕ} {old new : State} → BehindRound r picks old → Goes old new
     → BehindRound r picks new
 course_on u stays = u
-course_on {r} {picks} u (round mid new moved goes team brought turns) =
+course_on {r} {picks} u (round mid new moved goes team received turns) =
     let v : BehindRound r picks mid = course_on u goes in
     round_on team
     (stands_so (IsBefore r.setting mid.history 0) v
-    (before_round v.stands (coe 0 1 (i. outstanding (past_of (v.rules i).setting mid.history) ≡ []) brought))) turns
+    (before_round v.stands (coe 0 1 (i. outstanding (past_of (v.rules i).setting mid.history) ≡ []) received))) turns
 course_on u (adopts mid new goes a) = behind_later (course_on u goes) (by_adoption a)
 course_on u (works mid new more goes x each) = behind_later (course_on u goes) (by_stays x)
 
@@ -301,7 +301,7 @@ course_begins r picks = record {
   stands = λ a at. absurd (none-some a at);
 }
 
--- what is said of the turns of a whole course
+-- what is sent of the turns of a whole course
 pub course_took : {r : Rules} {picks : List ℕ} {s : State} → BehindRound r picks s
     → TookTurns r picks s.history (events_of s.stands)
 course_took {s = s} u = record {

@@ -3,9 +3,9 @@ use Rattle.std.proofs.Common.{◌≡◌, ◌≤◌, ◌⊎◌, ℕ, zero, suc, L
 use Rattle.std.specs.Prelude.{slice_get}
 use Rattle.std.proofs.lemmas.List.{length-append, length_push, take-append-le, take_all}
 use Rattle.std.proofs.lemmas.Option.{slice_get_within}
-use Rattle.run_theorem.specs.Dealings.{Dealings, Said, Told}
-use Rattle.run_cells.specs.Crews.{State}
-use Rattle.run_posts.specs.Fates.{Wait}
+use Rattle.run_theorem.specs.Exchange.{Exchange, Sent, Told}
+use Rattle.run_cells.specs.RunStates.{State}
+use Rattle.run_posts.specs.CallStates.{Wait}
 use Rattle.run_posts.specs.Open.{StandsInOrder, told_places}
 use Rattle.run_alone.specs.Between.{WasTold, WereTold}
 
@@ -70,10 +70,10 @@ module _ (s : State) (n : ℕ) (xs : List Wait) (ts : List Told) (order : Stands
       coe 1 0 (i. WasTold s n ts (place i) (number i)) all_told)
       (one_of_more counts (length ts) j k at)
 
--- the same of the same dealings under other names
-pub told_as : (s : State) (n : ℕ) (before now : Dealings) (counts : List ℕ) → now.said ≡ before.said
-    → now.brought.seens ≡ counts → ((j k : ℕ) → slice_get counts j ≡ Some k → WasTold s n before.said.told j k)
+-- the same of the same exchange under other names
+pub told_as : (s : State) (n : ℕ) (before now : Exchange) (counts : List ℕ) → now.sent ≡ before.sent
+    → now.received.seens ≡ counts → ((j k : ℕ) → slice_get counts j ≡ Some k → WasTold s n before.sent.told j k)
     → WereTold s n now
-told_as s n before now counts said seens were j k at =
-    subst (λ (x : Said). WasTold s n x.told j k) (sym said)
+told_as s n before now counts sent seens were j k at =
+    subst (λ (x : Sent). WasTold s n x.told j k) (sym sent)
     (were j k (ap (λ (ks : List ℕ). slice_get ks j) (sym seens) ∙ at))

@@ -13,7 +13,7 @@ use Rattle.office_core.specs.Limits.{Limits, Setting, first_worker}
 use Rattle.office_core.specs.Past.{closes, some_entry, stops}
 use Rattle.office_core.specs.Accepted.{past_of}
 use Rattle.office_core.specs.Legal.{IsLegal}
-use Rattle.run_theorem.specs.Dealings.{Brought, Dealings, Told}
+use Rattle.run_theorem.specs.Exchange.{Received, Exchange, Told}
 use Rattle.run_theorem.specs.Calls.{most_postings}
 use Rattle.run_quiet_laws.specs.Ends.{CameThrough, Ended, is_adoption, is_collect, stop_entry}
 use Rattle.run_quiet_laws.proofs.Ending.{Looked, before_the_stop}
@@ -21,10 +21,10 @@ use Rattle.run_record.specs.Collected.{AreCollected}
 use Rattle.run_record.specs.Quiet.{before_stop}
 use Rattle.run_record.specs.Run.{alone, is_of_hand}
 use Rattle.run_record.specs.Order.{finished_there, numbers_from, order_alone}
-use Rattle.run_cells.specs.Crews.{State, Stays, Team, closing, events_of, past_in}
+use Rattle.run_cells.specs.RunStates.{State, Stays, Team, closing, events_of, past_in}
 use Rattle.run_cells.specs.Rounds.{Adopted, HasSpent, IsQuietAt, IsStillAt}
 use Rattle.run_cells.proofs.Ends.{came_through, looked_by}
-use Rattle.run_posts.specs.Fates.{Wait, all_collected, is_finished, is_open, settled_in, told_of}
+use Rattle.run_posts.specs.CallStates.{Wait, all_collected, is_finished, is_open, settled_in, told_of}
 use Rattle.run_posts.specs.Telling.{AreExpected, TellsAll}
 use Rattle.run_posts.proofs.Ending.{StandsInOrder, open_expected}
 use Rattle.run_posts.proofs.Opening.{IsOpen, is_between, told_places}
@@ -111,7 +111,7 @@ module _ {s0 s1 s2 s3 s4 : State} {xs0 xs1 : List Wait} (f : Finishes s0 s1 s2 s
     limit : w.limits.sessions ≤ first_worker
     limit = subst (λ (l : Limits). l.sessions ≤ first_worker) (sym team0.limits) (le_refl first_worker)
 
-    module _ (ts : List Told) (calm : 0 < length all → f.swept ≡ []) (opens : IsOpen w s0.history all ts xs0)
+    module _ (ts : List Told) (unfailed : 0 < length all → f.swept ≡ []) (opens : IsOpen w s0.history all ts xs0)
         (order : StandsInOrder w s0.history (length all) ts xs0) where
       can : CanEnd w s0.history all xs0 f.swept adoptions (closing_by was_closed) ts
       can = record {
@@ -122,7 +122,7 @@ module _ {s0 s1 s2 s3 s4 : State} {xs0 xs1 : List Wait} (f : Finishes s0 s1 s2 s
         adopts = adoptions_add adoptions f.adopt.adoptions.only;
         ends = closing_between was_closed;
         ends_none = closing_adds was_closed;
-        calm = calm;
+        unfailed = unfailed;
         opens = opens;
         order = order;
       }
@@ -178,17 +178,17 @@ module _ {s0 s1 s2 s3 s4 : State} {xs0 xs1 : List Wait} (f : Finishes s0 s1 s2 s
           (ap (list_all (is_of_hand alone)) (sym history_4) ∙ hands))
 
       -- and what had been told before
-      pub told_before_at_end : IsGathered w s0.history xs0 → (d : Dealings) → CollectedBefore w s0.history d
+      pub told_before_at_end : IsGathered w s0.history xs0 → (d : Exchange) → CollectedBefore w s0.history d
           → CollectedBefore s4.setting s4.history d
       told_before_at_end g d before =
           coe 1 0 (i. CollectedBefore (setting_4 i) (history_4 i) d)
           (told_before_end w s0.history all xs0 f.swept adoptions (closing_by was_closed) ts can g d before)
 
       -- the front expects to be told of what is open
-      pub expected_end : (d : Dealings) → d.brought.given ≡ all → d.said.told ≡ ts → AreExpected xs1 d
-      expected_end d given said =
+      pub expected_end : (d : Exchange) → d.received.given ≡ all → d.sent.told ≡ ts → AreExpected xs1 d
+      expected_end d given sent =
           coe 1 0 (i. AreExpected (waits_1 i) d)
-          (open_expected w the_end all ts (settled_waits w s0.history all xs0 f.swept adoptions (closing_by was_closed)) d given said
+          (open_expected w the_end all ts (settled_waits w s0.history all xs0 f.swept adoptions (closing_by was_closed)) d given sent
           (subst (λ (l : List Entry). IsOpen w l all ts (settled_waits w s0.history all xs0 f.swept adoptions (closing_by was_closed)))
           (stop_gathers w s0.history all xs0 f.swept adoptions (closing_by was_closed) ts can)
           (open_gathered w s0.history all xs0 f.swept adoptions (closing_by was_closed) ts can)))
@@ -267,29 +267,29 @@ module _ {s0 s1 s2 s3 s4 : State} {xs0 xs1 : List Wait} (f : Finishes s0 s1 s2 s
 -- ---- what passed with the front
 
 -- why no posting was asked for any more
-over_then : (before now : Dealings) → now.brought ≡ before.brought
-    → (now.said.halted ≡ false → before.said.halted ≡ false) → IsOver before → IsOver now
-over_then before now same calm (inl e) = inl (ap (λ (b : Brought). b.ended) same ∙ e)
-over_then before now same calm (inr (inl e)) = inr (inl (still_halted before.said.halted now.said.halted calm e))
-over_then before now same calm (inr (inr (inl e))) =
-    inr (inr (inl (ap (λ (b : Brought). b.waits) same ∙ e)))
-over_then before now same calm (inr (inr (inr e))) =
-    inr (inr (inr (subst (λ (b : Brought). most_postings ≤ length b.given) (sym same) e)))
+over_then : (before now : Exchange) → now.received ≡ before.received
+    → (now.sent.halted ≡ false → before.sent.halted ≡ false) → IsOver before → IsOver now
+over_then before now same unfailed (inl e) = inl (ap (λ (b : Received). b.ended) same ∙ e)
+over_then before now same unfailed (inr (inl e)) = inr (inl (still_halted before.sent.halted now.sent.halted unfailed e))
+over_then before now same unfailed (inr (inr (inl e))) =
+    inr (inr (inl (ap (λ (b : Received). b.waits) same ∙ e)))
+over_then before now same unfailed (inr (inr (inr e))) =
+    inr (inr (inr (subst (λ (b : Received). most_postings ≤ length b.given) (sym same) e)))
 
 -- it gave none when it was asked last
-gave_none : (before now : Dealings) → now.brought ≡ before.brought → GaveNone now → GaveNone before
-gave_none before now same (inl e) = inl (ap (λ (b : Brought). b.ended) (sym same) ∙ e)
-gave_none before now same (inr some) = inr (subst (λ (b : Brought). 0 < b.waits) same some)
+gave_none : (before now : Exchange) → now.received ≡ before.received → GaveNone now → GaveNone before
+gave_none before now same (inl e) = inl (ap (λ (b : Received). b.ended) (sym same) ∙ e)
+gave_none before now same (inr some) = inr (subst (λ (b : Received). 0 < b.waits) same some)
 
 -- What passed with the front to the end: the last sweep noted to it, and then it was told of all that was open.
-pub record SaidAll (s1 : State) (xs1 : List Wait) (before mid now : Dealings) : Type 0 where
-  pub told_mid : mid.said.told ≡ before.said.told
-  pub brought_mid : mid.brought ≡ before.brought
-  pub halted_mid : mid.said.halted ≡ false → before.said.halted ≡ false
-  pub noted : NotedSoFar s1.setting s1.history mid.said.noted
+pub record SentAll (s1 : State) (xs1 : List Wait) (before mid now : Exchange) : Type 0 where
+  pub told_mid : mid.sent.told ≡ before.sent.told
+  pub received_mid : mid.received ≡ before.received
+  pub halted_mid : mid.sent.halted ≡ false → before.sent.halted ≡ false
+  pub noted : NotedSoFar s1.setting s1.history mid.sent.noted
   pub tells : TellsAll (map told_of (filter is_finished xs1)) mid now
 
--- What a run leaves: the history and the sessions, no traffic, and what the look at the budgets said.
+-- What a run leaves: the history and the sessions, no traffic, and what the look at the budgets sent.
 pub record Leaves (s2 s4 : State) (finished : Finished) : Type 0 where
   pub history : finished.report.history.entries.items ≡ s4.history
   pub sessions : finished.report.sessions ≡ events_of s2.stands
@@ -299,72 +299,72 @@ pub record Leaves (s2 s4 : State) (finished : Finished) : Type 0 where
 module _ {s0 s1 s2 s3 s4 : State} {xs0 xs1 : List Wait} {n : ℕ} (f : Finishes s0 s1 s2 s3 s4 xs0 xs1) (team0 : Team s0)
     (team2 : Team s2) (legal : IsLegal s4.setting s4.history) where
   -- so it has ended
-  pub has_ended : (new before mid now : Dealings) (finished : Finished) → IsGathered s0.setting s0.history xs0
+  pub has_ended : (new before mid now : Exchange) (finished : Finished) → IsGathered s0.setting s0.history xs0
       → Passed s0 xs0 n before → IsOver before → LeavesNone new before
-      → (GaveNone before → before.brought.seen ≡ length before.said.told)
-      → SaidAll s1 xs1 before mid now → Leaves s2 s4 finished → (0 < n → f.swept ≡ [])
-      → (mid.said.notes_failed ≡ false → IsQuietAt s2) → IsStillAt s2
+      → (GaveNone before → before.received.seen ≡ length before.sent.told)
+      → SentAll s1 xs1 before mid now → Leaves s2 s4 finished → (0 < n → f.swept ≡ [])
+      → (mid.sent.notes_failed ≡ false → IsQuietAt s2) → IsStillAt s2
       → HasEnded (record { setting = s2.setting; budget = s2.budget }) s2.history (filter is_open xs1) new now finished
-  has_ended new before mid now finished g passed over none_left saw said left calm quiet still =
-      let brought : now.brought ≡ before.brought = said.tells.brought ∙ said.brought_mid in
-      let told : now.said.told ≡ before.said.told ++ map told_of (filter is_finished xs1)
-      = said.tells.told ∙ ap (λ (ts : List Told). ts ++ map told_of (filter is_finished xs1)) said.told_mid in
-      let idle : 0 < length before.brought.given → f.swept ≡ []
-      = λ some. calm (subst (λ (m : ℕ). 0 < m) passed.count some) in
-      let order : StandsInOrder s0.setting s0.history (length before.brought.given) before.said.told xs0
-      = subst (λ (m : ℕ). StandsInOrder s0.setting s0.history m before.said.told xs0) (sym passed.count) passed.order in
+  has_ended new before mid now finished g passed over none_left saw sent left unfailed quiet still =
+      let received : now.received ≡ before.received = sent.tells.received ∙ sent.received_mid in
+      let told : now.sent.told ≡ before.sent.told ++ map told_of (filter is_finished xs1)
+      = sent.tells.told ∙ ap (λ (ts : List Told). ts ++ map told_of (filter is_finished xs1)) sent.told_mid in
+      let idle : 0 < length before.received.given → f.swept ≡ []
+      = λ some. unfailed (subst (λ (m : ℕ). 0 < m) passed.count some) in
+      let order : StandsInOrder s0.setting s0.history (length before.received.given) before.sent.told xs0
+      = subst (λ (m : ℕ). StandsInOrder s0.setting s0.history m before.sent.told xs0) (sym passed.count) passed.order in
       let setting : s4.setting ≡ s2.setting = f.collect.setting ∙ f.stop.setting in
       record {
         came =
-            subst (λ (ss : List (List Event)). CameThrough s2.setting s2.budget now.said.notes_failed s2.history ss) (sym left.sessions)
+            subst (λ (ss : List (List Event)). CameThrough s2.setting s2.budget now.sent.notes_failed s2.history ss) (sym left.sessions)
             (came_through s2 team2 (subst (λ (l : Limits). l.sessions ≤ first_worker) (sym team2.limits) (le_refl first_worker))
-            f.adopt.born (λ e. quiet (sym said.tells.notes_failed ∙ e)) still);
+            f.adopt.born (λ e. quiet (sym sent.tells.notes_failed ∙ e)) still);
         end = subst (λ (l : List Entry). Ended s2.history l) (sym left.history) (ended f team0 team2 legal g);
         legal = coe 1 0 (i. IsLegal (sym setting i) (left.history i)) legal;
         opens =
-            coe 1 0 (i. IsOpen (sym setting i) (left.history i) (brought i).given (told i) (filter is_open xs1))
-            (opens_end f team0 team2 legal before.brought.given before.said.told idle passed.opens order);
+            coe 1 0 (i. IsOpen (sym setting i) (left.history i) (received i).given (told i) (filter is_open xs1))
+            (opens_end f team0 team2 legal before.received.given before.sent.told idle passed.opens order);
         order =
             coe 1 0
-            (i. map (λ (t : Told). t.place) (told i) ≡ order_alone (sym setting i) (left.history i) first_worker (length (brought i).given))
-            (order_at_end f team0 team2 legal before.brought.given before.said.told idle passed.opens order);
+            (i. map (λ (t : Told). t.place) (told i) ≡ order_alone (sym setting i) (left.history i) first_worker (length (received i).given))
+            (order_at_end f team0 team2 legal before.received.given before.sent.told idle passed.opens order);
         settled = settled_2 f team0 team2 legal;
         noted =
-            subst (λ (t : List ℕ). NotedSoFar s2.setting s2.history t) (sym said.tells.noted)
-            (noted_2 f team0 team2 legal mid.said.noted said.noted);
-        over = over_then before now brought (λ e. said.halted_mid (said.tells.halts.calm e).0) over;
-        left = left_then new before now brought (λ e. said.halted_mid (said.tells.halts.calm e).0) none_left;
-        asked = ap (λ (b : Brought). length b.seens) brought ∙ passed.asked
-            ∙ sym (ap (λ (b : Brought). length b.given) brought ∙ passed.count);
+            subst (λ (t : List ℕ). NotedSoFar s2.setting s2.history t) (sym sent.tells.noted)
+            (noted_2 f team0 team2 legal mid.sent.noted sent.noted);
+        over = over_then before now received (λ e. sent.halted_mid (sent.tells.halts.unfailed e).0) over;
+        left = left_then new before now received (λ e. sent.halted_mid (sent.tells.halts.unfailed e).0) none_left;
+        asked = ap (λ (b : Received). length b.seens) received ∙ passed.asked
+            ∙ sym (ap (λ (b : Received). length b.given) received ∙ passed.count);
         told_before = λ j k at.
-            let was = passed.earlier j k (ap (λ (b : Brought). slice_get b.seens j) (sym brought) ∙ at) in
+            let was = passed.earlier j k (ap (λ (b : Received). slice_get b.seens j) (sym received) ∙ at) in
             coe 1 0
-            (i. told_places (take k (told i)) ≡ finished_before (sym setting i) (left.history i) (length (brought i).given) j)
-            (earlier_at_end f team0 team2 legal before.brought.given before.said.told idle passed.opens order j k was.within
+            (i. told_places (take k (told i)) ≡ finished_before (sym setting i) (left.history i) (length (received i).given) j)
+            (earlier_at_end f team0 team2 legal before.received.given before.sent.told idle passed.opens order j k was.within
             (was.are ∙ ap (λ (m : ℕ). finished_before s0.setting s0.history m j) (sym passed.count)));
         gathered =
             coe 1 0 (i. AreCollected (sym setting i) (left.history i))
-            (collected_at_end f team0 team2 legal before.brought.given before.said.told idle passed.opens order g
+            (collected_at_end f team0 team2 legal before.received.given before.sent.told idle passed.opens order g
             (cut_at_stop f team0 team2 legal)
-            (opens_end f team0 team2 legal before.brought.given before.said.told idle passed.opens order).posted.hands);
+            (opens_end f team0 team2 legal before.received.given before.sent.told idle passed.opens order).posted.hands);
         collected =
             coe 1 0 (i. CollectedBefore (sym setting i) (left.history i) now)
-            (told_more s4.setting s4.history before now (map told_of (filter is_finished xs1)) brought told
+            (told_more s4.setting s4.history before now (map told_of (filter is_finished xs1)) received told
             (λ j k at. (passed.earlier j k at).within)
-            (told_before_at_end f team0 team2 legal before.brought.given before.said.told idle passed.opens order g before
+            (told_before_at_end f team0 team2 legal before.received.given before.sent.told idle passed.opens order g before
             passed.collected_before));
         seen = λ none.
             coe 1 0
-            (i. map (λ (t : Told). t.place) (take (brought i).seen (told i))
-            ≡ flat_map (finished_there (sym setting i) (past_of (sym setting i) (left.history i)) first_worker (length (brought i).given)) (numbers_from 0 (length (brought i).given)))
-            (ap (λ (k : ℕ). map (λ (t : Told). t.place) (take k (before.said.told ++ map told_of (filter is_finished xs1)))) (saw (gave_none before now brought none))
-            ∙ ap (map (λ (t : Told). t.place)) (take_at before.said.told (map told_of (filter is_finished xs1)) (length before.said.told) refl)
-            ∙ early_at_end f team0 team2 legal before.brought.given before.said.told idle passed.opens order);
+            (i. map (λ (t : Told). t.place) (take (received i).seen (told i))
+            ≡ flat_map (finished_there (sym setting i) (past_of (sym setting i) (left.history i)) first_worker (length (received i).given)) (numbers_from 0 (length (received i).given)))
+            (ap (λ (k : ℕ). map (λ (t : Told). t.place) (take k (before.sent.told ++ map told_of (filter is_finished xs1)))) (saw (gave_none before now received none))
+            ∙ ap (map (λ (t : Told). t.place)) (take_at before.sent.told (map told_of (filter is_finished xs1)) (length before.sent.told) refl)
+            ∙ early_at_end f team0 team2 legal before.received.given before.sent.told idle passed.opens order);
         noted_then =
             coe 1 0
-            (i. IsPrefix (noted_before (sym setting i) (left.history i) (length (brought i).given - 1)) (brought i).noted)
-            (noted_at_end f team0 team2 legal before.brought.given before.said.told idle passed.opens order before.brought.noted
-            (subst (λ (m : ℕ). IsPrefix (noted_before s0.setting s0.history (m - 1)) before.brought.noted) (sym passed.count)
+            (i. IsPrefix (noted_before (sym setting i) (left.history i) (length (received i).given - 1)) (received i).noted)
+            (noted_at_end f team0 team2 legal before.received.given before.sent.told idle passed.opens order before.received.noted
+            (subst (λ (m : ℕ). IsPrefix (noted_before s0.setting s0.history (m - 1)) before.received.noted) (sym passed.count)
             passed.noted_then));
         looked =
             subst (λ (ss : List (List Event)). Looked s2.setting s2.budget s2.history ss finished.spent) (sym left.sessions)

@@ -14,17 +14,17 @@ use Rattle.office_core.specs.Past.{Past, closes, some_entry, stops}
 use Rattle.office_core.specs.Sessions.{births, service_of}
 use Rattle.office_core.specs.Accepted.{past_of}
 use Rattle.office_core.specs.Legal.{IsLegal, replied}
-use Rattle.run_theorem.specs.Dealings.{Told}
+use Rattle.run_theorem.specs.Exchange.{Told}
 use Rattle.run_order_laws.specs.Entries.{adds_none, cuts, is_other, posts_over}
 use Rattle.run_order_laws.specs.Ordering.{Grows}
 use Rattle.run_order_laws.proofs.Growing.{legal_front, legal_rest}
-use Rattle.run_order_laws.proofs.Ordering.{before_ends, calm_at_stop, calm_behind}
+use Rattle.run_order_laws.proofs.Ordering.{before_ends, unfailed_at_stop, unfailed_behind}
 use Rattle.run_quiet_laws.specs.Ends.{is_adoption, is_close, stop_entry}
 use Rattle.run_quiet_laws.proofs.Within.{births_within}
 use Rattle.run_record.specs.Order.{before_first, finished_there, numbers_from, order_alone}
 use Rattle.run_record.specs.Run.{alone, ends_with, is_hand, is_of_hand}
 use Rattle.session_turn.proofs.Histories.{some_of}
-use Rattle.run_posts.specs.Fates.{Wait, all_collected, is_finished, is_open, settled_in, told_of}
+use Rattle.run_posts.specs.CallStates.{Wait, all_collected, is_finished, is_open, settled_in, told_of}
 use Rattle.run_posts.proofs.Ending.{StandsInOrder, all_finished, open_collected, open_told, other_all, settled_collected, stands_early, stands_ended}
 use Rattle.run_posts.proofs.Opening.{IsOpen, is_between, open_between, told_places}
 use Rattle.run_trip_laws.specs.Going.{is_silent}
@@ -145,13 +145,13 @@ module _ (w : Setting) (h : List Entry) (all : List Posting) (xs : List Wait) (s
     pub adopts : list_all adds_none adoptions ≡ true
     pub ends : list_all is_between closing ≡ true
     pub ends_none : list_all adds_none closing ≡ true
-    pub calm : 0 < length all → swept ≡ []
+    pub unfailed : 0 < length all → swept ≡ []
     pub opens : IsOpen w h all ts xs
     pub order : StandsInOrder w h (length all) ts xs
 
   module _ (ts : List Told) (can : CanEnd ts) where
-    abbrev pub said_all : List Told
-    said_all = ts ++ map told_of (filter is_finished settled_waits)
+    abbrev pub sent_all : List Told
+    sent_all = ts ++ map told_of (filter is_finished settled_waits)
 
     pub stop_gathers : after_stop ++ gathered ≡ at_end
     stop_gathers = append_assoc (before_end ++ closing) (stop_entry ∷ []) gathered
@@ -184,9 +184,9 @@ module _ (w : Setting) (h : List Entry) (all : List Posting) (xs : List Wait) (s
     open_gathered = open_collected w after_stop all ts xs (subst (IsLegal w) (sym stop_gathers) can.legal) open_stop
 
     -- what is open then
-    pub open_end : IsOpen w at_end all said_all (filter is_open settled_waits)
+    pub open_end : IsOpen w at_end all sent_all (filter is_open settled_waits)
     open_end =
-        subst (λ (l : List Entry). IsOpen w l all said_all (filter is_open settled_waits)) stop_gathers
+        subst (λ (l : List Entry). IsOpen w l all sent_all (filter is_open settled_waits)) stop_gathers
         (open_told w (after_stop ++ gathered) all ts settled_waits open_gathered)
 
     pub stopped_end : some_entry (past_of w (after_stop ++ gathered)) stops ≡ true
@@ -205,11 +205,11 @@ module _ (w : Setting) (h : List Entry) (all : List Posting) (xs : List Wait) (s
         ∙ sym (append_assoc (h ++ swept) (adoptions ++ closing) (stop_entry ∷ gathered))
         ∙ ap (λ (l : List Entry). l ++ stop_entry ∷ gathered) (sym (append_assoc (h ++ swept) adoptions closing))
 
-    calm_end : list_all adds_none (before_first (cuts (length all)) ((adoptions ++ closing) ++ stop_entry ∷ gathered)) ≡ true
-    calm_end =
-        calm_behind (length all) (adoptions ++ closing) (stop_entry ∷ gathered)
+    unfailed_end : list_all adds_none (before_first (cuts (length all)) ((adoptions ++ closing) ++ stop_entry ∷ gathered)) ≡ true
+    unfailed_end =
+        unfailed_behind (length all) (adoptions ++ closing) (stop_entry ∷ gathered)
         (all_append adds_none adoptions closing can.adopts can.ends_none)
-        (calm_at_stop (length all) first_worker gathered)
+        (unfailed_at_stop (length all) first_worker gathered)
 
     over : (es : List Entry) → list_all is_between es ≡ true → list_all (posts_over (length all)) es ≡ true
     over es h =
@@ -226,10 +226,10 @@ module _ (w : Setting) (h : List Entry) (all : List Posting) (xs : List Wait) (s
           (all_append (posts_over (length all)) adoptions closing (over adoptions can.adopted) (over closing can.ends))
           (all_weaker is_other (posts_over (length all)) (other_over (length all)) gathered
           (other_all w (past_of w after_stop) xs)));
-      calm = λ some.
+      unfailed = λ some.
           subst
           (λ (l : List Entry). list_all adds_none (before_first (cuts (length all)) (l ++ ((adoptions ++ closing) ++ stop_entry ∷ gathered))) ≡ true)
-          (sym (can.calm some)) calm_end;
+          (sym (can.unfailed some)) unfailed_end;
     }
 
     -- those that were told before are those that are finished before the end
@@ -240,7 +240,7 @@ module _ (w : Setting) (h : List Entry) (all : List Posting) (xs : List Wait) (s
 
     -- those that had been told when a posting was asked for are those that are finished before that one
     pub earlier_end : (j k : ℕ) → k ≤ length ts → told_places (take k ts) ≡ finished_before w h (length all) j
-        → told_places (take k said_all) ≡ finished_before w at_end (length all) j
+        → told_places (take k sent_all) ≡ finished_before w at_end (length all) j
     earlier_end j k within are =
         first_told k ts (map told_of (filter is_finished settled_waits)) within
         ∙ are
@@ -248,7 +248,7 @@ module _ (w : Setting) (h : List Entry) (all : List Posting) (xs : List Wait) (s
         ∙ ap (λ (l : List Entry). finished_before w l (length all) j) more_is
 
     -- and those that were told are in the order of the record
-    pub order_end : told_places said_all ≡ order_alone w at_end first_worker (length all)
+    pub order_end : told_places sent_all ≡ order_alone w at_end first_worker (length all)
     order_end =
         stands_ended w h more (length all) ts xs settled_waits grows (places_settled w after_stop xs)
         (all_finished w (after_stop ++ gathered) settled_waits (subst (IsLegal w) (sym stop_gathers) can.legal) stopped_end

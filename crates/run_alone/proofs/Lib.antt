@@ -17,6 +17,6 @@ pub mod Starting
 pub mod Stepping
 pub mod Stopping
 pub mod Taking
-pub mod Touring
+pub mod Completing
 pub mod Turns
 pub mod Waiting

@@ -9,9 +9,9 @@ use Rattle.run_theorem.specs.declared.front.Next.TheVariants as next
 use Rattle.outside_traits.specs.Causes.{Rose}
 use Rattle.run_theorem.specs.Calls.{After, Asks, IsQuiet, NoLongerTold, most_postings}
 use Rattle.run_theorem.specs.Calls.{IsOver as Over, failed, most, none_left}
-use Rattle.run_theorem.specs.Dealings.{Brought, Dealings, IsNew, Said}
-use Rattle.run_cells.specs.Crews.{State}
-use Rattle.run_posts.specs.Fates.{Wait}
+use Rattle.run_theorem.specs.Exchange.{Received, Exchange, IsNew, Sent}
+use Rattle.run_cells.specs.RunStates.{State}
+use Rattle.run_posts.specs.CallStates.{Wait}
 use Rattle.run_posts.specs.Telling.{TellsOn}
 use Rattle.run_alone.specs.Between.{Answered, Between, Brings, Closed, Passed}
 use Rattle.run_alone.specs.Overs.{IsOver, LeavesNone, GaveNone, asks, most_waits}
@@ -19,38 +19,38 @@ use Rattle.run_alone.proofs.Asking.{brings_next, ends_next, taken_looks, waits_n
 use Rattle.run_alone.proofs.Taking.{still_halted}
 
 -- What passed with a front since it was new until a look at it, before which so many in a row found no posting.
-pub record IsAt (new : Dealings) (s : State) (xs : List Wait) (n : ℕ) (calm : Bool) (looks : ℕ) (d : Dealings) : Type 0 where
+pub record IsAt (new : Exchange) (s : State) (xs : List Wait) (n : ℕ) (unfailed : Bool) (looks : ℕ) (d : Exchange) : Type 0 where
   pub passed : Passed s xs n d
-  pub since : new.brought.faults ≤ d.brought.faults
-  pub waits : d.brought.waits ≡ looks
+  pub since : new.received.faults ≤ d.received.faults
+  pub waits : d.received.waits ≡ looks
   pub few : looks ≤ most_waits
-  pub going : d.brought.ended ≡ false
-  pub notes_failed : calm ≡ false → d.said.notes_failed ≡ true
-  pub seen : 0 < looks → d.brought.seen ≡ length d.said.told
+  pub going : d.received.ended ≡ false
+  pub notes_failed : unfailed ≡ false → d.sent.notes_failed ≡ true
+  pub seen : 0 < looks → d.received.seen ≡ length d.sent.told
 
 -- what a front has when it is asked for a posting
-abbrev pub Came : {F : Type 0} → (ProgramParts → F → F → Dealings → Type 0) → ProgramParts → F → F → Next → Type 0
-Came {F} dealt parts old now which =
-    (first : F) (before : Dealings) → dealt parts first old before → before.brought.ended ≡ false
-    → before.said.halted ≡ false → IsQuiet before → After (dealt parts first now) (Asks parts which before)
+abbrev pub Came : {F : Type 0} → (ProgramParts → F → F → Exchange → Type 0) → ProgramParts → F → F → Next → Type 0
+Came {F} exchanged parts old now which =
+    (first : F) (before : Exchange) → exchanged parts first old before → before.received.ended ≡ false
+    → before.sent.halted ≡ false → IsQuiet before → After (exchanged parts first now) (Asks parts which before)
 
 -- the same of what is told
-pub tells_under : {F : Type 0} (dealt : ProgramParts → F → F → Dealings → Type 0) {p q : ProgramParts} (old now : F) (xs : List Wait)
-    (P : Dealings → Dealings → Type 0) → p ≡ q → TellsOn (dealt p) old now xs P → TellsOn (dealt q) old now xs P
-tells_under dealt old now xs P e t = coe 0 1 (i. TellsOn (dealt (e i)) old now xs P) t
+pub tells_under : {F : Type 0} (exchanged : ProgramParts → F → F → Exchange → Type 0) {p q : ProgramParts} (old now : F) (xs : List Wait)
+    (P : Exchange → Exchange → Type 0) → p ≡ q → TellsOn (exchanged p) old now xs P → TellsOn (exchanged q) old now xs P
+tells_under exchanged old now xs P e t = coe 0 1 (i. TellsOn (exchanged (e i)) old now xs P) t
 
 -- what passed with a front since some call, where something passed before
-abbrev pub Looked : {F : Type 0} → (ProgramParts → F → F → Dealings → Type 0) → ProgramParts → F → F
-    → (Dealings → Type 0) → (Dealings → Dealings → Type 0) → Type 0
-Looked {F} dealt parts old now Was Is =
-    (first : F) (before : Dealings) → dealt parts first old before → IsNew before → Was before
-    → After (dealt parts first now) (Is before)
+abbrev pub Looked : {F : Type 0} → (ProgramParts → F → F → Exchange → Type 0) → ProgramParts → F → F
+    → (Exchange → Type 0) → (Exchange → Exchange → Type 0) → Type 0
+Looked {F} exchanged parts old now Was Is =
+    (first : F) (before : Exchange) → exchanged parts first old before → IsNew before → Was before
+    → After (exchanged parts first now) (Is before)
 
 -- before the first look
-pub at_first : {s : State} {xs : List Wait} {n : ℕ} (d : Dealings) → Passed s xs n d → IsNew d → IsAt d s xs n true 0 d
+pub at_first : {s : State} {xs : List Wait} {n : ℕ} (d : Exchange) → Passed s xs n d → IsNew d → IsAt d s xs n true 0 d
 at_first d passed new = record {
   passed = passed;
-  since = le_refl d.brought.faults;
+  since = le_refl d.received.faults;
   waits = new.waits;
   few = omega arith;
   going = new.open_yet;
@@ -59,8 +59,8 @@ at_first d passed new = record {
 }
 
 -- a look after which nothing was told
-pub quiet_at : {new : Dealings} {s : State} {xs : List Wait} {n : ℕ} {calm : Bool} {looks : ℕ} {d : Dealings}
-    → IsAt new s xs n calm looks d → IsQuiet d
+pub quiet_at : {new : Exchange} {s : State} {xs : List Wait} {n : ℕ} {unfailed : Bool} {looks : ℕ} {d : Exchange}
+    → IsAt new s xs n unfailed looks d → IsQuiet d
 quiet_at x some = x.seen (subst (λ m. 0 < m) x.waits some)
 
 -- ---- what is left
@@ -69,70 +69,70 @@ rose_since : (a b c : ℕ) → a ≤ b → Rose b c → Rose a c
 rose_since a b c less rose = omega (arith, less, rose)
 
 -- what is told to be left no more is none
-no_longer : (before now : Brought) → NoLongerTold before now → (ps : List Posting) → now.left ≡ Some ps → ⊥
+no_longer : (before now : Received) → NoLongerTold before now → (ps : List Posting) → now.left ≡ Some ps → ⊥
 no_longer before now gone ps is = none_some ps (sym gone.0 ∙ is)
   where
     none_some : (qs : List Posting) → None ≡ Some qs → ⊥
     none_some qs e = cc
 
 -- of a front that has none any more
-ends_left : {parts : ProgramParts} (new before now : Dealings) → new.brought.faults ≤ before.brought.faults
+ends_left : {parts : ProgramParts} (new before now : Exchange) → new.received.faults ≤ before.received.faults
     → Asks parts next.End before now → LeavesNone new now
 ends_left new before now since asked ps is =
     ⊎_elim
-    (λ (same : now.brought.left ≡ before.brought.left). by (sym same ∙ is) (asked.came).over)
-    (λ (gone : NoLongerTold before.brought now.brought). absurd (no_longer before.brought now.brought gone ps is))
+    (λ (same : now.received.left ≡ before.received.left). by (sym same ∙ is) (asked.came).over)
+    (λ (gone : NoLongerTold before.received now.received). absurd (no_longer before.received now.received gone ps is))
     (asked.came).none.left
   where
-    by : before.brought.left ≡ Some ps → Over before.brought now.brought
-        → (ps ≡ []) ⊎ (now.said.halted ≡ true) ⊎ (now.brought.waits ≡ most_waits)
-        ⊎ (most_postings ≤ length now.brought.given) ⊎ Rose new.brought.faults now.brought.faults
+    by : before.received.left ≡ Some ps → Over before.received now.received
+        → (ps ≡ []) ⊎ (now.sent.halted ≡ true) ⊎ (now.received.waits ≡ most_waits)
+        ⊎ (most_postings ≤ length now.received.given) ⊎ Rose new.received.faults now.received.faults
     by was (none_left all) = inl (all ps was)
     by was (failed rose) =
-        inr (inr (inr (inr (rose_since new.brought.faults before.brought.faults now.brought.faults since rose))))
+        inr (inr (inr (inr (rose_since new.received.faults before.received.faults now.received.faults since rose))))
     by was (most many) =
         inr (inr (inr (inl (subst (λ (given : List Posting). most_postings ≤ length given) (sym (asked.came).none.given) many))))
 
 -- of one that was asked no more
-over_left : (new d : Dealings) → d.brought.ended ≡ false → IsOver d → LeavesNone new d
+over_left : (new d : Exchange) → d.received.ended ≡ false → IsOver d → LeavesNone new d
 over_left new d going (inl ended) ps is = absurd (false≢true (sym going ∙ ended))
 over_left new d going (inr (inl halted)) ps is = inr (inl halted)
 over_left new d going (inr (inr (inl waits))) ps is = inr (inr (inl waits))
 over_left new d going (inr (inr (inr many))) ps is = inr (inr (inr (inl many)))
 
--- once more was said to it
-pub left_then : (new before now : Dealings) → now.brought ≡ before.brought
-    → (now.said.halted ≡ false → before.said.halted ≡ false) → LeavesNone new before → LeavesNone new now
-left_then new before now same calm left ps is =
-    by (left ps (ap (λ (b : Brought). b.left) (sym same) ∙ is))
+-- once more was sent to it
+pub left_then : (new before now : Exchange) → now.received ≡ before.received
+    → (now.sent.halted ≡ false → before.sent.halted ≡ false) → LeavesNone new before → LeavesNone new now
+left_then new before now same unfailed left ps is =
+    by (left ps (ap (λ (b : Received). b.left) (sym same) ∙ is))
   where
-    by : (ps ≡ []) ⊎ (before.said.halted ≡ true) ⊎ (before.brought.waits ≡ most_waits)
-        ⊎ (most_postings ≤ length before.brought.given) ⊎ Rose new.brought.faults before.brought.faults
-        → (ps ≡ []) ⊎ (now.said.halted ≡ true) ⊎ (now.brought.waits ≡ most_waits)
-        ⊎ (most_postings ≤ length now.brought.given) ⊎ Rose new.brought.faults now.brought.faults
+    by : (ps ≡ []) ⊎ (before.sent.halted ≡ true) ⊎ (before.received.waits ≡ most_waits)
+        ⊎ (most_postings ≤ length before.received.given) ⊎ Rose new.received.faults before.received.faults
+        → (ps ≡ []) ⊎ (now.sent.halted ≡ true) ⊎ (now.received.waits ≡ most_waits)
+        ⊎ (most_postings ≤ length now.received.given) ⊎ Rose new.received.faults now.received.faults
     by (inl none) = inl none
-    by (inr (inl halted)) = inr (inl (still_halted before.said.halted now.said.halted calm halted))
-    by (inr (inr (inl waits))) = inr (inr (inl (ap (λ (b : Brought). b.waits) same ∙ waits)))
+    by (inr (inl halted)) = inr (inl (still_halted before.sent.halted now.sent.halted unfailed halted))
+    by (inr (inr (inl waits))) = inr (inr (inl (ap (λ (b : Received). b.waits) same ∙ waits)))
     by (inr (inr (inr (inl many)))) =
-        inr (inr (inr (inl (subst (λ (b : Brought). most_postings ≤ length b.given) (sym same) many))))
+        inr (inr (inr (inl (subst (λ (b : Received). most_postings ≤ length b.given) (sym same) many))))
     by (inr (inr (inr (inr rose)))) =
-        inr (inr (inr (inr (subst (λ (b : Brought). Rose new.brought.faults b.faults) (sym same) rose))))
+        inr (inr (inr (inr (subst (λ (b : Received). Rose new.received.faults b.faults) (sym same) rose))))
 
-module _ {new : Dealings} {s : State} {xs : List Wait} {n : ℕ} {calm : Bool} {looks : ℕ} {before : Dealings}
-    (x : IsAt new s xs n calm looks before) {parts : ProgramParts} (dealt : Dealings → Type 0) where
+module _ {new : Exchange} {s : State} {xs : List Wait} {n : ℕ} {unfailed : Bool} {looks : ℕ} {before : Exchange}
+    (x : IsAt new s xs n unfailed looks before) {parts : ProgramParts} (exchanged : Exchange → Type 0) where
   -- a posting was given, and taken in
-  pub at_posting : {t : State} {ys : List Wait} {m : ℕ} {after : Bool} (p : Posting) (dealt_now : Dealings → Type 0)
-      → before.said.halted ≡ false → After dealt (Asks parts (next.Posting p) before)
-      → ((mid : Dealings) → dealt mid → Brings s xs n p mid → After dealt_now (Answered t ys m after mid))
-      → After dealt_now (IsAt new t ys m after 0)
-  at_posting p dealt_now running asked take =
+  pub at_posting : {t : State} {ys : List Wait} {m : ℕ} {after : Bool} (p : Posting) (exchanged_now : Exchange → Type 0)
+      → before.sent.halted ≡ false → After exchanged (Asks parts (next.Posting p) before)
+      → ((mid : Exchange) → exchanged mid → Brings s xs n p mid → After exchanged_now (Answered t ys m after mid))
+      → After exchanged_now (IsAt new t ys m after 0)
+  at_posting p exchanged_now running asked take =
       let taken = take asked.0 asked.1 (brings_next x.passed running asked.2) in
-      let looked = taken_looks (taken.2).said (asked.2).came.waits (asked.2).came.ended in (
+      let looked = taken_looks (taken.2).sent (asked.2).came.waits (asked.2).came.ended in (
         taken.0,
         taken.1,
         record {
           passed = (taken.2).passed;
-          since = subst (λ (b : Brought). new.brought.faults ≤ b.faults) (sym (taken.2).said.brought)
+          since = subst (λ (b : Received). new.received.faults ≤ b.faults) (sym (taken.2).sent.received)
               (le_trans x.since (asked.2).came.faults);
           waits = looked.0;
           few = omega arith;
@@ -143,7 +143,7 @@ module _ {new : Dealings} {s : State} {xs : List Wait} {n : ℕ} {calm : Bool} {
       )
 
   -- none yet
-  pub at_wait : looks < most_waits → After dealt (Asks parts next.NotYet before) → After dealt (IsAt new s xs n calm (looks + 1))
+  pub at_wait : looks < most_waits → After exchanged (Asks parts next.NotYet before) → After exchanged (IsAt new s xs n unfailed (looks + 1))
   at_wait few asked =
       let one : suc looks ≡ looks + 1 = omega arith in
       let w = waits_next x.passed asked.2 in (
@@ -155,13 +155,13 @@ module _ {new : Dealings} {s : State} {xs : List Wait} {n : ℕ} {calm : Bool} {
           waits = w.1 ∙ ap (λ m. suc m) x.waits ∙ one;
           few = omega (arith, few);
           going = w.2;
-          notes_failed = λ e. ap (λ (d : Said). d.notes_failed) (asked.2).silent ∙ x.notes_failed e;
-          seen = λ some. (asked.2).seen ∙ ap (λ (d : Said). length d.told) (sym (asked.2).silent);
+          notes_failed = λ e. ap (λ (d : Sent). d.notes_failed) (asked.2).silent ∙ x.notes_failed e;
+          seen = λ some. (asked.2).seen ∙ ap (λ (d : Sent). length d.told) (sym (asked.2).silent);
         },
       )
 
   -- none any more
-  pub at_end : After dealt (Asks parts next.End before) → After dealt (λ now. Closed s xs n calm now × LeavesNone new now)
+  pub at_end : After exchanged (Asks parts next.End before) → After exchanged (λ now. Closed s xs n unfailed now × LeavesNone new now)
   at_end asked =
       let w = ends_next x.passed asked.2 in (
         asked.0,
@@ -170,8 +170,8 @@ module _ {new : Dealings} {s : State} {xs : List Wait} {n : ℕ} {calm : Bool} {
           record {
             passed = w.0;
             over = w.1;
-            notes_failed = λ e. ap (λ (d : Said). d.notes_failed) (asked.2).silent ∙ x.notes_failed e;
-            seen = λ none. (asked.2).seen ∙ ap (λ (d : Said). length d.told) (sym (asked.2).silent);
+            notes_failed = λ e. ap (λ (d : Sent). d.notes_failed) (asked.2).silent ∙ x.notes_failed e;
+            seen = λ none. (asked.2).seen ∙ ap (λ (d : Sent). length d.told) (sym (asked.2).silent);
           },
           ends_left new before asked.0 x.since asked.2,
         ),
@@ -182,13 +182,13 @@ all_looks : (looks : ℕ) → most_waits ≤ looks → looks ≤ most_waits → 
 all_looks looks least few = omega (arith, least, few)
 
 -- why none is asked for
-abbrev pub Stops : ℕ → Bool → ℕ → Dealings → Type 0
-Stops n calm looks d =
-    (calm ≡ false) ⊎ (d.said.halted ≡ true) ⊎ (most_waits ≤ looks) ⊎ (most_postings ≤ n)
+abbrev pub Stops : ℕ → Bool → ℕ → Exchange → Type 0
+Stops n unfailed looks d =
+    (unfailed ≡ false) ⊎ (d.sent.halted ≡ true) ⊎ (most_waits ≤ looks) ⊎ (most_postings ≤ n)
 
-pub at_stop : {new : Dealings} {s : State} {xs : List Wait} {n : ℕ} {calm : Bool} {looks : ℕ} (d : Dealings)
-    → IsAt new s xs n calm looks d → Stops n calm looks d → Closed s xs n calm d × LeavesNone new d
-at_stop {new = new} {n = n} {calm = calm} {looks = looks} d x stops = (
+pub at_stop : {new : Exchange} {s : State} {xs : List Wait} {n : ℕ} {unfailed : Bool} {looks : ℕ} (d : Exchange)
+    → IsAt new s xs n unfailed looks d → Stops n unfailed looks d → Closed s xs n unfailed d × LeavesNone new d
+at_stop {new = new} {n = n} {unfailed = unfailed} {looks = looks} d x stops = (
   record {
     passed = x.passed;
     over = over stops;
@@ -198,44 +198,44 @@ at_stop {new = new} {n = n} {calm = calm} {looks = looks} d x stops = (
   over_left new d x.going (over stops),
 )
   where
-    seen : GaveNone d → d.brought.seen ≡ length d.said.told
+    seen : GaveNone d → d.received.seen ≡ length d.sent.told
     seen (inl e) = absurd (false≢true (sym x.going ∙ e))
     seen (inr some) = quiet_at x some
 
-    over : Stops n calm looks d → IsOver d
-    over (inl e) = inr (inl (still_halted d.said.notes_failed d.said.halted x.passed.mutes (x.notes_failed e)))
+    over : Stops n unfailed looks d → IsOver d
+    over (inl e) = inr (inl (still_halted d.sent.notes_failed d.sent.halted x.passed.mutes (x.notes_failed e)))
     over (inr (inl e)) = inr (inl e)
     over (inr (inr (inl e))) = inr (inr (inl (x.waits ∙ all_looks looks e x.few)))
     over (inr (inr (inr e))) = inr (inr (inr (subst (λ (m : ℕ). most_postings ≤ m) (sym x.passed.count) e)))
 
 -- why none was asked for
-pub stops_by : {n : ℕ} {calm : Bool} {looks : ℕ} (d : Dealings) (halted going : Bool) → halted ≡ d.said.halted
-    → going ≡ asks calm halted looks n → going ≡ false → Stops n calm looks d
-stops_by {n} {calm} {looks} d halted going said is none = by calm halted refl said (sym is ∙ none)
+pub stops_by : {n : ℕ} {unfailed : Bool} {looks : ℕ} (d : Exchange) (halted going : Bool) → halted ≡ d.sent.halted
+    → going ≡ asks unfailed halted looks n → going ≡ false → Stops n unfailed looks d
+stops_by {n} {unfailed} {looks} d halted going sent is none = by unfailed halted refl sent (sym is ∙ none)
   where
-    last : (b : Bool) → nat_lt looks most_waits ≡ b → (b && nat_lt n most_postings) ≡ false → Stops n calm looks d
+    last : (b : Bool) → nat_lt looks most_waits ≡ b → (b && nat_lt n most_postings) ≡ false → Stops n unfailed looks d
     last false e h = inr (inr (inl (ltb-false looks most_waits e)))
     last true e h = inr (inr (inr (ltb-false n most_postings h)))
 
-    by : (c s : Bool) → calm ≡ c → s ≡ d.said.halted → asks c s looks n ≡ false → Stops n calm looks d
+    by : (c s : Bool) → unfailed ≡ c → s ≡ d.sent.halted → asks c s looks n ≡ false → Stops n unfailed looks d
     by false s e f h = inl e
     by true true e f h = inr (inl (sym f))
     by true false e f h = last (nat_lt looks most_waits) refl h
 
 -- one was asked for
-pub asks_by : (n looks : ℕ) (calm halted going : Bool) → going ≡ asks calm halted looks n → going ≡ true
-    → (calm ≡ true) × (looks < most_waits) × (n < most_postings)
-asks_by n looks calm halted going is so =
-    let a = and_parts ((calm && not halted) && nat_lt looks most_waits) (nat_lt n most_postings) (sym is ∙ so) in
-    let b = and_parts (calm && not halted) (nat_lt looks most_waits) a.0 in
-    let e = and_parts calm (not halted) b.0 in
+pub asks_by : (n looks : ℕ) (unfailed halted going : Bool) → going ≡ asks unfailed halted looks n → going ≡ true
+    → (unfailed ≡ true) × (looks < most_waits) × (n < most_postings)
+asks_by n looks unfailed halted going is so =
+    let a = and_parts ((unfailed && not halted) && nat_lt looks most_waits) (nat_lt n most_postings) (sym is ∙ so) in
+    let b = and_parts (unfailed && not halted) (nat_lt looks most_waits) a.0 in
+    let e = and_parts unfailed (not halted) b.0 in
     (e.0, ltb-true looks most_waits b.1, ltb-true n most_postings a.1)
 
 -- so the front had not halted
-pub runs_so : (n looks : ℕ) (calm halted said : Bool) → halted ≡ said → asks calm halted looks n ≡ true → said ≡ false
-runs_so n looks false halted said is so = absurd (false≢true so)
-runs_so n looks true true said is so = absurd (false≢true so)
-runs_so n looks true false said is so = sym is
+pub runs_so : (n looks : ℕ) (unfailed halted sent : Bool) → halted ≡ sent → asks unfailed halted looks n ≡ true → sent ≡ false
+runs_so n looks false halted sent is so = absurd (false≢true so)
+runs_so n looks true true sent is so = absurd (false≢true so)
+runs_so n looks true false sent is so = sym is
 
 -- how many looks there may still be
 abbrev pub looks_left : ℕ → ℕ → ℕ
@@ -248,40 +248,40 @@ pub fewer_wait : (n looks : ℕ) → looks < most_waits → looks_left n (looks 
 fewer_wait n looks within = omega (arith, within)
 
 -- what came, of the same program and the same answer
-pub came_as : {F : Type 0} (dealt : ProgramParts → F → F → Dealings → Type 0) {p q : ProgramParts} (old now : F) {v w : Next}
-    → p ≡ q → v ≡ w → Came dealt p old now v → Came dealt q old now w
-came_as dealt old now e f t = coe 0 1 (i. Came dealt (e i) old now (f i)) t
+pub came_as : {F : Type 0} (exchanged : ProgramParts → F → F → Exchange → Type 0) {p q : ProgramParts} (old now : F) {v w : Next}
+    → p ≡ q → v ≡ w → Came exchanged p old now v → Came exchanged q old now w
+came_as exchanged old now e f t = coe 0 1 (i. Came exchanged (e i) old now (f i)) t
 
--- a run that is calm
-pub calm_between : {s : State} {xs : List Wait} {n : ℕ} {calm : Bool} → calm ≡ true → Between s xs n calm → Between s xs n true
-calm_between {s} {xs} {n} e b = subst (λ (x : Bool). Between s xs n x) e b
+-- a run that is unfailed
+pub unfailed_between : {s : State} {xs : List Wait} {n : ℕ} {unfailed : Bool} → unfailed ≡ true → Between s xs n unfailed → Between s xs n true
+unfailed_between {s} {xs} {n} e b = subst (λ (x : Bool). Between s xs n x) e b
 
 -- none is asked for, or none came
-pub closes_at : {new : Dealings} {s : State} {xs : List Wait} {n : ℕ} {calm : Bool} {looks : ℕ} {dealt : Dealings → Type 0} (halted going : Bool)
-    → ((d : Dealings) → dealt d → halted ≡ d.said.halted) → going ≡ asks calm halted looks n → going ≡ false
-    → After dealt (IsAt new s xs n calm looks) → After dealt (λ now. Closed s xs n calm now × LeavesNone new now)
-closes_at halted going said is none at =
-    (at.0, at.1, at_stop at.0 at.2 (stops_by at.0 halted going (said at.0 at.1) is none))
+pub closes_at : {new : Exchange} {s : State} {xs : List Wait} {n : ℕ} {unfailed : Bool} {looks : ℕ} {exchanged : Exchange → Type 0} (halted going : Bool)
+    → ((d : Exchange) → exchanged d → halted ≡ d.sent.halted) → going ≡ asks unfailed halted looks n → going ≡ false
+    → After exchanged (IsAt new s xs n unfailed looks) → After exchanged (λ now. Closed s xs n unfailed now × LeavesNone new now)
+closes_at halted going sent is none at =
+    (at.0, at.1, at_stop at.0 at.2 (stops_by at.0 halted going (sent at.0 at.1) is none))
 
 -- ---- as the call hands its number
 
-pub asks_so : (n looks : ℕ) (calm halted going : Bool) (m : ℕ) → m ≡ n → going ≡ asks calm halted looks m → going ≡ true
-    → (calm ≡ true) × (looks < most_waits) × (n < most_postings)
-asks_so n looks calm halted going m e is so =
-    asks_by n looks calm halted going (subst (λ (k : ℕ). going ≡ asks calm halted looks k) e is) so
+pub asks_so : (n looks : ℕ) (unfailed halted going : Bool) (m : ℕ) → m ≡ n → going ≡ asks unfailed halted looks m → going ≡ true
+    → (unfailed ≡ true) × (looks < most_waits) × (n < most_postings)
+asks_so n looks unfailed halted going m e is so =
+    asks_by n looks unfailed halted going (subst (λ (k : ℕ). going ≡ asks unfailed halted looks k) e is) so
 
-pub closes_so : {new : Dealings} {s : State} {xs : List Wait} {n : ℕ} {calm : Bool} {looks : ℕ} {dealt : Dealings → Type 0} (halted going : Bool)
-    (m : ℕ) → m ≡ n → ((d : Dealings) → dealt d → halted ≡ d.said.halted) → going ≡ asks calm halted looks m
-    → going ≡ false → After dealt (IsAt new s xs n calm looks)
-    → After dealt (λ now. Closed s xs n calm now × LeavesNone new now)
-closes_so {calm = calm} {looks = looks} halted going m e said is none at =
-    closes_at halted going said (subst (λ (k : ℕ). going ≡ asks calm halted looks k) e is) none at
+pub closes_so : {new : Exchange} {s : State} {xs : List Wait} {n : ℕ} {unfailed : Bool} {looks : ℕ} {exchanged : Exchange → Type 0} (halted going : Bool)
+    (m : ℕ) → m ≡ n → ((d : Exchange) → exchanged d → halted ≡ d.sent.halted) → going ≡ asks unfailed halted looks m
+    → going ≡ false → After exchanged (IsAt new s xs n unfailed looks)
+    → After exchanged (λ now. Closed s xs n unfailed now × LeavesNone new now)
+closes_so {unfailed = unfailed} {looks = looks} halted going m e sent is none at =
+    closes_at halted going sent (subst (λ (k : ℕ). going ≡ asks unfailed halted looks k) e is) none at
 
 -- what passed, under the same program
-pub after_under : {F : Type 0} {P : Dealings → Type 0} (dealt : ProgramParts → F → F → Dealings → Type 0) {p q : ProgramParts}
-    (first now : F) → p ≡ q → After (dealt p first now) P → After (dealt q first now) P
-after_under {P = P} dealt first now e x = coe 0 1 (i. After (dealt (e i) first now) P) x
+pub after_under : {F : Type 0} {P : Exchange → Type 0} (exchanged : ProgramParts → F → F → Exchange → Type 0) {p q : ProgramParts}
+    (first now : F) → p ≡ q → After (exchanged p first now) P → After (exchanged q first now) P
+after_under {P = P} exchanged first now e x = coe 0 1 (i. After (exchanged (e i) first now) P) x
 
-pub dealt_under : {F : Type 0} (dealt : ProgramParts → F → F → Dealings → Type 0) {p q : ProgramParts} (first now : F)
-    (d : Dealings) → p ≡ q → dealt p first now d → dealt q first now d
-dealt_under dealt first now d e x = coe 0 1 (i. dealt (e i) first now d) x
+pub exchanged_under : {F : Type 0} (exchanged : ProgramParts → F → F → Exchange → Type 0) {p q : ProgramParts} (first now : F)
+    (d : Exchange) → p ≡ q → exchanged p first now d → exchanged q first now d
+exchanged_under exchanged first now d e x = coe 0 1 (i. exchanged (e i) first now d) x

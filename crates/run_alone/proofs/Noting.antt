@@ -14,14 +14,14 @@ use Rattle.office_core.specs.Past.{Past, some_entry, stops}
 use Rattle.office_core.specs.Accepted.{past_of}
 use Rattle.office_core.specs.Calls.{sent_in}
 use Rattle.office_core.specs.Legal.{IsLegal}
-use Rattle.run_theorem.specs.Dealings.{Told}
+use Rattle.run_theorem.specs.Exchange.{Told}
 use Rattle.run_order_laws.specs.Entries.{posts_under}
 use Rattle.run_order_laws.proofs.Growing.{entries_past, legal_front}
 use Rattle.run_order_laws.proofs.Ordering.{before_none, before_cut, before_uncut, cut_at, whole_past}
 use Rattle.run_quiet_laws.specs.Ends.{stop_entry}
 use Rattle.run_record.specs.Order.{before_first}
 use Rattle.run_record.specs.Outside.{note_of, notes, console_calls}
-use Rattle.run_posts.specs.Fates.{Wait}
+use Rattle.run_posts.specs.CallStates.{Wait}
 use Rattle.run_posts.proofs.Opening.{all_posts_of}
 use Rattle.run_trip_laws.specs.Going.{goes_to, is_silent}
 use Rattle.run_trip_laws.proofs.Growing.{consoles_on, legal_parts}
@@ -180,7 +180,7 @@ noted_step w h all xs p swept ts can noted is = by (length all) refl
         silent_posted (cut_at k) (posted w h all xs p swept) (swept ++ gathered w h all xs p swept) (posts_cut k e)
         (λ none.
         subst (λ (l : List Entry). list_all is_silent (before_first (cut_at k) (l ++ gathered w h all xs p swept)) ≡ true)
-        (sym (can.calm (some k e) none))
+        (sym (can.unfailed (some k e) none))
         (silent_before (cut_at k) (gathered w h all xs p swept)
         (collected_all is_silent (λ m o. refl) w (past_of w (after_sweep w h all xs p swept)) (waiting w h all xs p swept))))
 
@@ -211,7 +211,7 @@ noted_end w h all xs swept adoptions closing ts can adopts closes noted was = by
         subst
         (λ (l : List Entry). list_all is_silent (before_first (cut_at i)
         (l ++ ((adoptions ++ closing) ++ stop_entry ∷ at_end_gathered w h all xs swept adoptions closing))) ≡ true)
-        (sym (can.calm (some i e)))
+        (sym (can.unfailed (some i e)))
         (silent_behind (cut_at i) (adoptions ++ closing)
         (stop_entry ∷ at_end_gathered w h all xs swept adoptions closing)
         (all_append is_silent adoptions closing adopts closes) refl)

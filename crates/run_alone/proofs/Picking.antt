@@ -11,10 +11,10 @@ use Rattle.run_quiet_laws.proofs.Ending.{before_the_stop}
 use Rattle.run_record.specs.declared.record.Record.{Record}
 use Rattle.run_record.specs.Quiet.{before_stop}
 use Rattle.run_sweep.specs.Courses.{Goes, adopts, is_by_worker, round, stays, works}
-use Rattle.run_cells.specs.Crews.{State, Stays, Team, closing, events_of, past_in}
+use Rattle.run_cells.specs.RunStates.{State, Stays, Team, closing, events_of, past_in}
 use Rattle.run_cells.specs.Rounds.{Adopted}
 use Rattle.run_cells.specs.Turns.{Adoptions, and_next, nobody_yet}
-use Rattle.run_posts.specs.Fates.{Wait, all_collected, posted_entries}
+use Rattle.run_posts.specs.CallStates.{Wait, all_collected, posted_entries}
 use Rattle.run_posts.proofs.Opening.{all_posts_of}
 use Rattle.run_sweep.specs.Swept.{Swept}
 use Rattle.session_turn.proofs.Histories.{some_of}
@@ -69,7 +69,7 @@ none_stops true = refl
 none_stops false = refl
 
 -- the run is ended
-pub goes_ended : {s0 s1 s2 s3 s4 : State} {calm : Bool} {run : Record} (xs : List Wait) → Rested calm s0 s1 → Adopted s1 s2
+pub goes_ended : {s0 s1 s2 s3 s4 : State} {unfailed : Bool} {run : Record} (xs : List Wait) → Rested unfailed s0 s1 → Adopted s1 s2
     → Stays s2 s3 (closing (past_in s2) ++ stop_entry ∷ []) → Stays s3 s4 (all_collected s3.setting (past_in s3) xs)
     → Team s2 → run.history.entries.items ≡ s4.history → run.sessions ≡ events_of s4.stands → GoesTo s0 run
 goes_ended {s0} {s1} {s2} {s3} {s4} {run = run} xs rest adopt stop collect team history sessions = record {

@@ -7,13 +7,13 @@ use Rattle.office_core.specs.Limits.{Limits, first_worker}
 use Rattle.office_core.specs.Past.{closes, some_entry}
 use Rattle.office_core.specs.Legal.{IsLegal}
 use Rattle.run_theorem.specs.Calls.{After}
-use Rattle.run_theorem.specs.Dealings.{Brought, Dealings, Told}
+use Rattle.run_theorem.specs.Exchange.{Received, Exchange, Told}
 use Rattle.run_order_laws.proofs.Growing.{legal_rest}
 use Rattle.run_quiet_laws.specs.Ends.{stop_entry}
-use Rattle.run_cells.specs.Crews.{State, Stays, Team, closing, events_of, past_in}
+use Rattle.run_cells.specs.RunStates.{State, Stays, Team, closing, events_of, past_in}
 use Rattle.run_cells.specs.Rounds.{Adopted, HasSpent}
 use Rattle.run_posts.specs.declared.pending.Pendings.{Pendings}
-use Rattle.run_posts.specs.Fates.{Wait, all_collected, is_finished, is_open, settled_in, told_of, waits}
+use Rattle.run_posts.specs.CallStates.{Wait, all_collected, is_finished, is_open, settled_in, told_of, waits}
 use Rattle.run_posts.specs.Open.{IsOpen, StandsInOrder}
 use Rattle.run_posts.proofs.Opening.{is_between, open_between}
 use Rattle.run_posts.specs.Telling.{AreExpected, TellsAll}
@@ -28,7 +28,7 @@ use Rattle.run_alone.proofs.Ended.{Finishes, Leaves, expected_end, has_ended}
 use Rattle.run_alone.proofs.Finishing.{adoptions_between, closing_between}
 use Rattle.run_alone.proofs.Rests.{quiet_adopted}
 use Rattle.run_alone.proofs.Stepping.{all_append}
-use Rattle.run_alone.proofs.Taking.{calm_quiet, nothing_more}
+use Rattle.run_alone.proofs.Taking.{unfailed_quiet, nothing_more}
 
 -- where no entry came, a state is the same
 pub stays_none : (old new : State) → Stays old new [] → new ≡ old
@@ -43,8 +43,8 @@ stays_none old new x =
     }
 
 -- What the calls at the end of a run gave.
-pub record Quits (calm : Bool) (s0 s1 s2 s3 s4 : State) (xs0 xs1 : List Wait) : Type 0 where
-  pub rest : Rested calm s0 s1
+pub record Quits (unfailed : Bool) (s0 s1 s2 s3 s4 : State) (xs0 xs1 : List Wait) : Type 0 where
+  pub rest : Rested unfailed s0 s1
   pub adopt : Adopted s1 s2
   pub stop : Stays s2 s3 (closing (past_in s2) ++ stop_entry ∷ [])
   pub collect : Stays s3 s4 (all_collected s3.setting (past_in s3) xs0)
@@ -54,17 +54,17 @@ pub record Quits (calm : Bool) (s0 s1 s2 s3 s4 : State) (xs0 xs1 : List Wait) : 
   pub team2 : Team s2
   pub legal : IsLegal s4.setting s4.history
 
-module _ {calm : Bool} {s0 s1 s2 s3 s4 : State} {xs0 xs1 : List Wait} {n : ℕ} (q : Quits calm s0 s1 s2 s3 s4 xs0 xs1)
-    (b : Between s0 xs0 n calm) where
+module _ {unfailed : Bool} {s0 s1 s2 s3 s4 : State} {xs0 xs1 : List Wait} {n : ℕ} (q : Quits unfailed s0 s1 s2 s3 s4 xs0 xs1)
+    (b : Between s0 xs0 n unfailed) where
   -- where there was a posting before, nothing was left to do, or nothing was done
   idle_rest : 0 < n → q.rest.more ≡ []
-  idle_rest some = by calm refl
+  idle_rest some = by unfailed refl
     where
       none_of : s1.history ≡ s0.history → q.rest.more ≡ []
       none_of same = nothing_more s0.history q.rest.more (sym q.rest.history ∙ same)
 
-      by : (c : Bool) → calm ≡ c → q.rest.more ≡ []
-      by true e = none_of (q.rest.quiet (calm_quiet s0 n some (b.quiet e))).0
+      by : (c : Bool) → unfailed ≡ c → q.rest.more ≡ []
+      by true e = none_of (q.rest.quiet (unfailed_quiet s0 n some (b.quiet e))).0
       by false e = none_of (q.rest.stopped e)
 
   abbrev finishes : Finishes s0 s1 s2 s3 s4 xs0 xs1
@@ -89,20 +89,20 @@ module _ {calm : Bool} {s0 s1 s2 s3 s4 : State} {xs0 xs1 : List Wait} {n : ℕ} 
     waits = q.waits;
   }
 
-  pub quits : (text : List ℕ) (finished : Finished) (dealt_mid dealt_now : Dealings → Type 0) (new before : Dealings)
+  pub quits : (text : List ℕ) (finished : Finished) (exchanged_mid exchanged_now : Exchange → Type 0) (new before : Exchange)
       → finished.report.program ≡ text → Leaves s2 s4 finished
-      → Closed s0 xs0 n calm before → LeavesNone new before → After dealt_mid (LeftQuiet s0 s1 before)
-      → ((mid : Dealings) → dealt_mid mid → AreExpected xs1 mid
-      → After dealt_now (TellsAll (map told_of (filter is_finished xs1)) mid))
-      → After dealt_now (λ d. Ran (record { setting = s2.setting; budget = s2.budget }) text new d finished)
-  quits text finished dealt_mid dealt_now new before program leaves closed none_left rest tell =
-      let mid : Dealings = rest.0 in
+      → Closed s0 xs0 n unfailed before → LeavesNone new before → After exchanged_mid (LeftQuiet s0 s1 before)
+      → ((mid : Exchange) → exchanged_mid mid → AreExpected xs1 mid
+      → After exchanged_now (TellsAll (map told_of (filter is_finished xs1)) mid))
+      → After exchanged_now (λ d. Ran (record { setting = s2.setting; budget = s2.budget }) text new d finished)
+  quits text finished exchanged_mid exchanged_now new before program leaves closed none_left rest tell =
+      let mid : Exchange = rest.0 in
       let left : LeftQuiet s0 s1 before mid = rest.2 in
-      let idle : 0 < length before.brought.given → q.rest.more ≡ []
+      let idle : 0 < length before.received.given → q.rest.more ≡ []
       = λ some. idle_rest (subst (λ (m : ℕ). 0 < m) closed.passed.count some) in
       let told = tell mid rest.1
-      (expected_end finishes q.team0 q.team2 q.legal before.brought.given before.said.told idle closed.passed.opens
-      (in_order closed) mid (ap (λ (x : Brought). x.given) left.noted.said.brought) left.noted.told) in (
+      (expected_end finishes q.team0 q.team2 q.legal before.received.given before.sent.told idle closed.passed.opens
+      (in_order closed) mid (ap (λ (x : Received). x.given) left.noted.sent.received) left.noted.told) in (
         told.0,
         told.1,
         ran (record { setting = s2.setting; budget = s2.budget }) text s2.history (filter is_open xs1) new told.0 finished program
@@ -110,8 +110,8 @@ module _ {calm : Bool} {s0 s1 s2 s3 s4 : State} {xs0 xs1 : List Wait} {n : ℕ} 
             closed.seen
             (record {
               told_mid = left.noted.told;
-              brought_mid = left.noted.said.brought;
-              halted_mid = left.noted.said.halted;
+              received_mid = left.noted.sent.received;
+              halted_mid = left.noted.sent.halted;
               noted = left.noted.noted closed.passed.noted;
               tells = told.2;
             })
@@ -120,22 +120,22 @@ module _ {calm : Bool} {s0 s1 s2 s3 s4 : State} {xs0 xs1 : List Wait} {n : ℕ} 
             (q.adopt.still (q.rest.still b.still))),
       )
     where
-      in_order : (c : Closed s0 xs0 n calm before)
-          → StandsInOrder s0.setting s0.history (length before.brought.given) before.said.told xs0
-      in_order c = subst (λ (m : ℕ). StandsInOrder s0.setting s0.history m before.said.told xs0) (sym c.passed.count) c.passed.order
+      in_order : (c : Closed s0 xs0 n unfailed before)
+          → StandsInOrder s0.setting s0.history (length before.received.given) before.sent.told xs0
+      in_order c = subst (λ (m : ℕ). StandsInOrder s0.setting s0.history m before.sent.told xs0) (sym c.passed.count) c.passed.order
 
   -- the same under the rules that the run began with
-  pub quits_first : (text : List ℕ) (finished : Finished) (dealt_mid dealt_now : Dealings → Type 0) (new before : Dealings)
+  pub quits_first : (text : List ℕ) (finished : Finished) (exchanged_mid exchanged_now : Exchange → Type 0) (new before : Exchange)
       → finished.report.program ≡ text → Leaves s2 s4 finished
-      → Closed s0 xs0 n calm before → LeavesNone new before → After dealt_mid (LeftQuiet s0 s1 before)
-      → ((mid : Dealings) → dealt_mid mid → AreExpected xs1 mid
-      → After dealt_now (TellsAll (map told_of (filter is_finished xs1)) mid))
-      → After dealt_now (λ d. Ran (record { setting = s0.setting; budget = s0.budget }) text new d finished)
-  quits_first text finished dealt_mid dealt_now new before program leaves closed none_left rest tell =
+      → Closed s0 xs0 n unfailed before → LeavesNone new before → After exchanged_mid (LeftQuiet s0 s1 before)
+      → ((mid : Exchange) → exchanged_mid mid → AreExpected xs1 mid
+      → After exchanged_now (TellsAll (map told_of (filter is_finished xs1)) mid))
+      → After exchanged_now (λ d. Ran (record { setting = s0.setting; budget = s0.budget }) text new d finished)
+  quits_first text finished exchanged_mid exchanged_now new before program leaves closed none_left rest tell =
       let setting : s2.setting ≡ s0.setting = q.adopt.setting ∙ q.rest.setting in
       let budget : s2.budget ≡ s0.budget = q.adopt.budget ∙ q.rest.budget in
-      coe 0 1 (i. After dealt_now (λ d. Ran (record { setting = setting i; budget = budget i }) text new d finished))
-      (quits text finished dealt_mid dealt_now new before program leaves closed none_left rest tell)
+      coe 0 1 (i. After exchanged_now (λ d. Ran (record { setting = setting i; budget = budget i }) text new d finished))
+      (quits text finished exchanged_mid exchanged_now new before program leaves closed none_left rest tell)
 
 -- ---- what is open once the run was stopped
 
@@ -146,8 +146,8 @@ open_on s t more xs all ts setting history between legal opens =
     coe 1 0 (i. IsOpen (setting i) (history i) all ts xs)
     (open_between s.setting s.history more all ts xs (coe 0 1 (i. IsLegal (setting i) (history i)) legal) between opens)
 
-pub open_stopped : {calm : Bool} {s0 s1 s2 s3 : State} {xs : List Wait} {all : List Posting} {ts : List Told}
-    → Rested calm s0 s1 → Adopted s1 s2 → Stays s2 s3 (closing (past_in s2) ++ stop_entry ∷ []) → Team s1 → Team s2
+pub open_stopped : {unfailed : Bool} {s0 s1 s2 s3 : State} {xs : List Wait} {all : List Posting} {ts : List Told}
+    → Rested unfailed s0 s1 → Adopted s1 s2 → Stays s2 s3 (closing (past_in s2) ++ stop_entry ∷ []) → Team s1 → Team s2
     → IsLegal s3.setting s3.history → IsOpen s0.setting s0.history all ts xs → IsOpen s3.setting s3.history all ts xs
 open_stopped {s0 = s0} {s1 = s1} {s2 = s2} {s3 = s3} {xs = xs} {all = all} {ts = ts} rest adopt stop team1 team2 legal opens =
     open_on s2 s3 (closing (past_in s2) ++ stop_entry ∷ []) xs all ts stop.setting stop.history
@@ -171,13 +171,13 @@ pub stop_same : {s t u : State} → t ≡ s → Stays t u (closing (past_in t) +
 stop_same {u = u} e x = coe 0 1 (i. Stays (e i) u (closing (past_in (e i)) ++ stop_entry ∷ [])) x
 
 -- the same postings under another name
-pub between_under : {s : State} {calm : Bool} (p q : Pendings) → q ≡ p → Between s (waits p) p.postings calm
-    → Between s (waits q) q.postings calm
-between_under {s} {calm} p q e b = coe 1 0 (i. Between s (waits (e i)) (e i).postings calm) b
+pub between_under : {s : State} {unfailed : Bool} (p q : Pendings) → q ≡ p → Between s (waits p) p.postings unfailed
+    → Between s (waits q) q.postings unfailed
+between_under {s} {unfailed} p q e b = coe 1 0 (i. Between s (waits (e i)) (e i).postings unfailed) b
 
-pub closed_under : {s : State} {calm : Bool} {d : Dealings} (p q : Pendings) → q ≡ p → Closed s (waits p) p.postings calm d
-    → Closed s (waits q) q.postings calm d
-closed_under {s} {calm} {d} p q e b = coe 1 0 (i. Closed s (waits (e i)) (e i).postings calm d) b
+pub closed_under : {s : State} {unfailed : Bool} {d : Exchange} (p q : Pendings) → q ≡ p → Closed s (waits p) p.postings unfailed d
+    → Closed s (waits q) q.postings unfailed d
+closed_under {s} {unfailed} {d} p q e b = coe 1 0 (i. Closed s (waits (e i)) (e i).postings unfailed d) b
 
 -- whether a session was spent, under another name
 pub spent_as : {a b : Bool} {s : State} → a ≡ b → ((b ≡ true) ↔ HasSpent s) → (a ≡ true) ↔ HasSpent s

@@ -7,22 +7,23 @@ use Rattle.behaviour_tree.specs.declared.words.Event.{Event}
 use Rattle.office_core.specs.Sessions.{births}
 use Rattle.office_core.specs.Accepted.{past_of}
 use Rattle.run_theorem.specs.Calls.{After}
-use Rattle.run_theorem.specs.Dealings.{Dealings}
+use Rattle.run_theorem.specs.Exchange.{Exchange}
 use Rattle.run_record.specs.Quiet.{IsQuiet}
+use Rattle.run_quiet_laws.proofs.Quiet.{done_all, quiet_by}
 use Rattle.run_sweep.specs.Courses.{stays}
-use Rattle.run_cells.specs.Crews.{Stand, State, Team, events_of, past_in}
+use Rattle.run_cells.specs.RunStates.{Stand, State, Team, events_of, past_in}
 use Rattle.run_cells.specs.Rounds.{Adopted, IsQuietAt}
 use Rattle.run_cells.proofs.Resting.{stands_at}
 use Rattle.run_cells.proofs.Stilling.{event_at}
 use Rattle.run_sweep.specs.Swept.{NotesBy, Swept, StaysQuiet}
 use Rattle.run_trip_laws.specs.Going.{AreSettled, NotedSoFar}
-use Rattle.run_posts.specs.Fates.{Wait}
+use Rattle.run_posts.specs.CallStates.{Wait}
 use Rattle.run_alone.specs.Between.{Between, Closed, LeftQuiet, Rested}
-use Rattle.run_alone.proofs.Taking.{calm_quiet}
+use Rattle.run_alone.proofs.Taking.{unfailed_quiet}
 
 -- ---- nothing is done
 
-pub rested_not : {calm : Bool} (s : State) → AreSettled s.setting s.history → Rested calm s s
+pub rested_not : {unfailed : Bool} (s : State) → AreSettled s.setting s.history → Rested unfailed s s
 rested_not s settled = record {
   setting = refl;
   budget = refl;
@@ -36,40 +37,40 @@ rested_not s settled = record {
   goes = stays;
 }
 
--- it was not calm, so that a note failed; or an answer halted the front, and nothing was left to do before that
-quiet_by : {s : State} {xs : List Wait} {n : ℕ} {before : Dealings} (calm stops : Bool) → Between s xs n calm
-    → Closed s xs n calm before → stops ≡ before.said.halted → (not calm || stops) ≡ true → before.said.notes_failed ≡ false
+-- a note failed; or an answer halted the front, and nothing was left to do before that
+quiet_then : {s : State} {xs : List Wait} {n : ℕ} {before : Exchange} (unfailed stops : Bool) → Between s xs n unfailed
+    → Closed s xs n unfailed before → stops ≡ before.sent.halted → (not unfailed || stops) ≡ true → before.sent.notes_failed ≡ false
     → IsQuietAt s
-quiet_by {s = s} {n = n} true stops b closed e h notes_unfailed = calm_quiet s n (closed.passed.some (sym e ∙ h)) (b.quiet refl)
-quiet_by false stops b closed e h notes_unfailed = absurd (false≢true (sym notes_unfailed ∙ closed.notes_failed refl))
+quiet_then {s = s} {n = n} true stops b closed e h notes_unfailed = unfailed_quiet s n (closed.passed.some (sym e ∙ h)) (b.quiet refl)
+quiet_then false stops b closed e h notes_unfailed = absurd (false≢true (sym notes_unfailed ∙ closed.notes_failed refl))
 
-pub quiet_not : {s : State} {xs : List Wait} {n : ℕ} {calm stops : Bool} (dealt : Dealings → Type 0) (before : Dealings)
-    → Between s xs n calm → dealt before → Closed s xs n calm before → stops ≡ before.said.halted
-    → (not calm || stops) ≡ true → After dealt (LeftQuiet s s before)
-quiet_not {calm = calm} {stops = stops} dealt before b so closed e h = (
+pub quiet_not : {s : State} {xs : List Wait} {n : ℕ} {unfailed stops : Bool} (exchanged : Exchange → Type 0) (before : Exchange)
+    → Between s xs n unfailed → exchanged before → Closed s xs n unfailed before → stops ≡ before.sent.halted
+    → (not unfailed || stops) ≡ true → After exchanged (LeftQuiet s s before)
+quiet_not {unfailed = unfailed} {stops = stops} exchanged before b so closed e h = (
   before,
   so,
   record {
-    noted = record { told = refl; said = record { brought = refl; halted = λ x. x }; noted = λ x. x };
-    quiet = quiet_by calm stops b closed e h;
+    noted = record { told = refl; sent = record { received = refl; halted = λ x. x }; noted = λ x. x };
+    quiet = quiet_then unfailed stops b closed e h;
   },
 )
 
 -- it did not halt where it went on, and no note failed
-running_by : (calm stops : Bool) → (not calm || stops) ≡ false → stops ≡ false
+running_by : (unfailed stops : Bool) → (not unfailed || stops) ≡ false → stops ≡ false
 running_by true stops h = h
 running_by false stops h = absurd (false≢true (sym h))
 
-pub mutes_by : {s : State} {xs : List Wait} {n : ℕ} {calm stops : Bool} {before : Dealings} → Closed s xs n calm before
-    → stops ≡ before.said.halted → (not calm || stops) ≡ false → before.said.notes_failed ≡ before.said.halted
-mutes_by {calm = calm} {stops = stops} {before = before} closed e h =
-    let running : before.said.halted ≡ false = sym e ∙ running_by calm stops h in
+pub mutes_by : {s : State} {xs : List Wait} {n : ℕ} {unfailed stops : Bool} {before : Exchange} → Closed s xs n unfailed before
+    → stops ≡ before.sent.halted → (not unfailed || stops) ≡ false → before.sent.notes_failed ≡ before.sent.halted
+mutes_by {unfailed = unfailed} {stops = stops} {before = before} closed e h =
+    let running : before.sent.halted ≡ false = sym e ∙ running_by unfailed stops h in
     closed.passed.mutes running ∙ sym running
 
--- it was calm where it went on
-pub was_calm : (calm halted : Bool) → (not calm || halted) ≡ false → calm ≡ true
-was_calm true halted e = refl
-was_calm false halted e = absurd (false≢true (sym e))
+-- it was unfailed where it went on
+pub was_unfailed : (unfailed halted : Bool) → (not unfailed || halted) ≡ false → unfailed ≡ true
+was_unfailed true halted e = refl
+was_unfailed false halted e = absurd (false≢true (sym e))
 
 -- ---- a sweep
 
@@ -87,30 +88,30 @@ rested_swept {old} {new} swept quiet = record {
   goes = swept.goes;
 }
 
--- the same where it is known that it was calm
-pub rested_calm : {calm : Bool} {old new : State} → calm ≡ true → Swept old new → StaysQuiet old new → Rested calm old new
-rested_calm {old = old} {new = new} e swept quiet =
+-- the same where it is known that it was unfailed
+pub rested_unfailed : {unfailed : Bool} {old new : State} → unfailed ≡ true → Swept old new → StaysQuiet old new → Rested unfailed old new
+rested_unfailed {old = old} {new = new} e swept quiet =
     subst (λ (b : Bool). Rested b old new) (sym e) (rested_swept swept quiet)
 
-pub quiet_swept : {old new : State} (went : Bool) (dealt : Dealings → Type 0) (before : Dealings) → new.setting ≡ old.setting
-    → After dealt (NotesBy old.setting old.history new.history before)
-    → (went ≡ true → IsQuietAt new) → (went ≡ false → (now : Dealings) → dealt now → now.said.halted ≡ true)
-    → After dealt (LeftQuiet old new before)
-quiet_swept {old} {new} went dealt before setting noted quiet halted = (
+pub quiet_swept : {old new : State} (went : Bool) (exchanged : Exchange → Type 0) (before : Exchange) → new.setting ≡ old.setting
+    → After exchanged (NotesBy old.setting old.history new.history before)
+    → (went ≡ true → IsQuietAt new) → (went ≡ false → (now : Exchange) → exchanged now → now.sent.halted ≡ true)
+    → After exchanged (LeftQuiet old new before)
+quiet_swept {old} {new} went exchanged before setting noted quiet halted = (
   noted.0,
   noted.1,
   record {
     noted = record {
       told = (noted.2.0).notes.told;
-      said = record { brought = (noted.2.0).notes.brought; halted = λ e. ((noted.2.0).notes.halts.calm e).0 };
-      noted = λ so. coe 1 0 (i. NotedSoFar (setting i) new.history (noted.0).said.noted) (noted.2.1 so);
+      sent = record { received = (noted.2.0).notes.received; halted = λ e. ((noted.2.0).notes.halts.unfailed e).0 };
+      noted = λ so. coe 1 0 (i. NotedSoFar (setting i) new.history (noted.0).sent.noted) (noted.2.1 so);
     };
     quiet = by went quiet halted;
   },
 )
   where
     by : (b : Bool) → (b ≡ true → IsQuietAt new)
-        → (b ≡ false → (now : Dealings) → dealt now → now.said.halted ≡ true) → (noted.0).said.notes_failed ≡ false
+        → (b ≡ false → (now : Exchange) → exchanged now → now.sent.halted ≡ true) → (noted.0).sent.notes_failed ≡ false
         → IsQuietAt new
     by true q h e = q refl
     by false q h e = absurd (false≢true (sym e ∙ (noted.2.0).notes.notes_failed ∙ h refl noted.0 noted.1))
@@ -150,19 +151,16 @@ quiet_adopted {old} {new} team adopted q =
     = coe 1 0 (i. IsQuiet (adopted.setting i) (adopted.budget i) (history i) (events_of old.stands)) q in
     let all_now : length (births new.setting (past_in new)) ≤ length old.stands
     = coe 1 0 (i. length (births (adopted.setting i) (past_of (adopted.setting i) (history i))) ≤ length old.stands) all in
-    record {
-      adopted = moved.adopted;
-      brought = moved.brought;
-      idle = λ n es there can.
-          let within : n < length old.stands
-          = below n (length (births new.setting (past_in new))) (length old.stands)
-          (slice_get_within (births new.setting (past_in new)) n can.agrees.service can.agrees.born) all_now in
-          let x = stands_at new.stands n es there in
-          let was : slice_get old.stands n ≡ Some x.stand
-          = in_front old.stands adopted.more n x.stand
-          (ap (λ (sts : List Stand). slice_get sts n) (sym adopted.stands) ∙ x.there) within in
-          moved.idle n es (event_of old.stands n x.stand es was x.events) can;
-    }
+    quiet_by moved.adopted moved.received
+    (λ n es there can.
+    let within : n < length old.stands
+    = below n (length (births new.setting (past_in new))) (length old.stands)
+    (slice_get_within (births new.setting (past_in new)) n can.agrees.service can.agrees.born) all_now in
+    let x = stands_at new.stands n es there in
+    let was : slice_get old.stands n ≡ Some x.stand
+    = in_front old.stands adopted.more n x.stand
+    (ap (λ (sts : List Stand). slice_get sts n) (sym adopted.stands) ∙ x.there) within in
+    done_all moved n es (event_of old.stands n x.stand es was x.events) can)
   where
     below : (m k l : ℕ) → m < k → k ≤ l → m < l
     below m k l a b = omega (arith, a, b)

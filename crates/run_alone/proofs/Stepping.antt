@@ -13,15 +13,15 @@ use Rattle.office_core.specs.Past.{Past, some_entry, stops}
 use Rattle.office_core.specs.Accepted.{past_of}
 use Rattle.office_core.specs.Answers.{answers}
 use Rattle.office_core.specs.Legal.{IsLegal}
-use Rattle.run_theorem.specs.Dealings.{Told}
+use Rattle.run_theorem.specs.Exchange.{Told}
 use Rattle.run_order_laws.specs.Entries.{adds_none, cuts, is_other, posts_over, posts_under}
 use Rattle.run_order_laws.specs.Ordering.{Grows}
 use Rattle.run_order_laws.proofs.Growing.{legal_front}
-use Rattle.run_order_laws.proofs.Ordering.{before_goes_on, calm_at_post, calm_behind}
+use Rattle.run_order_laws.proofs.Ordering.{before_goes_on, unfailed_at_post, unfailed_behind}
 use Rattle.run_record.specs.Order.{before_first}
-use Rattle.run_posts.specs.declared.pending.Fate.{Fate}
-use Rattle.run_posts.specs.declared.pending.Fate.TheVariants.{Message, Known}
-use Rattle.run_posts.specs.Fates.{Wait, all_collected, collected, collected_in, collection, is_finished, is_open, posted_entries, settled_in, told_of}
+use Rattle.run_posts.specs.declared.pending.CallState.{CallState}
+use Rattle.run_posts.specs.declared.pending.CallState.TheVariants.{Message, Known}
+use Rattle.run_posts.specs.CallStates.{Wait, all_collected, collected, collected_in, collection, is_finished, is_open, posted_entries, settled_in, told_of}
 use Rattle.run_posts.proofs.Settling.{none_of_all}
 use Rattle.run_posts.proofs.Ending.{AreSettled, StandsInOrder, open_collected, open_told, other_all, settled_collected, stands_next}
 use Rattle.run_posts.proofs.Opening.{IsOpen, all_posts_of, is_between, next_wait, open_between, open_posts, places, told_places}
@@ -57,18 +57,18 @@ pub between_other : (e : Entry) → is_between e ≡ true → is_other e ≡ tru
 between_other e h = (and_parts (is_other e) _ h).0
 
 -- where posts come, nothing is answered before the first of them; else nothing before what follows
-calm_posted : (count : ℕ) (es more : List Entry) → list_all (cuts count) es ≡ true
+unfailed_posted : (count : ℕ) (es more : List Entry) → list_all (cuts count) es ≡ true
     → (es ≡ [] → list_all adds_none (before_first (cuts count) more) ≡ true)
     → list_all adds_none (before_first (cuts count) (es ++ more)) ≡ true
-calm_posted count [] more h f = f refl
-calm_posted count (e ∷ es) more h f =
-    calm_at_post count e (es ++ more) (and_parts (cuts count e) (list_all (cuts count) es) h).0
+unfailed_posted count [] more h f = f refl
+unfailed_posted count (e ∷ es) more h f =
+    unfailed_at_post count e (es ++ more) (and_parts (cuts count e) (list_all (cuts count) es) h).0
 
-pub calm_none : (count : ℕ) (es : List Entry) → list_all adds_none es ≡ true
+pub unfailed_none : (count : ℕ) (es : List Entry) → list_all adds_none es ≡ true
     → list_all adds_none (before_first (cuts count) es) ≡ true
-calm_none count es h =
+unfailed_none count es h =
     subst (λ (l : List Entry). list_all adds_none (before_first (cuts count) l) ≡ true) (append-nil es)
-    (calm_behind count es [] h refl)
+    (unfailed_behind count es [] h refl)
 
 -- ---- what is collected
 
@@ -79,23 +79,23 @@ collection_all f each m (Some o) =
     and_from (f (record { actor = first_worker; act = act.Collect m o })) true (each m o) refl
 
 collected_one : (f : Entry → Bool) → ((m : ℕ) (o : Outcome) → f (record { actor = first_worker; act = act.Collect m o }) ≡ true)
-    → (v : Setting) (past : Past) (x : Fate) → list_all f (collected v past x) ≡ true
+    → (v : Setting) (past : Past) (x : CallState) → list_all f (collected v past x) ≡ true
 collected_one f each v past (Message m) = collection_all f each m (first (answers v past m))
 collected_one f each v past (Known o) = refl
 
-collected_fates : (f : Entry → Bool) → ((m : ℕ) (o : Outcome) → f (record { actor = first_worker; act = act.Collect m o }) ≡ true)
-    → (v : Setting) (past : Past) (xs : List Fate) → list_all f (collected_in v past xs) ≡ true
-collected_fates f each v past [] = refl
-collected_fates f each v past (x ∷ xs) =
+collected_call_states : (f : Entry → Bool) → ((m : ℕ) (o : Outcome) → f (record { actor = first_worker; act = act.Collect m o }) ≡ true)
+    → (v : Setting) (past : Past) (xs : List CallState) → list_all f (collected_in v past xs) ≡ true
+collected_call_states f each v past [] = refl
+collected_call_states f each v past (x ∷ xs) =
     all_append f (collected v past x) (collected_in v past xs) (collected_one f each v past x)
-    (collected_fates f each v past xs)
+    (collected_call_states f each v past xs)
 
 -- what holds of each collection of the first worker
 pub collected_all : (f : Entry → Bool) → ((m : ℕ) (o : Outcome) → f (record { actor = first_worker; act = act.Collect m o }) ≡ true)
     → (v : Setting) (past : Past) (xs : List Wait) → list_all f (all_collected v past xs) ≡ true
 collected_all f each v past [] = refl
 collected_all f each v past (x ∷ xs) =
-    all_append f (collected_in v past x.fates) (all_collected v past xs) (collected_fates f each v past x.fates)
+    all_append f (collected_in v past x.call_states) (all_collected v past xs) (collected_call_states f each v past x.call_states)
     (collected_all f each v past xs)
 
 -- ---- places
@@ -143,7 +143,7 @@ module _ (w : Setting) (h : List Entry) (all : List Posting) (xs : List Wait) (p
     pub running : some_entry (past_of w h) stops ≡ false
     pub running_then : some_entry (past_of w after_step) stops ≡ false
     pub between : list_all is_between swept ≡ true
-    pub calm : 0 < length all → posted ≡ [] → swept ≡ []
+    pub unfailed : 0 < length all → posted ≡ [] → swept ≡ []
     pub opens : IsOpen w h all ts xs
     pub order : StandsInOrder w h (length all) ts xs
 
@@ -154,14 +154,14 @@ module _ (w : Setting) (h : List Entry) (all : List Posting) (xs : List Wait) (p
         (open_posts w h all ts xs p (legal_front w (h ++ posted) swept (legal_front w after_sweep gathered can.legal)) can.opens)
 
     -- what is told
-    abbrev pub said_now : List Told
-    said_now = ts ++ map told_of (filter is_finished settled_waits)
+    abbrev pub sent_now : List Told
+    sent_now = ts ++ map told_of (filter is_finished settled_waits)
 
     pub open_gathered : IsOpen w after_step (all ++ p ∷ []) ts settled_waits
     open_gathered = open_collected w after_sweep (all ++ p ∷ []) ts waiting can.legal open_swept
 
     -- what is open then
-    pub open_step : IsOpen w after_step (all ++ p ∷ []) said_now (filter is_open settled_waits)
+    pub open_step : IsOpen w after_step (all ++ p ∷ []) sent_now (filter is_open settled_waits)
     open_step = open_told w after_step (all ++ p ∷ []) ts settled_waits open_gathered
 
     -- the history in one
@@ -192,12 +192,12 @@ module _ (w : Setting) (h : List Entry) (all : List Posting) (xs : List Wait) (p
           (all_weaker is_between (posts_over (length all)) (λ e g. other_over (length all) e (between_other e g)) swept can.between)
           (all_weaker is_other (posts_over (length all)) (other_over (length all)) gathered
           (other_all w (past_of w after_sweep) waiting)));
-      calm = λ some.
-          calm_posted (length all) posted (swept ++ gathered) posts_cut
+      unfailed = λ some.
+          unfailed_posted (length all) posted (swept ++ gathered) posts_cut
           (λ none.
           subst (λ (l : List Entry). list_all adds_none (before_first (cuts (length all)) (l ++ gathered)) ≡ true)
-          (sym (can.calm some none))
-          (calm_none (length all) gathered (none_of_all w (past_of w after_sweep) waiting)));
+          (sym (can.unfailed some none))
+          (unfailed_none (length all) gathered (none_of_all w (past_of w after_sweep) waiting)));
     }
 
     -- each posting is finished exactly where its answers are there
@@ -209,9 +209,9 @@ module _ (w : Setting) (h : List Entry) (all : List Posting) (xs : List Wait) (p
     over_step = grows.over
 
     -- and in which order they were told
-    pub order_step : StandsInOrder w after_step (suc (length all)) said_now (filter is_open settled_waits)
+    pub order_step : StandsInOrder w after_step (suc (length all)) sent_now (filter is_open settled_waits)
     order_step =
-        subst (λ (l : List Entry). StandsInOrder w l (suc (length all)) said_now (filter is_open settled_waits)) in_one
+        subst (λ (l : List Entry). StandsInOrder w l (suc (length all)) sent_now (filter is_open settled_waits)) in_one
         (stands_next w h (posted ++ (swept ++ gathered)) (length all) ts xs settled_waits grows
         (subst (λ (l : List Entry). list_all (posts_under (suc (length all))) l ≡ true) (sym in_one)
         (subst (λ n. list_all (posts_under n) after_step ≡ true) (longer all p) open_gathered.posted.under))
@@ -223,7 +223,7 @@ module _ (w : Setting) (h : List Entry) (all : List Posting) (xs : List Wait) (p
 
     -- what had been told when an earlier posting was asked for are those that are finished before that one, still
     pub earlier_step : (j k : ℕ) → j ≤ length all → k ≤ length ts → told_places (take k ts) ≡ finished_before w h (length all) j
-        → told_places (take k said_now) ≡ finished_before w after_step (suc (length all)) j
+        → told_places (take k sent_now) ≡ finished_before w after_step (suc (length all)) j
     earlier_step j k most within are =
         first_told k ts (map told_of (filter is_finished settled_waits)) within
         ∙ are

@@ -17,7 +17,7 @@ use Rattle.office_core.specs.Past.{Past, is_running, nothing_yet, some_entry}
 use Rattle.office_core.specs.Accepted.{past_of, then_one}
 use Rattle.office_core.specs.Answers.{answers}
 use Rattle.office_core.specs.Legal.{AreLegal, IsLegal, IsLegalEntry, collects, is_allowed, is_collectable, is_from_port, posts_as}
-use Rattle.run_theorem.specs.Dealings.{Dealings, Told}
+use Rattle.run_theorem.specs.Exchange.{Exchange, Told}
 use Rattle.run_order_laws.specs.Entries.{adds_none, is_by_first, is_other}
 use Rattle.run_order_laws.proofs.Growing.{past_then}
 use Rattle.run_order_laws.proofs.Staying.{answers_same_all}
@@ -27,7 +27,7 @@ use Rattle.run_record.specs.Quiet.{before_stop, begins_posting}
 use Rattle.run_record.specs.Run.{alone, is_hand, is_of_hand}
 use Rattle.run_record.specs.Collected.{AreCollected, collectors, uncollected}
 use Rattle.session_turn.proofs.Histories.{some_of}
-use Rattle.run_posts.specs.Fates.{Wait, messages_of}
+use Rattle.run_posts.specs.CallStates.{Wait, messages_of}
 use Rattle.run_posts.specs.Open.{places}
 use Rattle.run_posts.proofs.Ending.{all_finished, other_all, settled_collected}
 use Rattle.run_posts.proofs.Opening.{is_between}
@@ -226,7 +226,7 @@ module _ (w : Setting) (h : List Entry) (all : List Posting) (xs : List Wait) (s
   same_answers some n =
       ap (λ (p : Past). answers w p n) (past_then w h until_stop)
       ∙ answers_same_all w (past_of w h) until_stop
-      (subst (λ (l : List Entry). list_all adds_none (l ++ (adoptions ++ closing)) ≡ true) (sym (can.calm some))
+      (subst (λ (l : List Entry). list_all adds_none (l ++ (adoptions ++ closing)) ≡ true) (sym (can.unfailed some))
       (all_append adds_none adoptions closing can.adopts can.ends_none)) n
 
   -- what is answered was collected
@@ -318,6 +318,6 @@ module _ (w : Setting) (h : List Entry) (all : List Posting) (xs : List Wait) (s
   }
 
   -- and what had been told before
-  pub told_before_end : (d : Dealings) → CollectedBefore w h d
+  pub told_before_end : (d : Exchange) → CollectedBefore w h d
       → CollectedBefore w (at_end w h all xs swept adoptions closing) d
   told_before_end d before = well_end (ToldThere w d) before

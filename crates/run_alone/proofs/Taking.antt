@@ -12,7 +12,7 @@ use Rattle.office_core.specs.Limits.{Limits, Setting, first_worker}
 use Rattle.office_core.specs.Past.{closes, is_running, some_entry, stops}
 use Rattle.office_core.specs.Accepted.{past_of}
 use Rattle.office_core.specs.Legal.{IsLegal}
-use Rattle.run_theorem.specs.Dealings.{Brought, Dealings, Told}
+use Rattle.run_theorem.specs.Exchange.{Received, Exchange, Told}
 use Rattle.run_theorem.specs.Calls.{After}
 use Rattle.run_order_laws.proofs.Growing.{legal_front, legal_rest}
 use Rattle.run_quiet_laws.specs.Ends.{is_by_worker}
@@ -20,17 +20,17 @@ use Rattle.run_quiet_laws.proofs.Aside.{is_aside}
 use Rattle.run_quiet_laws.proofs.Workers.{quiet_by_answers, still_by_others, still_by_posts}
 use Rattle.run_record.specs.Outside.{notes}
 use Rattle.run_record.specs.Quiet.{IsQuiet, IsStill, posts, posts_for, outstanding}
-use Rattle.run_cells.specs.Crews.{Stand, State, Stays, Team, events_of, past_in}
+use Rattle.run_cells.specs.RunStates.{Stand, State, Stays, Team, events_of, past_in}
 use Rattle.run_cells.specs.Rounds.{IsQuietAt, IsStillAt}
 use Rattle.run_cells.proofs.Ends.{few, made_calls}
-use Rattle.run_posts.specs.Fates.{Wait, all_collected, fates_of, is_finished, is_open, posted_entries, settled_in, told_of}
+use Rattle.run_posts.specs.CallStates.{Wait, all_collected, call_states_of, is_finished, is_open, posted_entries, settled_in, told_of}
 use Rattle.run_posts.specs.Telling.{AreExpected, TellsAll}
 use Rattle.run_posts.proofs.Ending.{StandsInOrder, open_expected}
 use Rattle.run_posts.proofs.Opening.{IsOpen, all_posts_of, next_wait, open_between, open_posts, told_places}
 use Rattle.run_sweep.specs.Swept.{NotesBy, StaysQuiet, Swept}
 use Rattle.run_trip_laws.specs.Going.{AreSettled, NotedSoFar, is_inward, is_silent}
-use Rattle.run_trip_laws.proofs.Settling.{all_noted, brought_over, noted_on, over_all, quiet_none, settled_on}
-use Rattle.run_alone.specs.Between.{Answered, Between, Brings, IsGathered, MayBeginAt, Passed, SaidMore, WasTold}
+use Rattle.run_trip_laws.proofs.Settling.{all_noted, received_over, noted_on, over_all, quiet_none, settled_on}
+use Rattle.run_alone.specs.Between.{Answered, Between, Brings, IsGathered, MayBeginAt, Passed, SentMore, WasTold}
 use Rattle.run_alone.specs.Ran.{AllCollected, CollectedBefore}
 use Rattle.run_theorem.specs.Lines.{finished_before, noted_before, IsPrefix}
 use Rattle.run_alone.proofs.Between.{swept_between, swept_unclosed}
@@ -43,7 +43,7 @@ use Rattle.run_alone.proofs.Stepping.{CanStep, after_step, after_sweep, collecte
 -- finished were told.
 pub record Took (s0 s1 s2 s3 : State) (xs0 xs1 xs2 xs3 : List Wait) (n : ℕ) (p : Posting) : Type 0 where
   pub post : Stays s0 s1 (posted_entries s0.setting (past_in s0) (n, 0) p.calls)
-  pub posted_waits : xs1 ≡ xs0 ++ record { place = n; fates = fates_of s0.setting (past_in s0) (n, 0) p.calls } ∷ []
+  pub posted_waits : xs1 ≡ xs0 ++ record { place = n; call_states = call_states_of s0.setting (past_in s0) (n, 0) p.calls } ∷ []
   pub sweep : Swept s1 s2
   pub quiet : StaysQuiet s1 s2
   pub collect : Stays s2 s3 (all_collected s2.setting (past_in s2) xs1)
@@ -66,15 +66,15 @@ some_below n = omega arith
 one_less : (n : ℕ) → n ≡ suc n - 1
 one_less n = omega arith
 
--- where there was a posting before, a run that is calm has nothing left to do
-pub calm_quiet : (s : State) (n : ℕ) → 0 < n → MayBeginAt n s → IsQuietAt s
-calm_quiet s zero some empty = absurd (not_below some)
-calm_quiet s (suc n) some quiet = quiet
+-- where there was a posting before, a run that is unfailed has nothing left to do
+pub unfailed_quiet : (s : State) (n : ℕ) → 0 < n → MayBeginAt n s → IsQuietAt s
+unfailed_quiet s zero some empty = absurd (not_below some)
+unfailed_quiet s (suc n) some quiet = quiet
 
 -- each call that went out has its outcome where a posting may begin
-calm_brought : (s : State) (n : ℕ) → MayBeginAt n s → outstanding (past_in s) ≡ []
-calm_brought s zero empty = ap (λ (h : List Entry). outstanding (past_of s.setting h)) empty
-calm_brought s (suc n) quiet = quiet.brought
+unfailed_received : (s : State) (n : ℕ) → MayBeginAt n s → outstanding (past_in s) ≡ []
+unfailed_received s zero empty = ap (λ (h : List Entry). outstanding (past_of s.setting h)) empty
+unfailed_received s (suc n) quiet = quiet.received
 
 pub runs : (w : Setting) (h : List Entry) → is_running (past_of w h) ≡ true → some_entry (past_of w h) stops ≡ false
 runs w h e = not-true (some_entry (past_of w h) stops) e
@@ -99,7 +99,7 @@ module _ {s0 s1 s2 s3 : State} {xs0 xs1 xs2 xs3 : List Wait} {n : ℕ} {p : Post
   waits_1 : xs1 ≡ waiting w s0.history all xs0 p swept
   waits_1 =
       took.posted_waits
-      ∙ (λ i. xs0 ++ record { place = sym count i; fates = fates_of w (past_in s0) (sym count i, 0) p.calls } ∷ [])
+      ∙ (λ i. xs0 ++ record { place = sym count i; call_states = call_states_of w (past_in s0) (sym count i, 0) p.calls } ∷ [])
 
   pub history_3 : s3.history ≡ after_step w s0.history all xs0 p swept
   history_3 =
@@ -116,7 +116,7 @@ module _ {s0 s1 s2 s3 : State} {xs0 xs1 xs2 xs3 : List Wait} {n : ℕ} {p : Post
   setting_3 : s3.setting ≡ w
   setting_3 = took.collect.setting ∙ setting_2
 
-  module _ (team0 : Team s0) (team3 : Team s3) (calm : MayBeginAt n s0) (ts : List Told) (opens : IsOpen w s0.history all ts xs0)
+  module _ (team0 : Team s0) (team3 : Team s3) (unfailed : MayBeginAt n s0) (ts : List Told) (opens : IsOpen w s0.history all ts xs0)
       (order : StandsInOrder w s0.history n ts xs0) where
     legal_3 : IsLegal w (after_step w s0.history all xs0 p swept)
     legal_3 = subst (IsLegal w) history_3 (subst (λ (v : Setting). IsLegal v s3.history) setting_3 team3.legal)
@@ -131,7 +131,7 @@ module _ {s0 s1 s2 s3 : State} {xs0 xs1 xs2 xs3 : List Wait} {n : ℕ} {p : Post
         = history_1 ∙ ap (λ (l : List Entry). s0.history ++ l) none ∙ append-nil s0.history in
         let quiet_1 : IsQuietAt s1
         = coe 1 0 (i. IsQuiet (took.post.setting i) (took.post.budget i) (same i) (events_of (took.post.stands i)))
-        (calm_quiet s0 n (subst (λ (m : ℕ). 0 < m) count some) calm) in
+        (unfailed_quiet s0 n (subst (λ (m : ℕ). 0 < m) count some) unfailed) in
         nothing_more s1.history swept (sym took.sweep.history ∙ (took.quiet quiet_1).0)
 
     can : CanStep w s0.history all xs0 p swept ts
@@ -146,7 +146,7 @@ module _ {s0 s1 s2 s3 : State} {xs0 xs1 xs2 xs3 : List Wait} {n : ℕ} {p : Post
           swept_between w (past_of w (s0.history ++ posted w s0.history all xs0 p swept)) swept
           (legal_rest w (s0.history ++ posted w s0.history all xs0 p swept) swept legal_2)
           took.sweep.each;
-      calm = idle;
+      unfailed = idle;
       opens = opens;
       order = subst (λ m. StandsInOrder w s0.history m ts xs0) (sym count) order;
     }
@@ -200,18 +200,18 @@ module _ {s0 s1 s2 s3 : State} {xs0 xs1 xs2 xs3 : List Wait} {n : ℕ} {p : Post
         (told_step w s0.history all xs0 p swept ts can unclosed_then g was)
 
     -- and what had been told before
-    pub told_before_then : (d : Dealings) → d.said.told ≡ ts → AllCollected (past_of w s0.history) ts
+    pub told_before_then : (d : Exchange) → d.sent.told ≡ ts → AllCollected (past_of w s0.history) ts
         → CollectedBefore w s0.history d → CollectedBefore s3.setting s3.history d
     told_before_then d told was before =
         coe 1 0 (i. CollectedBefore (setting_3 i) (history_3 i) d)
         (told_before_step w s0.history all xs0 p swept ts can d told was before)
 
     -- the front expects to be told of them
-    pub expected_then : (d : Dealings) → d.brought.given ≡ all ++ p ∷ [] → d.said.told ≡ ts → AreExpected xs2 d
-    expected_then d given said =
+    pub expected_then : (d : Exchange) → d.received.given ≡ all ++ p ∷ [] → d.sent.told ≡ ts → AreExpected xs2 d
+    expected_then d given sent =
         coe 1 0 (i. AreExpected (waits_2 i) d)
         (open_expected w (after_step w s0.history all xs0 p swept) (all ++ p ∷ []) ts
-        (settled_waits w s0.history all xs0 p swept) d given said (open_gathered w s0.history all xs0 p swept ts can))
+        (settled_waits w s0.history all xs0 p swept) d given sent (open_gathered w s0.history all xs0 p swept ts can))
 
 -- ---- how a team stands
 
@@ -251,13 +251,13 @@ still_collected old new xs stays still =
 -- a posting was posted where it may begin
 pub still_posted : (old new : State) (n : ℕ) (cs : List CallIn) → Team old
     → Stays old new (posted_entries old.setting (past_in old) (n, 0) cs) → MayBeginAt n old → IsStillAt old → IsStillAt new
-still_posted old new n cs team stays calm still =
+still_posted old new n cs team stays unfailed still =
     coe 1 0 (i. IsStill (stays.setting i) (stays.budget i) (stays.history i) (events_of (stays.stands i)))
     (still_by_posts old.setting old.budget first_worker n old.history (posted_entries old.setting (past_in old) (n, 0) cs)
     (events_of old.stands)
     (all_posts_of old.setting (past_in old) (n, 0) cs (posts_for first_worker n)
     (λ i q r. and_from (nat_eq first_worker first_worker) (nat_eq n n) (itself first_worker) (itself n)))
-    calm (made_calls old team) still)
+    unfailed (made_calls old team) still)
 
 -- ---- the run then
 
@@ -276,18 +276,18 @@ module _ {s0 s1 s2 s3 : State} {xs0 xs1 xs2 xs3 : List Wait} {n : ℕ} {p : Post
       (all_collected s2.setting (past_in s2) xs1) inward_gathered legal_then
       (coe 1 0 (i. AreSettled (took.sweep.setting i) s2.history) took.sweep.settled))
 
-  -- where it stands, by whether it is calm
-  pub between_then : {calm : Bool} → Between s0 xs0 n true → (calm ≡ true → IsQuietAt s2) → Between s3 xs3 (suc n) calm
+  -- where it stands, by whether it is unfailed
+  pub between_then : {unfailed : Bool} → Between s0 xs0 n true → (unfailed ≡ true → IsQuietAt s2) → Between s3 xs3 (suc n) unfailed
   between_then b quiet = record {
     settled = settled_then;
     still = still_collected s2 s3 xs1 took.collect
         (took.sweep.still (still_posted s0 s1 n p.calls team0 took.post (b.quiet refl) b.still));
     all = b.all ++ p ∷ [];
-    said = b.said ++ map told_of (filter is_finished xs2);
-    opens = opens_then took b.all b.count team0 team3 (b.quiet refl) b.said b.opens b.order;
-    order = order_then took b.all b.count team0 team3 (b.quiet refl) b.said b.opens b.order;
+    sent = b.sent ++ map told_of (filter is_finished xs2);
+    opens = opens_then took b.all b.count team0 team3 (b.quiet refl) b.sent b.opens b.order;
+    order = order_then took b.all b.count team0 team3 (b.quiet refl) b.sent b.opens b.order;
     count = longer b.all p ∙ ap suc b.count;
-    gathered = gathered_then took b.all b.count team0 team3 (b.quiet refl) b.said b.opens b.order b.gathered;
+    gathered = gathered_then took b.all b.count team0 team3 (b.quiet refl) b.sent b.opens b.order b.gathered;
     quiet = λ e. quiet_collected s2 s3 xs1 team3 took.collect (quiet e);
   }
 
@@ -307,57 +307,57 @@ module _ {s0 s1 s2 s3 : State} {xs0 xs1 xs2 xs3 : List Wait} {n : ℕ} {p : Post
       (all_collected s2.setting (past_in s2) xs1) inward_gathered legal_then so)
 
   -- what passed with the front then: it was noted to in the sweep, and then told
-  pub passed_then : (before mid now : Dealings) → IsLegal s1.setting s1.history → MayBeginAt n s0 → AreSettled s0.setting s0.history
+  pub passed_then : (before mid now : Exchange) → IsLegal s1.setting s1.history → MayBeginAt n s0 → AreSettled s0.setting s0.history
       → IsGathered s0.setting s0.history xs0 → Brings s0 xs0 n p before → NotesBy s1.setting s1.history s2.history before mid
-      → TellsAll (map told_of (filter is_finished xs2)) mid now → Passed s3 xs3 (suc n) now × SaidMore before now
-  passed_then before mid now legal calm settled g b noting tells =
-      let brought : now.brought ≡ before.brought = tells.brought ∙ (noting.0).notes.brought in
-      let given : now.brought.given ≡ b.all ++ p ∷ [] = ap (λ (x : Brought). x.given) brought ∙ b.given in
-      let told : now.said.told ≡ before.said.told ++ map told_of (filter is_finished xs2)
+      → TellsAll (map told_of (filter is_finished xs2)) mid now → Passed s3 xs3 (suc n) now × SentMore before now
+  passed_then before mid now legal unfailed settled g b noting tells =
+      let received : now.received ≡ before.received = tells.received ∙ (noting.0).notes.received in
+      let given : now.received.given ≡ b.all ++ p ∷ [] = ap (λ (x : Received). x.given) received ∙ b.given in
+      let told : now.sent.told ≡ before.sent.told ++ map told_of (filter is_finished xs2)
       = tells.told ∙ ap (λ (ts : List Told). ts ++ map told_of (filter is_finished xs2)) (noting.0).notes.told in (
         record {
           opens = coe 1 0 (i. IsOpen s3.setting s3.history (given i) (told i) xs3)
-              (opens_then took b.all b.count team0 team3 calm before.said.told b.opens b.order);
+              (opens_then took b.all b.count team0 team3 unfailed before.sent.told b.opens b.order);
           order = coe 1 0 (i. StandsInOrder s3.setting s3.history (suc n) (told i) xs3)
-              (order_then took b.all b.count team0 team3 calm before.said.told b.opens b.order);
+              (order_then took b.all b.count team0 team3 unfailed before.sent.told b.opens b.order);
           count = ap (λ (ps : List Posting). length ps) given ∙ longer b.all p ∙ ap suc b.count;
-          asked = ap (λ (x : Brought). length x.seens) brought ∙ b.asked;
+          asked = ap (λ (x : Received). length x.seens) received ∙ b.asked;
           earlier = λ j k at.
-              let there : slice_get before.brought.seens j ≡ Some k
-              = ap (λ (x : Brought). slice_get x.seens j) (sym brought) ∙ at in
+              let there : slice_get before.received.seens j ≡ Some k
+              = ap (λ (x : Received). slice_get x.seens j) (sym received) ∙ at in
               let was = b.earlier j k there in
               coe 1 0 (i. WasTold s3 (suc n) (told i) j k)
               (record {
-                within = longer_told k before.said.told (map told_of (filter is_finished xs2)) was.within;
-                are = earlier_then took b.all b.count team0 team3 calm before.said.told b.opens b.order j k
-                    (asked_within before.brought.seens j k n b.asked there) was.within was.are;
+                within = longer_told k before.sent.told (map told_of (filter is_finished xs2)) was.within;
+                are = earlier_then took b.all b.count team0 team3 unfailed before.sent.told b.opens b.order j k
+                    (asked_within before.received.seens j k n b.asked there) was.within was.are;
               });
           collected =
               subst (AllCollected (past_of s3.setting s3.history)) (sym told)
-              (told_then took b.all b.count team0 team3 calm before.said.told b.opens b.order g b.collected);
+              (told_then took b.all b.count team0 team3 unfailed before.sent.told b.opens b.order g b.collected);
           collected_before =
-              told_more s3.setting s3.history before now (map told_of (filter is_finished xs2)) brought told
+              told_more s3.setting s3.history before now (map told_of (filter is_finished xs2)) received told
               (λ j k at. (b.earlier j k at).within)
-              (told_before_then took b.all b.count team0 team3 calm before.said.told b.opens b.order before refl b.collected
+              (told_before_then took b.all b.count team0 team3 unfailed before.sent.told b.opens b.order before refl b.collected
               b.collected_before);
           noted = subst (λ (t : List ℕ). NotedSoFar s3.setting s3.history t) (sym tells.noted)
-              (noted_collected mid.said.noted
-              (coe 0 1 (i. NotedSoFar (sym took.sweep.setting i) s2.history mid.said.noted)
-              (noting.1 (noted_posted before.said.noted b.noted legal))));
-          noted_then = subst (λ (m : ℕ). IsPrefix (noted_before s3.setting s3.history m) now.brought.noted) (one_less n)
-              (noted_then took b.all b.count team0 team3 calm before.said.told b.opens b.order now.brought.noted
-              (sym (all_noted s0.setting s0.history before.said.noted
-              (quiet_none s0.setting s0.history kind.Console settled (calm_brought s0 n calm)) b.noted)
-              ∙ sym b.noted_now ∙ ap (λ (x : Brought). x.noted) (sym brought)));
+              (noted_collected mid.sent.noted
+              (coe 0 1 (i. NotedSoFar (sym took.sweep.setting i) s2.history mid.sent.noted)
+              (noting.1 (noted_posted before.sent.noted b.noted legal))));
+          noted_then = subst (λ (m : ℕ). IsPrefix (noted_before s3.setting s3.history m) now.received.noted) (one_less n)
+              (noted_then took b.all b.count team0 team3 unfailed before.sent.told b.opens b.order now.received.noted
+              (sym (all_noted s0.setting s0.history before.sent.noted
+              (quiet_none s0.setting s0.history kind.Console settled (unfailed_received s0 n unfailed)) b.noted)
+              ∙ sym b.noted_now ∙ ap (λ (x : Received). x.noted) (sym received)));
           noted_since = (
             (noting.0).text,
-            ap (λ (l : List ℕ). l ++ (noting.0).text) (ap (λ (x : Brought). x.noted) brought ∙ b.noted_now)
+            ap (λ (l : List ℕ). l ++ (noting.0).text) (ap (λ (x : Received). x.noted) received ∙ b.noted_now)
                 ∙ sym (noting.0).notes.noted ∙ sym tells.noted,
           );
           some = λ e. some_below n;
-          mutes = λ e. tells.notes_failed ∙ (noting.0).notes.notes_failed ∙ (tells.halts.calm e).0;
+          mutes = λ e. tells.notes_failed ∙ (noting.0).notes.notes_failed ∙ (tells.halts.unfailed e).0;
         },
-        record { brought = brought; halted = λ e. ((noting.0).notes.halts.calm (tells.halts.calm e).0).0 },
+        record { received = received; halted = λ e. ((noting.0).notes.halts.unfailed (tells.halts.unfailed e).0).0 },
       )
 
 -- ---- step by step, as the calls need it
@@ -365,7 +365,7 @@ module _ {s0 s1 s2 s3 : State} {xs0 xs1 xs2 xs3 : List Wait} {n : ℕ} {p : Post
 -- what is open once a posting was posted
 pub open_posted : (s0 s1 : State) (xs0 xs1 : List Wait) (n : ℕ) (p : Posting) (all : List Posting) (ts : List Told)
     → length all ≡ n → Stays s0 s1 (posted_entries s0.setting (past_in s0) (n, 0) p.calls)
-    → xs1 ≡ xs0 ++ record { place = n; fates = fates_of s0.setting (past_in s0) (n, 0) p.calls } ∷ []
+    → xs1 ≡ xs0 ++ record { place = n; call_states = call_states_of s0.setting (past_in s0) (n, 0) p.calls } ∷ []
     → IsLegal s1.setting s1.history → IsOpen s0.setting s0.history all ts xs0
     → IsOpen s1.setting s1.history (all ++ p ∷ []) ts xs1
 open_posted s0 s1 xs0 xs1 n p all ts count stays waits legal opens =
@@ -373,7 +373,7 @@ open_posted s0 s1 xs0 xs1 n p all ts count stays waits legal opens =
     = stays.history ∙ (λ i. s0.history ++ posted_entries s0.setting (past_in s0) (sym count i, 0) p.calls) in
     let waiting_1 : xs1 ≡ xs0 ++ next_wait s0.setting (past_in s0) (length all) p ∷ []
     = waits
-    ∙ (λ i. xs0 ++ record { place = sym count i; fates = fates_of s0.setting (past_in s0) (sym count i, 0) p.calls } ∷ []) in
+    ∙ (λ i. xs0 ++ record { place = sym count i; call_states = call_states_of s0.setting (past_in s0) (sym count i, 0) p.calls } ∷ []) in
     coe 1 0 (i. IsOpen (stays.setting i) (history i) (all ++ p ∷ []) ts (waiting_1 i))
     (open_posts s0.setting s0.history all ts xs0 p (coe 0 1 (i. IsLegal (stays.setting i) (history i)) legal) opens)
 
@@ -398,36 +398,36 @@ settled_posted s0 s1 n cs stays legal settled =
     (all_posts_of s0.setting (past_in s0) (n, 0) cs is_inward (λ i q r. refl))
     (coe 0 1 (i. IsLegal (stays.setting i) (stays.history i)) legal) settled)
 
-pub between_brought : {s : State} {xs : List Wait} {n : ℕ} {calm : Bool} → calm ≡ true → Between s xs n calm
+pub between_received : {s : State} {xs : List Wait} {n : ℕ} {unfailed : Bool} → unfailed ≡ true → Between s xs n unfailed
     → outstanding (past_in s) ≡ []
-between_brought {s} {xs} {n} e b = calm_brought s n (b.quiet e)
+between_received {s} {xs} {n} e b = unfailed_received s n (b.quiet e)
 
 -- and still once a posting was posted
-pub brought_posted : (s0 s1 : State) (n : ℕ) (cs : List CallIn)
+pub received_posted : (s0 s1 : State) (n : ℕ) (cs : List CallIn)
     → Stays s0 s1 (posted_entries s0.setting (past_in s0) (n, 0) cs) → IsLegal s1.setting s1.history
     → AreSettled s0.setting s0.history → outstanding (past_in s0) ≡ [] → outstanding (past_in s1) ≡ []
-brought_posted s0 s1 n cs stays legal settled none =
+received_posted s0 s1 n cs stays legal settled none =
     (λ i. outstanding (past_of (stays.setting i) (stays.history i)))
-    ∙ brought_over s0.setting s0.history (posted_entries s0.setting (past_in s0) (n, 0) cs)
+    ∙ received_over s0.setting s0.history (posted_entries s0.setting (past_in s0) (n, 0) cs)
     (all_posts_of s0.setting (past_in s0) (n, 0) cs is_silent (λ i q r. refl))
     (coe 0 1 (i. IsLegal (stays.setting i) (stays.history i)) legal) settled none
 
-pub brought_then : (s0 s1 : State) (xs : List Wait) (n : ℕ) (cs : List CallIn)
+pub received_then : (s0 s1 : State) (xs : List Wait) (n : ℕ) (cs : List CallIn)
     → Stays s0 s1 (posted_entries s0.setting (past_in s0) (n, 0) cs) → IsLegal s1.setting s1.history
     → Between s0 xs n true → outstanding (past_in s1) ≡ []
-brought_then s0 s1 xs n cs stays legal b =
-    brought_posted s0 s1 n cs stays legal b.settled (between_brought {s = s0} {xs = xs} {n = n} refl b)
+received_then s0 s1 xs n cs stays legal b =
+    received_posted s0 s1 n cs stays legal b.settled (between_received {s = s0} {xs = xs} {n = n} refl b)
 
 -- ---- put together for one call
 
 -- what is so only where something else is
 pub still_halted : (before now : Bool) → (now ≡ false → before ≡ false) → before ≡ true → now ≡ true
-still_halted before true calm e = refl
-still_halted before false calm e = absurd (false≢true (sym (calm refl) ∙ e))
+still_halted before true unfailed e = refl
+still_halted before false unfailed e = absurd (false≢true (sym (unfailed refl) ∙ e))
 
 module _ {s0 s1 s2 s3 : State} {xs0 xs1 xs2 xs3 : List Wait} {n : ℕ} (p : Posting)
     (post : Stays s0 s1 (posted_entries s0.setting (past_in s0) (n, 0) p.calls))
-    (posted_waits : xs1 ≡ xs0 ++ record { place = n; fates = fates_of s0.setting (past_in s0) (n, 0) p.calls } ∷ [])
+    (posted_waits : xs1 ≡ xs0 ++ record { place = n; call_states = call_states_of s0.setting (past_in s0) (n, 0) p.calls } ∷ [])
     (sweep : Swept s1 s2) (quiet : StaysQuiet s1 s2) (collect : Stays s2 s3 (all_collected s2.setting (past_in s2) xs1))
     (collected_waits : xs2 ≡ map (settled_in s2.setting (past_in s2)) xs1) (told_waits : xs3 ≡ filter is_open xs2)
     (team0 : Team s0) (team1 : Team s1) (team3 : Team s3) (b : Between s0 xs0 n true) where
@@ -442,29 +442,29 @@ module _ {s0 s1 s2 s3 : State} {xs0 xs1 xs2 xs3 : List Wait} {n : ℕ} (p : Post
     told_waits = told_waits;
   }
 
-  pub taken_between : {calm : Bool} {m : ℕ} → m ≡ suc n → (calm ≡ true → IsQuietAt s2) → Between s3 xs3 m calm
-  taken_between {calm} e q = subst (λ (k : ℕ). Between s3 xs3 k calm) (sym e) (between_then took_so team0 team3 b q)
+  pub taken_between : {unfailed : Bool} {m : ℕ} → m ≡ suc n → (unfailed ≡ true → IsQuietAt s2) → Between s3 xs3 m unfailed
+  taken_between {unfailed} e q = subst (λ (k : ℕ). Between s3 xs3 k unfailed) (sym e) (between_then took_so team0 team3 b q)
 
   -- what passed with the front, by what passed in the sweep and in the telling
-  pub taken_passed : {calm : Bool} {m : ℕ} (dealt_mid dealt_now : Dealings → Type 0) (before : Dealings) → m ≡ suc n
-      → Brings s0 xs0 n p before → After dealt_mid (NotesBy s1.setting s1.history s2.history before)
-      → (calm ≡ false → (mid : Dealings) → dealt_mid mid → mid.said.halted ≡ true)
-      → ((mid : Dealings) → dealt_mid mid → AreExpected xs2 mid
-      → After dealt_now (TellsAll (map told_of (filter is_finished xs2)) mid))
-      → After dealt_now (Answered s3 xs3 m calm before)
-  taken_passed {calm} dealt_mid dealt_now before e brings noted halted tell =
-      let mid : Dealings = noted.0 in
-      let given : mid.brought.given ≡ brings.all ++ p ∷ []
-      = ap (λ (x : Brought). x.given) (noted.2.0).notes.brought ∙ brings.given in
+  pub taken_passed : {unfailed : Bool} {m : ℕ} (exchanged_mid exchanged_now : Exchange → Type 0) (before : Exchange) → m ≡ suc n
+      → Brings s0 xs0 n p before → After exchanged_mid (NotesBy s1.setting s1.history s2.history before)
+      → (unfailed ≡ false → (mid : Exchange) → exchanged_mid mid → mid.sent.halted ≡ true)
+      → ((mid : Exchange) → exchanged_mid mid → AreExpected xs2 mid
+      → After exchanged_now (TellsAll (map told_of (filter is_finished xs2)) mid))
+      → After exchanged_now (Answered s3 xs3 m unfailed before)
+  taken_passed {unfailed} exchanged_mid exchanged_now before e brings noted halted tell =
+      let mid : Exchange = noted.0 in
+      let given : mid.received.given ≡ brings.all ++ p ∷ []
+      = ap (λ (x : Received). x.given) (noted.2.0).notes.received ∙ brings.given in
       let told = tell mid noted.1
-      (expected_then took_so brings.all brings.count team0 team3 (b.quiet refl) before.said.told brings.opens brings.order mid given
+      (expected_then took_so brings.all brings.count team0 team3 (b.quiet refl) before.sent.told brings.opens brings.order mid given
       (noted.2.0).notes.told) in
       let all = passed_then took_so team0 team3 before mid told.0 team1.legal (b.quiet refl) b.settled b.gathered brings noted.2 told.2 in (
         told.0,
         told.1,
         record {
           passed = subst (λ (k : ℕ). Passed s3 xs3 k told.0) (sym e) all.0;
-          said = all.1;
+          sent = all.1;
           notes_failed = λ stopped. (told.2).notes_failed ∙ (noted.2.0).notes.notes_failed ∙ halted stopped mid noted.1;
         },
       )

@@ -1,4 +1,4 @@
--- The turns of a run so far: what is said of them stays so when the run goes on.
+-- The turns of a run so far: what is sent of them stays so when the run goes on.
 use Rattle.std.proofs.Common.{◌≡◌, ◌⊎◌, ◌≤◌, ◌<◌, ℕ, suc, ◌+◌, ◌-◌, Bool, true, false, ◌&&◌, ◌||◌, cond, List, [], ◌∷◌, ◌++◌, length, take, drop, None, Some, nat_eq, get_or, refl, sym, ap, subst, ◌∙◌, arith, le_refl, count_by}
 use Rattle.std.specs.Prelude.{slice_get, unwrap_or}
 use Rattle.std.specs.Cmp.{unsigned_Decides}
@@ -123,7 +123,7 @@ theirs_later h a b more l theirs =
     (take-append-le b.entries h more l)
     ∙ theirs
 
--- what was not brought after all entries of a history
+-- what was not received after all entries of a history
 outstanding_whole : (w : Setting) (h : List Entry) → outstanding (past_of w (take (length h) h)) ≡ outstanding (past_of w h)
 outstanding_whole w h =
     ap (λ (es : List Entry). outstanding (past_of w es)) (take_all (length h) h (le_refl (length h)))
@@ -132,9 +132,9 @@ pub follows_later : {w : Setting} {h : List Entry} {a b : TakenTurn} (more : Lis
     → b.entries ≤ length h → Follows w h a b → Follows w (h ++ more) a b
 follows_later {w} {h} {a} {b} more l m (again e is theirs) = again e is (theirs_later h a b more m theirs)
 follows_later {w} {h} {a} {b} more l m (next e is theirs) = next e is (theirs_later h a b more m theirs)
-follows_later {w} {h} {a} {b} more l m (anew ends is brought) =
+follows_later {w} {h} {a} {b} more l m (anew ends is received) =
     anew (ends_later h more l ends) is
-    (ap (λ (es : List Entry). outstanding (past_of w es)) (take-append-le b.entries h more m) ∙ brought)
+    (ap (λ (es : List Entry). outstanding (past_of w es)) (take-append-le b.entries h more m) ∙ received)
 
 -- the turn that session n would take behind one more entry of its own
 theirs_more : (h : List Entry) (a : TakenTurn) (n : ℕ) (e : Entry) → e.actor ≡ n → a.entries ≤ length h
@@ -165,9 +165,9 @@ follows_more : {w : Setting} {h : List Entry} {a : TakenTurn} (n pick : ℕ) (di
 follows_more {w} {h} {a} n pick did e actor aside l (again d is theirs) =
     again d is (theirs_more h a n e actor l theirs)
 follows_more {w} {h} {a} n pick did e actor aside l (next d is theirs) = next d is (theirs_more h a n e actor l theirs)
-follows_more {w} {h} {a} n pick did e actor aside l (anew ends is brought) =
+follows_more {w} {h} {a} n pick did e actor aside l (anew ends is received) =
     anew (ends_later h (e ∷ []) l ends) is
-    (outstanding_whole w (h ++ e ∷ []) ∙ outstanding_aside w h (leaves e aside) ∙ sym (outstanding_whole w h) ∙ brought)
+    (outstanding_whole w (h ++ e ∷ []) ∙ outstanding_aside w h (leaves e aside) ∙ sym (outstanding_whole w h) ∙ received)
 
 -- between a turn and the end of the history stand such entries
 pub theirs_since : (is_it : Entry → Bool) (old own new : List Entry) → new ≡ old ++ own → list_all is_it own ≡ true
@@ -200,17 +200,17 @@ pub record IsBefore (w : Setting) (h : List Entry) (n : ℕ) (turns : List Taken
 
 pub before_round : {w : Setting} {h : List Entry} {turns : List TakenTurn} → AtEnd w h turns
     → outstanding (past_of w h) ≡ [] → IsBefore w h 0 turns
-before_round {w} {h} ends brought = record {
+before_round {w} {h} ends received = record {
   may = record {
     first = λ e. refl;
-    follows = λ a pick did at. anew (ends a at) refl (outstanding_whole w h ∙ brought);
+    follows = λ a pick did at. anew (ends a at) refl (outstanding_whole w h ∙ received);
   };
   ends = λ unborn. ends;
 }
 
 -- ---- all turns
 
--- What is said of the turns so far.
+-- What is sent of the turns so far.
 pub record Taken (r : Rules) (picks : List ℕ) (h : List Entry) (ss : List (List Event))
     (turns : List TakenTurn) : Type 0 where
   pub had : (i : ℕ) (t : TakenTurn) → slice_get turns i ≡ Some t → Had r h ss t (events_by t.session (take i turns))

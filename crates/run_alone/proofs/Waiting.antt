@@ -21,9 +21,9 @@ use Rattle.office_core.specs.Legal.{collects, posts_as}
 use Rattle.run_order_laws.specs.Entries.{is_other}
 use Rattle.run_order_laws.proofs.Growing.{past_then}
 use Rattle.run_order_laws.proofs.Staying.{answers_same_all}
-use Rattle.run_posts.specs.declared.pending.Fate.{Fate}
-use Rattle.run_posts.specs.declared.pending.Fate.TheVariants.{Message, Known}
-use Rattle.run_posts.specs.Fates.{Wait, all_collected, call_entries, call_fate, collected, collected_in, collection, fate_of, fates_of, is_finished, is_known, is_open, message_in, messages_in, messages_of, posted_entries, reply_to, settled, settled_by, settled_in}
+use Rattle.run_posts.specs.declared.pending.CallState.{CallState}
+use Rattle.run_posts.specs.declared.pending.CallState.TheVariants.{Message, Known}
+use Rattle.run_posts.specs.CallStates.{Wait, all_collected, call_entries, state_of_call, collected, collected_in, collection, call_state_of, call_states_of, is_finished, is_known, is_open, message_in, messages_in, messages_of, posted_entries, reply_to, settled, settled_by, settled_in}
 use Rattle.run_posts.proofs.Ending.{other_all}
 use Rattle.run_posts.proofs.Settling.{none_of_all}
 use Rattle.run_alone.specs.Between.{AllWait, NoneIsAnswered}
@@ -85,7 +85,7 @@ cons_any n (Some m) ns h = or_right (nat_eq n m) (list_any (nat_eq n) ns) h
 
 reply_waits : (n j i : ℕ) (q : Posted) (r : PostReply) (ns : List ℕ)
     → (posts_as first_worker n (record { actor = first_worker; act = act.Post j i q r }) || false) ≡ true
-    → list_any (nat_eq n) (cons_option (message_in (fate_of r)) ns) ≡ true
+    → list_any (nat_eq n) (cons_option (message_in (call_state_of r)) ns) ≡ true
 reply_waits n j i q (answer.Accepted m) ns h =
     or_left (nat_eq n m) (list_any (nat_eq n) ns)
     (and_parts (nat_eq first_worker first_worker) (nat_eq n m)
@@ -94,23 +94,23 @@ reply_waits n j i q (answer.Refused why) ns h = absurd (false≢true h)
 
 call_waits : (w : Setting) (past : Past) (n : ℕ) (ji : ℕ × ℕ) (c : CallIn) (ns : List ℕ)
     → list_any (posts_as first_worker n) (call_entries w past ji c) ≡ true
-    → list_any (nat_eq n) (cons_option (message_in (call_fate w past c)) ns) ≡ true
+    → list_any (nat_eq n) (cons_option (message_in (state_of_call w past c)) ns) ≡ true
 call_waits w past n ji (call.Post q) ns h = reply_waits n ji.0 ji.1 q (reply_to w past q) ns h
 call_waits w past n ji (call.Answered o) ns h = absurd (false≢true h)
 
 -- what calls were posted as waits
 posts_wait : (w : Setting) (past : Past) (n : ℕ) (ji : ℕ × ℕ) (cs : List CallIn)
     → list_any (posts_as first_worker n) (posted_entries w past ji cs) ≡ true
-    → list_any (nat_eq n) (messages_in (fates_of w past ji cs)) ≡ true
+    → list_any (nat_eq n) (messages_in (call_states_of w past ji cs)) ≡ true
 posts_wait w past n ji [] h = absurd (false≢true h)
 posts_wait w past n ji (c ∷ cs) h =
     let now : Past = then_all w past (call_entries w past ji c) in
     let rest : List Entry = posted_entries w now (ji.0, suc ji.1) cs in
     ⊎_elim
     (λ (p : list_any (posts_as first_worker n) (call_entries w past ji c) ≡ true).
-    call_waits w past n ji c (messages_in (fates_of w now (ji.0, suc ji.1) cs)) p)
+    call_waits w past n ji c (messages_in (call_states_of w now (ji.0, suc ji.1) cs)) p)
     (λ (p : list_any (posts_as first_worker n) rest ≡ true).
-    cons_any n (message_in (call_fate w past c)) (messages_in (fates_of w now (ji.0, suc ji.1) cs))
+    cons_any n (message_in (state_of_call w past c)) (messages_in (call_states_of w now (ji.0, suc ji.1) cs))
     (posts_wait w now n (ji.0, suc ji.1) cs p))
     (or_cases (list_any (posts_as first_worker n) (call_entries w past ji c)) (list_any (posts_as first_worker n) rest)
     (sym (list_any-append (posts_as first_worker n) (call_entries w past ji c) rest) ∙ h))
@@ -118,16 +118,16 @@ posts_wait w past n ji (c ∷ cs) h =
 messages_more : (xs ys : List Wait) → messages_of (xs ++ ys) ≡ messages_of xs ++ messages_of ys
 messages_more [] ys = refl
 messages_more (x ∷ xs) ys =
-    ap (λ (l : List ℕ). messages_in x.fates ++ l) (messages_more xs ys)
-    ∙ sym (append_assoc (messages_in x.fates) (messages_of xs) (messages_of ys))
+    ap (λ (l : List ℕ). messages_in x.call_states ++ l) (messages_more xs ys)
+    ∙ sym (append_assoc (messages_in x.call_states) (messages_of xs) (messages_of ys))
 
 pub wait_by_posts : (w : Setting) (h : List Entry) (j : ℕ) (cs : List CallIn) (xs : List Wait) → AllWait h xs
     → AllWait (h ++ posted_entries w (past_of w h) (j, 0) cs)
-    (xs ++ record { place = j; fates = fates_of w (past_of w h) (j, 0) cs } ∷ [])
+    (xs ++ record { place = j; call_states = call_states_of w (past_of w h) (j, 0) cs } ∷ [])
 wait_by_posts w h j cs xs waits n posted uncollected =
     let es : List Entry = posted_entries w (past_of w h) (j, 0) cs in
-    let fates : List Fate = fates_of w (past_of w h) (j, 0) cs in
-    let x : Wait = record { place = j; fates = fates } in
+    let call_states : List CallState = call_states_of w (past_of w h) (j, 0) cs in
+    let x : Wait = record { place = j; call_states = call_states } in
     ap (list_any (nat_eq n)) (messages_more xs (x ∷ []))
     ∙ list_any-append (nat_eq n) (messages_of xs) (messages_of (x ∷ []))
     ∙ ⊎_elim
@@ -136,8 +136,8 @@ wait_by_posts w h j cs xs waits n posted uncollected =
     (waits n p (none_before (collects n) h es uncollected).0))
     (λ (p : list_any (posts_as first_worker n) es ≡ true).
     or_right (list_any (nat_eq n) (messages_of xs)) (list_any (nat_eq n) (messages_of (x ∷ [])))
-    (list_any-append (nat_eq n) (messages_in fates) []
-    ∙ or_left (list_any (nat_eq n) (messages_in fates)) false (posts_wait w (past_of w h) n (j, 0) cs p)))
+    (list_any-append (nat_eq n) (messages_in call_states) []
+    ∙ or_left (list_any (nat_eq n) (messages_in call_states)) false (posts_wait w (past_of w h) n (j, 0) cs p)))
     (or_cases (list_any (posts_as first_worker n) h) (list_any (posts_as first_worker n) es)
     (sym (list_any-append (posts_as first_worker n) h es) ∙ posted))
 
@@ -160,38 +160,38 @@ module _ (w : Setting) (past : Past) (n : ℕ) where
       (λ (p : list_any (nat_eq n) ns ≡ true). rest p)
       (or_cases (nat_eq n m) (list_any (nat_eq n) ns) h)
 
-  settles_fate : (f : Fate) (ns ms : List ℕ) → list_any (nat_eq n) (cons_option (message_in f) ns) ≡ true
+  settles_call_state : (f : CallState) (ns ms : List ℕ) → list_any (nat_eq n) (cons_option (message_in f) ns) ≡ true
       → list_any (collects n) (collected w past f) ≡ false
       → (list_any (nat_eq n) ns ≡ true → list_any (nat_eq n) ms ≡ true)
       → list_any (nat_eq n) (cons_option (message_in (settled w past f)) ms) ≡ true
-  settles_fate (Message m) ns ms h out rest = settles_one m (first (answers w past m)) ns ms h out rest
-  settles_fate (Known o) ns ms h out rest = rest h
+  settles_call_state (Message m) ns ms h out rest = settles_one m (first (answers w past m)) ns ms h out rest
+  settles_call_state (Known o) ns ms h out rest = rest h
 
-  settles_fates : (fs : List Fate) → list_any (nat_eq n) (messages_in fs) ≡ true
+  settles_call_states : (fs : List CallState) → list_any (nat_eq n) (messages_in fs) ≡ true
       → list_any (collects n) (collected_in w past fs) ≡ false
       → list_any (nat_eq n) (messages_in (map (settled w past) fs)) ≡ true
-  settles_fates [] h out = h
-  settles_fates (f ∷ fs) h out =
+  settles_call_states [] h out = h
+  settles_call_states (f ∷ fs) h out =
       let apart = none_before (collects n) (collected w past f) (collected_in w past fs) out in
-      settles_fate f (messages_in fs) (messages_in (map (settled w past) fs)) h apart.0
-      (λ p. settles_fates fs p apart.1)
+      settles_call_state f (messages_in fs) (messages_in (map (settled w past) fs)) h apart.0
+      (λ p. settles_call_states fs p apart.1)
 
   settles_waits : (xs : List Wait) → list_any (nat_eq n) (messages_of xs) ≡ true
       → list_any (collects n) (all_collected w past xs) ≡ false
       → list_any (nat_eq n) (messages_of (map (settled_in w past) xs)) ≡ true
   settles_waits [] h out = h
   settles_waits (x ∷ xs) h out =
-      let apart = none_before (collects n) (collected_in w past x.fates) (all_collected w past xs) out in
-      let now : List ℕ = messages_in (map (settled w past) x.fates) in
+      let apart = none_before (collects n) (collected_in w past x.call_states) (all_collected w past xs) out in
+      let now : List ℕ = messages_in (map (settled w past) x.call_states) in
       let rest : List ℕ = messages_of (map (settled_in w past) xs) in
       list_any-append (nat_eq n) now rest
       ∙ ⊎_elim
-      (λ (p : list_any (nat_eq n) (messages_in x.fates) ≡ true).
-      or_left (list_any (nat_eq n) now) (list_any (nat_eq n) rest) (settles_fates x.fates p apart.0))
+      (λ (p : list_any (nat_eq n) (messages_in x.call_states) ≡ true).
+      or_left (list_any (nat_eq n) now) (list_any (nat_eq n) rest) (settles_call_states x.call_states p apart.0))
       (λ (p : list_any (nat_eq n) (messages_of xs) ≡ true).
       or_right (list_any (nat_eq n) now) (list_any (nat_eq n) rest) (settles_waits xs p apart.1))
-      (or_cases (list_any (nat_eq n) (messages_in x.fates)) (list_any (nat_eq n) (messages_of xs))
-      (sym (list_any-append (nat_eq n) (messages_in x.fates) (messages_of xs)) ∙ h))
+      (or_cases (list_any (nat_eq n) (messages_in x.call_states)) (list_any (nat_eq n) (messages_of xs))
+      (sym (list_any-append (nat_eq n) (messages_in x.call_states) (messages_of xs)) ∙ h))
 
   -- and it has no answer
   open_one : (m : ℕ) (o : Option Outcome) (ms : List ℕ) → first (answers w past m) ≡ o
@@ -204,24 +204,24 @@ module _ (w : Setting) (past : Past) (n : ℕ) where
       (or_cases (nat_eq n m) (list_any (nat_eq n) ms) h)
   open_one m (Some o) ms e h rest = rest h
 
-  open_fate : (f : Fate) (ms : List ℕ) → list_any (nat_eq n) (cons_option (message_in (settled w past f)) ms) ≡ true
+  open_call_state : (f : CallState) (ms : List ℕ) → list_any (nat_eq n) (cons_option (message_in (settled w past f)) ms) ≡ true
       → (list_any (nat_eq n) ms ≡ true → first (answers w past n) ≡ None) → first (answers w past n) ≡ None
-  open_fate (Message m) ms h rest = open_one m (first (answers w past m)) ms refl h rest
-  open_fate (Known o) ms h rest = rest h
+  open_call_state (Message m) ms h rest = open_one m (first (answers w past m)) ms refl h rest
+  open_call_state (Known o) ms h rest = rest h
 
-  open_fates : (fs : List Fate) → list_any (nat_eq n) (messages_in (map (settled w past) fs)) ≡ true
+  open_call_states : (fs : List CallState) → list_any (nat_eq n) (messages_in (map (settled w past) fs)) ≡ true
       → first (answers w past n) ≡ None
-  open_fates [] h = absurd (false≢true h)
-  open_fates (f ∷ fs) h = open_fate f (messages_in (map (settled w past) fs)) h (λ p. open_fates fs p)
+  open_call_states [] h = absurd (false≢true h)
+  open_call_states (f ∷ fs) h = open_call_state f (messages_in (map (settled w past) fs)) h (λ p. open_call_states fs p)
 
   open_waits : (xs : List Wait) → list_any (nat_eq n) (messages_of (map (settled_in w past) xs)) ≡ true
       → first (answers w past n) ≡ None
   open_waits [] h = absurd (false≢true h)
   open_waits (x ∷ xs) h =
-      let now : List ℕ = messages_in (map (settled w past) x.fates) in
+      let now : List ℕ = messages_in (map (settled w past) x.call_states) in
       let rest : List ℕ = messages_of (map (settled_in w past) xs) in
       ⊎_elim
-      (λ (p : list_any (nat_eq n) now ≡ true). open_fates x.fates p)
+      (λ (p : list_any (nat_eq n) now ≡ true). open_call_states x.call_states p)
       (λ (p : list_any (nat_eq n) rest ≡ true). open_waits xs p)
       (or_cases (list_any (nat_eq n) now) (list_any (nat_eq n) rest) (sym (list_any-append (nat_eq n) now rest) ∙ h))
 
@@ -244,7 +244,7 @@ module _ (w : Setting) (h : List Entry) (xs : List Wait) where
 
 -- ---- those that are finished wait for nothing
 
-messages_none : (fs : List Fate) → list_all is_known fs ≡ true → messages_in fs ≡ []
+messages_none : (fs : List CallState) → list_all is_known fs ≡ true → messages_in fs ≡ []
 messages_none [] h = refl
 messages_none (Message n ∷ fs) h = absurd (false≢true h)
 messages_none (Known o ∷ fs) h = messages_none fs h
@@ -253,16 +253,16 @@ pub finished_none : (xs : List Wait) → list_all is_finished xs ≡ true → me
 finished_none [] h = refl
 finished_none (x ∷ xs) h =
     let both = and_parts (is_finished x) (list_all is_finished xs) h in
-    λ i. messages_none x.fates both.0 i ++ finished_none xs both.1 i
+    λ i. messages_none x.call_states both.0 i ++ finished_none xs both.1 i
 
 pub open_messages : (xs : List Wait) → messages_of (filter is_open xs) ≡ messages_of xs
 open_messages [] = refl
 open_messages (x ∷ xs) = by (is_finished x) refl (open_messages xs)
   where
     by : (b : Bool) → is_finished x ≡ b → messages_of (filter is_open xs) ≡ messages_of xs
-        → messages_of (cond (not b) (x ∷ filter is_open xs) (filter is_open xs)) ≡ messages_in x.fates ++ messages_of xs
-    by true e rest = rest ∙ ap (λ (l : List ℕ). l ++ messages_of xs) (sym (messages_none x.fates e))
-    by false e rest = ap (λ (l : List ℕ). messages_in x.fates ++ l) rest
+        → messages_of (cond (not b) (x ∷ filter is_open xs) (filter is_open xs)) ≡ messages_in x.call_states ++ messages_of xs
+    by true e rest = rest ∙ ap (λ (l : List ℕ). l ++ messages_of xs) (sym (messages_none x.call_states e))
+    by false e rest = ap (λ (l : List ℕ). messages_in x.call_states ++ l) rest
 
 pub wait_by_telling : (h : List Entry) (xs : List Wait) → AllWait h xs → AllWait h (filter is_open xs)
 wait_by_telling h xs waits n posted uncollected =

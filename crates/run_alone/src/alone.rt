@@ -2,16 +2,16 @@
 ghost use Rattle.std.specs.Prelude.{◌≡◌, ◌<◌, suc, true, IfOk, OnOk};
 ghost use Rattle.behaviour_tree.specs.PartsView.{parts_of};
 ghost use Rattle.run_theorem.specs.Calls.{After, most_postings};
-ghost use Rattle.run_theorem.specs.Dealings.{Dealings};
+ghost use Rattle.run_theorem.specs.Exchange.{Exchange};
 ghost use Rattle.run_sweep.specs.Courses.{Goes};
-ghost use Rattle.run_cells.specs.Crews.{AtWork, state_of};
-ghost use Rattle.run_posts.specs.Fates.{waits};
-ghost use Rattle.run_sweep.specs.Swept.{ToursBy};
+ghost use Rattle.run_cells.specs.RunStates.{AtWork, state_of};
+ghost use Rattle.run_posts.specs.CallStates.{waits};
+ghost use Rattle.run_sweep.specs.Swept.{CompletedCallsBy};
 ghost use Rattle.run_alone.specs.Between.{Answered, Between, Brings};
 
 use office_core::Posting;
 use outside_links::Link;
-use run_cells::{Cells, Crewed};
+use run_cells::{Cells, HasRunState};
 use run_posts::Pendings;
 use run_sweep::sweep;
 use run_theorem::Front;
@@ -27,33 +27,47 @@ pub(crate) struct Alone<'p, S: Session> {
 }
 
 impl<S: Seating> Alone<'_, S> {
-    /// Takes in a posting: its calls are posted, all that can be done is done, and what is finished is answered. It says
-    /// whether nothing is left to do; else a note failed.
+    /// Takes in a posting: its calls are posted, all that can be done is done, and what is finished is answered. It
+    /// says whether nothing is left to do; else a note failed.
     pub fn take_in<F: Front, L: Link>(
         &mut self,
         front: &mut F,
         link: &mut L,
         posting: &Posting,
     ) -> Result<bool, AllocError>
-        requires work { AtWork (⟦<Cells<'static, S> as Crewed>⟧.crew self.old.cells) }
-        requires between { Between (state_of (⟦<Cells<'static, S> as Crewed>⟧.crew self.old.cells)) (waits self.old.pendings) self.old.pendings.postings true }
+        requires work { AtWork (⟦<Cells<'static, S> as HasRunState>⟧.run_state self.old.cells) }
+        requires between { Between (state_of (⟦<Cells<'static, S> as HasRunState>⟧.run_state self.old.cells))
+            (waits self.old.pendings) self.old.pendings.postings true }
         requires room { self.old.pendings.postings < most_postings }
         ensures program { self.new.cells.program ≡ self.old.cells.program }
-        ensures budget { OnOk result ((state_of (⟦<Cells<'static, S> as Crewed>⟧.crew self.new.cells)).budget ≡ (state_of (⟦<Cells<'static, S> as Crewed>⟧.crew self.old.cells)).budget) }
-        ensures work { OnOk result (AtWork (⟦<Cells<'static, S> as Crewed>⟧.crew self.new.cells)) }
-        ensures goes { OnOk result (Goes (state_of (⟦<Cells<'static, S> as Crewed>⟧.crew self.old.cells)) (state_of (⟦<Cells<'static, S> as Crewed>⟧.crew self.new.cells))) }
+        ensures budget { OnOk result ((state_of
+            (⟦<Cells<'static, S> as HasRunState>⟧.run_state self.new.cells)).budget
+            ≡ (state_of (⟦<Cells<'static, S> as HasRunState>⟧.run_state self.old.cells)).budget) }
+        ensures work { OnOk result (AtWork (⟦<Cells<'static, S> as HasRunState>⟧.run_state self.new.cells)) }
+        ensures goes { OnOk result (Goes (state_of (⟦<Cells<'static, S> as HasRunState>⟧.run_state self.old.cells))
+            (state_of (⟦<Cells<'static, S> as HasRunState>⟧.run_state self.new.cells))) }
         ensures count { OnOk result (self.new.pendings.postings ≡ suc self.old.pendings.postings) }
-        ensures between { IfOk result (Between (state_of (⟦<Cells<'static, S> as Crewed>⟧.crew self.new.cells)) (waits self.new.pendings) self.new.pendings.postings) }
-        ensures toured { OnOk result (ToursBy (state_of (⟦<Cells<'static, S> as Crewed>⟧.crew self.old.cells)).setting (state_of (⟦<Cells<'static, S> as Crewed>⟧.crew self.old.cells)).history (state_of (⟦<Cells<'static, S> as Crewed>⟧.crew self.new.cells)).history (L.told link.old) (L.told link.new)) }
-        ensures passed { IfOk result (λ calm. (first : F) (before : Dealings) → F.dealt (parts_of self.old.cells.program) first front.old before
-            → Brings (state_of (⟦<Cells<'static, S> as Crewed>⟧.crew self.old.cells)) (waits self.old.pendings) self.old.pendings.postings posting.now before
-            → After (F.dealt (parts_of self.old.cells.program) first front.new)
-            (Answered (state_of (⟦<Cells<'static, S> as Crewed>⟧.crew self.new.cells)) (waits self.new.pendings) self.new.pendings.postings calm before)) }
+        ensures between { IfOk result (Between
+            (state_of (⟦<Cells<'static, S> as HasRunState>⟧.run_state self.new.cells)) (waits self.new.pendings)
+            self.new.pendings.postings) }
+        ensures completed { OnOk result (CompletedCallsBy
+            (state_of (⟦<Cells<'static, S> as HasRunState>⟧.run_state self.old.cells)).setting
+            (state_of (⟦<Cells<'static, S> as HasRunState>⟧.run_state self.old.cells)).history
+            (state_of (⟦<Cells<'static, S> as HasRunState>⟧.run_state self.new.cells)).history (L.told link.old)
+            (L.told link.new)) }
+        ensures passed { IfOk result
+            (λ unfailed. (first : F) (before : Exchange)
+            → F.exchanged (parts_of self.old.cells.program) first front.old before
+            → Brings (state_of (⟦<Cells<'static, S> as HasRunState>⟧.run_state self.old.cells))
+            (waits self.old.pendings) self.old.pendings.postings posting.now before
+            → After (F.exchanged (parts_of self.old.cells.program) first front.new)
+            (Answered (state_of (⟦<Cells<'static, S> as HasRunState>⟧.run_state self.new.cells))
+            (waits self.new.pendings) self.new.pendings.postings unfailed before)) }
     {
         self.pendings.post(&mut self.cells, posting)?;
-        let calm = sweep(self.alloc, &mut self.cells, front, link)?;
+        let unfailed = sweep(self.alloc, &mut self.cells, front, link)?;
         self.pendings.collect_all(&mut self.cells)?;
         self.pendings.tell_finished(self.cells.program(), front)?;
-        Ok(calm)
+        Ok(unfailed)
     }
 }

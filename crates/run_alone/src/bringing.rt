@@ -1,18 +1,18 @@
-//! Postings are brought in until no more comes.
+//! Postings are received in until no more comes.
 ghost use Rattle.std.specs.Prelude.{◌≡◌, ◌<◌, true, IfOk, OnOk, length};
 ghost use Rattle.behaviour_tree.specs.PartsView.{parts_of};
 ghost use Rattle.run_theorem.specs.Calls.{After};
-ghost use Rattle.run_theorem.specs.Dealings.{Dealings, IsNew};
+ghost use Rattle.run_theorem.specs.Exchange.{Exchange, IsNew};
 ghost use Rattle.run_sweep.specs.Courses.{Goes};
-ghost use Rattle.run_cells.specs.Crews.{AtWork, state_of};
-ghost use Rattle.run_posts.specs.Fates.{waits};
-ghost use Rattle.run_sweep.specs.Swept.{ToursBy};
+ghost use Rattle.run_cells.specs.RunStates.{AtWork, state_of};
+ghost use Rattle.run_posts.specs.CallStates.{waits};
+ghost use Rattle.run_sweep.specs.Swept.{CompletedCallsBy};
 ghost use Rattle.run_alone.specs.Between.{Between, Closed, Passed};
 ghost use Rattle.run_alone.specs.Overs.{LeavesNone, asks};
 
 use crate::alone::Alone;
 use outside_links::Link;
-use run_cells::{Cells, Crewed};
+use run_cells::{Cells, HasRunState};
 use run_theorem::{Front, Next};
 use session_turn::Seating;
 use std::alloc::AllocError;
@@ -29,44 +29,58 @@ impl<S: Seating> Alone<'_, S> {
         link: &mut L,
     ) -> Result<bool, AllocError>
         requires some { 0 < length (parts_of self.old.cells.program).services }
-        requires work { AtWork (⟦<Cells<'static, S> as Crewed>⟧.crew self.old.cells) }
-        requires between { Between (state_of (⟦<Cells<'static, S> as Crewed>⟧.crew self.old.cells)) (waits self.old.pendings) self.old.pendings.postings true }
+        requires work { AtWork (⟦<Cells<'static, S> as HasRunState>⟧.run_state self.old.cells) }
+        requires between { Between (state_of (⟦<Cells<'static, S> as HasRunState>⟧.run_state self.old.cells))
+            (waits self.old.pendings) self.old.pendings.postings true }
         ensures program { self.new.cells.program ≡ self.old.cells.program }
-        ensures budget { OnOk result ((state_of (⟦<Cells<'static, S> as Crewed>⟧.crew self.new.cells)).budget ≡ (state_of (⟦<Cells<'static, S> as Crewed>⟧.crew self.old.cells)).budget) }
-        ensures work { OnOk result (AtWork (⟦<Cells<'static, S> as Crewed>⟧.crew self.new.cells)) }
-        ensures goes { OnOk result (Goes (state_of (⟦<Cells<'static, S> as Crewed>⟧.crew self.old.cells)) (state_of (⟦<Cells<'static, S> as Crewed>⟧.crew self.new.cells))) }
-        ensures between { IfOk result (Between (state_of (⟦<Cells<'static, S> as Crewed>⟧.crew self.new.cells)) (waits self.new.pendings) self.new.pendings.postings) }
-        ensures toured { OnOk result (ToursBy (state_of (⟦<Cells<'static, S> as Crewed>⟧.crew self.old.cells)).setting (state_of (⟦<Cells<'static, S> as Crewed>⟧.crew self.old.cells)).history (state_of (⟦<Cells<'static, S> as Crewed>⟧.crew self.new.cells)).history (L.told link.old) (L.told link.new)) }
-        ensures passed { IfOk result (λ calm. (first : F) (before : Dealings) → F.dealt (parts_of self.old.cells.program) first front.old before
+        ensures budget { OnOk result ((state_of
+            (⟦<Cells<'static, S> as HasRunState>⟧.run_state self.new.cells)).budget
+            ≡ (state_of (⟦<Cells<'static, S> as HasRunState>⟧.run_state self.old.cells)).budget) }
+        ensures work { OnOk result (AtWork (⟦<Cells<'static, S> as HasRunState>⟧.run_state self.new.cells)) }
+        ensures goes { OnOk result (Goes (state_of (⟦<Cells<'static, S> as HasRunState>⟧.run_state self.old.cells))
+            (state_of (⟦<Cells<'static, S> as HasRunState>⟧.run_state self.new.cells))) }
+        ensures between { IfOk result (Between
+            (state_of (⟦<Cells<'static, S> as HasRunState>⟧.run_state self.new.cells)) (waits self.new.pendings)
+            self.new.pendings.postings) }
+        ensures completed { OnOk result (CompletedCallsBy
+            (state_of (⟦<Cells<'static, S> as HasRunState>⟧.run_state self.old.cells)).setting
+            (state_of (⟦<Cells<'static, S> as HasRunState>⟧.run_state self.old.cells)).history
+            (state_of (⟦<Cells<'static, S> as HasRunState>⟧.run_state self.new.cells)).history (L.told link.old)
+            (L.told link.new)) }
+        ensures passed { IfOk result
+            (λ unfailed. (first : F) (before : Exchange)
+            → F.exchanged (parts_of self.old.cells.program) first front.old before
             → IsNew before
-            → Passed (state_of (⟦<Cells<'static, S> as Crewed>⟧.crew self.old.cells)) (waits self.old.pendings) self.old.pendings.postings before
-            → After (F.dealt (parts_of self.old.cells.program) first front.new)
-            (λ now. Closed (state_of (⟦<Cells<'static, S> as Crewed>⟧.crew self.new.cells)) (waits self.new.pendings) self.new.pendings.postings calm now
+            → Passed (state_of (⟦<Cells<'static, S> as HasRunState>⟧.run_state self.old.cells))
+            (waits self.old.pendings) self.old.pendings.postings before
+            → After (F.exchanged (parts_of self.old.cells.program) first front.new)
+            (λ now. Closed (state_of (⟦<Cells<'static, S> as HasRunState>⟧.run_state self.new.cells))
+            (waits self.new.pendings) self.new.pendings.postings unfailed now
             × LeavesNone before now)) }
     {
         let mut looks = 0;
-        let mut calm = true;
+        let mut unfailed = true;
         'looks: loop {
             let halted = front.halted();
-            let going = may_ask(calm, halted, looks, self.pendings.postings());
+            let going = may_ask(unfailed, halted, looks, self.pendings.postings());
             if !going {
-                return Ok(calm);
+                return Ok(unfailed);
             }
             match front.next(self.cells.program())? {
                 Next::Posting(posting) => {
                     looks = 0;
-                    calm = self.take_in(front, link, &posting)?;
+                    unfailed = self.take_in(front, link, &posting)?;
                 }
                 Next::NotYet => looks += 1,
-                Next::End => return Ok(calm),
+                Next::End => return Ok(unfailed),
             }
         }
     }
 }
 
 /// Whether a posting may be asked for.
-fn may_ask(calm: bool, halted: bool, looks: u32, postings: u32) -> bool
-    ensures { result ≡ asks calm halted looks postings }
+fn may_ask(unfailed: bool, halted: bool, looks: u32, postings: u32) -> bool
+    ensures { result ≡ asks unfailed halted looks postings }
 {
-    calm && !halted && looks < MOST_LOOKS && postings < u32::MAX
+    unfailed && !halted && looks < MOST_LOOKS && postings < u32::MAX
 }

@@ -4,10 +4,10 @@ ghost use Rattle.behaviour_tree.specs.Data.{ProgramParts};
 ghost use Rattle.behaviour_tree.specs.PartsView.{parts_of};
 ghost use Rattle.office_core.specs.Legal.{IsLegal};
 ghost use Rattle.run_theorem.specs.Calls.{After};
-ghost use Rattle.run_theorem.specs.Dealings.{Dealings};
-ghost use Rattle.run_cells.specs.Crews.{AtWork, IsOurs, events_of, state_of};
-ghost use Rattle.run_posts.specs.Fates.{waits};
-ghost use Rattle.run_sweep.specs.Swept.{ToursBy};
+ghost use Rattle.run_theorem.specs.Exchange.{Exchange};
+ghost use Rattle.run_cells.specs.RunStates.{AtWork, IsOurs, events_of, state_of};
+ghost use Rattle.run_posts.specs.CallStates.{waits};
+ghost use Rattle.run_sweep.specs.Swept.{CompletedCallsBy};
 ghost use Rattle.run_alone.specs.Between.{Between, Closed, GoesTo, IsLeft, LeftQuiet, Rested};
 ghost use Rattle.run_alone.specs.Overs.{LeavesNone};
 ghost use Rattle.run_alone.specs.Ran.{Ran};
@@ -17,7 +17,7 @@ use crate::alone::Alone;
 use crate::worker::Finished;
 use jolie_trees::Bytes;
 use outside_links::Link;
-use run_cells::{Cells, Crewed};
+use run_cells::{Cells, HasRunState};
 use run_record::Record;
 use run_sweep::sweep;
 use run_theorem::Front;
@@ -32,19 +32,34 @@ impl<S: Seating> Alone<'_, S> {
         front: &mut F,
         link: &mut L,
         text: &[u8],
-        calm: bool,
+        unfailed: bool,
     ) -> Result<Finished, AllocError>
-        requires work { AtWork (⟦<Cells<'static, S> as Crewed>⟧.crew self.cells) }
-        requires between { Between (state_of (⟦<Cells<'static, S> as Crewed>⟧.crew self.cells)) (waits self.pendings) self.pendings.postings calm }
-        ensures ran { IfOk result (λ finished. (first : F) (new before : Dealings) → F.dealt (parts_of self.entry.cells.program) first front.old before
-            → Closed (state_of (⟦<Cells<'static, S> as Crewed>⟧.crew self.entry.cells)) (waits self.entry.pendings) self.entry.pendings.postings calm before
+        requires work { AtWork (⟦<Cells<'static, S> as HasRunState>⟧.run_state self.cells) }
+        requires between { Between (state_of (⟦<Cells<'static, S> as HasRunState>⟧.run_state self.cells))
+            (waits self.pendings) self.pendings.postings unfailed }
+        ensures ran { IfOk result
+            (λ finished. (first : F) (new before : Exchange)
+            → F.exchanged (parts_of self.entry.cells.program) first front.old before
+            → Closed (state_of (⟦<Cells<'static, S> as HasRunState>⟧.run_state self.entry.cells))
+            (waits self.entry.pendings) self.entry.pendings.postings unfailed before
             → LeavesNone new before
-            → After (F.dealt (parts_of self.entry.cells.program) first front.new)
-            (λ d. Ran (record { setting = (state_of (⟦<Cells<'static, S> as Crewed>⟧.crew self.entry.cells)).setting; budget = (state_of (⟦<Cells<'static, S> as Crewed>⟧.crew self.entry.cells)).budget }) text.now new d finished)) }
-        ensures goes { IfOk result (λ finished. GoesTo (state_of (⟦<Cells<'static, S> as Crewed>⟧.crew self.entry.cells)) finished.report) }
-        ensures toured { IfOk result (λ finished. ToursBy (state_of (⟦<Cells<'static, S> as Crewed>⟧.crew self.entry.cells)).setting (state_of (⟦<Cells<'static, S> as Crewed>⟧.crew self.entry.cells)).history finished.report.history.entries.items (L.told link.old) (L.told link.new)) }
+            → After (F.exchanged (parts_of self.entry.cells.program) first front.new)
+            (λ d. Ran (record {
+              setting = (state_of
+                  (⟦<Cells<'static, S> as HasRunState>⟧.run_state self.entry.cells)).setting;
+              budget = (state_of (⟦<Cells<'static, S> as HasRunState>⟧.run_state self.entry.cells)).budget;
+            }) text.now
+            new d finished)) }
+        ensures goes { IfOk result
+            (λ finished. GoesTo (state_of (⟦<Cells<'static, S> as HasRunState>⟧.run_state self.entry.cells))
+            finished.report) }
+        ensures completed { IfOk result
+            (λ finished. CompletedCallsBy
+            (state_of (⟦<Cells<'static, S> as HasRunState>⟧.run_state self.entry.cells)).setting
+            (state_of (⟦<Cells<'static, S> as HasRunState>⟧.run_state self.entry.cells)).history
+            finished.report.history.entries.items (L.told link.old) (L.told link.new)) }
     {
-        match self.quit(front, link, calm) {
+        match self.quit(front, link, unfailed) {
             Ok(spent) => {
                 let report = record_of(self.alloc, text, self.cells)?;
                 Ok(Finished { report, spent })
@@ -62,23 +77,39 @@ impl<S: Seating> Alone<'_, S> {
         &mut self,
         front: &mut F,
         link: &mut L,
-        calm: bool,
+        unfailed: bool,
     ) -> Result<bool, AllocError>
-        requires work { AtWork (⟦<Cells<'static, S> as Crewed>⟧.crew self.old.cells) }
-        requires between { Between (state_of (⟦<Cells<'static, S> as Crewed>⟧.crew self.old.cells)) (waits self.old.pendings) self.old.pendings.postings calm }
-        ensures ours { OnOk result (IsOurs (⟦<Cells<'static, S> as Crewed>⟧.crew self.new.cells)) }
-        ensures ran { IfOk result (λ spent. (text : List ℕ) (left : Left) → IsLeft text spent (state_of (⟦<Cells<'static, S> as Crewed>⟧.crew self.new.cells)) left
-            → (first : F) (new before : Dealings) → F.dealt (parts_of self.old.cells.program) first front.old before
-            → Closed (state_of (⟦<Cells<'static, S> as Crewed>⟧.crew self.old.cells)) (waits self.old.pendings) self.old.pendings.postings calm before
+        requires work { AtWork (⟦<Cells<'static, S> as HasRunState>⟧.run_state self.old.cells) }
+        requires between { Between (state_of (⟦<Cells<'static, S> as HasRunState>⟧.run_state self.old.cells))
+            (waits self.old.pendings) self.old.pendings.postings unfailed }
+        ensures ours { OnOk result (IsOurs (⟦<Cells<'static, S> as HasRunState>⟧.run_state self.new.cells)) }
+        ensures ran { IfOk result
+            (λ spent. (text : List ℕ) (left : Left)
+            → IsLeft text spent (state_of (⟦<Cells<'static, S> as HasRunState>⟧.run_state self.new.cells)) left
+            → (first : F) (new before : Exchange)
+            → F.exchanged (parts_of self.old.cells.program) first front.old before
+            → Closed (state_of (⟦<Cells<'static, S> as HasRunState>⟧.run_state self.old.cells))
+            (waits self.old.pendings) self.old.pendings.postings unfailed before
             → LeavesNone new before
-            → After (F.dealt (parts_of self.old.cells.program) first front.new)
-            (λ d. Ran (record { setting = (state_of (⟦<Cells<'static, S> as Crewed>⟧.crew self.old.cells)).setting; budget = (state_of (⟦<Cells<'static, S> as Crewed>⟧.crew self.old.cells)).budget }) text new d left)) }
-        ensures goes { IfOk result (λ spent. (text : List ℕ) (left : Left) → IsLeft text spent (state_of (⟦<Cells<'static, S> as Crewed>⟧.crew self.new.cells)) left
-            → GoesTo (state_of (⟦<Cells<'static, S> as Crewed>⟧.crew self.old.cells)) left.report) }
-        ensures toured { IfOk result (λ spent. (text : List ℕ) (left : Left) → IsLeft text spent (state_of (⟦<Cells<'static, S> as Crewed>⟧.crew self.new.cells)) left
-            → ToursBy (state_of (⟦<Cells<'static, S> as Crewed>⟧.crew self.old.cells)).setting (state_of (⟦<Cells<'static, S> as Crewed>⟧.crew self.old.cells)).history left.report.history.entries.items (L.told link.old) (L.told link.new)) }
+            → After (F.exchanged (parts_of self.old.cells.program) first front.new)
+            (λ d. Ran (record {
+              setting = (state_of
+                  (⟦<Cells<'static, S> as HasRunState>⟧.run_state self.old.cells)).setting;
+              budget = (state_of (⟦<Cells<'static, S> as HasRunState>⟧.run_state self.old.cells)).budget;
+            }) text new d
+            left)) }
+        ensures goes { IfOk result
+            (λ spent. (text : List ℕ) (left : Left)
+            → IsLeft text spent (state_of (⟦<Cells<'static, S> as HasRunState>⟧.run_state self.new.cells)) left
+            → GoesTo (state_of (⟦<Cells<'static, S> as HasRunState>⟧.run_state self.old.cells)) left.report) }
+        ensures completed { IfOk result
+            (λ spent. (text : List ℕ) (left : Left)
+            → IsLeft text spent (state_of (⟦<Cells<'static, S> as HasRunState>⟧.run_state self.new.cells)) left
+            → CompletedCallsBy (state_of (⟦<Cells<'static, S> as HasRunState>⟧.run_state self.old.cells)).setting
+            (state_of (⟦<Cells<'static, S> as HasRunState>⟧.run_state self.old.cells)).history
+            left.report.history.entries.items (L.told link.old) (L.told link.new)) }
     {
-        self.rest(front, link, calm)?;
+        self.rest(front, link, unfailed)?;
         self.cells.adopt_all()?;
         let spent = self.cells.is_spent()?;
         self.cells.stop();
@@ -92,22 +123,32 @@ impl<S: Seating> Alone<'_, S> {
         &mut self,
         front: &mut F,
         link: &mut L,
-        calm: bool,
+        unfailed: bool,
     ) -> Result<(), AllocError>
-        requires work { AtWork (⟦<Cells<'static, S> as Crewed>⟧.crew self.old.cells) }
-        requires between { Between (state_of (⟦<Cells<'static, S> as Crewed>⟧.crew self.old.cells)) (waits self.old.pendings) self.old.pendings.postings calm }
+        requires work { AtWork (⟦<Cells<'static, S> as HasRunState>⟧.run_state self.old.cells) }
+        requires between { Between (state_of (⟦<Cells<'static, S> as HasRunState>⟧.run_state self.old.cells))
+            (waits self.old.pendings) self.old.pendings.postings unfailed }
         ensures program { self.new.cells.program ≡ self.old.cells.program }
         ensures pendings { self.new.pendings ≡ self.old.pendings }
-        ensures work { OnOk result (AtWork (⟦<Cells<'static, S> as Crewed>⟧.crew self.new.cells)) }
-        ensures rested { OnOk result (Rested calm (state_of (⟦<Cells<'static, S> as Crewed>⟧.crew self.old.cells)) (state_of (⟦<Cells<'static, S> as Crewed>⟧.crew self.new.cells))) }
-        ensures toured { OnOk result (ToursBy (state_of (⟦<Cells<'static, S> as Crewed>⟧.crew self.old.cells)).setting (state_of (⟦<Cells<'static, S> as Crewed>⟧.crew self.old.cells)).history (state_of (⟦<Cells<'static, S> as Crewed>⟧.crew self.new.cells)).history (L.told link.old) (L.told link.new)) }
-        ensures noted { OnOk result ((parts : ProgramParts) (first : F) (before : Dealings) → F.dealt parts first front.old before
-            → Closed (state_of (⟦<Cells<'static, S> as Crewed>⟧.crew self.old.cells)) (waits self.old.pendings) self.old.pendings.postings calm before
-            → After (F.dealt parts first front.new)
-            (LeftQuiet (state_of (⟦<Cells<'static, S> as Crewed>⟧.crew self.old.cells)) (state_of (⟦<Cells<'static, S> as Crewed>⟧.crew self.new.cells)) before)) }
+        ensures work { OnOk result (AtWork (⟦<Cells<'static, S> as HasRunState>⟧.run_state self.new.cells)) }
+        ensures rested { OnOk result (Rested unfailed
+            (state_of (⟦<Cells<'static, S> as HasRunState>⟧.run_state self.old.cells))
+            (state_of (⟦<Cells<'static, S> as HasRunState>⟧.run_state self.new.cells))) }
+        ensures completed { OnOk result (CompletedCallsBy
+            (state_of (⟦<Cells<'static, S> as HasRunState>⟧.run_state self.old.cells)).setting
+            (state_of (⟦<Cells<'static, S> as HasRunState>⟧.run_state self.old.cells)).history
+            (state_of (⟦<Cells<'static, S> as HasRunState>⟧.run_state self.new.cells)).history (L.told link.old)
+            (L.told link.new)) }
+        ensures noted { OnOk result ((parts : ProgramParts) (first : F) (before : Exchange)
+            → F.exchanged parts first front.old before
+            → Closed (state_of (⟦<Cells<'static, S> as HasRunState>⟧.run_state self.old.cells))
+            (waits self.old.pendings) self.old.pendings.postings unfailed before
+            → After (F.exchanged parts first front.new)
+            (LeftQuiet (state_of (⟦<Cells<'static, S> as HasRunState>⟧.run_state self.old.cells))
+            (state_of (⟦<Cells<'static, S> as HasRunState>⟧.run_state self.new.cells)) before)) }
     {
         let halted = front.halted();
-        let stopped = is_stopped(calm, halted);
+        let stopped = is_stopped(unfailed, halted);
         if stopped {
             return Ok(());
         }
@@ -116,11 +157,11 @@ impl<S: Seating> Alone<'_, S> {
     }
 }
 
-/// Whether nothing more is done: it was not calm, or the front halted.
-fn is_stopped(calm: bool, halted: bool) -> bool
-    ensures { result ≡ (not calm || halted) }
+/// Whether nothing more is done: it was not unfailed, or the front halted.
+fn is_stopped(unfailed: bool, halted: bool) -> bool
+    ensures { result ≡ (not unfailed || halted) }
 {
-    !calm || halted
+    !unfailed || halted
 }
 
 /// The record of a run, which has no traffic yet.
@@ -129,12 +170,17 @@ fn record_of<S: Seating>(
     text: &[u8],
     cells: Cells<'_, S>,
 ) -> Result<Record, AllocError>
-    requires ours { IsOurs (⟦<Cells<'static, S> as Crewed>⟧.crew cells) }
+    requires ours { IsOurs (⟦<Cells<'static, S> as HasRunState>⟧.run_state cells) }
     ensures program { IfOk result (λ report. report.program ≡ text.now) }
-    ensures history { IfOk result (λ report. report.history.entries.items ≡ (state_of (⟦<Cells<'static, S> as Crewed>⟧.crew cells.entry)).history) }
-    ensures sessions { IfOk result (λ report. report.sessions ≡ events_of (⟦<Cells<'static, S> as Crewed>⟧.crew cells.entry).stands) }
+    ensures history { IfOk result
+        (λ report. report.history.entries.items
+        ≡ (state_of (⟦<Cells<'static, S> as HasRunState>⟧.run_state cells.entry)).history) }
+    ensures sessions { IfOk result
+        (λ report. report.sessions ≡ events_of (⟦<Cells<'static, S> as HasRunState>⟧.run_state cells.entry).stands) }
     ensures traffic { IfOk result (λ report. report.traffic ≡ []) }
-    ensures legal { OnOk result (IsLegal (state_of (⟦<Cells<'static, S> as Crewed>⟧.crew cells.entry)).setting (state_of (⟦<Cells<'static, S> as Crewed>⟧.crew cells.entry)).history) }
+    ensures legal { OnOk result (IsLegal (state_of
+        (⟦<Cells<'static, S> as HasRunState>⟧.run_state cells.entry)).setting
+        (state_of (⟦<Cells<'static, S> as HasRunState>⟧.run_state cells.entry)).history) }
 {
     let (history, sessions) = cells.into_parts()?;
     let program = Bytes::from_slice(alloc, text)?;

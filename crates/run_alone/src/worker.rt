@@ -3,7 +3,7 @@ ghost use Rattle.std.specs.Prelude.{◌<◌, IfOk, length};
 ghost use Rattle.behaviour_tree.specs.PartsView.{parts_of};
 ghost use Rattle.office_core.specs.Limits.{run_of};
 ghost use Rattle.run_theorem.specs.Calls.{After};
-ghost use Rattle.run_theorem.specs.Dealings.{Dealings, IsNew};
+ghost use Rattle.run_theorem.specs.Exchange.{Exchange, IsNew};
 ghost use Rattle.run_theorem.specs.Picks.{TookPicks};
 ghost use Rattle.run_alone.specs.Ran.{Ran, Travelled};
 
@@ -37,11 +37,16 @@ pub fn run_over<S: Seating, F: Front, L: Link>(
     picks: &[u32],
 ) -> Result<Finished, AllocError>
     requires some { 0 < length (parts_of program).services }
-    ensures ran { IfOk result (λ finished. (first : F) (before : Dealings) → F.dealt (parts_of program) first front.old before
-        → IsNew before → After (F.dealt (parts_of program) first front.new)
+    ensures ran { IfOk result
+        (λ finished. (first : F) (before : Exchange) → F.exchanged (parts_of program) first front.old before
+        → IsNew before → After (F.exchanged (parts_of program) first front.new)
         (λ d. Ran (record { setting = run_of (parts_of program); budget = budget }) text.now before d finished)) }
-    ensures picks { IfOk result (λ finished. TookPicks (record { setting = run_of (parts_of program); budget = budget }) picks.now finished.report) }
-    ensures trips { IfOk result (λ finished. Travelled (run_of (parts_of program)) finished.report.history.entries.items (L.told link.old) (L.told link.new)) }
+    ensures picks { IfOk result
+        (λ finished. TookPicks (record { setting = run_of (parts_of program); budget = budget }) picks.now
+        finished.report) }
+    ensures trips { IfOk result
+        (λ finished. Travelled (run_of (parts_of program)) finished.report.history.entries.items (L.told link.old)
+        (L.told link.new)) }
 {
     let cells: Cells<'_, S> = Cells::new(alloc, program, budget, picks)?;
     let pendings = Pendings::new(alloc);
@@ -50,7 +55,7 @@ pub fn run_over<S: Seating, F: Front, L: Link>(
         cells,
         pendings,
     };
-    let calm = run.bring_in(front, link)?;
-    let finished = run.finish(front, link, text, calm)?;
+    let unfailed = run.bring_in(front, link)?;
+    let finished = run.finish(front, link, text, unfailed)?;
     Ok(finished)
 }

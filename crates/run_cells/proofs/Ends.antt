@@ -16,7 +16,7 @@ use Rattle.run_quiet_laws.proofs.Finished.{CameThrough}
 use Rattle.run_quiet_laws.proofs.Sessions.{has_sessions, is_session}
 use Rattle.run_quiet_laws.proofs.Still.{HaveMadeAll}
 use Rattle.run_quiet_laws.proofs.Within.{births_within}
-use Rattle.run_cells.specs.Crews.{Stand, State, Team, events_of, past_in}
+use Rattle.run_cells.specs.RunStates.{Stand, State, Team, events_of, past_in}
 use Rattle.run_cells.specs.Rounds.{CouldAct, HasSpent, IsQuietAt, IsStillAt}
 use Rattle.run_cells.proofs.Resting.{all_adopted, stands_at}
 use Rattle.run_cells.proofs.Stilling.{event_at}

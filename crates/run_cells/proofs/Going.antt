@@ -18,8 +18,8 @@ use Rattle.run_record.specs.Steps.{is_call_of}
 use Rattle.run_record.specs.Quiet.{IsQuiet}
 use Rattle.session_turn.specs.declared.turn.Turn.{Turn}
 use Rattle.session_turn.specs.Turns.{AreEnabled, NoneAllowed, from_pick}
-use Rattle.run_cells.specs.Crews.{Stand, State, Team, events_of, moment_at, past_in, seat_at}
-use Rattle.run_cells.specs.Turns.{Comes, IsAdoption, IsTurn, RoundFrom, Turned, TurnsOf, adoption, did, is_did, last, more, next, now, over, play, spot, there, fresh as first_stand, ended as has_ended, idle as was_idle, spent as has_spent}
+use Rattle.run_cells.specs.RunStates.{Stand, State, Team, events_of, moment_at, past_in, seat_at}
+use Rattle.run_cells.specs.Turns.{Comes, IsAdoption, IsTurn, RoundFrom, Turned, TurnsOf, adoption, did, is_did, last, more, next, now, over, play, position, there, fresh as first_stand, ended as has_ended, idle as was_idle, spent as has_spent}
 use Rattle.run_cells.specs.Rounds.{IsQuietAt, IsResting, IsStillAt, OnlyAdoptions, Rests, Went, ended, events_left, idle, is_adoption, is_by_session, left, spent}
 use Rattle.run_cells.proofs.Foreign.{AreOwn, left as both_left, right as both_right}
 use Rattle.run_cells.proofs.Stilling.{adoption_still, idle_turn_same, quiet_adopts_none, quiet_turn_idle, turn_still}
@@ -135,7 +135,7 @@ events-left-set budget (suc n) (x ∷ sts) was other h e l =
 pub left_did : {n : ℕ} {old new : State} {t : Turn} → IsTurn n old new t → is_did t ≡ true → suc (left new) ≡ left old
 left_did {n} {old} {new} x d = go x.turned d
   where
-    go : {t : Turn} → Turned (play old n) (spot x.was old.history) (spot x.now new.history) t → is_did t ≡ true
+    go : {t : Turn} → Turned (play old n) (position x.was old.history) (position x.now new.history) t → is_did t ≡ true
         → suc (left new) ≡ left old
     go (did event strands enabled first events within) e =
         let plus : length (x.was).events + 1 ≡ suc (length (x.was).events) = omega arith in
@@ -261,7 +261,7 @@ stood_turns {n} (last old new t d x) e =
       rests = λ st h. subst (λ (v : Stand). Rests old n v old.history) (same_of x.was st (sym x.there ∙ h)) (go x.turned d);
     }
   where
-    go : {t : Turn} → Turned (play old n) (spot x.was old.history) (spot x.now new.history) t → is_did t ≡ false
+    go : {t : Turn} → Turned (play old n) (position x.was old.history) (position x.now new.history) t → is_did t ≡ false
         → Rests old n x.was old.history
     go (did event strands enabled first events within) e = absurd (false≢true (sym e))
     go (was_idle yet fewer strands enabled stood is) e = idle yet fewer strands _ enabled stood

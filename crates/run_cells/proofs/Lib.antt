@@ -1,4 +1,4 @@
-pub mod Awake
+pub mod Unended
 pub mod Births
 pub mod Ends
 pub mod Foreign

@@ -10,11 +10,11 @@ use Rattle.behaviour_tree.specs.declared.words.Event.{Event}
 use Rattle.office_core.specs.Limits.{first_worker}
 use Rattle.office_core.specs.Sessions.{births}
 use Rattle.session_turn.specs.declared.turn.Turn.{Turn}
-use Rattle.run_cells.specs.Crews.{AtWork, Crew, Stand, State, Team, events_of, past_in, state_of}
+use Rattle.run_cells.specs.RunStates.{AtWork, RunState, Stand, State, Team, events_of, past_in, state_of}
 use Rattle.run_cells.specs.Turns.{Adoptions, Adopts, CameTo, Comes, IsAdoption, IsNoBirth, IsTurn, RoundFrom, TurnsOf, and_next, fresh as first_stand, here, is_did, last, more, next, nobody, nobody_yet, none, now, one, over, there}
 use Rattle.run_cells.specs.Visits.{Skips}
 use Rattle.run_cells.specs.Rounds.{Adopted, CouldAct, HasSpent, IsStillAt, OnlyAdoptions, Went}
-use Rattle.run_cells.proofs.Awake.{skipped_round}
+use Rattle.run_cells.proofs.Unended.{skipped_round}
 use Rattle.run_cells.proofs.Going.{only_none, only_on, none_short, went_round}
 use Rattle.run_cells.proofs.Stilling.{adoption_still}
 
@@ -255,7 +255,7 @@ adopted_less f xs ys x e few =
     less
 
 -- a look for session n that adopted it, or did not
-pub came_ok : (n : ℕ) (old : State) (new : Crew) {E : Type 0} (r : Result Bool E) → n ≡ length old.stands
+pub came_ok : (n : ℕ) (old : State) (new : RunState) {E : Type 0} (r : Result Bool E) → n ≡ length old.stands
     → IfOk r (Adopts old (state_of new)) → OnOk r (AtWork new)
     → IfOk r (CameTo n old (state_of new))
 came_ok n old new (Ok b) e a work = came_by e a work.team
@@ -290,9 +290,9 @@ pub count_is : {X : Type 0} (f : X → Stand) (items : List X) (count : ℕ) →
 count_is f items count e = e ∙ sym (length-map items f)
 
 -- the number of the next session is its place
-pub seated_awake : {X : Type 0} (f : X → Stand) (items : List X) (awake awake' : List ℕ) {n : ℕ}
-    → awake' ≡ awake ++ n ∷ [] → n ≡ length items → awake' ≡ awake ++ length (map f items) ∷ []
-seated_awake f items awake awake' e is = e ∙ ap (λ (k : ℕ). awake ++ k ∷ []) (is ∙ sym (length-map items f))
+pub seated_unended : {X : Type 0} (f : X → Stand) (items : List X) (unended unended' : List ℕ) {n : ℕ}
+    → unended' ≡ unended ++ n ∷ [] → n ≡ length items → unended' ≡ unended ++ length (map f items) ∷ []
+seated_unended f items unended unended' e is = e ∙ ap (λ (k : ℕ). unended ++ k ∷ []) (is ∙ sym (length-map items f))
 
 pub cells_same : {X : Type 0} (f : X → Stand) (xs ys : List X) → length (map f ys) ≡ length (map f xs) → length ys ≡ length xs
 cells_same f xs ys e = sym (length-map ys f) ∙ e ∙ length-map xs f

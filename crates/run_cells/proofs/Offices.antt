@@ -26,11 +26,11 @@ use Rattle.office_plain.specs.Replies.{birth_of}
 use Rattle.session_turn.specs.Passes.{IsReady}
 use Rattle.office_plain.specs.declared.office.Office.{Office}
 use Rattle.office_plain.specs.View.{Adds, entries_of, with_entry}
-use Rattle.run_cells.specs.Crews.{AtWork, Crew, IsOurs, Stand, Stays, Team, closing, crew_by, list_of, past_in, state_of}
-use Rattle.run_cells.specs.Crews.{with_awake}
-use Rattle.run_cells.specs.Turns.{Adopts, IsAdoption, IsTurn, Turned, adoption, fresh as first_stand, none, spot}
+use Rattle.run_cells.specs.RunStates.{AtWork, RunState, IsOurs, Stand, Stays, Team, closing, run_state_by, list_of, past_in, state_of}
+use Rattle.run_cells.specs.RunStates.{with_unended}
+use Rattle.run_cells.specs.Turns.{Adopts, IsAdoption, IsTurn, Turned, adoption, fresh as first_stand, none, position}
 use Rattle.session_turn.specs.declared.turn.Turn.{Turn}
-use Rattle.run_cells.proofs.Awake.{awake_begun, awake_more, awake_same, awake_turn}
+use Rattle.run_cells.proofs.Unended.{unended_begun, unended_more, unended_same, unended_turn}
 use Rattle.run_cells.proofs.Births.{born_known}
 use Rattle.run_cells.proofs.Foreign.{some_with}
 use Rattle.run_cells.proofs.Stilling.{next_unadopted}
@@ -55,12 +55,12 @@ at_work past h = ap (λ b. b && nat_le first_worker first_worker) h
 -- ---- what stays
 
 -- Beside the office and the sessions nothing changed.
-pub record Beside (old new : Crew) : Type 0 where
+pub record Beside (old new : RunState) : Type 0 where
   pub program : new.program ≡ old.program
   pub budget : new.budget ≡ old.budget
   pub stands : new.stands ≡ old.stands
   pub picks : new.picks ≡ old.picks
-  pub awake : new.awake ≡ old.awake
+  pub unended : new.unended ≡ old.unended
 
 with_list : (h : List Entry) (more : Option Entry) → with_entry h more ≡ h ++ list_of more
 with_list h None = sym (append_nil h)
@@ -71,7 +71,7 @@ with_list h None = sym (append_nil h)
 with_list h (Some e) = refl
 
 -- a call of the office adds its entry, and nothing else changes
-pub stays_by : {old new : Crew} {more : Option Entry} → Beside old new → Adds more old.office new.office
+pub stays_by : {old new : RunState} {more : Option Entry} → Beside old new → Adds more old.office new.office
     → Stays (state_of old) (state_of new) (list_of more)
 stays_by {old} {new} {more} b a = record {
   setting = ap (λ (p : Program). run_of (parts_of p)) b.program;
@@ -82,7 +82,7 @@ stays_by {old} {new} {more} b a = record {
 }
 
 -- the office stays of the program
-pub ours_by : {old new : Crew} {more : Option Entry} → Beside old new → Adds more old.office new.office → IsOurs old
+pub ours_by : {old new : RunState} {more : Option Entry} → Beside old new → Adds more old.office new.office → IsOurs old
     → IsOurs new
 ours_by b a o = a.program ∙ o ∙ sym (ap parts_of b.program)
 
@@ -116,7 +116,7 @@ abbrev pub ByWorker : List Entry → Type 0
 ByWorker es = list_all is_of_worker es ≡ true
 
 -- the sessions stay at work when the worker called
-pub works_by : {old new : Crew} {more : Option Entry} → AtWork old → Beside old new → Adds more old.office new.office
+pub works_by : {old new : RunState} {more : Option Entry} → AtWork old → Beside old new → Adds more old.office new.office
     → new.office.spent ≡ false
     → ByWorker (list_of more) → NoStops (list_of more) → AtWork new
 works_by {old} {new} {more} work b a ready works goes =
@@ -126,7 +126,7 @@ works_by {old} {new} {more} work b a ready works goes =
     record {
       desk = r;
       team = team_stays work.team s works (legal_of new.office r.program) (runs_of r);
-      awake = awake_same b.awake b.stands work.awake;
+      unended = unended_same b.unended b.stands work.unended;
     }
 
 -- what each call of the worker adds is its own
@@ -181,7 +181,7 @@ born-by w past n b e = by (was_adopted past n) (service_of w past n) e
     by false (Some d) f = ap (λ (x : Option Birth). elim x [ None ↦ Some d | Some y ↦ Some y.service ]) (sym f)
 
 -- no session was born; the office has not changed
-pub adopts_none : {old new : Crew} → AtWork old → Beside old new → Adds None old.office new.office
+pub adopts_none : {old new : RunState} → AtWork old → Beside old new → Adds None old.office new.office
     → (n : ℕ) → n ≡ length old.stands
     → None ≡ birth_of (run_of (parts_of old.office.program)) (past_of (run_of (parts_of old.office.program)) (entries_of old.office)) n
     → Adopts (state_of old) (state_of new) false
@@ -200,19 +200,19 @@ adopts_none {old} {new} work b a n e birth =
       };
     })
 
-pub works_none : {old new : Crew} → AtWork old → Beside old new → Adds None old.office new.office
+pub works_none : {old new : RunState} → AtWork old → Beside old new → Adds None old.office new.office
     → new.office.spent ≡ false → AtWork new
 works_none work b a ready = works_by work b a ready refl refl
 
 -- The office adopted the next session, and it was seated.
-pub record Seated (old new : Crew) (birth : Birth) : Type 0 where
+pub record Seated (old new : RunState) (birth : Birth) : Type 0 where
   pub program : new.program ≡ old.program
   pub budget : new.budget ≡ old.budget
   pub picks : new.picks ≡ old.picks
   pub stands : new.stands ≡ old.stands ++ first_stand (run_of (parts_of old.program)) birth.service ∷ []
-  pub awake : new.awake ≡ old.awake ++ length old.stands ∷ []
+  pub unended : new.unended ≡ old.unended ++ length old.stands ∷ []
 
-pub adopts_one : {old new : Crew} {birth : Birth} → AtWork old → Seated old new birth → (n : ℕ) → n ≡ length old.stands
+pub adopts_one : {old new : RunState} {birth : Birth} → AtWork old → Seated old new birth → (n : ℕ) → n ≡ length old.stands
     → Adds (Some (entry n (act.Adopt birth.service))) old.office new.office
     → Some birth ≡ birth_of (run_of (parts_of old.office.program)) (past_of (run_of (parts_of old.office.program)) (entries_of old.office)) n
     → IsAdoption (state_of old) (state_of new)
@@ -228,7 +228,7 @@ adopts_one {old} {new} {birth} work s n e a is = record {
   picks = s.picks;
 }
 
-pub works_one : {old new : Crew} {birth : Birth} (n : ℕ) → AtWork old → Seated old new birth
+pub works_one : {old new : RunState} {birth : Birth} (n : ℕ) → AtWork old → Seated old new birth
     → Adds (Some (entry n (act.Adopt birth.service))) old.office new.office
     → new.office.spent ≡ false
     → IsAdoption (state_of old) (state_of new) → AtWork new
@@ -238,51 +238,51 @@ works_one {old} {new} {birth} n work s a ready x =
     record {
       desk = r;
       team = team_adopted work.team x (legal_of new.office r.program) (runs_of r);
-      awake = awake_same s.awake s.stands
-          (awake_more (first_stand (run_of (parts_of old.program)) birth.service) work.awake);
+      unended = unended_same s.unended s.stands
+          (unended_more (first_stand (run_of (parts_of old.program)) birth.service) work.unended);
     }
 
 -- ---- turns
 
-pub works_turn : {old new : Crew} {n : ℕ} {t : Turn} → AtWork old → IsReady (parts_of new.program) new.office
-    → new.awake ≡ old.awake → IsTurn n (state_of old) (state_of new) t → AtWork new
+pub works_turn : {old new : RunState} {n : ℕ} {t : Turn} → AtWork old → IsReady (parts_of new.program) new.office
+    → new.unended ≡ old.unended → IsTurn n (state_of old) (state_of new) t → AtWork new
 works_turn {old} {new} work r same x = record {
   desk = r;
   team = team_turn work.team x (legal_of new.office r.program) (runs_of r);
-  awake = awake_same same refl (awake_turn x work.awake);
+  unended = unended_same same refl (unended_turn x work.unended);
 }
 
 -- ---- what a call of the office gave
 
--- the crew with another office
-abbrev pub with_office : Crew → Office → Crew
-with_office c o = with_awake c.awake (crew_by c.program o c.budget c.stands c.picks)
+-- the run state with another office
+abbrev pub with_office : RunState → Office → RunState
+with_office c o = with_unended c.unended (run_state_by c.program o c.budget c.stands c.picks)
 
-unchanged : (c : Crew) (o : Office) → Beside c (with_office c o)
-unchanged c o = record { program = refl; budget = refl; stands = refl; picks = refl; awake = refl }
+unchanged : (c : RunState) (o : Office) → Beside c (with_office c o)
+unchanged c o = record { program = refl; budget = refl; stands = refl; picks = refl; unended = refl }
 
-pub stays_ok : (c : Crew) (o : Office) {X E : Type 0} (r : Result X E) (f : X → Option Entry)
+pub stays_ok : (c : RunState) (o : Office) {X E : Type 0} (r : Result X E) (f : X → Option Entry)
     → IfOk r (λ x. Adds (f x) c.office o)
     → IfOk r (λ x. Stays (state_of c) (state_of (with_office c o)) (list_of (f x)))
 stays_ok c o (Ok x) f a = stays_by (unchanged c o) a
 stays_ok c o (Err e) f a = tt
 
-pub stays_work : {c : Crew} (o : Office) {X E : Type 0} (r : Result X E) (f : X → Option Entry) → AtWork c
+pub stays_work : {c : RunState} (o : Office) {X E : Type 0} (r : Result X E) (f : X → Option Entry) → AtWork c
     → IfOk r (λ x. Adds (f x) c.office o)
     → IfOk r (λ x. Stays (state_of c) (state_of (with_office c o)) (list_of (f x)))
 stays_work {c} o r f work a = stays_ok c o r f a
 
 -- where the call failed nothing came
-pub stays_not : (c : Crew) (o : Office) {X E : Type 0} (r : Result X E) → OnErr r (Adds None c.office o)
+pub stays_not : (c : RunState) (o : Office) {X E : Type 0} (r : Result X E) → OnErr r (Adds None c.office o)
     → OnErr r (Stays (state_of c) (state_of (with_office c o)) [])
 stays_not c o (Ok x) failed = tt
 stays_not c o (Err e) failed = stays_by (unchanged c o) failed
 
-pub stays_failed : {c : Crew} (o : Office) {X E : Type 0} (r : Result X E) → AtWork c → OnErr r (Adds None c.office o)
+pub stays_failed : {c : RunState} (o : Office) {X E : Type 0} (r : Result X E) → AtWork c → OnErr r (Adds None c.office o)
     → OnErr r (Stays (state_of c) (state_of (with_office c o)) [])
 stays_failed {c} o r work failed = stays_not c o r failed
 
-pub works_ok : (c : Crew) (o : Office) {X E : Type 0} (r : Result X E) (f : X → Option Entry) → AtWork c
+pub works_ok : (c : RunState) (o : Office) {X E : Type 0} (r : Result X E) (f : X → Option Entry) → AtWork c
     → IfOk r (λ x. Adds (f x) c.office o) → OnOk r (o.spent ≡ false)
     → ((x : X) → ByWorker (list_of (f x))) → ((x : X) → NoStops (list_of (f x)))
     → OnOk r (AtWork (with_office c o))
@@ -290,7 +290,7 @@ works_ok c o (Ok x) f work a ready own goes = works_by work (unchanged c o) a re
 works_ok c o (Err e) f work a ready own goes = tt
 
 -- also where the call failed
-pub ours_ok : (c : Crew) (o : Office) {X E : Type 0} (r : Result X E) (f : X → Option Entry) → IsOurs c
+pub ours_ok : (c : RunState) (o : Office) {X E : Type 0} (r : Result X E) (f : X → Option Entry) → IsOurs c
     → IfOk r (λ x. Adds (f x) c.office o) → OnErr r (Adds None c.office o) → IsOurs (with_office c o)
 ours_ok c o (Ok x) f ours a failed = ours_by (unchanged c o) a ours
 ours_ok c o (Err e) f ours a failed = ours_by (unchanged c o) failed ours
@@ -313,7 +313,7 @@ close-goes true = refl
 close-goes false = refl
 
 -- the worker is at work behind the end of input
-pub stop_works : (c : Crew) (o : Office) → AtWork c → Adds (close_entry c.office) c.office o
+pub stop_works : (c : RunState) (o : Office) → AtWork c → Adds (close_entry c.office) c.office o
     → is_at_work (past_of (run_of (parts_of o.program)) (entries_of o)) first_worker ≡ true
 stop_works c o work a =
     at_work (past_of (run_of (parts_of o.program)) (entries_of o))
@@ -327,7 +327,7 @@ append_all : (xs ys zs : List Entry) → (xs ++ ys) ++ zs ≡ xs ++ (ys ++ zs)
 append_all [] ys zs = refl
 append_all (x ∷ xs) ys zs = ap (λ l. x ∷ l) (append_all xs ys zs)
 
-pub stopped : (c : Crew) (o o' : Office) → AtWork c → Adds (close_entry c.office) c.office o
+pub stopped : (c : RunState) (o o' : Office) → AtWork c → Adds (close_entry c.office) c.office o
     → Adds (Some (entry first_worker act.Stop)) o o'
     → Stays (state_of c) (state_of (with_office c o')) (closing (past_in (state_of c)) ++ entry first_worker act.Stop ∷ [])
 stopped c o o' work a b = record {
@@ -344,20 +344,20 @@ stopped c o o' work a b = record {
     end = closing-list (past_of (run_of (parts_of (c.office).program)) (entries_of c.office)) (some_entry (past_of (run_of (parts_of (c.office).program)) (entries_of c.office)) closes) refl
         ∙ along (λ w p. closing (past_of (run_of (parts_of (c.office).program)) (entries_of c.office)) ≡ closing p) (entries_of c.office) work.desk.program refl
 
-pub stopped_ours : (c : Crew) (o o' : Office) → AtWork c → Adds (close_entry c.office) c.office o
+pub stopped_ours : (c : RunState) (o o' : Office) → AtWork c → Adds (close_entry c.office) c.office o
     → Adds (Some (entry first_worker act.Stop)) o o' → IsOurs (with_office c o')
 stopped_ours c o o' work a b = b.program ∙ a.program ∙ work.desk.program
 
 -- ---- turns of cells
 
--- a turn of the cell at a place is one of the crew
+-- a turn of the cell at a place is one of the run state
 pub turn_is : {X : Type 0} (f : X → Stand) (program : Program) (o o' : Office) (budget : ℕ) (items : List X) (n : ℕ) (x y : X)
     (picks rest : List ℕ) (pick : ℕ) (t : Turn)
     → slice_get (map f items) n ≡ Some (f x) → pick ≡ unwrap_or (slice_get picks 0) 0 → rest ≡ drop 1 picks
     → Turned (record { setting = run_of (parts_of program); budget = budget; session = n; pick = pick })
-    (spot (f x) (entries_of o)) (spot (f y) (entries_of o')) t
-    → IsTurn n (state_of (crew_by program o budget (map f items) picks))
-    (state_of (crew_by program o' budget (map f (slice_set items n y)) rest)) t
+    (position (f x) (entries_of o)) (position (f y) (entries_of o')) t
+    → IsTurn n (state_of (run_state_by program o budget (map f items) picks))
+    (state_of (run_state_by program o' budget (map f (slice_set items n y)) rest)) t
 turn_is f program o o' budget items n x y picks rest pick t there first left h = record {
   was = f x;
   there = there;
@@ -367,7 +367,7 @@ turn_is f program o o' budget items n x y picks rest pick t there first left h =
   stands = map-set f items n y;
   picks = left;
   turned = subst (λ (k : ℕ). Turned (record { setting = run_of (parts_of program); budget = budget; session = n; pick = k })
-      (spot (f x) (entries_of o)) (spot (f y) (entries_of o')) t) first h;
+      (position (f x) (entries_of o)) (position (f y) (entries_of o')) t) first h;
 }
 
 -- the stand of the cell at a place
@@ -389,8 +389,8 @@ count_fits f items count e few =
     let same : length (map f items) ≡ length items = length-map items f in
     omega arith
 
-pub works_turn_ok : {old : Crew} (new : Crew) (n : ℕ) {E : Type 0} (r : Result Turn E) → AtWork old
-    → OnOk r (IsReady (parts_of new.program) new.office) → new.awake ≡ old.awake
+pub works_turn_ok : {old : RunState} (new : RunState) (n : ℕ) {E : Type 0} (r : Result Turn E) → AtWork old
+    → OnOk r (IsReady (parts_of new.program) new.office) → new.unended ≡ old.unended
     → IfOk r (IsTurn n (state_of old) (state_of new)) → OnOk r (AtWork new)
 works_turn_ok new n (Ok t) work ready same x = works_turn work ready same x
 works_turn_ok new n (Err e) work ready same x = tt
@@ -398,9 +398,9 @@ works_turn_ok new n (Err e) work ready same x = tt
 -- ---- before the first call
 
 pub works_begun : {X : Type 0} (f : X → Stand) (program : Program) (o : Office) (budget : ℕ) (items : List X)
-    (picks awake : List ℕ) → parts_of o.program ≡ parts_of program → entries_of o ≡ [] → o.spent ≡ false → items ≡ [] → awake ≡ []
-    → AtWork (with_awake awake (crew_by program o budget (map f items) picks))
-works_begun f program o budget items picks awake same none_yet ready nobody_yet nobody_awake = record {
+    (picks unended : List ℕ) → parts_of o.program ≡ parts_of program → entries_of o ≡ [] → o.spent ≡ false → items ≡ [] → unended ≡ []
+    → AtWork (with_unended unended (run_state_by program o budget (map f items) picks))
+works_begun f program o budget items picks unended same none_yet ready nobody_yet nobody_unended = record {
   desk = record {
     program = same;
     ready = ready;
@@ -413,13 +413,13 @@ works_begun f program o budget items picks awake same none_yet ready nobody_yet 
     stands = map f (sym nobody_yet i);
     picks = picks;
   }) (team_begun (run_of (parts_of program)) budget picks refl);
-  awake = awake_begun nobody_awake (ap (map f) nobody_yet);
+  unended = unended_begun nobody_unended (ap (map f) nobody_yet);
 }
 
 -- ---- the next session
 
 -- the service of a session that was born is one of the program
-pub seat_known : {c : Crew} → AtWork c → (n : ℕ) (birth : Birth)
+pub seat_known : {c : RunState} → AtWork c → (n : ℕ) (birth : Birth)
     → Some birth ≡ birth_of (run_of (parts_of (c.office).program)) (past_of (run_of (parts_of (c.office).program)) (entries_of c.office)) n
     → birth.service < length (parts_of c.program).services
 seat_known {c} work n birth is =
@@ -428,16 +428,16 @@ seat_known {c} work n birth is =
     (along (λ w p. Some birth ≡ birth_of w p n) (entries_of c.office) work.desk.program is))
 
 -- nobody was born
-pub nobody_born : {c : Crew} (o : Office) (n : ℕ) → AtWork c → Adds None c.office o → n ≡ length c.stands
+pub nobody_born : {c : RunState} (o : Office) (n : ℕ) → AtWork c → Adds None c.office o → n ≡ length c.stands
     → None ≡ birth_of (run_of (parts_of (c.office).program)) (past_of (run_of (parts_of (c.office).program)) (entries_of c.office)) n
     → Adopts (state_of c) (state_of (with_office c o)) false
 nobody_born {c} o n work a e is = adopts_none work (unchanged c o) a n e is
 
-pub nobody_works : {c : Crew} (o : Office) → AtWork c → Adds None c.office o → o.spent ≡ false → AtWork (with_office c o)
+pub nobody_works : {c : RunState} (o : Office) → AtWork c → Adds None c.office o → o.spent ≡ false → AtWork (with_office c o)
 nobody_works {c} o work a ready = works_none work (unchanged c o) a ready
 
 -- somebody was born, and was seated at an office
-pub somebody_born : {old : Crew} (new : Crew) (birth : Birth) (n : ℕ) (o : Office) → AtWork old → Seated old new birth
+pub somebody_born : {old : RunState} (new : RunState) (birth : Birth) (n : ℕ) (o : Office) → AtWork old → Seated old new birth
     → n ≡ length old.stands → new.office ≡ o
     → Adds (Some (entry n (act.Adopt birth.service))) old.office o
     → Some birth ≡ birth_of (run_of (parts_of (old.office).program)) (past_of (run_of (parts_of (old.office).program)) (entries_of old.office)) n
@@ -445,7 +445,7 @@ pub somebody_born : {old : Crew} (new : Crew) (birth : Birth) (n : ℕ) (o : Off
 somebody_born {old} new birth n o work s e same a is =
     adopts_one work s n e (subst (Adds (Some (entry n (act.Adopt birth.service))) old.office) (sym same) a) is
 
-pub somebody_works : {old : Crew} (new : Crew) (birth : Birth) (n : ℕ) (o : Office) → AtWork old → Seated old new birth
+pub somebody_works : {old : RunState} (new : RunState) (birth : Birth) (n : ℕ) (o : Office) → AtWork old → Seated old new birth
     → new.office ≡ o
     → Adds (Some (entry n (act.Adopt birth.service))) old.office o → o.spent ≡ false
     → IsAdoption (state_of old) (state_of new) → AtWork new
@@ -456,7 +456,7 @@ somebody_works {old} new birth n o work s same a ready x =
 -- ---- looks
 
 -- a look leaves all as it was
-pub look_same : (c : Crew) (o : Office) {T E : Type 0} (r : Result T E) → OnOk r (entries_of o ≡ entries_of c.office)
+pub look_same : (c : RunState) (o : Office) {T E : Type 0} (r : Result T E) → OnOk r (entries_of o ≡ entries_of c.office)
     → OnOk r (state_of (with_office c o) ≡ state_of c)
 look_same c o (Ok x) e = λ i. record {
   setting = run_of (parts_of c.program);
@@ -467,7 +467,7 @@ look_same c o (Ok x) e = λ i. record {
 }
 look_same c o (Err x) e = tt
 
-pub look_works : {c : Crew} (o : Office) {T E : Type 0} (r : Result T E) → AtWork c → OnOk r (IsReady (parts_of c.program) o)
+pub look_works : {c : RunState} (o : Office) {T E : Type 0} (r : Result T E) → AtWork c → OnOk r (IsReady (parts_of c.program) o)
     → OnOk r (entries_of o ≡ entries_of c.office)
     → OnOk r (AtWork (with_office c o))
 look_works {c} o (Ok x) work ready e = record {
@@ -479,6 +479,6 @@ look_works {c} o (Ok x) work ready e = record {
     stands = c.stands;
     picks = c.picks;
   }) work.team;
-  awake = work.awake;
+  unended = work.unended;
 }
 look_works {c} o (Err x) work ready e = tt

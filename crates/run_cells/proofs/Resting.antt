@@ -13,7 +13,7 @@ use Rattle.run_quiet_laws.proofs.Acting.{ended_cannot_act}
 use Rattle.run_quiet_laws.proofs.Once.{same_of}
 use Rattle.run_quiet_laws.proofs.Quiet.{IsIdle, quiet_at_end}
 use Rattle.run_quiet_laws.proofs.Since.{given_before, idle_since}
-use Rattle.run_cells.specs.Crews.{Stand, State, Team, events_of, moment_at, past_in}
+use Rattle.run_cells.specs.RunStates.{Stand, State, Team, events_of, moment_at, past_in}
 use Rattle.run_cells.specs.Rounds.{IsAtRest, IsResting, OnlyAdoptions, Rests, ended, idle, spent}
 
 -- Session n stands so, and these are its events.
@@ -62,8 +62,8 @@ module _ (s : State) (team : Team s) where
 
   -- where each rests and each call has its outcome, nothing is left to do
   pub rests_quiet : IsAtRest s → outstanding (past_in s) ≡ [] → IsQuiet s.setting s.budget s.history (events_of s.stands)
-  rests_quiet rest brought =
-      quiet_at_end s.setting s.budget s.history (events_of s.stands) (all_adopted rest.born) brought
+  rests_quiet rest received =
+      quiet_at_end s.setting s.budget s.history (events_of s.stands) (all_adopted rest.born) received
       (λ n es e.
       let x = stands_at s.stands n es e in
       subst (λ (events : List Event). IsIdle s.setting s.budget s.history n events) x.events

@@ -8,7 +8,7 @@ use Rattle.session_turn.specs.Seen.{Seat}
 use Rattle.session_turn.specs.Lives.{Kept, Moment}
 use Rattle.session_turn.specs.Looks.{MayAct}
 use Rattle.run_quiet_laws.proofs.Acting.{CannotAct, look_says}
-use Rattle.run_cells.specs.Crews.{Stand, State, Team}
+use Rattle.run_cells.specs.RunStates.{Stand, State, Team}
 use Rattle.run_cells.specs.Rounds.{CouldAct}
 use Rattle.run_cells.proofs.Teams.{same_of}
 

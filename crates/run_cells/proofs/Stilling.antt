@@ -12,9 +12,9 @@ use Rattle.run_record.specs.Quiet.{IsStill}
 use Rattle.session_turn.specs.declared.turn.Turn.{Turn}
 use Rattle.run_quiet_laws.proofs.Quiet.{no_more}
 use Rattle.run_quiet_laws.proofs.Still.{IsChanged, still_by_adoption, still_by_turn}
-use Rattle.run_cells.specs.Crews.{Stand, State, Team, events_of, moment_at, past_in}
+use Rattle.run_cells.specs.RunStates.{Stand, State, Team, events_of, moment_at, past_in}
 use Rattle.run_cells.specs.Rounds.{IsQuietAt, IsStillAt}
-use Rattle.run_cells.specs.Turns.{IsAdoption, IsTurn, Spot, Turned, adoption, did, ended, idle, is_did, play, seat_of, spent, spot}
+use Rattle.run_cells.specs.Turns.{IsAdoption, IsTurn, Position, Turned, adoption, did, ended, idle, is_did, play, seat_of, spent, position}
 
 -- ---- lists
 
@@ -98,14 +98,14 @@ pub idle_turn_same : {n : ℕ} {old new : State} {t : Turn} → IsTurn n old new
     → (new.history ≡ old.history) × (new.stands ≡ old.stands)
 idle_turn_same {n} {old} {new} x none = go x.turned none
   where
-    same : ◌≡◌ {A = Spot} (spot x.now new.history) (spot x.was old.history)
+    same : ◌≡◌ {A = Position} (position x.now new.history) (position x.was old.history)
         → (new.history ≡ old.history) × (new.stands ≡ old.stands)
     same e = (
-      ap (λ (p : Spot). p.history) e,
-      x.stands ∙ ap (slice_set old.stands n) (ap (λ (p : Spot). p.stand) e) ∙ set_same old.stands n x.was x.there,
+      ap (λ (p : Position). p.history) e,
+      x.stands ∙ ap (slice_set old.stands n) (ap (λ (p : Position). p.stand) e) ∙ set_same old.stands n x.was x.there,
     )
 
-    go : {t : Turn} → Turned (play old n) (spot x.was old.history) (spot x.now new.history) t → is_did t ≡ false
+    go : {t : Turn} → Turned (play old n) (position x.was old.history) (position x.now new.history) t → is_did t ≡ false
         → (new.history ≡ old.history) × (new.stands ≡ old.stands)
     go (did event strands enabled first events within) e = absurd (false≢true (sym e))
     go (idle yet fewer strands enabled stood is) e = same is
@@ -115,15 +115,15 @@ idle_turn_same {n} {old} {new} x none = go x.turned none
 pub turn_still : {n : ℕ} {old new : State} {t : Turn} → Team old → IsTurn n old new t → IsStillAt old → IsStillAt new
 turn_still {n} {old} {new} team x still = go x.turned
   where
-    as_before : ◌≡◌ {A = Spot} (spot x.now new.history) (spot x.was old.history) → IsStillAt new
+    as_before : ◌≡◌ {A = Position} (position x.now new.history) (position x.was old.history) → IsStillAt new
     as_before e =
         still_same old.setting new.setting old.budget new.budget old.history new.history (events_of old.stands)
-        (events_of new.stands) x.setting x.budget (ap (λ (p : Spot). p.history) e)
+        (events_of new.stands) x.setting x.budget (ap (λ (p : Position). p.history) e)
         (ap events_of
-        (x.stands ∙ ap (slice_set old.stands n) (ap (λ (p : Spot). p.stand) e) ∙ set_same old.stands n x.was x.there))
+        (x.stands ∙ ap (slice_set old.stands n) (ap (λ (p : Position). p.stand) e) ∙ set_same old.stands n x.was x.there))
         still
 
-    go : {t : Turn} → Turned (play old n) (spot x.was old.history) (spot x.now new.history) t → IsStillAt new
+    go : {t : Turn} → Turned (play old n) (position x.was old.history) (position x.now new.history) t → IsStillAt new
     go (did event strands enabled first events within) =
         still_same old.setting new.setting old.budget new.budget new.history new.history
         (events_of (slice_set old.stands n x.now)) (events_of new.stands) x.setting x.budget refl
@@ -142,7 +142,7 @@ pub quiet_turn_idle : {n : ℕ} {old new : State} {t : Turn} → Team old → Is
     → is_did t ≡ false
 quiet_turn_idle {n} {old} {new} team quiet x = go x.turned
   where
-    go : {t : Turn} → Turned (play old n) (spot x.was old.history) (spot x.now new.history) t → is_did t ≡ false
+    go : {t : Turn} → Turned (play old n) (position x.was old.history) (position x.now new.history) t → is_did t ≡ false
     go (did event strands enabled first events within) =
         absurd
         (no_more {a = seat_of (play old n)} {old = moment_at x.was old.history}

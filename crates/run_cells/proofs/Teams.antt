@@ -27,8 +27,8 @@ use Rattle.session_turn.proofs.Growing.{grew_alone}
 use Rattle.session_turn.proofs.Histories.{service_stays, some_of}
 use Rattle.session_turn.proofs.Living.{kept_did, lives_on}
 use Rattle.session_turn.proofs.Walking.{born_here}
-use Rattle.run_cells.specs.Crews.{Stand, State, Stays, Team, moment_at, past_in, seat_at}
-use Rattle.run_cells.specs.Turns.{IsAdoption, IsTurn, Spot, Turned, adoption, did, ended, idle, play, spent, spot, fresh as first_stand}
+use Rattle.run_cells.specs.RunStates.{Stand, State, Stays, Team, moment_at, past_in, seat_at}
+use Rattle.run_cells.specs.Turns.{IsAdoption, IsTurn, Position, Turned, adoption, did, ended, idle, play, spent, position, fresh as first_stand}
 use Rattle.run_cells.proofs.Births.{born_known, few_births}
 use Rattle.run_cells.proofs.Foreign.{AreOwn, gives_own, own_adopts, own_foreign, some_with}
 use Rattle.run_cells.proofs.Unadopted.{unadopted_quiet}
@@ -309,10 +309,10 @@ none_came n old new e = record { own = []; is = e ∙ sym (append_nil old); are 
 pub turn_came : {n : ℕ} {old new : State} {t : Turn} → IsTurn n old new t → OwnCame n old.history new.history
 turn_came {n} {old} {new} x = go x.turned
   where
-    same : ◌≡◌ {A = Spot} (spot x.now new.history) (spot x.was old.history) → OwnCame n old.history new.history
-    same e = none_came n old.history new.history (ap (λ (p : Spot). p.history) e)
+    same : ◌≡◌ {A = Position} (position x.now new.history) (position x.was old.history) → OwnCame n old.history new.history
+    same e = none_came n old.history new.history (ap (λ (p : Position). p.history) e)
 
-    go : {t : Turn} → Turned (play old n) (spot x.was old.history) (spot x.now new.history) t → OwnCame n old.history new.history
+    go : {t : Turn} → Turned (play old n) (position x.was old.history) (position x.now new.history) t → OwnCame n old.history new.history
     go (did event strands enabled first events within) =
         let p = first.happened in
         record {
@@ -330,11 +330,11 @@ pub turn_kept : {n : ℕ} {old new : State} {t : Turn} → (x : IsTurn n old new
     → Kept (seat_at old.setting n) (x.now).events (moment_at x.now new.history)
 turn_kept {n} {old} {new} x k = go x.turned
   where
-    same : ◌≡◌ {A = Spot} (spot x.now new.history) (spot x.was old.history)
+    same : ◌≡◌ {A = Position} (position x.now new.history) (position x.was old.history)
         → Kept (seat_at old.setting n) (x.now).events (moment_at x.now new.history)
-    same e = subst (λ (p : Spot). Kept (seat_at old.setting n) (p.stand).events (moment_at p.stand p.history)) (sym e) k
+    same e = subst (λ (p : Position). Kept (seat_at old.setting n) (p.stand).events (moment_at p.stand p.history)) (sym e) k
 
-    go : {t : Turn} → Turned (play old n) (spot x.was old.history) (spot x.now new.history) t
+    go : {t : Turn} → Turned (play old n) (position x.was old.history) (position x.now new.history) t
         → Kept (seat_at old.setting n) (x.now).events (moment_at x.now new.history)
     go (did event strands enabled first events within) = kept_did first events k
     go (idle yet fewer strands enabled stood is) = same is
@@ -346,10 +346,10 @@ turn_within : {n : ℕ} {old new : State} {t : Turn} → (x : IsTurn n old new t
     → length (x.now).events ≤ old.budget
 turn_within {n} {old} {new} x k = go x.turned
   where
-    same : ◌≡◌ {A = Spot} (spot x.now new.history) (spot x.was old.history) → length (x.now).events ≤ old.budget
-    same e = subst (λ (p : Spot). length (p.stand).events ≤ old.budget) (sym e) k
+    same : ◌≡◌ {A = Position} (position x.now new.history) (position x.was old.history) → length (x.now).events ≤ old.budget
+    same e = subst (λ (p : Position). length (p.stand).events ≤ old.budget) (sym e) k
 
-    go : {t : Turn} → Turned (play old n) (spot x.was old.history) (spot x.now new.history) t → length (x.now).events ≤ old.budget
+    go : {t : Turn} → Turned (play old n) (position x.was old.history) (position x.now new.history) t → length (x.now).events ≤ old.budget
     go (did event strands enabled first events within) =
         let l : length (x.was).events < old.budget = within in
         let m : length (x.was).events + 1 ≤ old.budget = omega arith in

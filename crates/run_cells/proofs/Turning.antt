@@ -11,8 +11,8 @@ use Rattle.session_turn.specs.Turns.{AreEnabled, FirstDone, NoneAllowed, from_pi
 use Rattle.session_turn.specs.declared.turn.Turn.{Turn}
 use Rattle.session_turn.specs.declared.turn.Turn.TheVariants as turn
 use Rattle.session_turn.proofs.Growing.{grew_alone}
-use Rattle.run_cells.specs.Crews.{moment_at}
-use Rattle.run_cells.specs.Turns.{Play, Spot, Turned, did, ended, idle, seat_of, spent}
+use Rattle.run_cells.specs.RunStates.{moment_at}
+use Rattle.run_cells.specs.Turns.{Play, Position, Turned, did, ended, idle, seat_of, spent}
 
 -- a session that has ended, or used its budget
 abbrev is_over : Result Turn AllocError → Bool
@@ -25,11 +25,11 @@ is_over r = elim r [
 abbrev Same : Turn → Turn → Type 0
 Same t u = ◌≡◌ {A = Result Turn AllocError} (Ok t) (Ok u)
 
-module _ (p : Play) (old new : Spot) where
-  -- the same spot
-  same_spot : moment_at new.stand new.history ≡ moment_at old.stand old.history
+module _ (p : Play) (old new : Position) where
+  -- the same position
+  same_position : moment_at new.stand new.history ≡ moment_at old.stand old.history
       → new.stand.events ≡ old.stand.events → new ≡ old
-  same_spot m e = λ i. record {
+  same_position m e = λ i. record {
     stand = record { service = (m i).service; config = (m i).config; events = e i };
     history = (m i).seen;
   }
@@ -85,14 +85,14 @@ module _ (p : Play) (old new : Spot) where
       = not_over turn.Idle c at refl ends spends in
       idle (record { config = c; at = at; going = yet.0 }) yet.1 d.0 d.1
       (subst (λ (x : Moment). NoneAllowed (seat_of p) (from_pick d.0 p.pick) (moment_at old.stand old.history) x) m d.2)
-      (same_spot m d.3)
+      (same_position m d.3)
   turned_by (Ok turn.Ended) c at dids idles ends spends end rest =
       let d = end refl in
       let end_is : (Same turn.Ended turn.Ended) ↔ (c.ended ≡ true)
       = subst (λ (o : Option Config). IfSome o (λ c. (Same turn.Ended turn.Ended) ↔ (c.ended ≡ true))) at ends in
-      ended c at (end_is.0 refl) (same_spot d.0 d.1)
+      ended c at (end_is.0 refl) (same_position d.0 d.1)
   turned_by (Ok turn.Spent) c at dids idles ends spends end rest =
       let d = rest refl in
       let spent_is : (Same turn.Spent turn.Spent) ↔ ((p.budget ≤ length old.stand.events) × (c.ended ≡ false))
       = subst (λ (o : Option Config). IfSome o (λ c. (Same turn.Spent turn.Spent) ↔ ((p.budget ≤ length old.stand.events) × (c.ended ≡ false)))) at spends in
-      spent (record { config = c; at = at; going = (spent_is.0 refl).1 }) (spent_is.0 refl).0 (same_spot d.0 d.1)
+      spent (record { config = c; at = at; going = (spent_is.0 refl).1 }) (spent_is.0 refl).0 (same_position d.0 d.1)

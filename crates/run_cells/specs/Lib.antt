@@ -1,4 +1,4 @@
-pub mod Crews
+pub mod RunStates
 pub mod Turns
 pub mod Rounds
 pub mod Visits

@@ -8,7 +8,7 @@ use Rattle.office_core.specs.Limits.{first_worker}
 use Rattle.office_core.specs.Sessions.{births}
 use Rattle.run_record.specs.Quiet.{CanAct, IsQuiet, IsStill}
 use Rattle.session_turn.specs.Turns.{AreEnabled, NoneAllowed, from_pick}
-use Rattle.run_cells.specs.Crews.{HasEnded, Stand, State, events_of, moment_at, past_in, seat_at}
+use Rattle.run_cells.specs.RunStates.{HasEnded, Stand, State, events_of, moment_at, past_in, seat_at}
 use Rattle.run_cells.specs.Turns.{Adoptions, HasNotEnded, RoundFrom}
 
 -- an entry of a session

@@ -12,7 +12,7 @@ use Rattle.session_turn.specs.Seen.{Seat}
 use Rattle.session_turn.specs.Turns.{AreEnabled, FirstDone, NoneAllowed, from_pick}
 use Rattle.session_turn.specs.declared.turn.Turn.{Turn}
 use Rattle.session_turn.specs.declared.turn.Turn.TheVariants as turn
-use Rattle.run_cells.specs.Crews.{Stand, State, Team, moment_at, past_in, seat_at}
+use Rattle.run_cells.specs.RunStates.{Stand, State, Team, moment_at, past_in, seat_at}
 
 -- ---- adoptions
 
@@ -67,13 +67,13 @@ abbrev pub seat_of : Play → Seat
 seat_of p = seat_at p.setting p.session
 
 -- where a session stands, and the history
-pub record Spot : Type 0 where
+pub record Position : Type 0 where
   pub stand : Stand
   pub history : List Entry
 
--- a spot by its parts
-abbrev pub spot : Stand → List Entry → Spot
-spot st h = record { stand = st; history = h }
+-- a position by its parts
+abbrev pub position : Stand → List Entry → Position
+position st h = record { stand = st; history = h }
 
 -- A session that stands so has not ended.
 pub record HasNotEnded (st : Stand) : Type 0 where
@@ -84,7 +84,7 @@ pub record HasNotEnded (st : Stand) : Type 0 where
 -- what a turn came to: the first event that is allowed from the pick on was done; or the session has not ended and not
 -- used its budget, and none is allowed; or it has ended; or it has not, and has used its budget. Where no event was
 -- done it stands where it stood
-pub data Turned (p : Play) (old new : Spot) : Turn → Type 0 where
+pub data Turned (p : Play) (old new : Position) : Turn → Type 0 where
   did : (event : Event) (strands : List ℕ) → AreEnabled (seat_of p) (moment_at old.stand old.history) strands
       → FirstDone (seat_of p) (from_pick strands p.pick) (moment_at old.stand old.history)
       (moment_at new.stand new.history) event
@@ -108,7 +108,7 @@ pub record IsTurn (n : ℕ) (old new : State) (t : Turn) : Type 0 where
   pub budget : new.budget ≡ old.budget
   pub stands : new.stands ≡ slice_set old.stands n now
   pub picks : new.picks ≡ drop 1 old.picks
-  pub turned : Turned (play old n) (spot was old.history) (spot now new.history) t
+  pub turned : Turned (play old n) (position was old.history) (position now new.history) t
 
 -- a turn did something
 abbrev pub is_did : Turn → Bool

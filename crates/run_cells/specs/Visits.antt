@@ -1,18 +1,18 @@
 -- These definitions serve the proofs alone: no promise speaks of them.
 -- How a round goes from one session that has not ended to the next.
 use Rattle.std.specs.Prelude.{◌≡◌, ℕ, ◌-◌, ◌≤◌, ◌<◌, [], ◌∷◌, ◌++◌, length, drop, Some, slice_get}
-use Rattle.run_cells.specs.Crews.{Crew, HasEnded, Stand, State}
+use Rattle.run_cells.specs.RunStates.{RunState, HasEnded, Stand, State}
 
 -- Of the sessions that are visited those before a place have numbers below one, and those from the place on have not.
-pub record ArePassed (place number : ℕ) (c : Crew) : Type 0 where
-  pub before : (i n : ℕ) → i < place → slice_get c.awake i ≡ Some n → n < number
-  pub behind : (i n : ℕ) → place ≤ i → slice_get c.awake i ≡ Some n → number ≤ n
-  pub listed : place ≤ length c.awake
+pub record ArePassed (place number : ℕ) (c : RunState) : Type 0 where
+  pub before : (i n : ℕ) → i < place → slice_get c.unended i ≡ Some n → n < number
+  pub behind : (i n : ℕ) → place ≤ i → slice_get c.unended i ≡ Some n → number ≤ n
+  pub listed : place ≤ length c.unended
   pub there : number ≤ length c.stands
 
 -- the session that is visited at a place has this number; behind the last stands the one that is born next
-abbrev pub IsNext : Crew → ℕ → ℕ → Type 0
-IsNext c place n = slice_get (c.awake ++ length c.stands ∷ []) place ≡ Some n
+abbrev pub IsNext : RunState → ℕ → ℕ → Type 0
+IsNext c place n = slice_get (c.unended ++ length c.stands ∷ []) place ≡ Some n
 
 -- a state behind so many picks
 abbrev pub past_picks : ℕ → State → State

@@ -1,7 +1,7 @@
 ghost use Rattle.std.specs.Prelude.{◌≡◌, ◌<◌, [], ◌∷◌, ◌++◌, true, IfOk, OnOk, length, map};
 ghost use Rattle.behaviour_tree.specs.PartsView.{parts_of};
 ghost use Rattle.office_core.specs.Limits.{run_of};
-ghost use Rattle.run_cells.specs.Crews.{AtWork, Crew, crew_by, stand_by, state_of, with_awake};
+ghost use Rattle.run_cells.specs.RunStates.{AtWork, RunState, run_state_by, stand_by, state_of, with_unended};
 ghost use Rattle.run_cells.specs.Turns.{Adopts, fresh};
 
 use behaviour_tree::{Events, Program};
@@ -19,8 +19,8 @@ pub struct Cell<S: Session> {
 }
 
 /// The sessions of a run by number, as far as they were adopted, and their office. A session has at most as many events
-/// as the budget, and each turn takes the next pick, or 0 behind the last. Rounds visit the sessions that are awake, in
-/// rising order: all others have ended.
+/// as the budget, and each turn takes the next pick, or 0 behind the last. Rounds visit the sessions that are unended,
+/// in rising order: all others have ended.
 #[derive(Drop)]
 pub struct Cells<'p, S: Session> {
     pub(crate) alloc: Global,
@@ -28,17 +28,17 @@ pub struct Cells<'p, S: Session> {
     pub(crate) office: Office,
     pub(crate) budget: u32,
     pub(crate) cells: Vec<Cell<S>>,
-    pub(crate) awake: Vec<u32>,
+    pub(crate) unended: Vec<u32>,
     pub(crate) picks: &'p [u32],
 }
 
 /// What proofs see of the sessions of a run.
-pub trait Crewed {
-    ghost crew: { Self → Crew };
+pub trait HasRunState {
+    ghost run_state: { Self → RunState };
 }
 
-impl<S: Session> Crewed for Cells<'_, S> {
-    ghost crew = { λ c. with_awake c.awake.items (crew_by c.program c.office c.budget
+impl<S: Session> HasRunState for Cells<'_, S> {
+    ghost run_state = { λ c. with_unended c.unended.items (run_state_by c.program c.office c.budget
         (map (λ d. stand_by (S.service_of d.session) (S.config_of d.session) d.events) c.cells.items) c.picks.now) };
 }
 
@@ -51,21 +51,27 @@ impl<'p, S: Seating> Cells<'p, S> {
         picks: &'p [u32],
     ) -> Result<Cells<'p, S>, AllocError>
         ensures program { IfOk result (λ c. parts_of c.program ≡ parts_of program) }
-        ensures begun { IfOk result (λ c. state_of (⟦<Cells<'static, S> as Crewed>⟧.crew c)
-            ≡ record { setting = run_of (parts_of program); budget = budget; history = []; stands = []; picks = picks.now }) }
-        ensures work { IfOk result (λ c. AtWork (⟦<Cells<'static, S> as Crewed>⟧.crew c)) }
+        ensures begun { IfOk result (λ c. state_of (⟦<Cells<'static, S> as HasRunState>⟧.run_state c)
+            ≡ record {
+              setting = run_of (parts_of program);
+              budget = budget;
+              history = [];
+              stands = [];
+              picks = picks.now;
+            }) }
+        ensures work { IfOk result (λ c. AtWork (⟦<Cells<'static, S> as HasRunState>⟧.run_state c)) }
     {
         let copy = program.again()?;
         let office = Office::new(alloc, copy)?;
         let cells = Vec::new(alloc);
-        let awake = Vec::new(alloc);
+        let unended = Vec::new(alloc);
         Ok(Cells {
             alloc,
             program,
             office,
             budget,
             cells,
-            awake,
+            unended,
             picks,
         })
     }
@@ -79,11 +85,14 @@ impl<'p, S: Seating> Cells<'p, S> {
 
     /// Adopts the next session, if it was born.
     pub(crate) fn adopt_next(&mut self) -> Result<bool, AllocError>
-        requires work { AtWork (⟦<Cells<'static, S> as Crewed>⟧.crew self.old) }
+        requires work { AtWork (⟦<Cells<'static, S> as HasRunState>⟧.run_state self.old) }
         ensures program { self.new.program ≡ self.old.program }
-        ensures adopts { IfOk result (Adopts (state_of (⟦<Cells<'static, S> as Crewed>⟧.crew self.old)) (state_of (⟦<Cells<'static, S> as Crewed>⟧.crew self.new))) }
-        ensures awake { IfOk result (λ adopted. adopted ≡ true → self.new.awake.items ≡ self.old.awake.items ++ length self.old.cells.items ∷ []) }
-        ensures work { OnOk result (AtWork (⟦<Cells<'static, S> as Crewed>⟧.crew self.new)) }
+        ensures adopts { IfOk result (Adopts (state_of (⟦<Cells<'static, S> as HasRunState>⟧.run_state self.old))
+            (state_of (⟦<Cells<'static, S> as HasRunState>⟧.run_state self.new))) }
+        ensures unended { IfOk result
+            (λ adopted. adopted ≡ true → self.new.unended.items ≡ self.old.unended.items
+            ++ length self.old.cells.items ∷ []) }
+        ensures work { OnOk result (AtWork (⟦<Cells<'static, S> as HasRunState>⟧.run_state self.new)) }
     {
         let count = self.cells.len();
         let number = count as u32;
@@ -95,22 +104,23 @@ impl<'p, S: Seating> Cells<'p, S> {
         Ok(true)
     }
 
-    /// Seats the session that was adopted last, at the start of its service. It is awake.
+    /// Seats the session that was adopted last, at the start of its service. It is unended.
     fn seat(&mut self, number: u32, birth: Birth) -> Result<(), AllocError>
         requires known { birth.service < length (parts_of self.old.program).services }
         ensures program { self.new.program ≡ self.old.program }
         ensures office { self.new.office ≡ self.old.office }
         ensures budget { self.new.budget ≡ self.old.budget }
         ensures picks { self.new.picks.now ≡ self.old.picks.now }
-        ensures stands { OnOk result ((⟦<Cells<'static, S> as Crewed>⟧.crew self.new).stands
-            ≡ (⟦<Cells<'static, S> as Crewed>⟧.crew self.old).stands ++ fresh (run_of (parts_of self.old.program)) birth.service ∷ []) }
-        ensures awake { OnOk result (self.new.awake.items ≡ self.old.awake.items ++ number ∷ []) }
+        ensures stands { OnOk result ((⟦<Cells<'static, S> as HasRunState>⟧.run_state self.new).stands
+            ≡ (⟦<Cells<'static, S> as HasRunState>⟧.run_state self.old).stands
+            ++ fresh (run_of (parts_of self.old.program)) birth.service ∷ []) }
+        ensures unended { OnOk result (self.new.unended.items ≡ self.old.unended.items ++ number ∷ []) }
     {
         let session = S::start(self.alloc, &self.program, birth.service)?;
         let events = Items::new(self.alloc);
         let cell = Cell { session, events };
         self.cells.push(cell)?;
-        self.awake.push(number)?;
+        self.unended.push(number)?;
         Ok(())
     }
 }

@@ -6,10 +6,10 @@ ghost use Rattle.session_turn.specs.Passes.{IsReady};
 ghost use Rattle.office_plain.specs.View.{entries_of};
 ghost use Rattle.run_record.specs.Quiet.{CanAct};
 ghost use Rattle.session_turn.specs.Lives.{Kept, moment};
-ghost use Rattle.run_cells.specs.Crews.{AtWork, seat_at, state_of};
+ghost use Rattle.run_cells.specs.RunStates.{AtWork, seat_at, state_of};
 ghost use Rattle.run_cells.specs.Rounds.{CouldAct, HasSpent};
 
-use crate::cells::{Cell, Cells, Crewed};
+use crate::cells::{Cell, Cells, HasRunState};
 use office_plain::Office;
 use session_turn::{PlainDesk, Player, Seating, Session, may_act};
 use std::alloc::AllocError;
@@ -17,11 +17,14 @@ use std::alloc::AllocError;
 impl<S: Seating> Cells<'_, S> {
     /// Whether a session used its whole budget and could act all the same.
     pub fn is_spent(&mut self) -> Result<bool, AllocError>
-        requires work { AtWork (⟦<Cells<'static, S> as Crewed>⟧.crew self.old) }
+        requires work { AtWork (⟦<Cells<'static, S> as HasRunState>⟧.run_state self.old) }
         ensures program { self.new.program ≡ self.old.program }
-        ensures same { OnOk result (state_of (⟦<Cells<'static, S> as Crewed>⟧.crew self.new) ≡ state_of (⟦<Cells<'static, S> as Crewed>⟧.crew self.old)) }
-        ensures exact { IfOk result (λ spent. (spent ≡ true) ↔ HasSpent (state_of (⟦<Cells<'static, S> as Crewed>⟧.crew self.old))) }
-        ensures work { OnOk result (AtWork (⟦<Cells<'static, S> as Crewed>⟧.crew self.new)) }
+        ensures same { OnOk result (state_of (⟦<Cells<'static, S> as HasRunState>⟧.run_state self.new)
+            ≡ state_of (⟦<Cells<'static, S> as HasRunState>⟧.run_state self.old)) }
+        ensures exact { IfOk result
+            (λ spent. (spent ≡ true) ↔ HasSpent
+            (state_of (⟦<Cells<'static, S> as HasRunState>⟧.run_state self.old))) }
+        ensures work { OnOk result (AtWork (⟦<Cells<'static, S> as HasRunState>⟧.run_state self.new)) }
     {
         let count = self.cells.len();
         for number in 0..count {
@@ -35,12 +38,15 @@ impl<S: Seating> Cells<'_, S> {
 
     /// Whether the session of this number used its whole budget and could act all the same.
     fn could_act(&mut self, number: usize) -> Result<bool, AllocError>
-        requires work { AtWork (⟦<Cells<'static, S> as Crewed>⟧.crew self.old) }
+        requires work { AtWork (⟦<Cells<'static, S> as HasRunState>⟧.run_state self.old) }
         requires there { number < length self.old.cells.items }
         ensures program { self.new.program ≡ self.old.program }
-        ensures same { OnOk result (state_of (⟦<Cells<'static, S> as Crewed>⟧.crew self.new) ≡ state_of (⟦<Cells<'static, S> as Crewed>⟧.crew self.old)) }
-        ensures exact { IfOk result (λ could. (could ≡ true) ↔ CouldAct (state_of (⟦<Cells<'static, S> as Crewed>⟧.crew self.old)) number) }
-        ensures work { OnOk result (AtWork (⟦<Cells<'static, S> as Crewed>⟧.crew self.new)) }
+        ensures same { OnOk result (state_of (⟦<Cells<'static, S> as HasRunState>⟧.run_state self.new)
+            ≡ state_of (⟦<Cells<'static, S> as HasRunState>⟧.run_state self.old)) }
+        ensures exact { IfOk result
+            (λ could. (could ≡ true) ↔ CouldAct (state_of (⟦<Cells<'static, S> as HasRunState>⟧.run_state self.old))
+            number) }
+        ensures work { OnOk result (AtWork (⟦<Cells<'static, S> as HasRunState>⟧.run_state self.new)) }
     {
         let cell = &self.cells[number];
         let count = cell.events.len();
@@ -62,10 +68,13 @@ fn look_at<S: Session>(
     player: Player<'_>,
 ) -> Result<bool, AllocError>
     requires ready { IsReady (parts_of player.program.now) office.old }
-    requires kept { Kept (seat_at (run_of (parts_of player.program.now)) player.number) cell.now.events (moment (S.service_of cell.now.session) (S.config_of cell.now.session) (entries_of office.old)) }
+    requires kept { Kept (seat_at (run_of (parts_of player.program.now)) player.number) cell.now.events
+        (moment (S.service_of cell.now.session) (S.config_of cell.now.session) (entries_of office.old)) }
     ensures ready { OnOk result (IsReady (parts_of player.entry.program.now) office.new) }
     ensures same { OnOk result (entries_of office.new ≡ entries_of office.old) }
-    ensures exact { IfOk result (λ may. (may ≡ true) ↔ CanAct (run_of (parts_of player.entry.program.now)) (entries_of office.old) player.entry.number cell.now.events) }
+    ensures exact { IfOk result
+        (λ may. (may ≡ true) ↔ CanAct (run_of (parts_of player.entry.program.now)) (entries_of office.old)
+        player.entry.number cell.now.events) }
 {
     let desk = PlainDesk {
         program: player.program,

@@ -5,10 +5,10 @@ ghost use Rattle.office_core.specs.Limits.{run_of};
 ghost use Rattle.session_turn.specs.Passes.{IsReady};
 ghost use Rattle.office_plain.specs.View.{entries_of};
 ghost use Rattle.session_turn.specs.Lives.{Kept, moment};
-ghost use Rattle.run_cells.specs.Crews.{AtWork, seat_at, stand_by, state_of};
-ghost use Rattle.run_cells.specs.Turns.{IsTurn, Turned, TurnsOf, is_did as did, spot};
+ghost use Rattle.run_cells.specs.RunStates.{AtWork, seat_at, stand_by, state_of};
+ghost use Rattle.run_cells.specs.Turns.{IsTurn, Turned, TurnsOf, is_did as did, position};
 
-use crate::cells::{Cell, Cells, Crewed};
+use crate::cells::{Cell, Cells, HasRunState};
 use office_plain::Office;
 use session_turn::{PlainDesk, Player, Seating, Session, Turn, turn_of};
 use std::alloc::AllocError;
@@ -16,12 +16,14 @@ use std::alloc::AllocError;
 impl<S: Seating> Cells<'_, S> {
     /// Gives a session turns until one does nothing; it says whether one did something.
     pub(crate) fn turns_of(&mut self, number: usize) -> Result<bool, AllocError>
-        requires work { AtWork (⟦<Cells<'static, S> as Crewed>⟧.crew self.old) }
+        requires work { AtWork (⟦<Cells<'static, S> as HasRunState>⟧.run_state self.old) }
         requires there { number < length self.old.cells.items }
         ensures program { self.new.program ≡ self.old.program }
-        ensures awake { self.new.awake.items ≡ self.old.awake.items }
-        ensures turns { IfOk result (TurnsOf number (state_of (⟦<Cells<'static, S> as Crewed>⟧.crew self.old)) (state_of (⟦<Cells<'static, S> as Crewed>⟧.crew self.new))) }
-        ensures work { OnOk result (AtWork (⟦<Cells<'static, S> as Crewed>⟧.crew self.new)) }
+        ensures unended { self.new.unended.items ≡ self.old.unended.items }
+        ensures turns { IfOk result (TurnsOf number
+            (state_of (⟦<Cells<'static, S> as HasRunState>⟧.run_state self.old))
+            (state_of (⟦<Cells<'static, S> as HasRunState>⟧.run_state self.new))) }
+        ensures work { OnOk result (AtWork (⟦<Cells<'static, S> as HasRunState>⟧.run_state self.new)) }
     {
         let mut moved = false;
         'turns: loop {
@@ -36,12 +38,14 @@ impl<S: Seating> Cells<'_, S> {
 
     /// Gives a session one turn, for the next pick.
     fn turn(&mut self, number: usize) -> Result<Turn, AllocError>
-        requires work { AtWork (⟦<Cells<'static, S> as Crewed>⟧.crew self.old) }
+        requires work { AtWork (⟦<Cells<'static, S> as HasRunState>⟧.run_state self.old) }
         requires there { number < length self.old.cells.items }
         ensures program { self.new.program ≡ self.old.program }
-        ensures awake { self.new.awake.items ≡ self.old.awake.items }
-        ensures turn { IfOk result (IsTurn number (state_of (⟦<Cells<'static, S> as Crewed>⟧.crew self.old)) (state_of (⟦<Cells<'static, S> as Crewed>⟧.crew self.new))) }
-        ensures work { OnOk result (AtWork (⟦<Cells<'static, S> as Crewed>⟧.crew self.new)) }
+        ensures unended { self.new.unended.items ≡ self.old.unended.items }
+        ensures turn { IfOk result (IsTurn number
+            (state_of (⟦<Cells<'static, S> as HasRunState>⟧.run_state self.old))
+            (state_of (⟦<Cells<'static, S> as HasRunState>⟧.run_state self.new))) }
+        ensures work { OnOk result (AtWork (⟦<Cells<'static, S> as HasRunState>⟧.run_state self.new)) }
     {
         let pick = first_pick(self.picks);
         self.picks = picks_behind(self.picks, 1);
@@ -68,13 +72,23 @@ fn turn_at<S: Session>(
     pick: u32,
 ) -> Result<Turn, AllocError>
     requires ready { IsReady (parts_of player.program.now) office.old }
-    requires kept { Kept (seat_at (run_of (parts_of player.program.now)) player.number) cell.old.events (moment (S.service_of cell.old.session) (S.config_of cell.old.session) (entries_of office.old)) }
+    requires kept { Kept (seat_at (run_of (parts_of player.program.now)) player.number) cell.old.events
+        (moment (S.service_of cell.old.session) (S.config_of cell.old.session) (entries_of office.old)) }
     ensures ready { OnOk result (IsReady (parts_of player.entry.program.now) office.new) }
-    ensures kept { OnOk result (Kept (seat_at (run_of (parts_of player.entry.program.now)) player.entry.number) cell.new.events (moment (S.service_of cell.new.session) (S.config_of cell.new.session) (entries_of office.new))) }
+    ensures kept { OnOk result (Kept (seat_at (run_of (parts_of player.entry.program.now)) player.entry.number)
+        cell.new.events (moment (S.service_of cell.new.session) (S.config_of cell.new.session)
+        (entries_of office.new))) }
     ensures turned { IfOk result (Turned
-        (record { setting = run_of (parts_of player.entry.program.now); budget = budget; session = player.entry.number; pick = pick })
-        (spot (stand_by (S.service_of cell.old.session) (S.config_of cell.old.session) cell.old.events) (entries_of office.old))
-        (spot (stand_by (S.service_of cell.new.session) (S.config_of cell.new.session) cell.new.events) (entries_of office.new))) }
+        (record {
+          setting = run_of (parts_of player.entry.program.now);
+          budget = budget;
+          session = player.entry.number;
+          pick = pick;
+        })
+        (position (stand_by (S.service_of cell.old.session) (S.config_of cell.old.session) cell.old.events)
+        (entries_of office.old))
+        (position (stand_by (S.service_of cell.new.session) (S.config_of cell.new.session) cell.new.events)
+        (entries_of office.new))) }
 {
     let desk = PlainDesk {
         program: player.program,

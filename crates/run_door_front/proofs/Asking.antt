@@ -11,17 +11,17 @@ use Rattle.jsonrpc_text.specs.declared.message.Id.{Id}
 use Rattle.jsonrpc_text.specs.declared.message.Early.{Early}
 use Rattle.jsonrpc_text.specs.declared.message.ReadCall.{ReadCall}
 use Rattle.office_core.specs.declared.front.Posting.{Posting}
-use Rattle.run_theorem.specs.Dealings.{Asked, Brought, Told, Dealings}
+use Rattle.run_theorem.specs.Exchange.{Asked, Received, Told, Exchange}
 use Rattle.run_theorem.specs.declared.front.Next.{Next}
 use Rattle.run_theorem.specs.declared.front.Next.TheVariants as nexts
 use Rattle.run_theorem.specs.Calls.{After, most_postings, names_service, is_of, Leaves, Gives, GivesNone, none_left, Ends, IsQuiet, Asks}
 use Rattle.run_theorem.specs.Lines.{IsPrefix}
 use Rattle.run_theorem.specs.Texts.{Came as Incoming, call_in, posting_of}
-use Rattle.run_theorem.specs.Visits.{Visit, came_with}
+use Rattle.run_theorem.specs.RunConnections.{RunConnection, came_with}
 use Rattle.outside_traits.specs.Told.{WireTold}
-use Rattle.run_door_front.specs.Keeping.{is_led, leads_of, lead_of, Lead, PortTold, LinkTold, Keeping, services_of, rests_at, no_more, AreLed}
+use Rattle.run_door_front.specs.Keeping.{is_led, leads_of, lead_of, Lead, ListenerTold, ClientTold, Keeping, services_of, rests_at, no_more, AreLed}
 use Rattle.outside_traits.specs.Told.{SinkTold}
-use Rattle.run_door_front.specs.Dealt.{most_open, Sides, sides_of, CameInTurn, HadNone, GaveNone, HaveWaited, HasSaid, HasDealt, MayHaveDealt}
+use Rattle.run_door_front.specs.Exchanged.{most_open, Sides, sides_of, CameInTurn, HadNone, GaveNone, HaveWaited, HasSent, HasExchanged, MayHaveExchanged}
 use Rattle.run_door_front.specs.NextSteps.{service_of, place_of, wires_of, is_open, has_room, closed_off, AreTried, LinksGoOn, listing, Hands, going_of, Goes, Rests, Posts, Looks}
 use Rattle.run_door_front.proofs.Entries.{length_set, nat_eq_is}
 use Rattle.run_door_front.proofs.Doors.{services-same, places-same, leads-same}
@@ -73,7 +73,7 @@ take_length : {A : Type 0} (xs : List A) → xs ≡ take (length xs) xs
 take_length xs = sym (take_all (length xs) xs (omega arith))
 
 -- where there is no room for one more connection although more may come, as many are open as may be
-many_open : (most : ℕ) (ports : List PortTold) (links : List LinkTold) → has_room most links ≡ false → closed_off most ports links ≡ false
+many_open : (most : ℕ) (ports : List ListenerTold) (links : List ClientTold) → has_room most links ≡ false → closed_off most ports links ≡ false
     → most_open ≤ count_by is_open links
 many_open most ports links none more = by_count (nat_lt (count_by is_open links) most_open) refl
   where
@@ -87,54 +87,54 @@ many_open most ports links none more = by_count (nat_lt (count_by is_open links)
         absurd (true≢false (sym (and_from (nat_lt (length links) most) (nat_lt (count_by is_open links) most_open) (lt-ltb (length links) most fewer) e) ∙ none))
     by_count false e = ltb-false (count_by is_open links) most_open e
 
-module _ (IsMade : WireTold → Type 0) (parts : ProgramParts) (first : Sides) (notes : SinkTold) (before now : Keeping) (d : Dealings)
-    (h : HasDealt IsMade parts first (sides_of before notes) d) (most : now.most ≡ before.most) (halted : now.halted ≡ before.halted) where
+module _ (IsMade : WireTold → Type 0) (parts : ProgramParts) (first : Sides) (notes : SinkTold) (before now : Keeping) (d : Exchange)
+    (h : HasExchanged IsMade parts first (sides_of before notes) d) (most : now.most ≡ before.most) (halted : now.halted ≡ before.halted) where
   -- what was asked and told by then
   serves : Serves IsMade parts (leads_of before) before.links h.all h.heard
-  serves = record { visits = h.visits; are = h.links; doors = h.doors; taken = h.taken; came = h.came; answers = h.answers }
+  serves = record { connections = h.connections; are = h.links; doors = h.doors; taken = h.taken; came = h.came; answers = h.answers }
 
   -- connections go on without a request
-  in_turn-goes : (links : List LinkTold) → LinksGoOn IsMade (leads_of before) before.links links → CameInTurn d links
+  in_turn-goes : (links : List ClientTold) → LinksGoOn IsMade (leads_of before) before.links links → CameInTurn d links
   in_turn-goes links g =
-      in_turn-on d.brought.asked d.brought.seens d.said.told before.links links
-      (λ j a x. asked_within IsMade before.links h.visits h.links h.all.asked h.all.came h.came j a (ap (λ xs. slice_get xs j) h.asked ∙ x))
+      in_turn-on d.received.asked d.received.seens d.sent.told before.links links
+      (λ j a x. asked_within IsMade before.links h.connections h.links h.all.asked h.all.came h.came j a (ap (λ xs. slice_get xs j) h.asked ∙ x))
       (over_on IsMade (leads_of before) before.links links g) h.in_turn
 
   -- as many were given as were asked
-  given_count : length d.brought.given ≡ length before.traffics
+  given_count : length d.received.given ≡ length before.traffics
   given_count =
-      ap length h.given ∙ length-map h.all.came posting_of ∙ sym (came_length h.visits h.all.asked h.all.came h.came)
+      ap length h.given ∙ length-map h.all.came posting_of ∙ sym (came_length h.connections h.all.asked h.all.came h.came)
       ∙ sym (length-map h.all.asked (λ (a : Asked). a.traffic)) ∙ ap length h.traffics
 
-  abbrev said_still : HasSaid first (sides_of now notes) d.said
-  said_still = record {
-    notes = h.said.notes;
-    written = h.said.written;
-    noted = h.said.noted;
-    halted = h.said.halted ∙ sym halted;
-    notes_failed = h.said.notes_failed;
-    faults = h.said.faults;
+  abbrev sent_still : HasSent first (sides_of now notes) d.sent
+  sent_still = record {
+    notes = h.sent.notes;
+    written = h.sent.written;
+    noted = h.sent.noted;
+    halted = h.sent.halted ∙ sym halted;
+    notes_failed = h.sent.notes_failed;
+    faults = h.sent.faults;
   }
 
   -- the sink took all that was noted
-  all_taken : d.said.halted ≡ false → IsPrefix d.said.noted h.said.notes
-  all_taken running = noted_all first.notes notes d.said h.said.notes running h.said.noted
+  all_taken : d.sent.halted ≡ false → IsPrefix d.sent.noted h.sent.notes
+  all_taken running = noted_all first.notes notes d.sent h.sent.notes running h.sent.noted
 
-  -- what was brought where there is no posting
-  abbrev without : ℕ → Bool → Brought
+  -- what was received where there is no posting
+  abbrev without : ℕ → Bool → Received
   without waits ended = record {
-    given = d.brought.given;
-    asked = d.brought.asked;
+    given = d.received.given;
+    asked = d.received.asked;
     left = None;
     waits = waits;
     ended = ended;
-    faults = d.brought.faults;
-    seen = length d.said.told;
-    noted = d.said.noted;
-    seens = d.brought.seens;
+    faults = d.received.faults;
+    seen = length d.sent.told;
+    noted = d.sent.noted;
+    seens = d.received.seens;
   }
 
-  gives_none : (waits : ℕ) (ended : Bool) → GivesNone d.brought (without waits ended)
+  gives_none : (waits : ℕ) (ended : Bool) → GivesNone d.received (without waits ended)
   gives_none waits ended =
       record { given = refl; asked = refl; left = inl (sym h.left); faults = omega arith; seens = refl }
 
@@ -150,19 +150,19 @@ module _ (IsMade : WireTold → Type 0) (parts : ProgramParts) (first : Sides) (
     still_serves : Serves IsMade parts (leads_of before) now.links h.all h.heard
     still_serves = serves-on IsMade (leads_of before) parts before.links now.links h.all h.heard g.links serves
 
-    none-so : d.said.halted ≡ false → (waits : ℕ) (ended : Bool)
-        → (d.said.halted ≡ false → HadNone now (record { brought = without waits ended; said = d.said }) ⊎ (most_postings ≤ length d.brought.given))
-        → HasDealt IsMade parts first (sides_of now notes) (record { brought = without waits ended; said = d.said })
+    none-so : d.sent.halted ≡ false → (waits : ℕ) (ended : Bool)
+        → (d.sent.halted ≡ false → HadNone now (record { received = without waits ended; sent = d.sent }) ⊎ (most_postings ≤ length d.received.given))
+        → HasExchanged IsMade parts first (sides_of now notes) (record { received = without waits ended; sent = d.sent })
     none-so running waits ended none = record {
       services = same_services ∙ h.services;
       in_place = places-same before.ports now.ports g.ports ∙ h.in_place;
       most = most ∙ h.most;
       within = ap (list_all (λ n. nat_lt n (length parts.services))) same_services ∙ h.within;
-      visits = still_serves.visits;
+      connections = still_serves.connections;
       links = still_serves.are;
       came_in = g.wires h.came_in;
       led = g.led h.came_in h.led;
-      doors = subst (λ ls. list_all (λ (v : Visit). list_any (is_led v.door v.service) ls) still_serves.visits ≡ true) (sym same_leads) still_serves.doors;
+      doors = subst (λ ls. list_all (λ (v : RunConnection). list_any (is_led v.door v.service) ls) still_serves.connections ≡ true) (sym same_leads) still_serves.doors;
       accepted = subst (λ n. length now.links ≤ n) (sym most) (g.within h.accepted);
       all = h.all;
       asked = h.asked;
@@ -178,15 +178,15 @@ module _ (IsMade : WireTold → Type 0) (parts : ProgramParts) (first : Sides) (
       answers = still_serves.answers;
       one_by_one = record { counts = h.one_by_one.counts; each = h.one_by_one.each };
       in_turn = in_turn-goes now.links g.links;
-      said = said_still;
+      sent = sent_still;
       noted_by_then = all_taken running;
       left = refl;
       faults = h.faults;
       seen = omega arith;
-      none = λ calm gave. none calm;
+      none = λ unfailed gave. none unfailed;
     }
 
-  ends : Ends d.brought (without 0 true)
+  ends : Ends d.received (without 0 true)
   ends = record {
     none = gives_none 0 true;
     over = none_left (λ ps is. absurd (let clash : None ≡ Some ps = sym h.left ∙ is in cc));
@@ -195,12 +195,12 @@ module _ (IsMade : WireTold → Type 0) (parts : ProgramParts) (first : Sides) (
   }
 
   -- there were the most postings
-  most-so : d.said.halted ≡ false → going_of now ≡ going_of before → most_postings ≤ length before.traffics
-      → After (HasDealt IsMade parts first (sides_of now notes)) (Asks parts nexts.End d)
+  most-so : d.sent.halted ≡ false → going_of now ≡ going_of before → most_postings ≤ length before.traffics
+      → After (HasExchanged IsMade parts first (sides_of now notes)) (Asks parts nexts.End d)
   most-so running same many =
       let g = subst (λ x. Goes IsMade before.most (going_of before) x) (sym same) (goes-none IsMade before.most (going_of before)) in (
-        record { brought = without 0 true; said = d.said },
-        none-so g running 0 true (λ calm. inr (subst (λ n. most_postings ≤ n) (sym given_count) many)),
+        record { received = without 0 true; sent = d.sent },
+        none-so g running 0 true (λ unfailed. inr (subst (λ n. most_postings ≤ n) (sym given_count) many)),
         record { came = ends; silent = refl; seen = refl; noted = refl },
       )
 
@@ -209,21 +209,21 @@ module _ (IsMade : WireTold → Type 0) (parts : ProgramParts) (first : Sides) (
     at_rest = still_serves r.goes
 
     -- all that was told was heard
-    told_then : (waits : ℕ) (ended : Bool) → d.said.halted ≡ false → h.heard ≡ take (without waits ended).seen d.said.told
-    told_then waits ended calm = h.all_told calm ∙ take_length d.said.told
+    told_then : (waits : ℕ) (ended : Bool) → d.sent.halted ≡ false → h.heard ≡ take (without waits ended).seen d.sent.told
+    told_then waits ended unfailed = h.all_told unfailed ∙ take_length d.sent.told
 
     over_same : no_more now ≡ closed_off before.most now.ports now.links
     over_same = ap (λ n. closed_off n now.ports now.links) most
 
     -- no connection can come any more
-    over-so : d.said.halted ≡ false → closed_off before.most now.ports now.links ≡ true
-        → After (HasDealt IsMade parts first (sides_of now notes)) (Asks parts nexts.End d)
+    over-so : d.sent.halted ≡ false → closed_off before.most now.ports now.links ≡ true
+        → After (HasExchanged IsMade parts first (sides_of now notes)) (Asks parts nexts.End d)
     over-so running over = (
-      record { brought = without 0 true; said = d.said },
-      none-so r.goes running 0 true (λ calm. inl (record {
+      record { received = without 0 true; sent = d.sent },
+      none-so r.goes running 0 true (λ unfailed. inl (record {
         busy = map owes now.links;
-        each = busy-all IsMade parts (leads_of before) now.links h.all h.heard (record { brought = without 0 true; said = d.said }) at_rest h.asked
-            (told_then 0 true calm) r.silent;
+        each = busy-all IsMade parts (leads_of before) now.links h.all h.heard (record { received = without 0 true; sent = d.sent }) at_rest h.asked
+            (told_then 0 true unfailed) r.silent;
         over = λ e. over_same ∙ over;
         some = λ e. absurd (true≢false e);
         waited = λ e. absurd (true≢false e);
@@ -233,22 +233,22 @@ module _ (IsMade : WireTold → Type 0) (parts : ProgramParts) (first : Sides) (
     )
 
     -- more may come
-    module _ (yet : d.brought.ended ≡ false) (quiet : IsQuiet d) (some : closed_off before.most now.ports now.links ≡ false)
+    module _ (yet : d.received.ended ≡ false) (quiet : IsQuiet d) (some : closed_off before.most now.ports now.links ≡ false)
         (more : added (rests_at before.ports) 1 ≤ rests_at now.ports) where
       -- as many owe an answer as may be open
       full : has_room before.most now.links ≡ false → most_open ≤ count_by owes now.links
       full none =
-          subst (λ n. most_open ≤ n) (opened_owe IsMade now.links at_rest.visits at_rest.are r.silent) (many_open before.most now.ports now.links none some)
+          subst (λ n. most_open ≤ n) (opened_owe IsMade now.links at_rest.connections at_rest.are r.silent) (many_open before.most now.ports now.links none some)
 
-      abbrev waits_now : Dealings
-      waits_now = record { brought = without (suc d.brought.waits) false; said = d.said }
+      abbrev waits_now : Exchange
+      waits_now = record { received = without (suc d.received.waits) false; sent = d.sent }
 
       -- those that waited before wait now
-      still_full : d.said.halted ≡ false → (n : ℕ) → d.brought.waits ≡ suc n → HadNone before d → (most_open ≤ count_by owes now.links) ⊎ HaveWaited d.brought.waits before.ports
-      still_full calm n is had = elim (had.waited yet) [
+      still_full : d.sent.halted ≡ false → (n : ℕ) → d.received.waits ≡ suc n → HadNone before d → (most_open ≤ count_by owes now.links) ⊎ HaveWaited d.received.waits before.ports
+      still_full unfailed n is had = elim (had.waited yet) [
         | inl many ↦ inl (
             let few = busy-few IsMade parts (leads_of before) before.links h.all h.heard d serves h.asked
-            (h.all_told calm ∙ take_length d.said.told ∙ ap (λ k. take k d.said.told) (sym (quiet (positive n d.brought.waits is)))) had.busy had.each in
+            (h.all_told unfailed ∙ take_length d.sent.told ∙ ap (λ k. take k d.sent.told) (sym (quiet (positive n d.received.waits is)))) had.busy had.each in
             let grow = owes-grow IsMade (leads_of before) before.links now.links r.goes.links in
             three most_open (count_by (λ (b : Bool). b) had.busy) (count_by owes before.links) (count_by owes now.links) many few grow)
         | inr all ↦ inr all
@@ -261,20 +261,20 @@ module _ (IsMade : WireTold → Type 0) (parts : ProgramParts) (first : Sides) (
           three a b c e x y z = omega arith
 
       -- as many wait as may be, or each door was tried as often
-      waited-so : d.said.halted ≡ false → ((most_open ≤ count_by owes now.links) ⊎ HaveWaited (suc d.brought.waits) now.ports) ⊎ (most_postings ≤ length d.brought.given)
-      waited-so calm = elim r.tried [
+      waited-so : d.sent.halted ≡ false → ((most_open ≤ count_by owes now.links) ⊎ HaveWaited (suc d.received.waits) now.ports) ⊎ (most_postings ≤ length d.received.given)
+      waited-so unfailed = elim r.tried [
         | inl none ↦ inl (inl (full none))
-        | inr tried ↦ by_waits d.brought.waits refl tried
+        | inr tried ↦ by_waits d.received.waits refl tried
       ]
         where
-          by_waits : (n : ℕ) → d.brought.waits ≡ n → AreTried before.ports now.ports
-              → ((most_open ≤ count_by owes now.links) ⊎ HaveWaited (suc d.brought.waits) now.ports) ⊎ (most_postings ≤ length d.brought.given)
+          by_waits : (n : ℕ) → d.received.waits ≡ n → AreTried before.ports now.ports
+              → ((most_open ≤ count_by owes now.links) ⊎ HaveWaited (suc d.received.waits) now.ports) ⊎ (most_postings ≤ length d.received.given)
           by_waits zero is tried =
               inl (inr (subst (λ n. HaveWaited (suc n) now.ports) (sym is) (waited-more 0 before.ports now.ports r.goes.ports tried (waited-none before.ports))))
-          by_waits (suc n) is tried = elim (h.none calm (inr (positive n d.brought.waits is))) [
-            | inl had ↦ elim (still_full calm n is had) [
+          by_waits (suc n) is tried = elim (h.none unfailed (inr (positive n d.received.waits is))) [
+            | inl had ↦ elim (still_full unfailed n is had) [
               | inl many ↦ inl (inl many)
-              | inr all ↦ inl (inr (waited-more d.brought.waits before.ports now.ports r.goes.ports tried all))
+              | inr all ↦ inl (inr (waited-more d.received.waits before.ports now.ports r.goes.ports tried all))
             ]
             | inr many ↦ inr many
           ]
@@ -283,9 +283,9 @@ module _ (IsMade : WireTold → Type 0) (parts : ProgramParts) (first : Sides) (
               positive n w e = omega arith
 
       -- as often was rested
-      rested-so : d.said.halted ≡ false
-          → (min (suc d.brought.waits) (2 ^ 64 - 1) ≤ rests_at now.ports) ⊎ (most_postings ≤ length d.brought.given)
-      rested-so calm = by_waits d.brought.waits refl
+      rested-so : d.sent.halted ≡ false
+          → (min (suc d.received.waits) (2 ^ 64 - 1) ≤ rests_at now.ports) ⊎ (most_postings ≤ length d.received.given)
+      rested-so unfailed = by_waits d.received.waits refl
         where
           none : (w cap rests : ℕ) → w ≡ 0 → min w cap ≤ rests
           none w cap rests e = omega arith
@@ -293,23 +293,23 @@ module _ (IsMade : WireTold → Type 0) (parts : ProgramParts) (first : Sides) (
           positive : (n w : ℕ) → w ≡ suc n → 0 < w
           positive n w e = omega arith
 
-          once : min d.brought.waits (2 ^ 64 - 1) ≤ rests_at before.ports → min (suc d.brought.waits) (2 ^ 64 - 1) ≤ rests_at now.ports
-          once few = once_more d.brought.waits (rests_at before.ports) (2 ^ 64 - 1) (rests_at now.ports) few more
+          once : min d.received.waits (2 ^ 64 - 1) ≤ rests_at before.ports → min (suc d.received.waits) (2 ^ 64 - 1) ≤ rests_at now.ports
+          once few = once_more d.received.waits (rests_at before.ports) (2 ^ 64 - 1) (rests_at now.ports) few more
 
-          by_waits : (n : ℕ) → d.brought.waits ≡ n
-              → (min (suc d.brought.waits) (2 ^ 64 - 1) ≤ rests_at now.ports) ⊎ (most_postings ≤ length d.brought.given)
-          by_waits zero is = inl (once (none d.brought.waits (2 ^ 64 - 1) (rests_at before.ports) is))
-          by_waits (suc n) is = elim (h.none calm (inr (positive n d.brought.waits is))) [
+          by_waits : (n : ℕ) → d.received.waits ≡ n
+              → (min (suc d.received.waits) (2 ^ 64 - 1) ≤ rests_at now.ports) ⊎ (most_postings ≤ length d.received.given)
+          by_waits zero is = inl (once (none d.received.waits (2 ^ 64 - 1) (rests_at before.ports) is))
+          by_waits (suc n) is = elim (h.none unfailed (inr (positive n d.received.waits is))) [
             | inl had ↦ inl (once (had.rested yet))
             | inr many ↦ inr many
           ]
 
-      none_yet : d.said.halted ≡ false → HadNone now waits_now ⊎ (most_postings ≤ length d.brought.given)
-      none_yet calm = elim (waited-so calm) [
-        | inl waited ↦ elim (rested-so calm) [
+      none_yet : d.sent.halted ≡ false → HadNone now waits_now ⊎ (most_postings ≤ length d.received.given)
+      none_yet unfailed = elim (waited-so unfailed) [
+        | inl waited ↦ elim (rested-so unfailed) [
           | inl rested ↦ inl (record {
             busy = map owes now.links;
-            each = busy-all IsMade parts (leads_of before) now.links h.all h.heard waits_now at_rest h.asked (told_then (suc d.brought.waits) false calm) r.silent;
+            each = busy-all IsMade parts (leads_of before) now.links h.all h.heard waits_now at_rest h.asked (told_then (suc d.received.waits) false unfailed) r.silent;
             over = λ e. absurd (true≢false (sym e));
             some = λ e. over_same ∙ some;
             waited = λ e. elim waited [
@@ -323,12 +323,12 @@ module _ (IsMade : WireTold → Type 0) (parts : ProgramParts) (first : Sides) (
         | inr many ↦ inr many
       ]
 
-      yet-so : d.said.halted ≡ false → After (HasDealt IsMade parts first (sides_of now notes)) (Asks parts nexts.NotYet d)
+      yet-so : d.sent.halted ≡ false → After (HasExchanged IsMade parts first (sides_of now notes)) (Asks parts nexts.NotYet d)
       yet-so running = (
         waits_now,
-        none-so r.goes running (suc d.brought.waits) false none_yet,
+        none-so r.goes running (suc d.received.waits) false none_yet,
         record {
-          came = record { none = gives_none (suc d.brought.waits) false; waits = refl; ended = refl };
+          came = record { none = gives_none (suc d.received.waits) false; waits = refl; ended = refl };
           silent = refl;
           seen = refl;
           noted = refl;
@@ -337,7 +337,7 @@ module _ (IsMade : WireTold → Type 0) (parts : ProgramParts) (first : Sides) (
 
   -- ---- a posting comes
 
-  module _ (p : Posting) (running : d.said.halted ≡ false) (g : Posts IsMade before.most p (going_of before) (going_of now)) where
+  module _ (p : Posting) (running : d.sent.halted ≡ false) (g : Posts IsMade before.most p (going_of before) (going_of now)) where
     hands : Hands p (listing g.mid.links g.mid.traffics) (listing now.links now.traffics)
     hands = g.hands
 
@@ -359,17 +359,17 @@ module _ (IsMade : WireTold → Type 0) (parts : ProgramParts) (first : Sides) (
         serves-more IsMade parts (leads_of before) (listing g.mid.links g.mid.traffics) (listing now.links now.traffics) h.all h.heard hands.number hands.body
         h.places long hands.one mid_serves
 
-    abbrev brought_now : Brought
-    brought_now = record {
-      given = d.brought.given ++ p ∷ [];
-      asked = d.brought.asked ++ asker ∷ [];
+    abbrev received_now : Received
+    received_now = record {
+      given = d.received.given ++ p ∷ [];
+      asked = d.received.asked ++ asker ∷ [];
       left = None;
       waits = 0;
       ended = false;
-      faults = d.brought.faults;
-      seen = length d.said.told;
-      noted = d.said.noted;
-      seens = d.brought.seens ++ length d.said.told ∷ [];
+      faults = d.received.faults;
+      seen = length d.sent.told;
+      noted = d.sent.noted;
+      seens = d.received.seens ++ length d.sent.told ∷ [];
     }
 
     services_now : services_of now ≡ services_of before
@@ -379,14 +379,14 @@ module _ (IsMade : WireTold → Type 0) (parts : ProgramParts) (first : Sides) (
     leads_now = ap (map lead_of) g.still ∙ leads-same before.ports g.mid.ports g.goes.ports
 
     -- the services are those of the leads
-    services_led : (ports : List PortTold) → map (λ (lead : Lead). lead.service) (map lead_of ports) ≡ map (λ (p : PortTold). p.service) ports
+    services_led : (ports : List ListenerTold) → map (λ (lead : Lead). lead.service) (map lead_of ports) ≡ map (λ (p : ListenerTold). p.service) ports
     services_led [] = refl
     services_led (q ∷ qs) = ap (λ ns. q.service ∷ ns) (services_led qs)
 
     links_now : length now.links ≡ length g.mid.links
     links_now = ap length hands.one.set ∙ length_set g.mid.links hands.number hands.one.later
 
-    given_now : d.brought.given ++ p ∷ [] ≡ map posting_of (h.all.came ++ coming ∷ [])
+    given_now : d.received.given ++ p ∷ [] ≡ map posting_of (h.all.came ++ coming ∷ [])
     given_now =
         ap₂ (λ ps q. ps ++ q ∷ []) h.given hands.posting ∙ sym (map-append posting_of h.all.came (coming ∷ []))
 
@@ -396,36 +396,36 @@ module _ (IsMade : WireTold → Type 0) (parts : ProgramParts) (first : Sides) (
         ∙ ap (λ ts. ts ++ hands.number ∷ []) (h.traffics ∙ sym g.goes.traffics) ∙ sym hands.kept
 
     -- each request before it on its connection had been told of
-    told_before : (i : ℕ) (a : Asked) → slice_get d.brought.asked i ≡ Some a → a.traffic ≡ asker.traffic
-        → list_any (λ (t : Told). nat_eq i t.place) (take (length d.said.told) d.said.told) ≡ true
+    told_before : (i : ℕ) (a : Asked) → slice_get d.received.asked i ≡ Some a → a.traffic ≡ asker.traffic
+        → list_any (λ (t : Told). nat_eq i t.place) (take (length d.sent.told) d.sent.told) ≡ true
     told_before i a there traffic =
-        told_all (λ (t : Told). nat_eq i t.place) h.heard d.said.told h.told
+        told_all (λ (t : Told). nat_eq i t.place) h.heard d.sent.told h.told
         (heard-where_reads IsMade parts (leads_of before) g.mid.links h.all h.heard mid_serves hands.number hands.one.link hands.one.there hands.one.read
         i a (ap (λ xs. slice_get xs i) h.asked ∙ there) traffic)
 
     -- and each connection before its own waited for an answer or was over
-    in_turn_now : CameInTurn (record { brought = brought_now; said = d.said }) now.links
+    in_turn_now : CameInTurn (record { received = received_now; sent = d.sent }) now.links
     in_turn_now =
         in_turn-asked IsMade parts (leads_of before) (listing g.mid.links g.mid.traffics) (listing now.links now.traffics) h.all h.heard
-        (record { brought = without 0 false; said = d.said }) hands.number hands.body hands.one mid_serves h.asked
-        (h.all_told running ∙ take_length d.said.told) refl h.one_by_one.counts (in_turn-goes g.mid.links g.goes.links)
+        (record { received = without 0 false; sent = d.sent }) hands.number hands.body hands.one mid_serves h.asked
+        (h.all_told running ∙ take_length d.sent.told) refl h.one_by_one.counts (in_turn-goes g.mid.links g.goes.links)
 
-    none_now : GaveNone (record { brought = brought_now; said = d.said }) → ⊥
+    none_now : GaveNone (record { received = received_now; sent = d.sent }) → ⊥
     none_now gave = elim gave [ inl e ↦ true≢false (sym e) | inr more ↦ (omega arith) ]
 
-    dealt_now : HasDealt IsMade parts first (sides_of now notes) (record { brought = brought_now; said = d.said })
-    dealt_now = record {
+    exchanged_now : HasExchanged IsMade parts first (sides_of now notes) (record { received = received_now; sent = d.sent })
+    exchanged_now = record {
       services = services_now ∙ h.services;
       in_place = ap (map place_of) g.still ∙ places-same before.ports g.mid.ports g.goes.ports ∙ h.in_place;
       most = most ∙ h.most;
       within = ap (list_all (λ n. nat_lt n (length parts.services))) services_now ∙ h.within;
-      visits = now_serves.visits;
+      connections = now_serves.connections;
       links = now_serves.are;
       came_in = ap (sum_by wires_of) g.still ∙ g.goes.wires h.came_in ∙ sym links_now;
       led = subst (λ ps. AreLed ps now.links) (sym g.still)
           (led-asked g.mid.ports hands.number (Some hands.body) (listing g.mid.links g.mid.traffics) (listing now.links now.traffics) hands.one
           (g.goes.led h.came_in h.led));
-      doors = subst (λ ls. list_all (λ (v : Visit). list_any (is_led v.door v.service) ls) now_serves.visits ≡ true) (sym leads_now) now_serves.doors;
+      doors = subst (λ ls. list_all (λ (v : RunConnection). list_any (is_led v.door v.service) ls) now_serves.connections ≡ true) (sym leads_now) now_serves.doors;
       accepted = subst (λ n. n ≤ now.most) (sym links_now) (subst (λ n. length g.mid.links ≤ n) (sym most) (g.goes.within h.accepted));
       all = one_more h.all asker coming;
       asked = ap (λ xs. xs ++ asker ∷ []) h.asked;
@@ -436,21 +436,21 @@ module _ (IsMade : WireTold → Type 0) (parts : ProgramParts) (first : Sides) (
       heard = h.heard;
       told = h.told;
       all_told = h.all_told;
-      heard_by = heard_by-more d.brought.seens h.heard d.said.told (h.all_told running) h.heard_by;
+      heard_by = heard_by-more d.received.seens h.heard d.sent.told (h.all_told running) h.heard_by;
       places = places_below (length h.all.asked) (length (h.all.asked ++ asker ∷ []))
           (let one = length_push h.all.asked asker in omega arith) h.heard h.places;
       answers = now_serves.answers;
       one_by_one = record {
-        counts = one_count_more d.brought.asked d.brought.seens asker (length d.said.told) h.one_by_one.counts;
-        each = told_first-more d.brought.asked d.brought.seens d.said.told asker h.one_by_one.counts h.one_by_one.each told_before;
+        counts = one_count_more d.received.asked d.received.seens asker (length d.sent.told) h.one_by_one.counts;
+        each = told_first-more d.received.asked d.received.seens d.sent.told asker h.one_by_one.counts h.one_by_one.each told_before;
       };
       in_turn = in_turn_now;
-      said = said_still;
+      sent = sent_still;
       noted_by_then = all_taken running;
       left = refl;
       faults = h.faults;
       seen = omega arith;
-      none = λ calm gave. absurd (none_now gave);
+      none = λ unfailed gave. absurd (none_now gave);
     }
 
     has_service : nat_lt hands.one.link.service (length parts.services) ≡ true
@@ -460,30 +460,30 @@ module _ (IsMade : WireTold → Type 0) (parts : ProgramParts) (first : Sides) (
         (service_there IsMade parts (leads_of before) (listing g.mid.links g.mid.traffics) (listing now.links now.traffics) h.all h.heard hands.number hands.body
         h.places long hands.one mid_serves))
 
-    gives_now : Gives parts p d.brought brought_now
+    gives_now : Gives parts p d.received received_now
     gives_now = record {
       given = refl;
-      within = let one = length_push d.brought.given p in let few = g.fewer in let many = given_count in omega arith;
+      within = let one = length_push d.received.given p in let few = g.fewer in let many = given_count in omega arith;
       whose = asker;
       asked = refl;
       request = ap (count_by (is_of hands.number)) h.asked;
       services = subst (λ (q : Posting). list_all (names_service parts) q.calls ≡ true) (sym hands.posting)
           (all_named parts hands.one.link.service has_service coming.read.calls);
-      left = subst (λ l. Leaves p l d.brought brought_now) (sym h.left) refl;
+      left = subst (λ l. Leaves p l d.received received_now) (sym h.left) refl;
       waits = refl;
       ended = refl;
       faults = omega arith;
       seens = refl;
     }
 
-    post-so : After (HasDealt IsMade parts first (sides_of now notes)) (Asks parts (nexts.Posting p) d)
-    post-so = (record { brought = brought_now; said = d.said }, dealt_now, record { came = gives_now; silent = refl; seen = refl; noted = refl })
+    post-so : After (HasExchanged IsMade parts first (sides_of now notes)) (Asks parts (nexts.Posting p) d)
+    post-so = (record { received = received_now; sent = d.sent }, exchanged_now, record { came = gives_now; silent = refl; seen = refl; noted = refl })
 
   -- ---- all of it
 
   -- what the call came to
-  pub asked-so : (which : Next) → d.brought.ended ≡ false → d.said.halted ≡ false → IsQuiet d → Looks IsMade before.most which (going_of before) (going_of now)
-      → After (HasDealt IsMade parts first (sides_of now notes)) (Asks parts which d)
+  pub asked-so : (which : Next) → d.received.ended ≡ false → d.sent.halted ≡ false → IsQuiet d → Looks IsMade before.most which (going_of before) (going_of now)
+      → After (HasExchanged IsMade parts first (sides_of now notes)) (Asks parts which d)
   asked-so (nexts.Posting p) yet running quiet l = post-so p running l
   asked-so nexts.NotYet yet running quiet l = yet-so l.0 yet quiet l.1 l.2 running
   asked-so nexts.End yet running quiet l =
@@ -491,13 +491,13 @@ module _ (IsMade : WireTold → Type 0) (parts : ProgramParts) (first : Sides) (
 
 -- ---- and where memory ran out
 
-module _ (IsMade : WireTold → Type 0) (parts : ProgramParts) (A B : Type 0) (a : A) (b : B) (first : Sides) (notes : SinkTold) (before now : Keeping) (d : Dealings)
-    (most : now.most ≡ before.most) (halted : now.halted ≡ before.halted) (yet : d.brought.ended ≡ false) (running : d.said.halted ≡ false) (quiet : IsQuiet d) where
+module _ (IsMade : WireTold → Type 0) (parts : ProgramParts) (A B : Type 0) (a : A) (b : B) (first : Sides) (notes : SinkTold) (before now : Keeping) (d : Exchange)
+    (most : now.most ≡ before.most) (halted : now.halted ≡ before.halted) (yet : d.received.ended ≡ false) (running : d.sent.halted ≡ false) (quiet : IsQuiet d) where
   -- the same front, as far as its outside is concerned
-  abbrev Same : Keeping → Dealings → Type 0
-  Same k x = A × B × MayHaveDealt IsMade parts first (sides_of k notes) x
+  abbrev Same : Keeping → Exchange → Type 0
+  Same k x = A × B × MayHaveExchanged IsMade parts first (sides_of k notes) x
 
-  pub next-so : MayHaveDealt IsMade parts first (sides_of before notes) d → (result : Result Next AllocError)
+  pub next-so : MayHaveExchanged IsMade parts first (sides_of before notes) d → (result : Result Next AllocError)
       → MatchResult result (λ which. (before.spent ≡ false) × (now.spent ≡ false) × Looks IsMade before.most which (going_of before) (going_of now)) (λ _. now.spent ≡ true)
       → MatchResult result (λ which. After (Same now) (Asks parts which d)) (λ _. Same now d)
   next-so may (Ok which) looks = elim may [
@@ -506,4 +506,4 @@ module _ (IsMade : WireTold → Type 0) (parts : ProgramParts) (A B : Type 0) (a
         let passed = asked-so IsMade parts first notes before now d h most halted which yet running quiet looks.2 in
         (passed.0, (a, b, inr passed.1), passed.2)
   ]
-  next-so may (Err error) spent = (a, b, inl (spent, elim may [ inl out ↦ out.1 ∙ sym halted | inr h ↦ h.said.halted ∙ sym halted ]))
+  next-so may (Err error) spent = (a, b, inl (spent, elim may [ inl out ↦ out.1 ∙ sym halted | inr h ↦ h.sent.halted ∙ sym halted ]))

@@ -5,7 +5,7 @@ use Rattle.std.proofs.lemmas.List.Sums.{sum_by-append}
 use Rattle.std.proofs.lemmas.Bool.{and_from, and_parts, ltb-true, leb-true, true≢false}
 use Rattle.std.specs.List.{list_all, sum_by}
 use Rattle.outside_doors.specs.Counts.{added, has_ended}
-use Rattle.outside_doors.specs.Knocks.{ComesAt, IsFresh}
+use Rattle.outside_doors.specs.Attempts.{ComesAt, IsFresh}
 use Rattle.office_core.specs.declared.front.Posting.{Posting}
 use Rattle.run_theorem.specs.declared.front.Next.{Next}
 use Rattle.run_theorem.specs.declared.front.Next.TheVariants as nexts
@@ -13,9 +13,9 @@ use Rattle.run_theorem.specs.Calls.{most_postings}
 use Rattle.http_connection.specs.declared.stage.Stage.TheVariants as Stages
 use Rattle.outside_traits.specs.Told.{WireTold}
 use Rattle.http_connection.specs.Talking.{IsTalking}
-use Rattle.run_door_front.specs.Keeping.{is_led, lead_of, PortTold, LinkTold, Keeping, rests_at, wires_to}
-use Rattle.run_door_front.specs.Dealt.{IsNewLine, most_open}
-use Rattle.run_door_front.specs.NextSteps.{came_by, GoesOn, IsTried, wires_of, stage_at, is_open, has_room, IsNewLink, AreNewLinks, LinksGoOn, doorway, TakesIn, Accepts, Listing, listing, Hands, EndsOne, IsSilent, Going, going, going_of, Goes, Rests, Idles, Looks, closed_off, after_rest, ports_after}
+use Rattle.run_door_front.specs.Keeping.{is_led, lead_of, ListenerTold, ClientTold, Keeping, rests_at, wires_to}
+use Rattle.run_door_front.specs.Exchanged.{IsNewLine, most_open}
+use Rattle.run_door_front.specs.NextSteps.{came_by, GoesOn, IsTried, wires_of, stage_at, is_open, has_room, IsNewClient, AreNewLinks, LinksGoOn, doorway, TakesIn, Accepts, Listing, listing, Hands, EndsOne, IsSilent, Going, going, going_of, Goes, Rests, Idles, Looks, closed_off, after_rest, ports_after}
 use Rattle.run_door_front.proofs.Entries.{nat_eq_same, length_set}
 use Rattle.run_door_front.proofs.Leading.{sum_one, plus_none, led-still, led-push, led-both, led-more, led-asked}
 use Rattle.run_door_front.proofs.Doors.{leads-same, goes-same, goes-further, all-same, all-further, all_tried-since, all-push, tried-push, tried-since, rests-on, one_more}
@@ -38,10 +38,10 @@ new_line line f = record {
   is_open = f.is_open;
 }
 
-pub new_link-at : (IsMade : WireTold → Type 0) (line : WireTold) (link : LinkTold) → IsMade line → IsFresh line → link.owed ≡ None
-    → stage_at link ≡ Stages.Reads → IsTalking line link.seen [] [] → IsNewLink IsMade link
-new_link-at IsMade line link made f owed stage talks = record {
-  owed = owed;
+pub new_link-at : (IsMade : WireTold → Type 0) (line : WireTold) (link : ClientTold) → IsMade line → IsFresh line → link.pending ≡ None
+    → stage_at link ≡ Stages.Reads → IsTalking line link.seen [] [] → IsNewClient IsMade link
+new_link-at IsMade line link made f pending stage talks = record {
+  pending = pending;
   stage = inl stage;
   first = line;
   made = made;
@@ -51,36 +51,36 @@ new_link-at IsMade line link made f owed stage talks = record {
 }
 
 -- a connection on which nothing passed tells the door of its wire
-pub door-at : (line : WireTold) (place : ℕ) (link : LinkTold) → ComesAt place line → IsTalking line link.seen [] []
+pub door-at : (line : WireTold) (place : ℕ) (link : ClientTold) → ComesAt place line → IsTalking line link.seen [] []
     → link.seen.line.door ≡ Some place
 door-at line place link comes talks = talks.door ∙ comes.door
 
 -- one that came at a door and leads to its service
-came-there : (p : PortTold) (l : LinkTold) → l.seen.line.door ≡ Some p.door.place → l.service ≡ p.service → came_by l (lead_of p) ≡ true
+came-there : (p : ListenerTold) (l : ClientTold) → l.seen.line.door ≡ Some p.door.place → l.service ≡ p.service → came_by l (lead_of p) ≡ true
 came-there p l door service =
     ap₂ (λ d s. is_led d s (lead_of p)) door service ∙ and_from (nat_eq p.door.place p.door.place) (nat_eq p.service p.service)
     (nat_eq_same p.door.place) (nat_eq_same p.service)
 
 -- where there is room there are fewer than the most
-pub room_fewer : (most : ℕ) (links : List LinkTold) → has_room most links ≡ true → length links < most
+pub room_fewer : (most : ℕ) (links : List ClientTold) → has_room most links ≡ true → length links < most
 room_fewer most links h = ltb-true (length links) most (and_parts (nat_lt (length links) most) (nat_lt (count_by is_open links) most_open) h).0
 
 -- what a test of the connections that are lent tells
-pub room-tested : (most : ℕ) (links lent : List LinkTold) (r : Bool) → lent ≡ links → r ≡ has_room most lent → r ≡ true → has_room most links ≡ true
+pub room-tested : (most : ℕ) (links lent : List ClientTold) (r : Bool) → lent ≡ links → r ≡ has_room most lent → r ≡ true → has_room most links ≡ true
 room-tested most links lent r same is passed = ap (has_room most) (sym same) ∙ sym is ∙ passed
 
 -- where there are fewer than the most, connections may come unless each door has ended
-pub closed-by_doors : (most : ℕ) (ports : List PortTold) (links : List LinkTold) (r : Bool) → length links < most
-    → r ≡ list_all (λ (p : PortTold). has_ended p.door) ports → r ≡ closed_off most ports links
+pub closed-by_doors : (most : ℕ) (ports : List ListenerTold) (links : List ClientTold) (r : Bool) → length links < most
+    → r ≡ list_all (λ (p : ListenerTold). has_ended p.door) ports → r ≡ closed_off most ports links
 closed-by_doors most ports links r few e =
-    e ∙ ap (λ b. b || list_all (λ (p : PortTold). has_ended p.door) ports) (sym (not_all (nat_le most (length links)) refl))
+    e ∙ ap (λ b. b || list_all (λ (p : ListenerTold). has_ended p.door) ports) (sym (not_all (nat_le most (length links)) refl))
   where
     not_all : (b : Bool) → nat_le most (length links) ≡ b → nat_le most (length links) ≡ false
     not_all true is = absurd (let all : most ≤ length links = leb-true most (length links) is in omega arith)
     not_all false is = is
 
 -- what is left of a list is as it was where its first is set
-pub unvisited-step : (ps qs : List PortTold) (i : ℕ) (q : PortTold) → drop i qs ≡ drop i ps → drop (i + 1) (set qs i q) ≡ drop (i + 1) ps
+pub unvisited-step : (ps qs : List ListenerTold) (i : ℕ) (q : ListenerTold) → drop i qs ≡ drop i ps → drop (i + 1) (set qs i q) ≡ drop (i + 1) ps
 unvisited-step ps qs i q rest =
     let one : i < i + 1 = omega arith in
     drop-set-lt (i + 1) qs i q one ∙ sym (drop-drop 1 i qs) ∙ ap (drop 1) rest ∙ drop-drop 1 i ps
@@ -89,7 +89,7 @@ module _ (IsMade : WireTold → Type 0) (most : ℕ) where
   -- ---- at one door
 
   -- nobody came yet
-  pub takes-none : (p : PortTold) (links : List LinkTold) → TakesIn IsMade most (doorway (p ∷ []) links) (doorway (p ∷ []) links)
+  pub takes-none : (p : ListenerTold) (links : List ClientTold) → TakesIn IsMade most (doorway (p ∷ []) links) (doorway (p ∷ []) links)
   takes-none p links = record {
     goes = (goes-same p, tt);
     more = [];
@@ -101,8 +101,8 @@ module _ (IsMade : WireTold → Type 0) (most : ℕ) where
   }
 
   -- one more came
-  pub takes-one : (p q r : PortTold) (links now : List LinkTold) (l : LinkTold) → TakesIn IsMade most (doorway (p ∷ []) links) (doorway (q ∷ []) now)
-      → GoesOn q r → wires_of r ≡ added (wires_of q) 1 → IsNewLink IsMade l → l.seen.line.door ≡ Some p.door.place → l.service ≡ p.service → length now < most → most < 2 ^ 32
+  pub takes-one : (p q r : ListenerTold) (links now : List ClientTold) (l : ClientTold) → TakesIn IsMade most (doorway (p ∷ []) links) (doorway (q ∷ []) now)
+      → GoesOn q r → wires_of r ≡ added (wires_of q) 1 → IsNewClient IsMade l → l.seen.line.door ≡ Some p.door.place → l.service ≡ p.service → length now < most → most < 2 ^ 32
       → TakesIn IsMade most (doorway (p ∷ []) links) (doorway (r ∷ []) (now ++ l ∷ []))
   takes-one p q r links now l t g w new door to room small = record {
     goes = (goes-further p q r t.goes.0 g, tt);
@@ -131,8 +131,8 @@ module _ (IsMade : WireTold → Type 0) (most : ℕ) where
           let grown = ap length t.grown ∙ length-append links t.more in
           w ∙ no_stop (wires_of q) (omega arith)
 
-  pub takes-next : (p q r : PortTold) (links now later : List LinkTold) (l : LinkTold)
-      → TakesIn IsMade most (doorway (p ∷ []) links) (doorway (q ∷ []) now) → GoesOn q r → wires_of r ≡ added (wires_of q) 1 → IsNewLink IsMade l
+  pub takes-next : (p q r : ListenerTold) (links now later : List ClientTold) (l : ClientTold)
+      → TakesIn IsMade most (doorway (p ∷ []) links) (doorway (q ∷ []) now) → GoesOn q r → wires_of r ≡ added (wires_of q) 1 → IsNewClient IsMade l
       → l.seen.line.door ≡ Some q.door.place → l.service ≡ r.service → has_room most now ≡ true → most < 2 ^ 32 → later ≡ now ++ l ∷ []
       → TakesIn IsMade most (doorway (p ∷ []) links) (doorway (r ∷ []) later)
   takes-next p q r links now later l t g w new door to room small more =
@@ -140,12 +140,12 @@ module _ (IsMade : WireTold → Type 0) (most : ℕ) where
       (takes-one p q r links now l t g w new (door ∙ ap Some t.goes.0.place) (to ∙ g.service ∙ t.goes.0.service) (room_fewer most now room) small)
 
   -- nobody comes, or there is no more room
-  pub accepts-one : (p q : PortTold) (links now : List LinkTold) → TakesIn IsMade most (doorway (p ∷ []) links) (doorway (q ∷ []) now)
+  pub accepts-one : (p q : ListenerTold) (links now : List ClientTold) → TakesIn IsMade most (doorway (p ∷ []) links) (doorway (q ∷ []) now)
       → (has_room most now ≡ false) ⊎ IsTried p q → Accepts IsMade most (doorway (p ∷ []) links) (doorway (q ∷ []) now)
   accepts-one p q links now t h = record { takes = t; tried = elim h [ inl none ↦ inl none | inr one ↦ inr (one, tt) ] }
 
   -- the same door was tried since it was another
-  pub accepts-tried : (p q r : PortTold) (links now : List LinkTold) → TakesIn IsMade most (doorway (p ∷ []) links) (doorway (q ∷ []) now)
+  pub accepts-tried : (p q r : ListenerTold) (links now : List ClientTold) → TakesIn IsMade most (doorway (p ∷ []) links) (doorway (q ∷ []) now)
       → GoesOn q r → wires_of r ≡ wires_of q → IsTried q r → Accepts IsMade most (doorway (p ∷ []) links) (doorway (r ∷ []) now)
   accepts-tried p q r links now t g w tried = accepts-one p r links now (record {
     goes = (goes-further p q r t.goes.0 g, tt);
@@ -159,7 +159,7 @@ module _ (IsMade : WireTold → Type 0) (most : ℕ) where
 
   -- ---- at all doors
 
-  pub accepts-none : (links : List LinkTold) → Accepts IsMade most (doorway [] links) (doorway [] links)
+  pub accepts-none : (links : List ClientTold) → Accepts IsMade most (doorway [] links) (doorway [] links)
   accepts-none links = record {
     takes = record {
       goes = tt;
@@ -174,7 +174,7 @@ module _ (IsMade : WireTold → Type 0) (most : ℕ) where
   }
 
   -- at some doors, and at one more
-  pub accepts-more : (ps qs : List PortTold) (p q : PortTold) (links mid now : List LinkTold)
+  pub accepts-more : (ps qs : List ListenerTold) (p q : ListenerTold) (links mid now : List ClientTold)
       → Accepts IsMade most (doorway ps links) (doorway qs mid) → Accepts IsMade most (doorway (p ∷ []) mid) (doorway (q ∷ []) now)
       → Accepts IsMade most (doorway (ps ++ p ∷ []) links) (doorway (qs ++ q ∷ []) now)
   accepts-more ps qs p q links mid now a b =
@@ -227,7 +227,7 @@ module _ (IsMade : WireTold → Type 0) (most : ℕ) where
           (ap length a.takes.grown ∙ length-append links a.takes.more) (few_all h)
 
   -- the same by the place of the door
-  pub accepts-next : (ps qs : List PortTold) (i : ℕ) (q : PortTold) (d : PortTold) (links mid now : List LinkTold) → i < length ps → length qs ≡ length ps
+  pub accepts-next : (ps qs : List ListenerTold) (i : ℕ) (q : ListenerTold) (d : ListenerTold) (links mid now : List ClientTold) → i < length ps → length qs ≡ length ps
       → Accepts IsMade most (doorway (take i ps) links) (doorway (take i qs) mid)
       → Accepts IsMade most (doorway (get_or ps i d ∷ []) mid) (doorway (q ∷ []) now)
       → Accepts IsMade most (doorway (take (i + 1) ps) links) (doorway (take (i + 1) (set qs i q)) now)
@@ -238,7 +238,7 @@ module _ (IsMade : WireTold → Type 0) (most : ℕ) where
       (accepts-more (take i ps) (take i qs) (get_or ps i d) q links mid now a b))
 
   -- a loop over the doors goes on
-  pub accepts-step : (ps qs : List PortTold) (i : ℕ) (x q : PortTold) (links mid now : List LinkTold) → i < length ps → drop i qs ≡ drop i ps
+  pub accepts-step : (ps qs : List ListenerTold) (i : ℕ) (x q : ListenerTold) (links mid now : List ClientTold) → i < length ps → drop i qs ≡ drop i ps
       → Accepts IsMade most (doorway (take i ps) links) (doorway (take i qs) mid)
       → Accepts IsMade most (doorway (get_or qs i x ∷ []) mid) (doorway (q ∷ []) now)
       → Accepts IsMade most (doorway (take (i + 1) ps) links) (doorway (take (i + 1) (set qs i q)) now)
@@ -253,10 +253,10 @@ module _ (IsMade : WireTold → Type 0) (most : ℕ) where
       as_long : (a b i : ℕ) → a - i ≡ b - i → i < b → a ≡ b
       as_long a b i e h = omega arith
 
-      head_same : (x y : PortTold) (xs ys : List PortTold) → x ∷ xs ≡ y ∷ ys → x ≡ y
+      head_same : (x y : ListenerTold) (xs ys : List ListenerTold) → x ∷ xs ≡ y ∷ ys → x ≡ y
       head_same x y xs ys e = cc
 
-  pub accepts-end : (ps qs : List PortTold) (i : ℕ) (links now : List LinkTold) → length ps ≤ i → drop i qs ≡ drop i ps
+  pub accepts-end : (ps qs : List ListenerTold) (i : ℕ) (links now : List ClientTold) → length ps ≤ i → drop i qs ≡ drop i ps
       → Accepts IsMade most (doorway (take i ps) links) (doorway (take i qs) now) → Accepts IsMade most (doorway ps links) (doorway qs now)
   accepts-end ps qs i links now short rest a =
       let past : length qs ≤ i = none_left (length qs) (length ps) i (sym (length-drop i qs) ∙ ap length rest ∙ length-drop i ps) short in
@@ -279,7 +279,7 @@ module _ (IsMade : WireTold → Type 0) (most : ℕ) where
   }
 
   -- connections came
-  pub goes-accepts : (x y : Going) (ports : List PortTold) (links : List LinkTold) → Goes IsMade most x y
+  pub goes-accepts : (x y : Going) (ports : List ListenerTold) (links : List ClientTold) → Goes IsMade most x y
       → Accepts IsMade most (doorway y.ports y.links) (doorway ports links) → Goes IsMade most x (going ports links y.traffics)
   goes-accepts x y ports links g a = record {
     ports = all-further x.ports y.ports ports g.ports a.takes.goes;
@@ -316,7 +316,7 @@ module _ (IsMade : WireTold → Type 0) (most : ℕ) where
       }
 
   -- no connection reads
-  pub goes-rests : (x y : Going) (ports : List PortTold) (links : List LinkTold) (now : Listing) → Goes IsMade most x y
+  pub goes-rests : (x y : Going) (ports : List ListenerTold) (links : List ClientTold) (now : Listing) → Goes IsMade most x y
       → Accepts IsMade most (doorway y.ports y.links) (doorway ports links) → IsSilent (listing links y.traffics) now
       → Rests IsMade most x (going ports now.links now.traffics)
   goes-rests x y ports links now g a s =
@@ -332,7 +332,7 @@ module _ (IsMade : WireTold → Type 0) (most : ℕ) where
   -- ---- what the call came to
 
   -- a request came
-  pub looks-post : (x y : Going) (ports : List PortTold) (links : List LinkTold) (now : Listing) (p : Posting) → length x.traffics < most_postings
+  pub looks-post : (x y : Going) (ports : List ListenerTold) (links : List ClientTold) (now : Listing) (p : Posting) → length x.traffics < most_postings
       → Goes IsMade most x y → Accepts IsMade most (doorway y.ports y.links) (doorway ports links) → Hands p (listing links y.traffics) now
       → Looks IsMade most (nexts.Posting p) x (going ports now.links now.traffics)
   looks-post x y ports links now p few g a h = record {
@@ -344,7 +344,7 @@ module _ (IsMade : WireTold → Type 0) (most : ℕ) where
   }
 
   -- one of the doors was rested at
-  rests_later : (x : Going) (ports : List PortTold) (links : List LinkTold) (traffics : List ℕ) → Rests IsMade most x (going ports links traffics)
+  rests_later : (x : Going) (ports : List ListenerTold) (links : List ClientTold) (traffics : List ℕ) → Rests IsMade most x (going ports links traffics)
       → Rests IsMade most x (going (after_rest ports) links traffics)
   rests_later x ports links traffics r = record {
     goes = record {
@@ -363,7 +363,7 @@ module _ (IsMade : WireTold → Type 0) (most : ℕ) where
   }
 
   -- where a connection may come a door has not ended
-  not_done : (ports : List PortTold) (links : List LinkTold) → closed_off most ports links ≡ false → list_all is_done ports ≡ false
+  not_done : (ports : List ListenerTold) (links : List ClientTold) → closed_off most ports links ≡ false → list_all is_done ports ≡ false
   not_done ports links = later (nat_le most (length links))
     where
       later : (b : Bool) → b || list_all is_done ports ≡ false → list_all is_done ports ≡ false
@@ -371,7 +371,7 @@ module _ (IsMade : WireTold → Type 0) (most : ℕ) where
       later false e = e
 
   -- no connection reads
-  looks_idle : (which : Next) (x : Going) (ports : List PortTold) (links : List LinkTold) (traffics : List ℕ)
+  looks_idle : (which : Next) (x : Going) (ports : List ListenerTold) (links : List ClientTold) (traffics : List ℕ)
       → Rests IsMade most x (going ports links traffics) → Idles which (closed_off most ports links)
       → Looks IsMade most which x (going (ports_after which ports) links traffics)
   looks_idle (nexts.Posting p) x ports links traffics r h = absurd h
@@ -383,7 +383,7 @@ module _ (IsMade : WireTold → Type 0) (most : ℕ) where
   )
   looks_idle nexts.End x ports links traffics r h = inr (r, h)
 
-  pub looks-idle : (which : Next) (x y : Going) (ports later : List PortTold) (links : List LinkTold) (now : Listing) → Goes IsMade most x y
+  pub looks-idle : (which : Next) (x y : Going) (ports later : List ListenerTold) (links : List ClientTold) (now : Listing) → Goes IsMade most x y
       → Accepts IsMade most (doorway y.ports y.links) (doorway ports links) → IsSilent (listing links y.traffics) now
       → Idles which (closed_off most ports now.links) → later ≡ ports_after which ports → Looks IsMade most which x (going later now.links now.traffics)
   looks-idle which x y ports later links now g a s h same =
@@ -407,7 +407,7 @@ written_all n now items lent long same as_many =
     no_more a n e = omega arith
 
 -- what the call came to, of what a front keeps
-pub looks-kept : (IsMade : WireTold → Type 0) (which : Next) (told before : Keeping) (ports later written : List PortTold) (links : List LinkTold)
+pub looks-kept : (IsMade : WireTold → Type 0) (which : Next) (told before : Keeping) (ports later written : List ListenerTold) (links : List ClientTold)
     (traffics : List ℕ) → told ≡ before → told.spent ≡ false → ports ≡ told.ports → written ≡ later
     → Looks IsMade told.most which (going ports told.links told.traffics) (going later links traffics)
     → (before.spent ≡ false) × (false ≡ false) × Looks IsMade before.most which (going_of before) (going written links traffics)

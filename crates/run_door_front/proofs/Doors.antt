@@ -4,7 +4,7 @@ use Rattle.std.specs.List.{sum_by}
 use Rattle.std.proofs.lemmas.Bool.{true≢false}
 use Rattle.std.proofs.lemmas.List.Sums.{sum_by-cons}
 use Rattle.outside_doors.specs.Counts.{added, has_ended}
-use Rattle.run_door_front.specs.Keeping.{lead_of, PortTold, rests_at}
+use Rattle.run_door_front.specs.Keeping.{lead_of, ListenerTold, rests_at}
 use Rattle.run_door_front.specs.NextSteps.{HasNotFallen, GoesOn, IsTried, AllGoOn, AreTried, service_of, place_of}
 
 -- ---- one door
@@ -28,7 +28,7 @@ not_fallen-same a b e = subst (HasNotFallen a) (sym e) (not_fallen a (2 ^ 64 - 1
 pub not_fallen-added : (a b : ℕ) → b ≡ added a 1 → HasNotFallen a b
 not_fallen-added a b e = one_added a b (2 ^ 64 - 1) e
 
-pub goes-same : (p : PortTold) → GoesOn p p
+pub goes-same : (p : ListenerTold) → GoesOn p p
 goes-same p = record {
   service = refl;
   place = refl;
@@ -37,7 +37,7 @@ goes-same p = record {
   rests = not_fallen p.door.rests (2 ^ 64 - 1);
 }
 
-pub goes-further : (p q r : PortTold) → GoesOn p q → GoesOn q r → GoesOn p r
+pub goes-further : (p q r : ListenerTold) → GoesOn p q → GoesOn q r → GoesOn p r
 goes-further p q r g h = record {
   service = h.service ∙ g.service;
   place = h.place ∙ g.place;
@@ -47,7 +47,7 @@ goes-further p q r g h = record {
 }
 
 -- a door that had not ended was tried
-pub goes-tried : (told p q : PortTold) → told ≡ p → q.service ≡ told.service → q.door.place ≡ told.door.place → has_ended told.door ≡ false
+pub goes-tried : (told p q : ListenerTold) → told ≡ p → q.service ≡ told.service → q.door.place ≡ told.door.place → has_ended told.door ≡ false
     → HasNotFallen told.door.waits q.door.waits → HasNotFallen told.door.rests q.door.rests → GoesOn p q
 goes-tried told p q same service place running waits rests =
     subst (λ x. GoesOn x q) same (record {
@@ -59,7 +59,7 @@ goes-tried told p q same service place running waits rests =
     })
 
 -- a door that was tried behind another time is tried since then
-pub tried-since : (p q r : PortTold) → GoesOn p q → IsTried q r → IsTried p r
+pub tried-since : (p q r : ListenerTold) → GoesOn p q → IsTried q r → IsTried p r
 tried-since p q r g t = elim t [
   | inl e ↦ inl e
   | inr h ↦ inr (one_more p.door.waits q.door.waits r.door.waits (2 ^ 64 - 1) g.waits h)
@@ -67,11 +67,11 @@ tried-since p q r g t = elim t [
 
 -- ---- all doors
 
-pub all-same : (ps : List PortTold) → AllGoOn ps ps
+pub all-same : (ps : List ListenerTold) → AllGoOn ps ps
 all-same [] = tt
 all-same (p ∷ ps) = (goes-same p, all-same ps)
 
-pub all-further : (ps qs rs : List PortTold) → AllGoOn ps qs → AllGoOn qs rs → AllGoOn ps rs
+pub all-further : (ps qs rs : List ListenerTold) → AllGoOn ps qs → AllGoOn qs rs → AllGoOn ps rs
 all-further [] [] [] g h = tt
 all-further [] [] (r ∷ rs) g h = h
 all-further [] (q ∷ qs) rs g h = absurd g
@@ -79,7 +79,7 @@ all-further (p ∷ ps) [] rs g h = absurd g
 all-further (p ∷ ps) (q ∷ qs) [] g h = h
 all-further (p ∷ ps) (q ∷ qs) (r ∷ rs) g h = (goes-further p q r g.0 h.0, all-further ps qs rs g.1 h.1)
 
-pub all_tried-since : (ps qs rs : List PortTold) → AllGoOn ps qs → AreTried qs rs → AreTried ps rs
+pub all_tried-since : (ps qs rs : List ListenerTold) → AllGoOn ps qs → AreTried qs rs → AreTried ps rs
 all_tried-since [] [] [] g h = tt
 all_tried-since [] [] (r ∷ rs) g h = h
 all_tried-since [] (q ∷ qs) rs g h = absurd g
@@ -88,21 +88,21 @@ all_tried-since (p ∷ ps) (q ∷ qs) [] g h = h
 all_tried-since (p ∷ ps) (q ∷ qs) (r ∷ rs) g h = (tried-since p q r g.0 h.0, all_tried-since ps qs rs g.1 h.1)
 
 -- to which service each leads stays
-pub leads-same : (ps qs : List PortTold) → AllGoOn ps qs → map lead_of qs ≡ map lead_of ps
+pub leads-same : (ps qs : List ListenerTold) → AllGoOn ps qs → map lead_of qs ≡ map lead_of ps
 leads-same [] [] g = refl
 leads-same [] (q ∷ qs) g = absurd g
 leads-same (p ∷ ps) [] g = absurd g
 leads-same (p ∷ ps) (q ∷ qs) g = λ i. record { place = g.0.place i; service = g.0.service i } ∷ leads-same ps qs g.1 i
 
 -- their services stay
-pub services-same : (ps qs : List PortTold) → AllGoOn ps qs → map service_of qs ≡ map service_of ps
+pub services-same : (ps qs : List ListenerTold) → AllGoOn ps qs → map service_of qs ≡ map service_of ps
 services-same [] [] g = refl
 services-same [] (q ∷ qs) g = absurd g
 services-same (p ∷ ps) [] g = absurd g
 services-same (p ∷ ps) (q ∷ qs) g = ap₂ (λ n ns. n ∷ ns) g.0.service (services-same ps qs g.1)
 
 -- so do their places
-pub places-same : (ps qs : List PortTold) → AllGoOn ps qs → map place_of qs ≡ map place_of ps
+pub places-same : (ps qs : List ListenerTold) → AllGoOn ps qs → map place_of qs ≡ map place_of ps
 places-same [] [] g = refl
 places-same [] (q ∷ qs) g = absurd g
 places-same (p ∷ ps) [] g = absurd g
@@ -113,22 +113,22 @@ sum_not_fallen : (p s q t m n cap : ℕ) → m ≡ p + s → n ≡ q + t → min
 sum_not_fallen p s q t m n cap a b h k = omega arith
 
 -- all of their rests do not fall
-pub rests-on : (ps qs : List PortTold) → AllGoOn ps qs → HasNotFallen (rests_at ps) (rests_at qs)
+pub rests-on : (ps qs : List ListenerTold) → AllGoOn ps qs → HasNotFallen (rests_at ps) (rests_at qs)
 rests-on [] [] g = not_fallen (rests_at []) (2 ^ 64 - 1)
 rests-on [] (q ∷ qs) g = absurd g
 rests-on (p ∷ ps) [] g = absurd g
 rests-on (p ∷ ps) (q ∷ qs) g =
     sum_not_fallen p.door.rests (rests_at ps) q.door.rests (rests_at qs) (rests_at (p ∷ ps)) (rests_at (q ∷ qs)) (2 ^ 64 - 1)
-    (sum_by-cons (λ (p : PortTold). p.door.rests) p ps) (sum_by-cons (λ (p : PortTold). p.door.rests) q qs) g.0.rests (rests-on ps qs g.1)
+    (sum_by-cons (λ (p : ListenerTold). p.door.rests) p ps) (sum_by-cons (λ (p : ListenerTold). p.door.rests) q qs) g.0.rests (rests-on ps qs g.1)
 
 -- one door more
-pub all-push : (ps qs : List PortTold) (p q : PortTold) → AllGoOn ps qs → GoesOn p q → AllGoOn (ps ++ p ∷ []) (qs ++ q ∷ [])
+pub all-push : (ps qs : List ListenerTold) (p q : ListenerTold) → AllGoOn ps qs → GoesOn p q → AllGoOn (ps ++ p ∷ []) (qs ++ q ∷ [])
 all-push [] [] p q g h = (h, tt)
 all-push [] (y ∷ qs) p q g h = absurd g
 all-push (x ∷ ps) [] p q g h = absurd g
 all-push (x ∷ ps) (y ∷ qs) p q g h = (g.0, all-push ps qs p q g.1 h)
 
-pub tried-push : (ps qs : List PortTold) (p q : PortTold) → AreTried ps qs → IsTried p q → AreTried (ps ++ p ∷ []) (qs ++ q ∷ [])
+pub tried-push : (ps qs : List ListenerTold) (p q : ListenerTold) → AreTried ps qs → IsTried p q → AreTried (ps ++ p ∷ []) (qs ++ q ∷ [])
 tried-push [] [] p q g h = (h, tt)
 tried-push [] (y ∷ qs) p q g h = absurd g
 tried-push (x ∷ ps) [] p q g h = absurd g

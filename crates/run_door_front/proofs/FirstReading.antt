@@ -14,8 +14,8 @@ use Rattle.jsonrpc_text.specs.declared.message.Read.{Read}
 use Rattle.office_core.specs.declared.front.Posting.{Posting}
 use Rattle.run_theorem.specs.Texts.{posting_of}
 use Rattle.jsonrpc_postings.specs.Told.{came_for}
-use Rattle.run_theorem.specs.Visits.{came_with}
-use Rattle.run_door_front.specs.Keeping.{LinkTold}
+use Rattle.run_theorem.specs.RunConnections.{came_with}
+use Rattle.run_door_front.specs.Keeping.{ClientTold}
 use Rattle.run_door_front.specs.NextSteps.{stage_at, reads, reads_at, EndIsTold, IsAsked, Answers, listing, AsksOne, Hands, EndsOne}
 
 -- a stage that reads
@@ -67,34 +67,34 @@ module _ {A : Type 0} (p : A → Bool) where
           ap p (sym (get_or_from_slice_get xs k x x is)) ∙ fails_before_first p xs k x before
 
 -- the connection at the first place that reads
-pub link_read : (links : List LinkTold) (i : ℕ) (l : LinkTold) → position reads links ≡ Some i → l ≡ get_or links i l → slice_get links i ≡ Some l
+pub link_read : (links : List ClientTold) (i : ℕ) (l : ClientTold) → position reads links ≡ Some i → l ≡ get_or links i l → slice_get links i ≡ Some l
 link_read links i l e is = slice_get_read links (length links) i l refl (first_within reads links i e) is
 
-pub stage_read : (links : List LinkTold) (i : ℕ) (l : LinkTold) → position reads links ≡ Some i → l ≡ get_or links i l → stage_at l ≡ Stages.Reads
+pub stage_read : (links : List ClientTold) (i : ℕ) (l : ClientTold) → position reads links ≡ Some i → l ≡ get_or links i l → stage_at l ≡ Stages.Reads
 stage_read links i l e is = reads_is (stage_at l) (ap reads is ∙ first_passes reads links i l e)
 
 -- ---- a connection is asked
 
 -- what passed where it is asked
-abbrev Talks : LinkTold → LinkTold → Option (List ℕ) → Type 0
+abbrev Talks : ClientTold → ClientTold → Option (List ℕ) → Type 0
 Talks before now body = (first : WireTold) (bodies : List (List ℕ)) (texts : List (Option (List ℕ)))
     → IsTalking first before.seen bodies texts → IsTalking first now.seen (bodies ++ handed body) texts
 
 -- where it stands as ended then, a read told the end
-abbrev Ends : LinkTold → LinkTold → Type 0
+abbrev Ends : ClientTold → ClientTold → Type 0
 Ends before now = (first : WireTold) (bodies : List (List ℕ)) (texts : List (Option (List ℕ)))
     → IsTalking first before.seen bodies texts → first.closed ≡ false → EndIsTold now
 
 -- no request comes any more
-pub answers-none : (place : ℕ) (told before now : LinkTold) (x : Option (List ℕ)) → x ≡ None → told ≡ before → now.service ≡ told.service
-    → now.owed ≡ told.owed → IsBehindAsking x (stage_at now) → Talks told now x → Ends told now → Answers place None before now
-answers-none place told before now x is same service owed stage talks ended =
+pub answers-none : (place : ℕ) (told before now : ClientTold) (x : Option (List ℕ)) → x ≡ None → told ≡ before → now.service ≡ told.service
+    → now.pending ≡ told.pending → IsBehindAsking x (stage_at now) → Talks told now x → Ends told now → Answers place None before now
+answers-none place told before now x is same service pending stage talks ended =
     subst (λ l. Answers place None l now) same (record {
       body = None;
       posting = refl;
       asked = record {
         service = service;
-        owed = owed;
+        pending = pending;
         stage = subst (λ y. IsBehindAsking y (stage_at now)) is stage;
         talks = subst (Talks told now) is talks;
         ended = ended;
@@ -102,18 +102,18 @@ answers-none place told before now x is same service owed stage talks ended =
     })
 
 -- a request comes
-pub answers-some : (place : ℕ) (told before now : LinkTold) (x : Option (List ℕ)) (body slice : List ℕ) (read : Read) (p : Posting) → x ≡ Some body
+pub answers-some : (place : ℕ) (told before now : ClientTold) (x : Option (List ℕ)) (body slice : List ℕ) (read : Read) (p : Posting) → x ≡ Some body
     → slice ≡ body → read ≡ posted slice → p ≡ posting_of (came_for told.service read) → told ≡ before → now.service ≡ told.service
-    → now.owed ≡ Some (record { place = place; read = read }) → IsBehindAsking x (stage_at now) → Talks told now x → Ends told now
+    → now.pending ≡ Some (record { place = place; read = read }) → IsBehindAsking x (stage_at now) → Talks told now x → Ends told now
     → Answers place (Some p) before now
-answers-some place told before now x body slice read p is piece says posts same service owed stage talks ended =
-    let said : read ≡ posted body = says ∙ ap posted piece in
+answers-some place told before now x body slice read p is piece says posts same service pending stage talks ended =
+    let sent : read ≡ posted body = says ∙ ap posted piece in
     subst (λ l. Answers place (Some p) l now) same (record {
       body = Some body;
-      posting = ap Some (posts ∙ ap (λ r. posting_of (came_for told.service r)) said);
+      posting = ap Some (posts ∙ ap (λ r. posting_of (came_for told.service r)) sent);
       asked = record {
         service = service;
-        owed = owed ∙ ap (λ r. Some (record { place = place; read = r })) said;
+        pending = pending ∙ ap (λ r. Some (record { place = place; read = r })) sent;
         stage = subst (λ y. IsBehindAsking y (stage_at now)) is stage;
         talks = subst (Talks told now) is talks;
         ended = ended;
@@ -122,7 +122,7 @@ answers-some place told before now x body slice read p is piece says posts same 
 
 -- ---- the first that reads is asked
 
-module _ (links : List LinkTold) (traffics : List ℕ) (number place : ℕ) (l later : LinkTold) (x : Option Posting) (a : Answers place x l later)
+module _ (links : List ClientTold) (traffics : List ℕ) (number place : ℕ) (l later : ClientTold) (x : Option Posting) (a : Answers place x l later)
     (numbered : place ≡ length traffics) (first : position reads links ≡ Some number) (is : l ≡ get_or links number l) where
   abbrev asks_one : (body : Option (List ℕ)) → a.body ≡ body → (ts : List ℕ) → AsksOne number body (listing links traffics) (listing (slice_set links number later) ts)
   asks_one body e ts = record {

@@ -3,18 +3,18 @@ use Rattle.std.proofs.Common.{◌≡◌, refl, sym, ap, ap₂, ◌∙◌, arith,
 use Rattle.std.specs.List.{sum_by}
 use Rattle.std.proofs.lemmas.List.Sums.{sum_by-cons, sum_by-append}
 use Rattle.outside_doors.specs.Counts.{DoorTold}
-use Rattle.run_door_front.specs.Keeping.{PortTold, LinkTold, AreNew, wires_to, leads_to, AreLed}
+use Rattle.run_door_front.specs.Keeping.{ListenerTold, ClientTold, AreNew, wires_to, leads_to, AreLed}
 use Rattle.run_door_front.specs.NextSteps.{wires_of, Listing, AsksOne}
 use Rattle.run_door_front.proofs.Entries.{one_if, count_cons, count_append, count_set}
 
 -- ---- one door
 
 -- the sum over one door
-pub sum_one : (f : PortTold → ℕ) (p : PortTold) → sum_by f (p ∷ []) ≡ f p
+pub sum_one : (f : ListenerTold → ℕ) (p : ListenerTold) → sum_by f (p ∷ []) ≡ f p
 sum_one f p = let all = sum_by-cons f p [] in let none : sum_by f [] ≡ 0 = refl in omega arith
 
 -- the count of one connection
-count_one : (p : LinkTold → Bool) (l : LinkTold) → count_by p (l ∷ []) ≡ one_if (p l)
+count_one : (p : ClientTold → Bool) (l : ClientTold) → count_by p (l ∷ []) ≡ one_if (p l)
 count_one p l = let all = count_cons p l [] in let none : count_by p [] ≡ 0 = refl in omega arith
 
 -- nothing is added
@@ -32,11 +32,11 @@ none_counted true m e = e
 none_counted false m e = refl
 
 -- a door that gave as many wires
-to-same : (n : ℕ) (p q : PortTold) → q.service ≡ p.service → wires_of q ≡ wires_of p → wires_to n q ≡ wires_to n p
+to-same : (n : ℕ) (p q : ListenerTold) → q.service ≡ p.service → wires_of q ≡ wires_of p → wires_to n q ≡ wires_to n p
 to-same n p q s w = ap₂ (λ k m. cond (nat_eq n k) m 0) s w
 
 -- a door that gave one wire more, to a connection which leads to its service
-to-more : (n : ℕ) (p q : PortTold) (l : LinkTold) → q.service ≡ p.service → l.service ≡ p.service → wires_of q ≡ wires_of p + 1
+to-more : (n : ℕ) (p q : ListenerTold) (l : ClientTold) → q.service ≡ p.service → l.service ≡ p.service → wires_of q ≡ wires_of p + 1
     → wires_to n q ≡ wires_to n p + one_if (leads_to n l)
 to-more n p q l s t w =
     ap (λ k. cond (nat_eq n k) q.door.wires 0) s ∙ one_counted (nat_eq n p.service) q.door.wires p.door.wires w
@@ -45,13 +45,13 @@ to-more n p q l s t w =
 -- ---- connections that came
 
 -- none came at a door
-pub led-still : (n : ℕ) (p q r : PortTold) (more : List LinkTold) → r.service ≡ q.service → wires_of r ≡ wires_of q
+pub led-still : (n : ℕ) (p q r : ListenerTold) (more : List ClientTold) → r.service ≡ q.service → wires_of r ≡ wires_of q
     → sum_by (wires_to n) (q ∷ []) ≡ sum_by (wires_to n) (p ∷ []) + count_by (leads_to n) more
     → sum_by (wires_to n) (r ∷ []) ≡ sum_by (wires_to n) (p ∷ []) + count_by (leads_to n) more
 led-still n p q r more s w e = sum_one (wires_to n) r ∙ to-same n q r s w ∙ sym (sum_one (wires_to n) q) ∙ e
 
 -- one more came at a door
-pub led-push : (n : ℕ) (p q r : PortTold) (more : List LinkTold) (l : LinkTold) → r.service ≡ q.service → l.service ≡ q.service → wires_of r ≡ wires_of q + 1
+pub led-push : (n : ℕ) (p q r : ListenerTold) (more : List ClientTold) (l : ClientTold) → r.service ≡ q.service → l.service ≡ q.service → wires_of r ≡ wires_of q + 1
     → sum_by (wires_to n) (q ∷ []) ≡ sum_by (wires_to n) (p ∷ []) + count_by (leads_to n) more
     → sum_by (wires_to n) (r ∷ []) ≡ sum_by (wires_to n) (p ∷ []) + count_by (leads_to n) (more ++ l ∷ [])
 led-push n p q r more l s t w e =
@@ -62,7 +62,7 @@ led-push n p q r more l s t w e =
     add sr wr sq wq sp c d k o a b f g h i = omega arith
 
 -- some came at some doors, and others at one more
-pub led-both : (n : ℕ) (ps qs : List PortTold) (p q : PortTold) (more others : List LinkTold)
+pub led-both : (n : ℕ) (ps qs : List ListenerTold) (p q : ListenerTold) (more others : List ClientTold)
     → sum_by (wires_to n) qs ≡ sum_by (wires_to n) ps + count_by (leads_to n) more
     → sum_by (wires_to n) (q ∷ []) ≡ sum_by (wires_to n) (p ∷ []) + count_by (leads_to n) others
     → sum_by (wires_to n) (qs ++ q ∷ []) ≡ sum_by (wires_to n) (ps ++ p ∷ []) + count_by (leads_to n) (more ++ others)
@@ -74,21 +74,21 @@ led-both n ps qs p q more others a b =
     add x y c u v d s t m a b e f g = omega arith
 
 -- more came, as the doors tell
-pub led-more : (ps qs : List PortTold) (links now more : List LinkTold) → now ≡ links ++ more
+pub led-more : (ps qs : List ListenerTold) (links now more : List ClientTold) → now ≡ links ++ more
     → ((n : ℕ) → sum_by (wires_to n) qs ≡ sum_by (wires_to n) ps + count_by (leads_to n) more) → AreLed ps links → AreLed qs now
 led-more ps qs links now more grown new all n =
     new n ∙ ap (λ m. m + count_by (leads_to n) more) (all n) ∙ sym (count_append (leads_to n) links more)
     ∙ sym (ap (count_by (leads_to n)) grown)
 
 -- a connection that changes leads where it led
-pub led-set : (ports : List PortTold) (links now : List LinkTold) (k : ℕ) (link later : LinkTold) → slice_get links k ≡ Some link
+pub led-set : (ports : List ListenerTold) (links now : List ClientTold) (k : ℕ) (link later : ClientTold) → slice_get links k ≡ Some link
     → later.service ≡ link.service → now ≡ slice_set links k later → AreLed ports links → AreLed ports now
 led-set ports links now k link later there same set all n =
     all n
     ∙ sym (ap (count_by (leads_to n)) set ∙ count_set (leads_to n) links k link later there (ap (nat_eq n) same))
 
 -- so does one that was asked for its next request
-pub led-asked : (ports : List PortTold) (number : ℕ) (body : Option (List ℕ)) (before now : Listing) → AsksOne number body before now
+pub led-asked : (ports : List ListenerTold) (number : ℕ) (body : Option (List ℕ)) (before now : Listing) → AsksOne number body before now
     → AreLed ports before.links → AreLed ports now.links
 led-asked ports number body before now one all =
     led-set ports before.links now.links number one.link one.later one.there one.asked.service one.set all
@@ -96,7 +96,7 @@ led-asked ports number body before now one all =
 -- ---- before anybody came
 
 -- no door has given a wire
-pub led-new : (n : ℕ) (ports : List PortTold) → AreNew ports → sum_by (wires_to n) ports ≡ 0
+pub led-new : (n : ℕ) (ports : List ListenerTold) → AreNew ports → sum_by (wires_to n) ports ≡ 0
 led-new n [] new = refl
 led-new n (p ∷ ps) new =
     sum_by-cons (wires_to n) p ps

@@ -8,6 +8,7 @@ pub mod Doors
 pub mod Resting
 pub mod Links
 pub mod Coming
+pub mod Ending
 pub mod Counting
 pub mod Requests
 pub mod OneMore

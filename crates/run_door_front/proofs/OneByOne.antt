@@ -5,17 +5,17 @@ use Rattle.std.proofs.lemmas.Bool.{true≢false}
 use Rattle.std.proofs.lemmas.Option.{same_Some, slice_get_within}
 use Rattle.std.proofs.lemmas.List.{take_all, length_push}
 use Rattle.behaviour_tree.specs.Data.{ProgramParts}
-use Rattle.run_theorem.specs.Dealings.{Asked, Told, Said, Dealings}
+use Rattle.run_theorem.specs.Exchange.{Asked, Told, Sent, Exchange}
 use Rattle.run_theorem.specs.Lines.{IsPrefix}
 use Rattle.run_theorem.specs.Served.{Requests}
 use Rattle.http_connection.specs.declared.stage.Stage.TheVariants as Stages
 use Rattle.outside_traits.specs.Told.{WireTold}
-use Rattle.run_door_front.specs.Keeping.{Lead, LinkTold}
-use Rattle.run_door_front.specs.Dealt.{OwesAt, CameOneByOne, HeardByThen}
+use Rattle.run_door_front.specs.Keeping.{Lead, ClientTold}
+use Rattle.run_door_front.specs.Exchanged.{OwesAt, CameOneByOne, HeardByThen}
 use Rattle.run_door_front.specs.NextSteps.{stage_at}
 use Rattle.run_door_front.proofs.Entries.{get_cases}
 use Rattle.run_door_front.proofs.Links.{reads_not_owes, any-left}
-use Rattle.run_door_front.proofs.Requests.{Serves, came_some, visit_there}
+use Rattle.run_door_front.proofs.Requests.{Serves, came_some, connection_there}
 use Rattle.run_door_front.proofs.OneMore.{link_there}
 use Rattle.run_door_front.proofs.Waiting.{told_found}
 
@@ -49,11 +49,11 @@ told_first-longer asked seens ts more h i j n a b x y same less seen =
     any_first (λ (t : Told). nat_eq i t.place) n ts more (h i j n a b x y same less seen)
 
 -- where more is told
-pub one_by_one-longer : (d : Dealings) (said : Said) (more : List Told) → said.told ≡ d.said.told ++ more → CameOneByOne d
-    → CameOneByOne (record { brought = d.brought; said = said })
-one_by_one-longer d said more is o = record {
+pub one_by_one-longer : (d : Exchange) (sent : Sent) (more : List Told) → sent.told ≡ d.sent.told ++ more → CameOneByOne d
+    → CameOneByOne (record { received = d.received; sent = sent })
+one_by_one-longer d sent more is o = record {
   counts = o.counts;
-  each = subst (ToldFirst d.brought.asked d.brought.seens) (sym is) (told_first-longer d.brought.asked d.brought.seens d.said.told more o.each);
+  each = subst (ToldFirst d.received.asked d.received.seens) (sym is) (told_first-longer d.received.asked d.received.seens d.sent.told more o.each);
 }
 
 -- ---- one request more
@@ -118,19 +118,19 @@ heard_by-longer seens heard more before j n seen =
 
 -- ---- a connection that reads
 
-module _ (IsMade : WireTold → Type 0) (parts : ProgramParts) (leads : List Lead) (links : List LinkTold) (all : Requests) (heard : List Told)
+module _ (IsMade : WireTold → Type 0) (parts : ProgramParts) (leads : List Lead) (links : List ClientTold) (all : Requests) (heard : List Told)
     (s : Serves IsMade parts leads links all heard) where
   -- was told of each request of it
-  pub heard-where_reads : (k : ℕ) (link : LinkTold) → slice_get links k ≡ Some link → stage_at link ≡ Stages.Reads → (i : ℕ) (a : Asked)
+  pub heard-where_reads : (k : ℕ) (link : ClientTold) → slice_get links k ≡ Some link → stage_at link ≡ Stages.Reads → (i : ℕ) (a : Asked)
       → slice_get all.asked i ≡ Some a → a.traffic ≡ k → list_any (λ (t : Told). nat_eq i t.place) heard ≡ true
   heard-where_reads k link is reads i a there traffic =
-      let came = came_some s.visits all.asked all.came s.came i a there in
-      let visit = visit_there s.visits all.asked all.came s.came i a there in
-      elim (s.answers i a came.0 visit.0 there came.1 visit.1) [
+      let came = came_some s.connections all.asked all.came s.came i a there in
+      let connection = connection_there s.connections all.asked all.came s.came i a there in
+      elim (s.answers i a came.0 connection.0 there came.1 connection.1) [
         | inl h ↦ told_found i heard h.told h.there h.place
         | inr w ↦
             let same : w.0.link ≡ link = same_Some w.0.link link (sym w.0.there ∙ ap (slice_get links) traffic ∙ is) in
-            let here = link_there IsMade links s.visits a.traffic w.0.link w.0.there s.are in
-            let stage : here.0.stage ≡ Stages.Owes = subst (λ o. OwesAt o here.0.stage) w.0.owed here.2.owes in
+            let here = link_there IsMade links s.connections a.traffic w.0.link w.0.there s.are in
+            let stage : here.0.stage ≡ Stages.Owes = subst (λ o. OwesAt o here.0.stage) w.0.pending here.2.owes in
             absurd (reads_not_owes (stage_at link) reads (ap stage_at (sym same) ∙ sym here.2.stage ∙ stage))
       ]

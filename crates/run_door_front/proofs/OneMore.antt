@@ -6,37 +6,37 @@ use Rattle.std.proofs.lemmas.Option.{none-some, same_Some}
 use Rattle.std.proofs.lemmas.List.{map-append, take_all}
 use Rattle.behaviour_tree.specs.Data.{ProgramParts}
 use Rattle.jsonrpc_text.specs.Posted.{posted}
-use Rattle.run_theorem.specs.Dealings.{Asked, Told}
+use Rattle.run_theorem.specs.Exchange.{Asked, Told}
 use Rattle.run_theorem.specs.Calls.{is_of}
 use Rattle.run_theorem.specs.Texts.{Came}
-use Rattle.run_theorem.specs.Visits.{Visit, came_with, came_at, AreTaken}
+use Rattle.run_theorem.specs.RunConnections.{RunConnection, came_with, came_at, AreTaken}
 use Rattle.run_theorem.specs.Served.{Requests}
 use Rattle.http_connection.specs.declared.stage.Stage.TheVariants as Stages
 use Rattle.outside_traits.specs.Told.{WireTold}
-use Rattle.run_door_front.specs.declared.link.Owed.{Owed}
-use Rattle.run_door_front.specs.Keeping.{is_of_door, is_led, Lead, LinkTold}
-use Rattle.run_door_front.specs.Dealt.{OwesAt, IsLink, AreLinks, IsHeard, IsOwed}
+use Rattle.run_door_front.specs.declared.link.PendingReply.{PendingReply}
+use Rattle.run_door_front.specs.Keeping.{is_of_door, is_led, Lead, ClientTold}
+use Rattle.run_door_front.specs.Exchanged.{OwesAt, IsClient, AreClients, IsHeard, IsPending}
 use Rattle.run_door_front.specs.NextSteps.{stage_at, IsAsked, Listing, AsksOne}
 use Rattle.run_door_front.proofs.Entries.{get_last, get_cases, take_front, get_set_same, get_set_other, count_no, count_yes, count_append, nat_eq_same, nat_eq_is, nat_eq_less}
 use Rattle.run_door_front.proofs.Links.{reads_not_owes}
 use Rattle.run_door_front.proofs.Counting.{texts-where_reads}
-use Rattle.run_door_front.proofs.Requests.{GrowsTo, Later, Heard, OwedStay, same_door, heard_later, came_made, came_length, all_came_later, Serves}
+use Rattle.run_door_front.proofs.Requests.{GrowsTo, Later, Heard, PendingStay, same_door, heard_later, came_made, came_length, all_came_later, Serves}
 
 -- ---- the connection and what passed on it
 
 -- what passed on a connection that handed out one body more
-abbrev with_body : List ℕ → Visit → Visit
+abbrev with_body : List ℕ → RunConnection → RunConnection
 with_body body v = record { door = v.door; service = v.service; stage = Stages.Owes; bodies = v.bodies ++ body ∷ []; texts = v.texts }
 
 module _ (IsMade : WireTold → Type 0) (place : ℕ) (body : List ℕ) where
-  asked_link : (l m : LinkTold) (v : Visit) → IsAsked place (Some body) l m → IsLink IsMade l v → IsLink IsMade m (with_body body v)
+  asked_link : (l m : ClientTold) (v : RunConnection) → IsAsked place (Some body) l m → IsClient IsMade l v → IsClient IsMade m (with_body body v)
   asked_link l m v a h = record {
     service = h.service ∙ sym a.service;
     door = same_door h.first l.seen m.seen v.bodies (v.bodies ++ body ∷ []) v.texts v.texts v.door h.door h.talks
         (a.talks h.first v.bodies v.texts h.talks);
     stage = sym a.stage;
     memory = λ e. (let clash : Stages.Owes ≡ Stages.Spent = e in cc);
-    owes = subst (λ o. OwesAt o Stages.Owes) (sym a.owed) refl;
+    owes = subst (λ o. OwesAt o Stages.Owes) (sym a.pending) refl;
     first = h.first;
     made = h.made;
     fresh = h.fresh;
@@ -44,12 +44,12 @@ module _ (IsMade : WireTold → Type 0) (place : ℕ) (body : List ℕ) where
     ended = λ e. (let clash : Stages.Owes ≡ Stages.Ended = e in cc);
   }
 
-  asked_links : (ls : List LinkTold) (vs : List Visit) (k : ℕ) (l m : LinkTold) (v : Visit) → slice_get ls k ≡ Some l → slice_get vs k ≡ Some v
-      → IsAsked place (Some body) l m → AreLinks IsMade ls vs → AreLinks IsMade (slice_set ls k m) (slice_set vs k (with_body body v))
+  asked_links : (ls : List ClientTold) (vs : List RunConnection) (k : ℕ) (l m : ClientTold) (v : RunConnection) → slice_get ls k ≡ Some l → slice_get vs k ≡ Some v
+      → IsAsked place (Some body) l m → AreClients IsMade ls vs → AreClients IsMade (slice_set ls k m) (slice_set vs k (with_body body v))
   asked_links [] vs k l m v x y a h = absurd (none-some l x)
   asked_links (i ∷ ls) [] k l m v x y a h = absurd h
   asked_links (i ∷ ls) (u ∷ vs) zero l m v x y a h =
-      let link : IsLink IsMade l v = subst (λ i. IsLink IsMade i v) (same_Some i l x) (subst (IsLink IsMade i) (same_Some u v y) h.0) in
+      let link : IsClient IsMade l v = subst (λ i. IsClient IsMade i v) (same_Some i l x) (subst (IsClient IsMade i) (same_Some u v y) h.0) in
       (asked_link l m v a link, h.1)
   asked_links (i ∷ ls) (u ∷ vs) (suc k) l m v x y a h = (h.0, asked_links ls vs k l m v x y a h.1)
 
@@ -69,12 +69,12 @@ any_service door service (l ∷ ls) e =
     by true false rest h = rest h
     by false false rest h = rest h
 
--- a connection and its visit
-pub link_there : (IsMade : WireTold → Type 0) (ls : List LinkTold) (vs : List Visit) (k : ℕ) (l : LinkTold) → slice_get ls k ≡ Some l → AreLinks IsMade ls vs
-    → (v : Visit) × (slice_get vs k ≡ Some v) × IsLink IsMade l v
+-- a connection and its connection
+pub link_there : (IsMade : WireTold → Type 0) (ls : List ClientTold) (vs : List RunConnection) (k : ℕ) (l : ClientTold) → slice_get ls k ≡ Some l → AreClients IsMade ls vs
+    → (v : RunConnection) × (slice_get vs k ≡ Some v) × IsClient IsMade l v
 link_there IsMade [] vs k l x h = absurd (none-some l x)
 link_there IsMade (i ∷ ls) [] k l x h = absurd h
-link_there IsMade (i ∷ ls) (u ∷ vs) zero l x h = (u, refl, subst (λ i. IsLink IsMade i u) (same_Some i l x) h.0)
+link_there IsMade (i ∷ ls) (u ∷ vs) zero l x h = (u, refl, subst (λ i. IsClient IsMade i u) (same_Some i l x) h.0)
 link_there IsMade (i ∷ ls) (u ∷ vs) (suc k) l x h = link_there IsMade ls vs k l x h.1
 
 -- ---- lists with one entry set
@@ -89,10 +89,10 @@ all_set p (z ∷ xs) (suc k) x y e same h =
     let both = and_parts (p z) (list_all p xs) h in
     and_from (p z) (list_all p (slice_set xs k y)) both.0 (all_set p xs k x y e same both.1)
 
-body_later : (vs : List Visit) (k : ℕ) (v : Visit) (body : List ℕ) → slice_get vs k ≡ Some v → Later vs (slice_set vs k (with_body body v))
+body_later : (vs : List RunConnection) (k : ℕ) (v : RunConnection) (body : List ℕ) → slice_get vs k ≡ Some v → Later vs (slice_set vs k (with_body body v))
 body_later vs k v body is t u e = by_place (nat_eq k t) refl
   where
-    by_place : (b : Bool) → nat_eq k t ≡ b → (w : Visit) × (slice_get (slice_set vs k (with_body body v)) t ≡ Some w) × GrowsTo u w
+    by_place : (b : Bool) → nat_eq k t ≡ b → (w : RunConnection) × (slice_get (slice_set vs k (with_body body v)) t ≡ Some w) × GrowsTo u w
     by_place true same =
         let here : k ≡ t = nat_eq_is k t same in
         let one : u ≡ v = same_Some u v (sym e ∙ ap (slice_get vs) (sym here) ∙ is) in (
@@ -107,14 +107,14 @@ body_later vs k v body is t u e = by_place (nat_eq k t) refl
     )
 
 -- a connection that reads owes nothing, so that those that do stay
-owed_set : (IsMade : WireTold → Type 0) (ls : List LinkTold) (k : ℕ) (l m : LinkTold) (v : Visit) → slice_get ls k ≡ Some l → IsLink IsMade l v → stage_at l ≡ Stages.Reads
-    → OwedStay ls (slice_set ls k m)
-owed_set IsMade ls k l m v is h e = λ t link o x y. by_place t link o x y (nat_eq k t) refl
+pending_set : (IsMade : WireTold → Type 0) (ls : List ClientTold) (k : ℕ) (l m : ClientTold) (v : RunConnection) → slice_get ls k ≡ Some l → IsClient IsMade l v → stage_at l ≡ Stages.Reads
+    → PendingStay ls (slice_set ls k m)
+pending_set IsMade ls k l m v is h e = λ t link o x y. by_place t link o x y (nat_eq k t) refl
   where
-    by_place : (t : ℕ) (link : LinkTold) (o : Owed) → slice_get ls t ≡ Some link → link.owed ≡ Some o → (b : Bool) → nat_eq k t ≡ b → slice_get (slice_set ls k m) t ≡ Some link
+    by_place : (t : ℕ) (link : ClientTold) (o : PendingReply) → slice_get ls t ≡ Some link → link.pending ≡ Some o → (b : Bool) → nat_eq k t ≡ b → slice_get (slice_set ls k m) t ≡ Some link
     by_place t link o x y true same =
         let one : l ≡ link = same_Some l link (sym is ∙ ap (slice_get ls) (nat_eq_is k t same) ∙ x) in
-        let owing : l.owed ≡ Some o = ap (λ (x : LinkTold). x.owed) one ∙ y in
+        let owing : l.pending ≡ Some o = ap (λ (x : ClientTold). x.pending) one ∙ y in
         let stage : v.stage ≡ Stages.Owes = subst (λ o. OwesAt o v.stage) owing h.owes in
         absurd (reads_not_owes (stage_at l) e (sym h.stage ∙ stage))
     by_place t link o x y false other = get_set_other ls k t m other ∙ x
@@ -129,7 +129,7 @@ one_more all a c = record { asked = all.asked ++ a ∷ []; came = all.came ++ c 
 abbrev pub next_of : ℕ → List Asked → Asked
 next_of k asked = record { traffic = k; request = count_by (is_of k) asked }
 
-taken_more : (vs : List Visit) (asked : List Asked) (k : ℕ) (v : Visit) (body : List ℕ) → slice_get vs k ≡ Some v → AreTaken vs asked
+taken_more : (vs : List RunConnection) (asked : List Asked) (k : ℕ) (v : RunConnection) (body : List ℕ) → slice_get vs k ≡ Some v → AreTaken vs asked
     → AreTaken (slice_set vs k (with_body body v)) (asked ++ next_of k asked ∷ [])
 taken_more vs asked k v body is t = record {
   in_order = λ j a e. elim (get_cases asked (next_of k asked) j a e) [
@@ -162,7 +162,7 @@ taken_more vs asked k v body is t = record {
         other_way true e = absurd (true≢false (sym (ap (λ n. nat_eq n m) (sym (nat_eq_is m k e)) ∙ nat_eq_same m) ∙ other))
         other_way false e = e
 
-    by_place : (m : ℕ) (w : Visit) → slice_get (slice_set vs k (with_body body v)) m ≡ Some w → (b : Bool) → nat_eq k m ≡ b
+    by_place : (m : ℕ) (w : RunConnection) → slice_get (slice_set vs k (with_body body v)) m ≡ Some w → (b : Bool) → nat_eq k m ≡ b
         → count_by (is_of m) (asked ++ next_of k asked ∷ []) ≡ length w.bodies
     by_place m w e true same =
         let here : k ≡ m = nat_eq_is k m same in
@@ -172,7 +172,7 @@ taken_more vs asked k v body is t = record {
         let more = count_append (is_of m) asked (next_of k asked ∷ []) in
         let last = one_here m same in
         let long = length-append v.bodies (body ∷ []) in
-        subst (λ (x : Visit). count_by (is_of m) (asked ++ next_of k asked ∷ []) ≡ length x.bodies) one (omega arith)
+        subst (λ (x : RunConnection). count_by (is_of m) (asked ++ next_of k asked ∷ []) ≡ length x.bodies) one (omega arith)
     by_place m w e false other =
         let before : count_by (is_of m) asked ≡ length w.bodies = t.all m w (sym (get_set_other vs k m (with_body body v) other) ∙ e) in
         let more = count_append (is_of m) asked (next_of k asked ∷ []) in
@@ -190,14 +190,14 @@ untold_next n (t ∷ heard) h =
 module _ (IsMade : WireTold → Type 0) (parts : ProgramParts) (leads : List Lead) (before now : Listing) (all : Requests) (heard : List Told) (number : ℕ) (body : List ℕ)
     (places : list_all (λ (t : Told). nat_lt t.place (length all.asked)) heard ≡ true) (long : length before.traffics ≡ length all.asked)
     (one : AsksOne number (Some body) before now) (s : Serves IsMade parts leads before.links all heard) where
-  here : (v : Visit) × (slice_get s.visits number ≡ Some v) × IsLink IsMade one.link v
-  here = link_there IsMade before.links s.visits number one.link one.there s.are
+  here : (v : RunConnection) × (slice_get s.connections number ≡ Some v) × IsClient IsMade one.link v
+  here = link_there IsMade before.links s.connections number one.link one.there s.are
 
-  abbrev visit : Visit
-  visit = here.0
+  abbrev connection : RunConnection
+  connection = here.0
 
-  abbrev visits : List Visit
-  visits = slice_set s.visits number (with_body body visit)
+  abbrev connections : List RunConnection
+  connections = slice_set s.connections number (with_body body connection)
 
   -- whose request it is
   abbrev pub whose : Asked
@@ -207,36 +207,36 @@ module _ (IsMade : WireTold → Type 0) (parts : ProgramParts) (leads : List Lea
   abbrev pub brings : Came
   brings = came_with one.link.service body
 
-  later : Later s.visits visits
-  later = body_later s.visits number visit body here.1
+  later : Later s.connections connections
+  later = body_later s.connections number connection body here.1
 
   -- its number is that of the bodies before it
-  number_is : whose.request ≡ length visit.bodies
-  number_is = s.taken.all number visit here.1
+  number_is : whose.request ≡ length connection.bodies
+  number_is = s.taken.all number connection here.1
 
-  came_now : came_at visits whose ≡ Some brings
+  came_now : came_at connections whose ≡ Some brings
   came_now =
-      let link : visit.service ≡ one.link.service = here.2.service in
-      let last : slice_get (visit.bodies ++ body ∷ []) whose.request ≡ Some body = ap (slice_get (visit.bodies ++ body ∷ [])) number_is ∙ get_last visit.bodies body in
-      came_made visits whose (with_body body visit) body (get_set_same s.visits number visit (with_body body visit) here.1) last
+      let link : connection.service ≡ one.link.service = here.2.service in
+      let last : slice_get (connection.bodies ++ body ∷ []) whose.request ≡ Some body = ap (slice_get (connection.bodies ++ body ∷ [])) number_is ∙ get_last connection.bodies body in
+      came_made connections whose (with_body body connection) body (get_set_same s.connections number connection (with_body body connection) here.1) last
       ∙ ap (λ n. Some (came_with n body)) link
 
-  all_came : map (came_at visits) (all.asked ++ whose ∷ []) ≡ map Some (all.came ++ brings ∷ [])
+  all_came : map (came_at connections) (all.asked ++ whose ∷ []) ≡ map Some (all.came ++ brings ∷ [])
   all_came =
-      map-append (came_at visits) all.asked (whose ∷ [])
-      ∙ ap₂ (λ xs ys. xs ++ ys) (all_came_later s.visits visits later all.asked all.came s.came) (ap (λ x. x ∷ []) came_now)
+      map-append (came_at connections) all.asked (whose ∷ [])
+      ∙ ap₂ (λ xs ys. xs ++ ys) (all_came_later s.connections connections later all.asked all.came s.came) (ap (λ x. x ∷ []) came_now)
       ∙ sym (map-append Some all.came (brings ∷ []))
 
-  waits_now : IsOwed now.links (length all.asked) whose brings (with_body body visit)
+  waits_now : IsPending now.links (length all.asked) whose brings (with_body body connection)
   waits_now = record {
     link = one.later;
     there = ap (λ ls. slice_get ls number) one.set ∙ get_set_same before.links number one.link one.later one.there;
-    owed = one.asked.owed ∙ ap (λ n. Some (record { place = n; read = posted body })) long;
+    pending = one.asked.pending ∙ ap (λ n. Some (record { place = n; read = posted body })) long;
     last = number_is
-        ∙ sym (texts-where_reads here.2.first one.link.seen visit.bodies visit.texts here.2.talks one.read);
+        ∙ sym (texts-where_reads here.2.first one.link.seen connection.bodies connection.texts here.2.talks one.read);
   }
 
-  heard_now : Heard parts now.links visits (one_more all whose brings) heard
+  heard_now : Heard parts now.links connections (one_more all whose brings) heard
   heard_now = λ j a c w x y z. elim (get_cases all.asked whose j a x) [
     | inl old ↦ elim (get_cases all.came brings j c y) [
       | inl came ↦ old_heard j a c w old came z
@@ -249,7 +249,7 @@ module _ (IsMade : WireTold → Type 0) (parts : ProgramParts) (leads : List Lea
   ]
     where
       counts : length all.asked ≡ length all.came
-      counts = came_length s.visits all.asked all.came s.came
+      counts = came_length s.connections all.asked all.came s.came
 
       within : {A : Type 0} (xs : List A) (j : ℕ) (a : A) → slice_get xs j ≡ Some a → j < length xs
       within [] j a e = absurd (none-some a e)
@@ -262,35 +262,35 @@ module _ (IsMade : WireTold → Type 0) (parts : ProgramParts) (leads : List Lea
       clash_came : (j : ℕ) (c : Came) → slice_get all.came j ≡ Some c → j ≡ length all.asked → ⊥
       clash_came j c e is = let h = within all.came j c e in let n = counts in omega arith
 
-      old_all : Heard parts (slice_set before.links number one.later) visits all heard
+      old_all : Heard parts (slice_set before.links number one.later) connections all heard
       old_all =
-          heard_later parts before.links (slice_set before.links number one.later) s.visits visits all heard later
-          (owed_set IsMade before.links number one.link one.later visit one.there here.2 one.read) s.came s.answers
+          heard_later parts before.links (slice_set before.links number one.later) s.connections connections all heard later
+          (pending_set IsMade before.links number one.link one.later connection one.there here.2 one.read) s.came s.answers
 
-      old_heard : (j : ℕ) (a : Asked) (c : Came) (w : Visit) → slice_get all.asked j ≡ Some a → slice_get all.came j ≡ Some c → slice_get visits a.traffic ≡ Some w
-          → IsHeard parts heard j c (slice_get w.texts a.request) ⊎ (IsOwed now.links j a c w × (list_any (λ (t : Told). nat_eq j t.place) heard ≡ false))
-      old_heard = subst (λ ls. Heard parts ls visits all heard) (sym one.set) old_all
+      old_heard : (j : ℕ) (a : Asked) (c : Came) (w : RunConnection) → slice_get all.asked j ≡ Some a → slice_get all.came j ≡ Some c → slice_get connections a.traffic ≡ Some w
+          → IsHeard parts heard j c (slice_get w.texts a.request) ⊎ (IsPending now.links j a c w × (list_any (λ (t : Told). nat_eq j t.place) heard ≡ false))
+      old_heard = subst (λ ls. Heard parts ls connections all heard) (sym one.set) old_all
 
-      new_heard : (j : ℕ) (a : Asked) (c : Came) (w : Visit) → (j ≡ length all.asked) × (whose ≡ a) → (j ≡ length all.came) × (brings ≡ c)
-          → slice_get visits a.traffic ≡ Some w → IsOwed now.links j a c w × (list_any (λ (t : Told). nat_eq j t.place) heard ≡ false)
+      new_heard : (j : ℕ) (a : Asked) (c : Came) (w : RunConnection) → (j ≡ length all.asked) × (whose ≡ a) → (j ≡ length all.came) × (brings ≡ c)
+          → slice_get connections a.traffic ≡ Some w → IsPending now.links j a c w × (list_any (λ (t : Told). nat_eq j t.place) heard ≡ false)
       new_heard j a c w x y z =
-          let there : with_body body visit ≡ w =
-          same_Some (with_body body visit) w
-          (sym (get_set_same s.visits number visit (with_body body visit) here.1) ∙ ap (λ (b : Asked). slice_get visits b.traffic) x.1 ∙ z) in (
-            subst (λ i. IsOwed now.links i a c w) (sym x.0)
-                (subst (λ b. IsOwed now.links (length all.asked) b c w) x.1
-                (subst (λ d. IsOwed now.links (length all.asked) whose d w) y.1
-                (subst (IsOwed now.links (length all.asked) whose brings) there waits_now))),
+          let there : with_body body connection ≡ w =
+          same_Some (with_body body connection) w
+          (sym (get_set_same s.connections number connection (with_body body connection) here.1) ∙ ap (λ (b : Asked). slice_get connections b.traffic) x.1 ∙ z) in (
+            subst (λ i. IsPending now.links i a c w) (sym x.0)
+                (subst (λ b. IsPending now.links (length all.asked) b c w) x.1
+                (subst (λ d. IsPending now.links (length all.asked) whose d w) y.1
+                (subst (IsPending now.links (length all.asked) whose brings) there waits_now))),
             ap (λ i. list_any (λ (t : Told). nat_eq i t.place) heard) x.0 ∙ untold_next (length all.asked) heard places,
           )
 
   pub serves-more : Serves IsMade parts leads now.links (one_more all whose brings) heard
   serves-more = record {
-    visits = visits;
-    are = subst (λ ls. AreLinks IsMade ls visits) (sym one.set)
-        (asked_links IsMade (length before.traffics) body before.links s.visits number one.link one.later visit one.there here.1 one.asked s.are);
-    doors = all_set (λ (v : Visit). list_any (is_led v.door v.service) leads) s.visits number visit (with_body body visit) here.1 refl s.doors;
-    taken = taken_more s.visits all.asked number visit body here.1 s.taken;
+    connections = connections;
+    are = subst (λ ls. AreClients IsMade ls connections) (sym one.set)
+        (asked_links IsMade (length before.traffics) body before.links s.connections number one.link one.later connection one.there here.1 one.asked s.are);
+    doors = all_set (λ (v : RunConnection). list_any (is_led v.door v.service) leads) s.connections number connection (with_body body connection) here.1 refl s.doors;
+    taken = taken_more s.connections all.asked number connection body here.1 s.taken;
     came = all_came;
     answers = heard_now;
   }
@@ -299,14 +299,14 @@ module _ (IsMade : WireTold → Type 0) (parts : ProgramParts) (leads : List Lea
   pub service_there : list_any (nat_eq one.link.service) (map (λ (lead : Lead). lead.service) leads) ≡ true
   service_there =
       subst (λ n. list_any (nat_eq n) (map (λ (lead : Lead). lead.service) leads) ≡ true) here.2.service
-      (any_service visit.door visit.service leads (all_at s.visits number visit here.1 s.doors))
+      (any_service connection.door connection.service leads (all_at s.connections number connection here.1 s.doors))
     where
-      all_at : (vs : List Visit) (k : ℕ) (v : Visit) → slice_get vs k ≡ Some v → list_all (λ (v : Visit). list_any (is_led v.door v.service) leads) vs ≡ true
+      all_at : (vs : List RunConnection) (k : ℕ) (v : RunConnection) → slice_get vs k ≡ Some v → list_all (λ (v : RunConnection). list_any (is_led v.door v.service) leads) vs ≡ true
           → list_any (is_led v.door v.service) leads ≡ true
       all_at [] k v e h = absurd (none-some v e)
       all_at (u ∷ vs) zero v e h =
-          let both = and_parts (list_any (is_led u.door u.service) leads) (list_all (λ (v : Visit). list_any (is_led v.door v.service) leads) vs) h in
-          subst (λ (x : Visit). list_any (is_led x.door x.service) leads ≡ true) (same_Some u v e) both.0
+          let both = and_parts (list_any (is_led u.door u.service) leads) (list_all (λ (v : RunConnection). list_any (is_led v.door v.service) leads) vs) h in
+          subst (λ (x : RunConnection). list_any (is_led x.door x.service) leads ≡ true) (same_Some u v e) both.0
       all_at (u ∷ vs) (suc k) v e h =
-          let both = and_parts (list_any (is_led u.door u.service) leads) (list_all (λ (v : Visit). list_any (is_led v.door v.service) leads) vs) h in
+          let both = and_parts (list_any (is_led u.door u.service) leads) (list_all (λ (v : RunConnection). list_any (is_led v.door v.service) leads) vs) h in
           all_at vs k v e both.1

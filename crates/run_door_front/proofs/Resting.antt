@@ -5,17 +5,17 @@ use Rattle.std.proofs.lemmas.Bool.{and_parts, and_from, true≢false}
 use Rattle.std.proofs.lemmas.List.{take_all}
 use Rattle.std.proofs.lemmas.List.Sums.{sum_by-cons}
 use Rattle.outside_doors.specs.Counts.{added, has_ended}
-use Rattle.run_door_front.specs.Keeping.{PortTold, rests_at}
+use Rattle.run_door_front.specs.Keeping.{ListenerTold, rests_at}
 use Rattle.run_door_front.specs.NextSteps.{GoesOn, AllGoOn, AreTried, rested_at, after_rest}
 use Rattle.run_door_front.proofs.Doors.{not_fallen-same, not_fallen-added, goes-same, all-same}
 
 -- a door has ended
-abbrev pub is_done : PortTold → Bool
+abbrev pub is_done : ListenerTold → Bool
 is_done port = has_ended port.door
 
 -- ---- they go on
 
-goes_rested : (p : PortTold) → GoesOn p (rested_at p)
+goes_rested : (p : ListenerTold) → GoesOn p (rested_at p)
 goes_rested p = record {
   service = refl;
   place = refl;
@@ -24,7 +24,7 @@ goes_rested p = record {
   rests = not_fallen-added p.door.rests (added p.door.rests 1) refl;
 }
 
-pub all-rested : (ps : List PortTold) → AllGoOn ps (after_rest ps)
+pub all-rested : (ps : List ListenerTold) → AllGoOn ps (after_rest ps)
 all-rested [] = tt
 all-rested (p ∷ ps) = at (has_ended p.door) (all-rested ps)
   where
@@ -33,7 +33,7 @@ all-rested (p ∷ ps) = at (has_ended p.door) (all-rested ps)
     at false rest = (goes_rested p, all-same ps)
 
 -- those that were tried are
-pub tried-rested : (xs ps : List PortTold) → AreTried xs ps → AreTried xs (after_rest ps)
+pub tried-rested : (xs ps : List ListenerTold) → AreTried xs ps → AreTried xs (after_rest ps)
 tried-rested [] [] t = tt
 tried-rested [] (p ∷ ps) t = absurd t
 tried-rested (x ∷ xs) [] t = absurd t
@@ -44,7 +44,7 @@ tried-rested (x ∷ xs) (p ∷ ps) t = at (has_ended p.door) (tried-rested xs ps
     at false rest = (t.0, t.1)
 
 -- what does not speak of rests stays
-pub sums-rested : (f : PortTold → ℕ) → ((p : PortTold) → f (rested_at p) ≡ f p) → (ps : List PortTold) → sum_by f (after_rest ps) ≡ sum_by f ps
+pub sums-rested : (f : ListenerTold → ℕ) → ((p : ListenerTold) → f (rested_at p) ≡ f p) → (ps : List ListenerTold) → sum_by f (after_rest ps) ≡ sum_by f ps
 sums-rested f same [] = refl
 sums-rested f same (p ∷ ps) = at (has_ended p.door) (sums-rested f same ps)
   where
@@ -52,7 +52,7 @@ sums-rested f same (p ∷ ps) = at (has_ended p.door) (sums-rested f same ps)
     at true e = sum_by-cons f p (after_rest ps) ∙ ap (λ n. f p + n) e ∙ sym (sum_by-cons f p ps)
     at false e = sum_by-cons f (rested_at p) ps ∙ ap (λ n. n + sum_by f ps) (same p) ∙ sym (sum_by-cons f p ps)
 
-pub done-rested : (ps : List PortTold) → list_all is_done (after_rest ps) ≡ list_all is_done ps
+pub done-rested : (ps : List ListenerTold) → list_all is_done (after_rest ps) ≡ list_all is_done ps
 done-rested [] = refl
 done-rested (p ∷ ps) = at (has_ended p.door) (done-rested ps)
   where
@@ -71,7 +71,7 @@ more_here : (r s t m n cap : ℕ) → m ≡ r + s → n ≡ t + s → t ≡ min 
 more_here r s t m n cap a b e = omega arith
 
 -- once more, where one has not ended
-pub rests-rested : (ps : List PortTold) → list_all is_done ps ≡ false → added (rests_at ps) 1 ≤ rests_at (after_rest ps)
+pub rests-rested : (ps : List ListenerTold) → list_all is_done ps ≡ false → added (rests_at ps) 1 ≤ rests_at (after_rest ps)
 rests-rested [] some = absurd (true≢false some)
 rests-rested (p ∷ ps) some = at (has_ended p.door) refl (λ rest. rests-rested ps rest)
   where
@@ -79,11 +79,11 @@ rests-rested (p ∷ ps) some = at (has_ended p.door) refl (λ rest. rests-rested
         → added (rests_at (p ∷ ps)) 1 ≤ rests_at (cond b (p ∷ after_rest ps) (rested_at p ∷ ps))
     at true is rest =
         more_behind p.door.rests (rests_at ps) (rests_at (after_rest ps)) (rests_at (p ∷ ps)) (rests_at (p ∷ after_rest ps)) (2 ^ 64 - 1)
-        (sum_by-cons (λ (p : PortTold). p.door.rests) p ps) (sum_by-cons (λ (p : PortTold). p.door.rests) p (after_rest ps))
+        (sum_by-cons (λ (p : ListenerTold). p.door.rests) p ps) (sum_by-cons (λ (p : ListenerTold). p.door.rests) p (after_rest ps))
         (rest (ap (λ b. b && list_all is_done ps) (sym is) ∙ some))
     at false is rest =
         more_here p.door.rests (rests_at ps) (added p.door.rests 1) (rests_at (p ∷ ps)) (rests_at (rested_at p ∷ ps)) (2 ^ 64 - 1)
-        (sum_by-cons (λ (p : PortTold). p.door.rests) p ps) (sum_by-cons (λ (p : PortTold). p.door.rests) (rested_at p) ps) refl
+        (sum_by-cons (λ (p : ListenerTold). p.door.rests) p ps) (sum_by-cons (λ (p : ListenerTold). p.door.rests) (rested_at p) ps) refl
 
 -- ---- a loop to the first that has not ended
 
@@ -94,7 +94,7 @@ lower : (i n : ℕ) → suc i < suc n → i < n
 lower i n h = omega arith
 
 -- one more has ended
-done_next : (ps : List PortTold) (i : ℕ) (d : PortTold) → i < length ps → list_all is_done (take i ps) ≡ true → is_done (get_or ps i d) ≡ true
+done_next : (ps : List ListenerTold) (i : ℕ) (d : ListenerTold) → i < length ps → list_all is_done (take i ps) ≡ true → is_done (get_or ps i d) ≡ true
     → list_all is_done (take (suc i) ps) ≡ true
 done_next [] i d inside all here = absurd (none_inside i inside)
 done_next (p ∷ ps) zero d inside all here = and_from (is_done p) true here refl
@@ -102,7 +102,7 @@ done_next (p ∷ ps) (suc i) d inside all here =
     let both = and_parts (is_done p) (list_all is_done (take i ps)) all in
     and_from (is_done p) (list_all is_done (take (suc i) ps)) both.0 (done_next ps i d (lower i (length ps) inside) both.1 here)
 
-pub done-next : (ps qs : List PortTold) (i : ℕ) (d : PortTold) → qs ≡ ps → i < length ps → list_all is_done (take i ps) ≡ true
+pub done-next : (ps qs : List ListenerTold) (i : ℕ) (d : ListenerTold) → qs ≡ ps → i < length ps → list_all is_done (take i ps) ≡ true
     → is_done (get_or qs i d) ≡ true → list_all is_done (take (i + 1) ps) ≡ true
 done-next ps qs i d same inside all here =
     ap (λ n. list_all is_done (take n ps)) (one i) ∙ done_next ps i d inside all (ap (λ xs. is_done (get_or xs i d)) (sym same) ∙ here)
@@ -111,7 +111,7 @@ done-next ps qs i d same inside all here =
     one i = omega arith
 
 -- the first has not
-rested_here : (ps : List PortTold) (i : ℕ) (d : PortTold) → i < length ps → list_all is_done (take i ps) ≡ true → is_done (get_or ps i d) ≡ false
+rested_here : (ps : List ListenerTold) (i : ℕ) (d : ListenerTold) → i < length ps → list_all is_done (take i ps) ≡ true → is_done (get_or ps i d) ≡ false
     → set ps i (rested_at (get_or ps i d)) ≡ after_rest ps
 rested_here [] i d inside all here = absurd (none_inside i inside)
 rested_here (p ∷ ps) zero d inside all here = ap (λ b. cond b (p ∷ after_rest ps) (rested_at p ∷ ps)) (sym here)
@@ -120,19 +120,19 @@ rested_here (p ∷ ps) (suc i) d inside all here =
     ap (λ xs. p ∷ xs) (rested_here ps i d (lower i (length ps) inside) both.1 here)
     ∙ ap (λ b. cond b (p ∷ after_rest ps) (rested_at p ∷ ps)) (sym both.0)
 
-pub rested-here : (ps qs : List PortTold) (i : ℕ) (d now : PortTold) → qs ≡ ps → i < length ps → list_all is_done (take i ps) ≡ true
+pub rested-here : (ps qs : List ListenerTold) (i : ℕ) (d now : ListenerTold) → qs ≡ ps → i < length ps → list_all is_done (take i ps) ≡ true
     → is_done (get_or qs i d) ≡ false → now ≡ rested_at (get_or qs i d) → set qs i now ≡ after_rest ps
 rested-here ps qs i d now same inside all here is =
     ap (set qs i) is ∙ ap (λ xs. set xs i (rested_at (get_or xs i d))) same
     ∙ rested_here ps i d inside all (ap (λ xs. is_done (get_or xs i d)) (sym same) ∙ here)
 
 -- all have
-rested_nowhere : (ps : List PortTold) → list_all is_done ps ≡ true → ps ≡ after_rest ps
+rested_nowhere : (ps : List ListenerTold) → list_all is_done ps ≡ true → ps ≡ after_rest ps
 rested_nowhere [] all = refl
 rested_nowhere (p ∷ ps) all =
     let both = and_parts (is_done p) (list_all is_done ps) all in
     ap (λ xs. p ∷ xs) (rested_nowhere ps both.1) ∙ ap (λ b. cond b (p ∷ after_rest ps) (rested_at p ∷ ps)) (sym both.0)
 
-pub rested-nowhere : (ps qs : List PortTold) (i : ℕ) → qs ≡ ps → length ps ≤ i → list_all is_done (take i ps) ≡ true → qs ≡ after_rest ps
+pub rested-nowhere : (ps qs : List ListenerTold) (i : ℕ) → qs ≡ ps → length ps ≤ i → list_all is_done (take i ps) ≡ true → qs ≡ after_rest ps
 rested-nowhere ps qs i same past all =
     same ∙ rested_nowhere ps (ap (list_all is_done) (sym (take_all i ps past)) ∙ all)

@@ -15,27 +15,27 @@ use Rattle.outside_doors.specs.Counts.{DoorTold, has_ended}
 use Rattle.behaviour_tree.specs.Data.{ProgramParts}
 use Rattle.behaviour_tree.specs.declared.words.Outcome.{Outcome}
 use Rattle.jsonrpc_text.specs.declared.message.Read.{Read}
-use Rattle.run_theorem.specs.Dealings.{Asked, Told, Brought, Said, Dealings, IsNew}
+use Rattle.run_theorem.specs.Exchange.{Asked, Told, Received, Sent, Exchange, IsNew}
 use Rattle.run_theorem.specs.Calls.{After, Halts, IsDue, Tells, Notes, is_of, most_postings}
 use Rattle.run_theorem.specs.Texts.{Came, posting_of}
 use Rattle.run_theorem.specs.Lines.{IsPrefix}
 use Rattle.jsonrpc_postings.specs.Told.{came_for, response_told}
-use Rattle.run_theorem.specs.Visits.{Visit, came_with, came_of, came_at, AreTaken}
+use Rattle.run_theorem.specs.RunConnections.{RunConnection, came_with, came_of, came_at, AreTaken}
 use Rattle.http_connection.specs.declared.stage.Stage.{Stage}
 use Rattle.http_connection.specs.declared.stage.Stage.TheVariants as Stages
 use Rattle.http_connection.specs.Stages.{stage_of, IsBehindTelling, IsOver}
 use Rattle.outside_traits.specs.Told.{WireTold}
-use Rattle.run_door_front.specs.declared.link.Owed.{Owed}
-use Rattle.run_door_front.specs.Keeping.{is_led, leads_of, lead_of, PortTold, LinkTold, Keeping, AreNew, IsEmpty, services_of, rests_at, no_more, leads_to, AreLed}
+use Rattle.run_door_front.specs.declared.link.PendingReply.{PendingReply}
+use Rattle.run_door_front.specs.Keeping.{is_led, leads_of, lead_of, ListenerTold, ClientTold, Keeping, AreNew, IsEmpty, services_of, rests_at, no_more, leads_to, AreLed}
 use Rattle.outside_traits.specs.Told.{SinkTold}
 use Rattle.outside_writing.specs.Sinks.{Takes}
-use Rattle.run_door_front.specs.Dealt.{Sides, sides_of, OwesAt, IsLink, AreLinks, IsHeard, IsOwed, AreHeard, HadNoAnswer, CameInTurn, WasBusy, WereBusy, HaveWaited, HadNone, most_open, entire, HasDealt, HasRunOut, MayHaveDealt}
+use Rattle.run_door_front.specs.Exchanged.{Sides, sides_of, OwesAt, IsClient, AreClients, IsHeard, IsPending, AreHeard, HadNoAnswer, CameInTurn, WasBusy, WereBusy, HaveWaited, HadNone, most_open, entire, HasExchanged, HasRunOut, MayHaveExchanged}
 use Rattle.run_door_front.specs.AnswerSteps.{told_of, HasTold, HasAnswered}
 use Rattle.run_door_front.proofs.Changing.{eq_true, eq_false, not_eq, same_of, none_not_some, set_here, set_other, set_cases, list_all-set, slice_get-front, slice_get-last, map_alike, slice_get-mapped}
 use Rattle.run_door_front.proofs.Leading.{led-set, led-new}
 use Rattle.run_door_front.proofs.OneByOne.{one_by_one-longer, heard_by-longer}
 use Rattle.run_door_front.proofs.InTurn.{seen_within, in_turn-told, over_set, asked_within, in_turn-on}
-use Rattle.run_door_front.proofs.Notes.{halts_still, halts_unknown, NotesSo, said_told, said_cut, said_noted}
+use Rattle.run_door_front.proofs.Notes.{halts_still, halts_unknown, NotesSo, sent_told, sent_cut, sent_noted}
 
 -- ---- stages
 
@@ -45,7 +45,7 @@ not_spent stage (inl reads) is = let clash : Stages.Reads ≡ Stages.Spent = sym
 not_spent stage (inr (inl closed)) is = let clash : Stages.Closed ≡ Stages.Spent = sym closed ∙ is in cc
 not_spent stage (inr (inr cut)) is = let clash : Stages.WriteFailed ≡ Stages.Spent = sym cut ∙ is in cc
 
--- nor is an answer owed
+-- nor is an answer pending
 not_owing : (stage : Stage) → IsBehindTelling stage → stage ≢ Stages.Owes
 not_owing stage (inl reads) is = let clash : Stages.Reads ≡ Stages.Owes = sym reads ∙ is in cc
 not_owing stage (inr (inl closed)) is = let clash : Stages.Closed ≡ Stages.Owes = sym closed ∙ is in cc
@@ -67,35 +67,35 @@ not_over stage owes (inr (inr (inr cut))) = let clash : Stages.Owes ≡ Stages.W
 -- ---- connections
 
 -- what passed on the connection of a number
-record IsIn (IsMade : WireTold → Type 0) (visits : List Visit) (n : ℕ) (link : LinkTold) : Type 0 where
-  visit : Visit
-  there : slice_get visits n ≡ Some visit
-  is : IsLink IsMade link visit
+record IsIn (IsMade : WireTold → Type 0) (connections : List RunConnection) (n : ℕ) (link : ClientTold) : Type 0 where
+  connection : RunConnection
+  there : slice_get connections n ≡ Some connection
+  is : IsClient IsMade link connection
 
-link_in : (IsMade : WireTold → Type 0) (ls : List LinkTold) (vs : List Visit) (n : ℕ) (l : LinkTold) → AreLinks IsMade ls vs → slice_get ls n ≡ Some l
+link_in : (IsMade : WireTold → Type 0) (ls : List ClientTold) (vs : List RunConnection) (n : ℕ) (l : ClientTold) → AreClients IsMade ls vs → slice_get ls n ≡ Some l
     → IsIn IsMade vs n l
 link_in IsMade [] vs n l h there = absurd (none_not_some l there)
 link_in IsMade (x ∷ ls) [] n l h there = absurd h
-link_in IsMade (x ∷ ls) (v ∷ vs) zero l h there = record { visit = v; there = refl; is = subst (λ y. IsLink IsMade y v) (same_of x l there) h.0 }
+link_in IsMade (x ∷ ls) (v ∷ vs) zero l h there = record { connection = v; there = refl; is = subst (λ y. IsClient IsMade y v) (same_of x l there) h.0 }
 link_in IsMade (x ∷ ls) (v ∷ vs) (suc n) l h there =
-    let r = link_in IsMade ls vs n l h.1 there in record { visit = r.visit; there = r.there; is = r.is }
+    let r = link_in IsMade ls vs n l h.1 there in record { connection = r.connection; there = r.there; is = r.is }
 
 -- something passed on one connection
-links_set : (IsMade : WireTold → Type 0) (ls : List LinkTold) (vs : List Visit) (n : ℕ) (l : LinkTold) (v : Visit) → AreLinks IsMade ls vs → IsLink IsMade l v
-    → AreLinks IsMade (slice_set ls n l) (slice_set vs n v)
+links_set : (IsMade : WireTold → Type 0) (ls : List ClientTold) (vs : List RunConnection) (n : ℕ) (l : ClientTold) (v : RunConnection) → AreClients IsMade ls vs → IsClient IsMade l v
+    → AreClients IsMade (slice_set ls n l) (slice_set vs n v)
 links_set IsMade [] [] n l v h k = h
 links_set IsMade [] (w ∷ vs) n l v h k = absurd h
 links_set IsMade (x ∷ ls) [] n l v h k = absurd h
 links_set IsMade (x ∷ ls) (w ∷ vs) zero l v h k = (k, h.1)
 links_set IsMade (x ∷ ls) (w ∷ vs) (suc n) l v h k = (h.0, links_set IsMade ls vs n l v h.1 k)
 
--- a visit with a text more
-abbrev with_text : Option (List ℕ) → Stage → Visit → Visit
+-- a connection with a text more
+abbrev with_text : Option (List ℕ) → Stage → RunConnection → RunConnection
 with_text text stage v = record { door = v.door; service = v.service; stage = stage; bodies = v.bodies; texts = v.texts ++ text ∷ [] }
 
 -- a connection was told a text
-link_told : (IsMade : WireTold → Type 0) (parts : ProgramParts) (t : Told) (l after : LinkTold) (v : Visit) (a : HasTold parts t l after) → IsLink IsMade l v
-    → IsLink IsMade after (with_text a.text (stage_of after.seen.kept.next) v)
+link_told : (IsMade : WireTold → Type 0) (parts : ProgramParts) (t : Told) (l after : ClientTold) (v : RunConnection) (a : HasTold parts t l after) → IsClient IsMade l v
+    → IsClient IsMade after (with_text a.text (stage_of after.seen.kept.next) v)
 link_told IsMade parts t l after v a h = record {
   service = h.service ∙ sym a.service;
   door = same_door h.first l.seen after.seen v.bodies v.bodies v.texts (v.texts ++ a.text ∷ []) v.door h.door h.talks
@@ -113,39 +113,39 @@ link_told IsMade parts t l after v a h = record {
 -- ---- when there was no posting
 
 -- what was told last does not count as told when the front was asked last
-no_answer-more : (d later : Dealings) (k : ℕ) → later.brought ≡ d.brought → (ts : List Told) → later.said.told ≡ d.said.told ++ ts
-    → d.brought.seen ≤ length d.said.told → HadNoAnswer d k → HadNoAnswer later k
+no_answer-more : (d later : Exchange) (k : ℕ) → later.received ≡ d.received → (ts : List Told) → later.sent.told ≡ d.sent.told ++ ts
+    → d.received.seen ≤ length d.sent.told → HadNoAnswer d k → HadNoAnswer later k
 no_answer-more d later k same ts more seen h = record {
   place = h.place;
   asked = h.asked;
-  there = ap (λ (b : Brought). slice_get b.asked h.place) same ∙ h.there;
+  there = ap (λ (b : Received). slice_get b.asked h.place) same ∙ h.there;
   traffic = h.traffic;
-  last = h.last ∙ sym (ap (λ (b : Brought). count_by (is_of k) b.asked) same);
+  last = h.last ∙ sym (ap (λ (b : Received). count_by (is_of k) b.asked) same);
   untold =
       ap (list_any (λ (t : Told). nat_eq h.place t.place))
-      (ap₂ (λ (b : Brought) told. take b.seen told) same more ∙ take-append-le d.brought.seen d.said.told ts seen)
+      (ap₂ (λ (b : Received) told. take b.seen told) same more ∙ take-append-le d.received.seen d.sent.told ts seen)
       ∙ h.untold;
 }
 
-module _ (d later : Dealings) (same : later.brought ≡ d.brought) (ts : List Told) (more : later.said.told ≡ d.said.told ++ ts)
-    (seen : d.brought.seen ≤ length d.said.told) where
-  was_busy-more : (k : ℕ) (b : Bool) (l : LinkTold) → WasBusy d k b l → WasBusy later k b l
+module _ (d later : Exchange) (same : later.received ≡ d.received) (ts : List Told) (more : later.sent.told ≡ d.sent.told ++ ts)
+    (seen : d.received.seen ≤ length d.sent.told) where
+  was_busy-more : (k : ℕ) (b : Bool) (l : ClientTold) → WasBusy d k b l → WasBusy later k b l
   was_busy-more k true l h = no_answer-more d later k same ts more seen h
   was_busy-more k false l h = h
 
-  busy_more : (k : ℕ) (bs : List Bool) (ls : List LinkTold) → WereBusy d k bs ls → WereBusy later k bs ls
+  busy_more : (k : ℕ) (bs : List Bool) (ls : List ClientTold) → WereBusy d k bs ls → WereBusy later k bs ls
   busy_more k [] [] h = h
   busy_more k [] (l ∷ ls) h = absurd h
   busy_more k (b ∷ bs) [] h = absurd h
   busy_more k (b ∷ bs) (l ∷ ls) h = (was_busy-more k b l h.0, busy_more (suc k) bs ls h.1)
 
--- a connection that owed its answer had none
-owing_busy : (d : Dealings) (k : ℕ) (b : Bool) (l after : LinkTold) → stage_of l.seen.kept.next ≡ Stages.Owes → WasBusy d k b l → WasBusy d k b after
+-- a connection that pending its answer had none
+owing_busy : (d : Exchange) (k : ℕ) (b : Bool) (l after : ClientTold) → stage_of l.seen.kept.next ≡ Stages.Owes → WasBusy d k b l → WasBusy d k b after
 owing_busy d k true l after owes h = h
 owing_busy d k false l after owes h = absurd (not_over (stage_of l.seen.kept.next) owes h)
 
 -- so that what it is told changes nothing of it
-busy_set : (d : Dealings) (k : ℕ) (bs : List Bool) (ls : List LinkTold) (n : ℕ) (l after : LinkTold) → slice_get ls n ≡ Some l
+busy_set : (d : Exchange) (k : ℕ) (bs : List Bool) (ls : List ClientTold) (n : ℕ) (l after : ClientTold) → slice_get ls n ≡ Some l
     → stage_of l.seen.kept.next ≡ Stages.Owes → WereBusy d k bs ls → WereBusy d k bs (slice_set ls n after)
 busy_set d k [] [] n l after there owes h = h
 busy_set d k [] (x ∷ ls) n l after there owes h = absurd h
@@ -157,13 +157,13 @@ busy_set d k (b ∷ bs) (x ∷ ls) (suc n) l after there owes h = (h.0, busy_set
 -- whether a connection can come asks for the doors and for how many connections there are
 no_more-same : (before now : Keeping) → now.ports ≡ before.ports → now.most ≡ before.most → length now.links ≡ length before.links
     → no_more now ≡ no_more before
-no_more-same before now ports most count = λ i. nat_le (most i) (count i) || list_all (λ (p : PortTold). has_ended p.door) (ports i)
+no_more-same before now ports most count = λ i. nat_le (most i) (count i) || list_all (λ (p : ListenerTold). has_ended p.door) (ports i)
 
 -- ---- an answer is told
 
 -- the request of a place that says so
-abbrev owed_of : ℕ → Read → Owed
-owed_of place read = record { place = place; read = read }
+abbrev pending_of : ℕ → Read → PendingReply
+pending_of place read = record { place = place; read = read }
 
 -- what came in with a request, told twice
 came_is : (service : ℕ) (c : Came) (read : Read) → c.service ≡ service → c.read ≡ read → came_for service read ≡ c
@@ -181,36 +181,36 @@ heard_longer parts heard t j c text h = record {
   told = h.told;
   there = Contains-append_left heard (t ∷ []) h.told h.there;
   place = h.place;
-  said = h.said;
+  sent = h.sent;
 }
 
-module _ (IsMade : WireTold → Type 0) (parts : ProgramParts) (first : Sides) (old new : Keeping) (notes : SinkTold) (d : Dealings) (place : ℕ) (outcomes : List Outcome)
-    (h : HasDealt IsMade parts first (sides_of old notes) d) (due : IsDue place outcomes d) (a : HasAnswered parts (told_of place outcomes) old new)
+module _ (IsMade : WireTold → Type 0) (parts : ProgramParts) (first : Sides) (old new : Keeping) (notes : SinkTold) (d : Exchange) (place : ℕ) (outcomes : List Outcome)
+    (h : HasExchanged IsMade parts first (sides_of old notes) d) (due : IsDue place outcomes d) (a : HasAnswered parts (told_of place outcomes) old new)
     (running : old.halted ≡ false) where
   -- what passed on the connection
-  here : IsIn IsMade h.visits a.number a.link
-  here = link_in IsMade old.links h.visits a.number a.link h.links a.there
+  here : IsIn IsMade h.connections a.number a.link
+  here = link_in IsMade old.links h.connections a.number a.link h.links a.there
 
   -- and with the text
-  abbrev now_here : Visit
-  now_here = with_text a.tells.text (stage_of a.after.seen.kept.next) here.visit
+  abbrev now_here : RunConnection
+  now_here = with_text a.tells.text (stage_of a.after.seen.kept.next) here.connection
 
-  abbrev now_all : List Visit
-  now_all = slice_set h.visits a.number now_here
+  abbrev now_all : List RunConnection
+  now_all = slice_set h.connections a.number now_here
 
   abbrev now_heard : List Told
   now_heard = h.heard ++ told_of place outcomes ∷ []
 
-  abbrev now_dealt : Dealings
-  now_dealt = record { brought = d.brought; said = record d.said { told = d.said.told ++ told_of place outcomes ∷ [] } }
+  abbrev now_exchanged : Exchange
+  now_exchanged = record { received = d.received; sent = record d.sent { told = d.sent.told ++ told_of place outcomes ∷ [] } }
 
   -- the place was given
   given_before : place < length h.all.asked
   given_before =
-      let inside : place < length d.brought.given = slice_get_within d.brought.given place due.posting due.given in
-      let postings : length d.brought.given ≡ length h.all.came = ap length h.given ∙ length-map h.all.came posting_of in
+      let inside : place < length d.received.given = slice_get_within d.received.given place due.posting due.given in
+      let postings : length d.received.given ≡ length h.all.came = ap length h.given ∙ length-map h.all.came posting_of in
       let requests : length h.all.came ≡ length h.all.asked =
-      sym (length-map h.all.came Some) ∙ sym (ap length h.came) ∙ length-map h.all.asked (came_at h.visits) in
+      sym (length-map h.all.came Some) ∙ sym (ap length h.came) ∙ length-map h.all.asked (came_at h.connections) in
       omega arith
 
   -- its posting is a request of the connection
@@ -220,183 +220,183 @@ module _ (IsMade : WireTold → Type 0) (parts : ProgramParts) (first : Sides) (
       (sym (slice_get-mapped (λ (x : Asked). x.traffic) h.all.asked place q there) ∙ ap (λ l. slice_get l place) h.traffics ∙ a.place)
 
   -- the service for which a request came in
-  came_for_service : (j : ℕ) (q : Asked) (c : Came) (visit : Visit) → slice_get h.all.asked j ≡ Some q → slice_get h.all.came j ≡ Some c
-      → slice_get h.visits q.traffic ≡ Some visit → c.service ≡ visit.service
-  came_for_service j q c visit asked came there =
-      let is : came_at h.visits q ≡ Some c =
-      same_of (came_at h.visits q) (Some c)
-      (sym (slice_get-mapped (came_at h.visits) h.all.asked j q asked) ∙ ap (λ l. slice_get l j) h.came ∙ slice_get-mapped Some h.all.came j c came) in
-      service_came visit.service (slice_get visit.bodies q.request) c (sym (ap (option_and_then (came_of q.request)) there) ∙ is)
+  came_for_service : (j : ℕ) (q : Asked) (c : Came) (connection : RunConnection) → slice_get h.all.asked j ≡ Some q → slice_get h.all.came j ≡ Some c
+      → slice_get h.connections q.traffic ≡ Some connection → c.service ≡ connection.service
+  came_for_service j q c connection asked came there =
+      let is : came_at h.connections q ≡ Some c =
+      same_of (came_at h.connections q) (Some c)
+      (sym (slice_get-mapped (came_at h.connections) h.all.asked j q asked) ∙ ap (λ l. slice_get l j) h.came ∙ slice_get-mapped Some h.all.came j c came) in
+      service_came connection.service (slice_get connection.bodies q.request) c (sym (ap (option_and_then (came_of q.request)) there) ∙ is)
 
   -- what came in stays
-  came_stays : (q : Asked) → came_at now_all q ≡ came_at h.visits q
+  came_stays : (q : Asked) → came_at now_all q ≡ came_at h.connections q
   came_stays q = by (nat_eq q.traffic a.number) refl
     where
-      by : (b : Bool) → nat_eq q.traffic a.number ≡ b → came_at now_all q ≡ came_at h.visits q
+      by : (b : Bool) → nat_eq q.traffic a.number ≡ b → came_at now_all q ≡ came_at h.connections q
       by true e =
           let is : q.traffic ≡ a.number = eq_true q.traffic a.number e in
-          ap (option_and_then (came_of q.request)) (ap (slice_get now_all) is ∙ set_here h.visits a.number here.visit now_here here.there)
-          ∙ sym (ap (option_and_then (came_of q.request)) (ap (slice_get h.visits) is ∙ here.there))
-      by false e = ap (option_and_then (came_of q.request)) (set_other h.visits a.number q.traffic now_here (eq_false q.traffic a.number e))
+          ap (option_and_then (came_of q.request)) (ap (slice_get now_all) is ∙ set_here h.connections a.number here.connection now_here here.there)
+          ∙ sym (ap (option_and_then (came_of q.request)) (ap (slice_get h.connections) is ∙ here.there))
+      by false e = ap (option_and_then (came_of q.request)) (set_other h.connections a.number q.traffic now_here (eq_false q.traffic a.number e))
 
   -- what was taken stays
   taken_stays : AreTaken now_all h.all.asked
   taken_stays = record {
     in_order = h.taken.in_order;
-    all = λ k visit there. taken_by k visit (set_cases h.visits a.number k here.visit now_here visit here.there there);
+    all = λ k connection there. taken_by k connection (set_cases h.connections a.number k here.connection now_here connection here.there there);
   }
     where
-      taken_by : (k : ℕ) (visit : Visit) → ((k ≡ a.number) × (visit ≡ now_here)) ⊎ ((k ≢ a.number) × (slice_get h.visits k ≡ Some visit))
-          → count_by (is_of k) h.all.asked ≡ length visit.bodies
-      taken_by k visit (inl is) =
-          h.taken.all k here.visit (ap (slice_get h.visits) is.0 ∙ here.there) ∙ sym (ap (λ (v : Visit). length v.bodies) is.1)
-      taken_by k visit (inr other) = h.taken.all k visit other.1
+      taken_by : (k : ℕ) (connection : RunConnection) → ((k ≡ a.number) × (connection ≡ now_here)) ⊎ ((k ≢ a.number) × (slice_get h.connections k ≡ Some connection))
+          → count_by (is_of k) h.all.asked ≡ length connection.bodies
+      taken_by k connection (inl is) =
+          h.taken.all k here.connection (ap (slice_get h.connections) is.0 ∙ here.there) ∙ sym (ap (λ (v : RunConnection). length v.bodies) is.1)
+      taken_by k connection (inr other) = h.taken.all k connection other.1
 
   -- ---- the requests
 
   -- the request that waited was told its text
   heard_now : (j : ℕ) (q : Asked) (c : Came) → slice_get h.all.asked j ≡ Some q → slice_get h.all.came j ≡ Some c → q.traffic ≡ a.number
-      → IsOwed old.links j q c here.visit → IsHeard parts now_heard j c (slice_get (here.visit.texts ++ a.tells.text ∷ []) q.request)
-  heard_now j q c asked came is owed =
-      let same_link : owed.link ≡ a.link = same_of owed.link a.link (sym owed.there ∙ ap (slice_get old.links) is ∙ a.there) in
-      let same_owed : owed_of j c.read ≡ owed_of place a.tells.of_place.read =
-      same_of (owed_of j c.read) (owed_of place a.tells.of_place.read)
-      (sym owed.owed ∙ ap (λ (l : LinkTold). l.owed) same_link ∙ a.tells.of_place.owed) in
-      let service : c.service ≡ a.link.service = came_for_service j q c here.visit asked came (ap (slice_get h.visits) is ∙ here.there) ∙ here.is.service in
+      → IsPending old.links j q c here.connection → IsHeard parts now_heard j c (slice_get (here.connection.texts ++ a.tells.text ∷ []) q.request)
+  heard_now j q c asked came is pending =
+      let same_link : pending.link ≡ a.link = same_of pending.link a.link (sym pending.there ∙ ap (slice_get old.links) is ∙ a.there) in
+      let same_pending : pending_of j c.read ≡ pending_of place a.tells.of_place.read =
+      same_of (pending_of j c.read) (pending_of place a.tells.of_place.read)
+      (sym pending.pending ∙ ap (λ (l : ClientTold). l.pending) same_link ∙ a.tells.of_place.pending) in
+      let service : c.service ≡ a.link.service = came_for_service j q c here.connection asked came (ap (slice_get h.connections) is ∙ here.there) ∙ here.is.service in
       record {
         told = told_of place outcomes;
         there = Contains-append_right h.heard (told_of place outcomes ∷ []) (told_of place outcomes) (0, omega arith, refl);
-        place = sym (ap (λ (o : Owed). o.place) same_owed);
-        said =
-            ap (slice_get (here.visit.texts ++ a.tells.text ∷ [])) owed.last ∙ slice_get-last here.visit.texts a.tells.text
-            ∙ ap Some (a.tells.of_place.said
-            ∙ ap (λ x. response_told parts x outcomes) (came_is a.link.service c a.tells.of_place.read service (ap (λ (o : Owed). o.read) same_owed)));
+        place = sym (ap (λ (o : PendingReply). o.place) same_pending);
+        sent =
+            ap (slice_get (here.connection.texts ++ a.tells.text ∷ [])) pending.last ∙ slice_get-last here.connection.texts a.tells.text
+            ∙ ap Some (a.tells.of_place.sent
+            ∙ ap (λ x. response_told parts x outcomes) (came_is a.link.service c a.tells.of_place.read service (ap (λ (o : PendingReply). o.read) same_pending)));
       }
 
   -- those of the connection
   heard_here : (j : ℕ) (q : Asked) (c : Came) → slice_get h.all.asked j ≡ Some q → slice_get h.all.came j ≡ Some c → q.traffic ≡ a.number
-      → IsHeard parts h.heard j c (slice_get here.visit.texts q.request) ⊎
-      (IsOwed old.links j q c here.visit × (list_any (λ (t : Told). nat_eq j t.place) h.heard ≡ false))
-      → IsHeard parts now_heard j c (slice_get (here.visit.texts ++ a.tells.text ∷ []) q.request)
+      → IsHeard parts h.heard j c (slice_get here.connection.texts q.request) ⊎
+      (IsPending old.links j q c here.connection × (list_any (λ (t : Told). nat_eq j t.place) h.heard ≡ false))
+      → IsHeard parts now_heard j c (slice_get (here.connection.texts ++ a.tells.text ∷ []) q.request)
   heard_here j q c asked came is (inl heard) =
-      let within : q.request < length here.visit.texts =
-      slice_get_within here.visit.texts q.request (response_told parts c heard.told.outcomes) heard.said in
-      subst (IsHeard parts now_heard j c) (sym (slice_get-front here.visit.texts (a.tells.text ∷ []) q.request within))
-      (heard_longer parts h.heard (told_of place outcomes) j c (slice_get here.visit.texts q.request) heard)
-  heard_here j q c asked came is (inr owed) = heard_now j q c asked came is owed.0
+      let within : q.request < length here.connection.texts =
+      slice_get_within here.connection.texts q.request (response_told parts c heard.told.outcomes) heard.sent in
+      subst (IsHeard parts now_heard j c) (sym (slice_get-front here.connection.texts (a.tells.text ∷ []) q.request within))
+      (heard_longer parts h.heard (told_of place outcomes) j c (slice_get here.connection.texts q.request) heard)
+  heard_here j q c asked came is (inr pending) = heard_now j q c asked came is pending.0
 
   -- those of the others
-  heard_there : (j : ℕ) (q : Asked) (c : Came) (visit : Visit) → slice_get h.all.asked j ≡ Some q → q.traffic ≢ a.number
-      → IsHeard parts h.heard j c (slice_get visit.texts q.request) ⊎
-      (IsOwed old.links j q c visit × (list_any (λ (t : Told). nat_eq j t.place) h.heard ≡ false))
-      → IsHeard parts now_heard j c (slice_get visit.texts q.request) ⊎
-      (IsOwed new.links j q c visit × (list_any (λ (t : Told). nat_eq j t.place) now_heard ≡ false))
-  heard_there j q c visit asked other (inl heard) =
-      inl (heard_longer parts h.heard (told_of place outcomes) j c (slice_get visit.texts q.request) heard)
-  heard_there j q c visit asked other (inr owed) =
+  heard_there : (j : ℕ) (q : Asked) (c : Came) (connection : RunConnection) → slice_get h.all.asked j ≡ Some q → q.traffic ≢ a.number
+      → IsHeard parts h.heard j c (slice_get connection.texts q.request) ⊎
+      (IsPending old.links j q c connection × (list_any (λ (t : Told). nat_eq j t.place) h.heard ≡ false))
+      → IsHeard parts now_heard j c (slice_get connection.texts q.request) ⊎
+      (IsPending new.links j q c connection × (list_any (λ (t : Told). nat_eq j t.place) now_heard ≡ false))
+  heard_there j q c connection asked other (inl heard) =
+      inl (heard_longer parts h.heard (told_of place outcomes) j c (slice_get connection.texts q.request) heard)
+  heard_there j q c connection asked other (inr pending) =
       let elsewhere : j ≢ place = λ is. other (of_connection q (sym (ap (slice_get h.all.asked) is) ∙ asked)) in
       inr (
         record {
-          link = owed.0.link;
-          there = ap (λ l. slice_get l q.traffic) a.links ∙ set_other old.links a.number q.traffic a.after other ∙ owed.0.there;
-          owed = owed.0.owed;
-          last = owed.0.last;
+          link = pending.0.link;
+          there = ap (λ l. slice_get l q.traffic) a.links ∙ set_other old.links a.number q.traffic a.after other ∙ pending.0.there;
+          pending = pending.0.pending;
+          last = pending.0.last;
         },
         list_any-append (λ (t : Told). nat_eq j t.place) h.heard (told_of place outcomes ∷ [])
-            ∙ or_from (list_any (λ (t : Told). nat_eq j t.place) h.heard) (nat_eq j place || false) owed.1
+            ∙ or_from (list_any (λ (t : Told). nat_eq j t.place) h.heard) (nat_eq j place || false) pending.1
             (or_from (nat_eq j place) false (not_eq j place elsewhere) refl),
       )
 
   -- all of them
   all_heard : AreHeard parts new now_all h.all now_heard
-  all_heard j q c visit asked came there = by (set_cases h.visits a.number q.traffic here.visit now_here visit here.there there)
+  all_heard j q c connection asked came there = by (set_cases h.connections a.number q.traffic here.connection now_here connection here.there there)
     where
-      by : ((q.traffic ≡ a.number) × (visit ≡ now_here)) ⊎ ((q.traffic ≢ a.number) × (slice_get h.visits q.traffic ≡ Some visit))
-          → IsHeard parts now_heard j c (slice_get visit.texts q.request) ⊎
-          (IsOwed new.links j q c visit × (list_any (λ (t : Told). nat_eq j t.place) now_heard ≡ false))
+      by : ((q.traffic ≡ a.number) × (connection ≡ now_here)) ⊎ ((q.traffic ≢ a.number) × (slice_get h.connections q.traffic ≡ Some connection))
+          → IsHeard parts now_heard j c (slice_get connection.texts q.request) ⊎
+          (IsPending new.links j q c connection × (list_any (λ (t : Told). nat_eq j t.place) now_heard ≡ false))
       by (inl is) =
-          inl (subst (λ (v : Visit). IsHeard parts now_heard j c (slice_get v.texts q.request)) (sym is.1)
-          (heard_here j q c asked came is.0 (h.answers j q c here.visit asked came (ap (slice_get h.visits) is.0 ∙ here.there))))
-      by (inr other) = heard_there j q c visit asked other.0 (h.answers j q c visit asked came other.1)
+          inl (subst (λ (v : RunConnection). IsHeard parts now_heard j c (slice_get v.texts q.request)) (sym is.1)
+          (heard_here j q c asked came is.0 (h.answers j q c here.connection asked came (ap (slice_get h.connections) is.0 ∙ here.there))))
+      by (inr other) = heard_there j q c connection asked other.0 (h.answers j q c connection asked came other.1)
 
   -- the connections came in turn as before
-  in_turn_now : CameInTurn now_dealt (slice_set old.links a.number a.after)
+  in_turn_now : CameInTurn now_exchanged (slice_set old.links a.number a.after)
   in_turn_now =
-      in_turn-told d now_dealt.said (told_of place outcomes ∷ []) (slice_set old.links a.number a.after) refl
-      (seen_within d.brought.seens h.heard d.said.told h.heard_by h.told)
-      (in_turn-on d.brought.asked d.brought.seens d.said.told old.links (slice_set old.links a.number a.after)
-      (λ j q there. asked_within IsMade old.links h.visits h.links h.all.asked h.all.came h.came j q (ap (λ l. slice_get l j) h.asked ∙ there))
+      in_turn-told d now_exchanged.sent (told_of place outcomes ∷ []) (slice_set old.links a.number a.after) refl
+      (seen_within d.received.seens h.heard d.sent.told h.heard_by h.told)
+      (in_turn-on d.received.asked d.received.seens d.sent.told old.links (slice_set old.links a.number a.after)
+      (λ j q there. asked_within IsMade old.links h.connections h.links h.all.asked h.all.came h.came j q (ap (λ l. slice_get l j) h.asked ∙ there))
       (over_set old.links a.number a.link a.after a.there (not_over (stage_of a.link.seen.kept.next) a.tells.tells.owing)) h.in_turn)
 
   -- ---- all of it
 
   -- where there was no posting the connection waited for its answer
-  none_now : HadNone old d → HadNone new now_dealt
+  none_now : HadNone old d → HadNone new now_exchanged
   none_now n =
       let count : length new.links ≡ length old.links = ap length a.links ∙ length-set old.links a.number a.after in
       let same : no_more new ≡ no_more old = no_more-same old new a.ports a.most count in
       record {
         busy = n.busy;
-        each = subst (WereBusy now_dealt 0 n.busy) (sym a.links)
-            (busy_more d now_dealt refl (told_of place outcomes ∷ []) refl h.seen 0 n.busy (slice_set old.links a.number a.after)
+        each = subst (WereBusy now_exchanged 0 n.busy) (sym a.links)
+            (busy_more d now_exchanged refl (told_of place outcomes ∷ []) refl h.seen 0 n.busy (slice_set old.links a.number a.after)
             (busy_set d 0 n.busy old.links a.number a.link a.after a.there a.tells.tells.owing n.each));
         over = λ ended. same ∙ n.over ended;
         some = λ ended. same ∙ n.some ended;
         waited = λ ended. waited_by (n.waited ended);
-        rested = λ ended. subst (λ ps. min d.brought.waits (2 ^ 64 - 1) ≤ rests_at ps) (sym a.ports) (n.rested ended);
+        rested = λ ended. subst (λ ps. min d.received.waits (2 ^ 64 - 1) ≤ rests_at ps) (sym a.ports) (n.rested ended);
       }
     where
-      waited_by : (most_open ≤ count_by (λ (b : Bool). b) n.busy) ⊎ HaveWaited d.brought.waits old.ports
-          → (most_open ≤ count_by (λ (b : Bool). b) n.busy) ⊎ HaveWaited d.brought.waits new.ports
+      waited_by : (most_open ≤ count_by (λ (b : Bool). b) n.busy) ⊎ HaveWaited d.received.waits old.ports
+          → (most_open ≤ count_by (λ (b : Bool). b) n.busy) ⊎ HaveWaited d.received.waits new.ports
       waited_by (inl full) = inl full
-      waited_by (inr waited) = inr (subst (HaveWaited d.brought.waits) (sym a.ports) waited)
+      waited_by (inr waited) = inr (subst (HaveWaited d.received.waits) (sym a.ports) waited)
 
-  none_by : HadNone old d ⊎ (most_postings ≤ length d.brought.given) → HadNone new now_dealt ⊎ (most_postings ≤ length d.brought.given)
+  none_by : HadNone old d ⊎ (most_postings ≤ length d.received.given) → HadNone new now_exchanged ⊎ (most_postings ≤ length d.received.given)
   none_by (inl n) = inl (none_now n)
   none_by (inr full) = inr full
 
   -- what passed, with the answer
-  dealt_now : HasDealt IsMade parts first (sides_of new notes) now_dealt
-  dealt_now =
+  exchanged_now : HasExchanged IsMade parts first (sides_of new notes) now_exchanged
+  exchanged_now =
       let count : length new.links ≡ length old.links = ap length a.links ∙ length-set old.links a.number a.after in
-      let heard_all : h.heard ≡ d.said.told = h.all_told (h.said.halted ∙ running) in
+      let heard_all : h.heard ≡ d.sent.told = h.all_told (h.sent.halted ∙ running) in
       let accepted : length old.links ≤ old.most = h.accepted in
       let most : new.most ≡ old.most = a.most in
-      let seen : d.brought.seen ≤ length d.said.told = h.seen in
-      let longer : length now_dealt.said.told ≡ length d.said.told + 1 = length-append d.said.told (told_of place outcomes ∷ []) in
+      let seen : d.received.seen ≤ length d.sent.told = h.seen in
+      let longer : length now_exchanged.sent.told ≡ length d.sent.told + 1 = length-append d.sent.told (told_of place outcomes ∷ []) in
       record {
-        services = ap (map (λ (p : PortTold). p.service)) a.ports ∙ h.services;
-        in_place = ap (map (λ (p : PortTold). p.door.place)) a.ports ∙ h.in_place;
+        services = ap (map (λ (p : ListenerTold). p.service)) a.ports ∙ h.services;
+        in_place = ap (map (λ (p : ListenerTold). p.door.place)) a.ports ∙ h.in_place;
         most = a.most ∙ h.most;
-        within = subst (λ ps. list_all (λ n. nat_lt n (length parts.services)) (map (λ (p : PortTold). p.service) ps) ≡ true) (sym a.ports) h.within;
-        visits = now_all;
-        links = subst (λ ls. AreLinks IsMade ls now_all) (sym a.links)
-            (links_set IsMade old.links h.visits a.number a.after now_here h.links
-            (link_told IsMade parts (told_of place outcomes) a.link a.after here.visit a.tells here.is));
-        came_in = ap (sum_by (λ (p : PortTold). p.door.wires)) a.ports ∙ h.came_in ∙ sym count;
+        within = subst (λ ps. list_all (λ n. nat_lt n (length parts.services)) (map (λ (p : ListenerTold). p.service) ps) ≡ true) (sym a.ports) h.within;
+        connections = now_all;
+        links = subst (λ ls. AreClients IsMade ls now_all) (sym a.links)
+            (links_set IsMade old.links h.connections a.number a.after now_here h.links
+            (link_told IsMade parts (told_of place outcomes) a.link a.after here.connection a.tells here.is));
+        came_in = ap (sum_by (λ (p : ListenerTold). p.door.wires)) a.ports ∙ h.came_in ∙ sym count;
         led = subst (λ ps. AreLed ps new.links) (sym a.ports)
             (led-set old.ports old.links new.links a.number a.link a.after a.there a.tells.service a.links h.led);
-        doors = subst (λ ps. list_all (λ (v : Visit). list_any (is_led v.door v.service) (map lead_of ps)) now_all ≡ true) (sym a.ports)
-            (list_all-set (λ (v : Visit). list_any (is_led v.door v.service) (leads_of old)) h.visits a.number here.visit now_here here.there refl ∙ h.doors);
+        doors = subst (λ ps. list_all (λ (v : RunConnection). list_any (is_led v.door v.service) (map lead_of ps)) now_all ≡ true) (sym a.ports)
+            (list_all-set (λ (v : RunConnection). list_any (is_led v.door v.service) (leads_of old)) h.connections a.number here.connection now_here here.there refl ∙ h.doors);
         accepted = omega arith;
         all = h.all;
         asked = h.asked;
         traffics = h.traffics ∙ sym a.traffics;
         taken = taken_stays;
-        came = map_alike (came_at now_all) (came_at h.visits) h.all.asked came_stays ∙ h.came;
+        came = map_alike (came_at now_all) (came_at h.connections) h.all.asked came_stays ∙ h.came;
         given = h.given;
         heard = now_heard;
         told = ([], append-nil now_heard ∙ ap (λ l. l ++ told_of place outcomes ∷ []) heard_all);
         all_told = λ _. ap (λ l. l ++ told_of place outcomes ∷ []) heard_all;
-        heard_by = heard_by-longer d.brought.seens h.heard (told_of place outcomes ∷ []) h.heard_by;
+        heard_by = heard_by-longer d.received.seens h.heard (told_of place outcomes ∷ []) h.heard_by;
         places =
             list_all-append (λ (t : Told). nat_lt t.place (length h.all.asked)) h.heard (told_of place outcomes ∷ [])
             ∙ and_from (list_all (λ (t : Told). nat_lt t.place (length h.all.asked)) h.heard) (nat_lt place (length h.all.asked) && true) h.places
             (and_from (nat_lt place (length h.all.asked)) true (lt-ltb place (length h.all.asked) given_before) refl);
         answers = all_heard;
-        one_by_one = one_by_one-longer d now_dealt.said (told_of place outcomes ∷ []) refl h.one_by_one;
-        in_turn = subst (CameInTurn now_dealt) (sym a.links) in_turn_now;
-        said = said_told first (sides_of old notes) d.said h.said new (told_of place outcomes) a.halted;
+        one_by_one = one_by_one-longer d now_exchanged.sent (told_of place outcomes ∷ []) refl h.one_by_one;
+        in_turn = subst (CameInTurn now_exchanged) (sym a.links) in_turn_now;
+        sent = sent_told first (sides_of old notes) d.sent h.sent new (told_of place outcomes) a.halted;
         noted_by_then = h.noted_by_then;
         left = h.left;
         faults = h.faults;
@@ -406,22 +406,22 @@ module _ (IsMade : WireTold → Type 0) (parts : ProgramParts) (first : Sides) (
 
 -- ---- an answer is told to a front that halted
 
-module _ (IsMade : WireTold → Type 0) (parts : ProgramParts) (first before : Sides) (d : Dealings) (t : Told)
-    (h : HasDealt IsMade parts first before d) (cut : before.kept.halted ≡ true) where
+module _ (IsMade : WireTold → Type 0) (parts : ProgramParts) (first before : Sides) (d : Exchange) (t : Told)
+    (h : HasExchanged IsMade parts first before d) (cut : before.kept.halted ≡ true) where
   -- what was heard stays the front of what was told
-  front_longer : IsPrefix h.heard (d.said.told ++ t ∷ [])
+  front_longer : IsPrefix h.heard (d.sent.told ++ t ∷ [])
   front_longer = (h.told.0 ++ t ∷ [], sym (append_assoc h.heard h.told.0 (t ∷ [])) ∙ ap (λ l. l ++ t ∷ []) h.told.1)
 
-  dealt_cut : HasDealt IsMade parts first before (record { brought = d.brought; said = record d.said { told = d.said.told ++ t ∷ [] } })
-  dealt_cut =
-      let seen : d.brought.seen ≤ length d.said.told = h.seen in
-      let longer : length (d.said.told ++ t ∷ []) ≡ length d.said.told + 1 = length-append d.said.told (t ∷ []) in
+  exchanged_cut : HasExchanged IsMade parts first before (record { received = d.received; sent = record d.sent { told = d.sent.told ++ t ∷ [] } })
+  exchanged_cut =
+      let seen : d.received.seen ≤ length d.sent.told = h.seen in
+      let longer : length (d.sent.told ++ t ∷ []) ≡ length d.sent.told + 1 = length-append d.sent.told (t ∷ []) in
       record {
         services = h.services;
         in_place = h.in_place;
         most = h.most;
         within = h.within;
-        visits = h.visits;
+        connections = h.connections;
         links = h.links;
         came_in = h.came_in;
         led = h.led;
@@ -435,19 +435,19 @@ module _ (IsMade : WireTold → Type 0) (parts : ProgramParts) (first before : S
         given = h.given;
         heard = h.heard;
         told = front_longer;
-        all_told = λ runs. absurd (true≢false (sym (h.said.halted ∙ cut) ∙ runs));
+        all_told = λ runs. absurd (true≢false (sym (h.sent.halted ∙ cut) ∙ runs));
         heard_by = h.heard_by;
         places = h.places;
         answers = h.answers;
-        one_by_one = one_by_one-longer d (record d.said { told = d.said.told ++ t ∷ [] }) (t ∷ []) refl h.one_by_one;
-        in_turn = in_turn-told d (record d.said { told = d.said.told ++ t ∷ [] }) (t ∷ []) before.kept.links refl
-            (seen_within d.brought.seens h.heard d.said.told h.heard_by h.told) h.in_turn;
-        said = said_told first before d.said h.said before.kept t refl;
+        one_by_one = one_by_one-longer d (record d.sent { told = d.sent.told ++ t ∷ [] }) (t ∷ []) refl h.one_by_one;
+        in_turn = in_turn-told d (record d.sent { told = d.sent.told ++ t ∷ [] }) (t ∷ []) before.kept.links refl
+            (seen_within d.received.seens h.heard d.sent.told h.heard_by h.told) h.in_turn;
+        sent = sent_told first before d.sent h.sent before.kept t refl;
         noted_by_then = h.noted_by_then;
         left = h.left;
         faults = h.faults;
         seen = omega arith;
-        none = λ runs. absurd (true≢false (sym (h.said.halted ∙ cut) ∙ runs));
+        none = λ runs. absurd (true≢false (sym (h.sent.halted ∙ cut) ∙ runs));
       }
 
 -- ---- a text is noted
@@ -456,18 +456,18 @@ module _ (IsMade : WireTold → Type 0) (parts : ProgramParts) (first before : S
 longer_front : (xs ys zs : List ℕ) → IsPrefix xs ys → IsPrefix ys zs → IsPrefix xs zs
 longer_front xs ys zs f g = (f.0 ++ g.0, sym (append_assoc xs f.0 g.0) ∙ ap (λ l. l ++ g.0) f.1 ∙ g.1)
 
-module _ (IsMade : WireTold → Type 0) (parts : ProgramParts) (first : Sides) (old : Keeping) (was notes : SinkTold) (halted : Bool) (text : List ℕ) (d : Dealings)
-    (h : HasDealt IsMade parts first (sides_of old was) d)
-    (n : NotesSo first (sides_of (record old { halted = halted }) notes) d.said h.said.notes text) where
-  abbrev noted_dealt : Dealings
-  noted_dealt = record { brought = d.brought; said = n.after }
+module _ (IsMade : WireTold → Type 0) (parts : ProgramParts) (first : Sides) (old : Keeping) (was notes : SinkTold) (halted : Bool) (text : List ℕ) (d : Exchange)
+    (h : HasExchanged IsMade parts first (sides_of old was) d)
+    (n : NotesSo first (sides_of (record old { halted = halted }) notes) d.sent h.sent.notes text) where
+  abbrev noted_exchanged : Exchange
+  noted_exchanged = record { received = d.received; sent = n.after }
 
   -- there was no posting as before
-  none_noted : HadNone old d ⊎ (most_postings ≤ length d.brought.given)
-      → HadNone (record old { halted = halted }) noted_dealt ⊎ (most_postings ≤ length d.brought.given)
+  none_noted : HadNone old d ⊎ (most_postings ≤ length d.received.given)
+      → HadNone (record old { halted = halted }) noted_exchanged ⊎ (most_postings ≤ length d.received.given)
   none_noted (inl k) = inl (record {
     busy = k.busy;
-    each = busy_more d noted_dealt refl [] (n.told ∙ sym (append-nil d.said.told)) h.seen 0 k.busy old.links k.each;
+    each = busy_more d noted_exchanged refl [] (n.told ∙ sym (append-nil d.sent.told)) h.seen 0 k.busy old.links k.each;
     over = k.over;
     some = k.some;
     waited = k.waited;
@@ -475,13 +475,13 @@ module _ (IsMade : WireTold → Type 0) (parts : ProgramParts) (first : Sides) (
   })
   none_noted (inr full) = inr full
 
-  dealt_noted : HasDealt IsMade parts first (sides_of (record old { halted = halted }) notes) noted_dealt
-  dealt_noted = record {
+  exchanged_noted : HasExchanged IsMade parts first (sides_of (record old { halted = halted }) notes) noted_exchanged
+  exchanged_noted = record {
     services = h.services;
     in_place = h.in_place;
     most = h.most;
     within = h.within;
-    visits = h.visits;
+    connections = h.connections;
     links = h.links;
     came_in = h.came_in;
     led = h.led;
@@ -499,36 +499,36 @@ module _ (IsMade : WireTold → Type 0) (parts : ProgramParts) (first : Sides) (
     heard_by = h.heard_by;
     places = h.places;
     answers = h.answers;
-    one_by_one = one_by_one-longer d n.after [] (n.told ∙ sym (append-nil d.said.told)) h.one_by_one;
-    in_turn = in_turn-told d n.after [] old.links (n.told ∙ sym (append-nil d.said.told))
-        (seen_within d.brought.seens h.heard d.said.told h.heard_by h.told) h.in_turn;
-    said = n.said;
-    noted_by_then = longer_front d.brought.noted h.said.notes n.said.notes h.noted_by_then n.grew;
+    one_by_one = one_by_one-longer d n.after [] (n.told ∙ sym (append-nil d.sent.told)) h.one_by_one;
+    in_turn = in_turn-told d n.after [] old.links (n.told ∙ sym (append-nil d.sent.told))
+        (seen_within d.received.seens h.heard d.sent.told h.heard_by h.told) h.in_turn;
+    sent = n.sent;
+    noted_by_then = longer_front d.received.noted h.sent.notes n.sent.notes h.noted_by_then n.grew;
     left = h.left;
     faults = h.faults;
-    seen = subst (λ l. d.brought.seen ≤ length l) (sym n.told) h.seen;
+    seen = subst (λ l. d.received.seen ≤ length l) (sym n.told) h.seen;
     none = λ runs gave. none_noted (h.none (n.stays runs) gave);
   }
 
 -- ---- calls
 
 -- whether the front halted is known, also where memory ran out
-pub halted_is : (IsMade : WireTold → Type 0) (parts : ProgramParts) (first now : Sides) (d : Dealings) → MayHaveDealt IsMade parts first now d
-    → d.said.halted ≡ now.kept.halted
+pub halted_is : (IsMade : WireTold → Type 0) (parts : ProgramParts) (first now : Sides) (d : Exchange) → MayHaveExchanged IsMade parts first now d
+    → d.sent.halted ≡ now.kept.halted
 halted_is IsMade parts first now d (inl out) = out.1
-halted_is IsMade parts first now d (inr h) = h.said.halted
+halted_is IsMade parts first now d (inr h) = h.sent.halted
 
-module _ (IsMade : WireTold → Type 0) (parts : ProgramParts) (A B : Type 0) (a : A) (b : B) (first : Sides) (old : Keeping) (was : SinkTold) (d : Dealings)
-    (h : MayHaveDealt IsMade parts first (sides_of old was) d) where
+module _ (IsMade : WireTold → Type 0) (parts : ProgramParts) (A B : Type 0) (a : A) (b : B) (first : Sides) (old : Keeping) (was : SinkTold) (d : Exchange)
+    (h : MayHaveExchanged IsMade parts first (sides_of old was) d) where
   -- the same front, as far as its outside is concerned
-  abbrev pub Same : Sides → Dealings → Type 0
-  Same now x = A × B × MayHaveDealt IsMade parts first now x
+  abbrev pub Same : Sides → Exchange → Type 0
+  Same now x = A × B × MayHaveExchanged IsMade parts first now x
 
   -- what passed where memory had not run out
-  dealt_yet : old.spent ≡ false → HasDealt IsMade parts first (sides_of old was) d
-  dealt_yet lasts = by h
+  exchanged_yet : old.spent ≡ false → HasExchanged IsMade parts first (sides_of old was) d
+  exchanged_yet lasts = by h
     where
-      by : MayHaveDealt IsMade parts first (sides_of old was) d → HasDealt IsMade parts first (sides_of old was) d
+      by : MayHaveExchanged IsMade parts first (sides_of old was) d → HasExchanged IsMade parts first (sides_of old was) d
       by (inl out) = absurd (true≢false (sym out.0 ∙ lasts))
       by (inr k) = k
 
@@ -543,9 +543,9 @@ module _ (IsMade : WireTold → Type 0) (parts : ProgramParts) (A B : Type 0) (a
       → After (Same (sides_of old was)) (Tells place outcomes d)
   told_cut-so place outcomes lasts cut =
       let t : Told = told_of place outcomes in (
-        record { brought = d.brought; said = record d.said { told = d.said.told ++ t ∷ [] } },
-        (a, b, inr (dealt_cut IsMade parts first (sides_of old was) d t (dealt_yet lasts) cut)),
-        record { told = refl; noted = refl; notes_failed = refl; halts = halts_still d.said (record d.said { told = d.said.told ++ t ∷ [] }) refl refl; brought = refl },
+        record { received = d.received; sent = record d.sent { told = d.sent.told ++ t ∷ [] } },
+        (a, b, inr (exchanged_cut IsMade parts first (sides_of old was) d t (exchanged_yet lasts) cut)),
+        record { told = refl; noted = refl; notes_failed = refl; halts = halts_still d.sent (record d.sent { told = d.sent.told ++ t ∷ [] }) refl refl; received = refl },
       )
 
   -- it is told of a place, or memory ran out
@@ -554,60 +554,60 @@ module _ (IsMade : WireTold → Type 0) (parts : ProgramParts) (A B : Type 0) (a
       → MatchResult r (λ _. After (Same (sides_of new was)) (Tells place outcomes d)) (λ _. Same (sides_of new was) d)
   told-so (Ok v) new place outcomes lasts running due answered out halted =
       let t : Told = told_of place outcomes in (
-        record { brought = d.brought; said = record d.said { told = d.said.told ++ t ∷ [] } },
-        (a, b, inr (dealt_now IsMade parts first old new was d place outcomes (dealt_yet lasts) due answered running)),
-        record { told = refl; noted = refl; notes_failed = refl; halts = halts_still d.said (record d.said { told = d.said.told ++ t ∷ [] }) refl refl; brought = refl },
+        record { received = d.received; sent = record d.sent { told = d.sent.told ++ t ∷ [] } },
+        (a, b, inr (exchanged_now IsMade parts first old new was d place outcomes (exchanged_yet lasts) due answered running)),
+        record { told = refl; noted = refl; notes_failed = refl; halts = halts_still d.sent (record d.sent { told = d.sent.told ++ t ∷ [] }) refl refl; received = refl },
       )
   told-so (Err e) new place outcomes lasts running due answered out halted =
       (a, b, inl (out, halted_is IsMade parts first (sides_of old was) d h ∙ sym halted))
 
   -- a text is noted to a front that halted, by no answer
-  pub noted_cut-so : (text : List ℕ) → old.halted ≡ true → d.said.notes_failed ≡ d.said.halted
+  pub noted_cut-so : (text : List ℕ) → old.halted ≡ true → d.sent.notes_failed ≡ d.sent.halted
       → After (Same (sides_of old was)) (Notes text d)
   noted_cut-so text cut notes_failed = by h
     where
-      by : MayHaveDealt IsMade parts first (sides_of old was) d → After (Same (sides_of old was)) (Notes text d)
+      by : MayHaveExchanged IsMade parts first (sides_of old was) d → After (Same (sides_of old was)) (Notes text d)
       by (inl out) =
-          let after : Said = record d.said { noted = d.said.noted ++ text } in (
-            record { brought = d.brought; said = after },
+          let after : Sent = record d.sent { noted = d.sent.noted ++ text } in (
+            record { received = d.received; sent = after },
             (a, b, inl out),
-            record { told = refl; noted = refl; notes_failed = notes_failed; halts = halts_still d.said after refl refl; brought = refl },
+            record { told = refl; noted = refl; notes_failed = notes_failed; halts = halts_still d.sent after refl refl; received = refl },
           )
       by (inr k) =
-          let n : NotesSo first (sides_of old was) d.said k.said.notes text = said_cut first (sides_of old was) d.said k.said text cut in (
-            record { brought = d.brought; said = n.after },
-            (a, b, inr (dealt_noted IsMade parts first old was was old.halted text d k n)),
-            record { told = n.told; noted = n.noted; notes_failed = n.notes_failed; halts = n.halts; brought = refl },
+          let n : NotesSo first (sides_of old was) d.sent k.sent.notes text = sent_cut first (sides_of old was) d.sent k.sent text cut in (
+            record { received = d.received; sent = n.after },
+            (a, b, inr (exchanged_noted IsMade parts first old was was old.halted text d k n)),
+            record { told = n.told; noted = n.noted; notes_failed = n.notes_failed; halts = n.halts; received = refl },
           )
 
   -- what is known where memory had run out
-  out_noted : (halted : Bool) (text : List ℕ) → old.halted ≡ false → HasRunOut old d → (after : Said) × (after.halted ≡ halted)
-      × (after.told ≡ d.said.told) × (after.noted ≡ d.said.noted ++ text) × (after.notes_failed ≡ after.halted) × Halts d.said after
+  out_noted : (halted : Bool) (text : List ℕ) → old.halted ≡ false → HasRunOut old d → (after : Sent) × (after.halted ≡ halted)
+      × (after.told ≡ d.sent.told) × (after.noted ≡ d.sent.noted ++ text) × (after.notes_failed ≡ after.halted) × Halts d.sent after
   out_noted true text running out =
-      let after : Said = record { told = d.said.told; noted = d.said.noted ++ text; halted = true; notes_failed = true; faults = d.said.faults + 1 } in
-      (after, refl, refl, refl, refl, halts_unknown d.said after refl refl)
+      let after : Sent = record { told = d.sent.told; noted = d.sent.noted ++ text; halted = true; notes_failed = true; faults = d.sent.faults + 1 } in
+      (after, refl, refl, refl, refl, halts_unknown d.sent after refl refl)
   out_noted false text running out =
-      let after : Said = record { told = d.said.told; noted = d.said.noted ++ text; halted = false; notes_failed = false; faults = d.said.faults } in
-      (after, refl, refl, refl, refl, halts_still d.said after (sym (out.1 ∙ running)) refl)
+      let after : Sent = record { told = d.sent.told; noted = d.sent.noted ++ text; halted = false; notes_failed = false; faults = d.sent.faults } in
+      (after, refl, refl, refl, refl, halts_still d.sent after (sym (out.1 ∙ running)) refl)
 
   -- a text is noted, as far as the sink takes it
   noted-so : (halted : Bool) (notes : SinkTold) (text : List ℕ) (count : ℕ) → old.halted ≡ false → halted ≡ nat_lt count (length text) → Takes text count was notes
       → After (Same (sides_of (record old { halted = halted }) notes)) (Notes text d)
   noted-so halted notes text count running cut takes = by h
     where
-      by : MayHaveDealt IsMade parts first (sides_of old was) d → After (Same (sides_of (record old { halted = halted }) notes)) (Notes text d)
+      by : MayHaveExchanged IsMade parts first (sides_of old was) d → After (Same (sides_of (record old { halted = halted }) notes)) (Notes text d)
       by (inl out) =
           let n = out_noted halted text running out in (
-            record { brought = d.brought; said = n.0 },
+            record { received = d.received; sent = n.0 },
             (a, b, inl (out.0, n.1)),
-            record { told = n.2; noted = n.3; notes_failed = n.4; halts = n.5; brought = refl },
+            record { told = n.2; noted = n.3; notes_failed = n.4; halts = n.5; received = refl },
           )
       by (inr k) =
-          let n : NotesSo first (sides_of (record old { halted = halted }) notes) d.said k.said.notes text =
-          said_noted first (sides_of old was) d.said k.said halted notes text count running cut takes in (
-            record { brought = d.brought; said = n.after },
-            (a, b, inr (dealt_noted IsMade parts first old was notes halted text d k n)),
-            record { told = n.told; noted = n.noted; notes_failed = n.notes_failed; halts = n.halts; brought = refl },
+          let n : NotesSo first (sides_of (record old { halted = halted }) notes) d.sent k.sent.notes text =
+          sent_noted first (sides_of old was) d.sent k.sent halted notes text count running cut takes in (
+            record { received = d.received; sent = n.after },
+            (a, b, inr (exchanged_noted IsMade parts first old was notes halted text d k n)),
+            record { told = n.told; noted = n.noted; notes_failed = n.notes_failed; halts = n.halts; received = refl },
           )
 
   -- the sink took all of it
@@ -626,19 +626,19 @@ module _ (IsMade : WireTold → Type 0) (parts : ProgramParts) (A B : Type 0) (a
 -- ---- before the first call
 
 -- no door has given a wire
-no_wires : (ports : List PortTold) → AreNew ports → sum_by (λ (p : PortTold). p.door.wires) ports ≡ 0
+no_wires : (ports : List ListenerTold) → AreNew ports → sum_by (λ (p : ListenerTold). p.door.wires) ports ≡ 0
 no_wires [] new = refl
 no_wires (p ∷ ps) new =
-    sum_by-cons (λ (p : PortTold). p.door.wires) p ps
+    sum_by-cons (λ (p : ListenerTold). p.door.wires) p ps
     ∙ ap₂ (λ m n. m + n) (ap (λ (t : DoorTold). t.wires) new.0) (no_wires ps new.1)
 
 -- nothing passed with a front that was just made
-pub nothing_dealt : (IsMade : WireTold → Type 0) (parts : ProgramParts) (kept : Keeping) (notes : SinkTold) → IsEmpty kept
+pub nothing_exchanged : (IsMade : WireTold → Type 0) (parts : ProgramParts) (kept : Keeping) (notes : SinkTold) → IsEmpty kept
     → list_all (λ n. nat_lt n (length parts.services)) (services_of kept) ≡ true
-    → (d : Dealings) × IsNew d × MayHaveDealt IsMade parts (sides_of kept notes) (sides_of kept notes) d
-nothing_dealt IsMade parts kept notes empty within = (
+    → (d : Exchange) × IsNew d × MayHaveExchanged IsMade parts (sides_of kept notes) (sides_of kept notes) d
+nothing_exchanged IsMade parts kept notes empty within = (
   record {
-    brought = record {
+    received = record {
       given = [];
       asked = [];
       left = None;
@@ -649,7 +649,7 @@ nothing_dealt IsMade parts kept notes empty within = (
       noted = [];
       seens = [];
     };
-    said = record { told = []; noted = []; halted = false; notes_failed = false; faults = notes.faults };
+    sent = record { told = []; noted = []; halted = false; notes_failed = false; faults = notes.faults };
   },
   record {
     given = refl;
@@ -669,16 +669,16 @@ nothing_dealt IsMade parts kept notes empty within = (
     in_place = refl;
     most = refl;
     within = within;
-    visits = [];
-    links = subst (λ ls. AreLinks IsMade ls []) (sym empty.links) tt;
+    connections = [];
+    links = subst (λ ls. AreClients IsMade ls []) (sym empty.links) tt;
     came_in = no_wires kept.ports empty.ports ∙ sym (ap length empty.links);
     led = λ n. led-new n kept.ports empty.ports ∙ sym (ap (count_by (leads_to n)) empty.links);
     doors = refl;
-    accepted = subst (λ (ls : List LinkTold). length ls ≤ kept.most) (sym empty.links) (omega arith);
+    accepted = subst (λ (ls : List ClientTold). length ls ≤ kept.most) (sym empty.links) (omega arith);
     all = record { asked = []; came = [] };
     asked = refl;
     traffics = sym empty.traffics;
-    taken = record { in_order = λ j q there. absurd (none_not_some q there); all = λ k visit there. absurd (none_not_some visit there) };
+    taken = record { in_order = λ j q there. absurd (none_not_some q there); all = λ k connection there. absurd (none_not_some connection there) };
     came = refl;
     given = refl;
     heard = [];
@@ -686,10 +686,10 @@ nothing_dealt IsMade parts kept notes empty within = (
     all_told = λ _. refl;
     heard_by = λ j n there. absurd (none_not_some n there);
     places = refl;
-    answers = λ j q c visit asked. absurd (none_not_some q asked);
+    answers = λ j q c connection asked. absurd (none_not_some q asked);
     one_by_one = record { counts = refl; each = λ i j n q r there. absurd (none_not_some q there) };
     in_turn = λ j k n q link there. absurd (none_not_some q there);
-    said = record {
+    sent = record {
       notes = [];
       written = Appends-nil notes.written;
       noted = entire refl refl refl;

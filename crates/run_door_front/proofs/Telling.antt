@@ -1,14 +1,15 @@
--- How the connection of a place is told a text.
-use Rattle.std.proofs.Common.{◌≡◌, ℕ, List, [], ◌∷◌, ◌++◌, false, Option, Some, Result, Ok, Err, MatchResult, IfOk}
+-- How the connection of a place is told a text, and what want of memory leaves.
+use Rattle.std.proofs.Common.{◌≡◌, ℕ, List, [], ◌∷◌, ◌++◌, Bool, true, false, Option, Some, Result, Ok, Err, MatchResult, IfOk}
+use Rattle.std.specs.Prelude.{OnErr}
 use Rattle.std.specs.Prelude.{slice_get, slice_set}
 use Rattle.behaviour_tree.specs.Data.{ProgramParts}
-use Rattle.run_theorem.specs.Dealings.{Told}
+use Rattle.run_theorem.specs.Exchange.{Told}
 use Rattle.http_connection.specs.declared.stage.Stage.TheVariants as Stages
 use Rattle.http_connection.specs.Stages.{stage_of, IsBehindTelling}
 use Rattle.outside_traits.specs.Told.{WireTold}
 use Rattle.http_connection.specs.Seen.{Seen}
 use Rattle.http_connection.specs.Talking.{IsTalking}
-use Rattle.run_door_front.specs.Keeping.{LinkTold, Keeping}
+use Rattle.run_door_front.specs.Keeping.{ClientTold, Keeping}
 use Rattle.run_door_front.specs.AnswerSteps.{TellsText, HasTold, HasAnswered}
 
 -- what an answer comes to
@@ -21,7 +22,7 @@ tells_text (Ok v) text before now owing talks stage = record { owing = owing; be
 tells_text (Err e) text before now owing talks stage = tt
 
 -- the connection of a place was told, by what stands there before and behind
-pub answered_so : (parts : ProgramParts) (t : Told) (before now : Keeping) (number : ℕ) (link after : LinkTold)
+pub answered_so : (parts : ProgramParts) (t : Told) (before now : Keeping) (number : ℕ) (link after : ClientTold)
     → slice_get before.traffics t.place ≡ Some number → slice_get before.links number ≡ Some link → now.links ≡ slice_set before.links number after
     → HasTold parts t link after → now.ports ≡ before.ports → now.traffics ≡ before.traffics → now.most ≡ before.most → now.halted ≡ before.halted
     → now.spent ≡ false → HasAnswered parts t before now
@@ -39,3 +40,19 @@ answered_so parts t before now number link after place there links tells ports t
   halted = halted;
   spent = spent;
 }
+
+-- ---- want of memory
+
+-- where a call that goes well says more than that memory did not run out
+pub memory-asked : {T E : Type 0} (r : Result T E) (before now : Bool) (P : T → Type 0)
+    → MatchResult r (λ v. (before ≡ false) × (now ≡ false) × P v) (λ _. now ≡ true)
+    → MatchResult r (λ _. (before ≡ false) × (now ≡ false)) (λ _. now ≡ true)
+memory-asked (Ok v) before now P h = (h.0, h.1)
+memory-asked (Err e) before now P h = h
+
+-- where a connection was told, or memory ran out
+pub memory-told : {T E : Type 0} (r : Result T E) (parts : ProgramParts) (t : Told) (before now : Keeping) → before.spent ≡ false
+    → IfOk r (λ _. HasAnswered parts t before now) → OnErr r (now.spent ≡ true)
+    → MatchResult r (λ _. (before.spent ≡ false) × (now.spent ≡ false)) (λ _. now.spent ≡ true)
+memory-told (Ok v) parts t before now ready answered wanting = (ready, answered.spent)
+memory-told (Err e) parts t before now ready answered wanting = wanting

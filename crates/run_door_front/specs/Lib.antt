@@ -1,4 +1,4 @@
 pub mod Keeping
-pub mod Dealt
+pub mod Exchanged
 pub mod AnswerSteps
 pub mod NextSteps

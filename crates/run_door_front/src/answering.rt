@@ -6,7 +6,7 @@ ghost use Rattle.http_connection.specs.Seen.{seen};
 ghost use Rattle.run_door_front.specs.AnswerSteps.{told_of, IsTextOf, TellsText, HasTold, HasAnswered};
 
 use crate::kept::Kept;
-use crate::link::Link;
+use crate::link::Client;
 use behaviour_tree::{Outcome, Program};
 use http_connection::{Connection, Stage};
 use jolie_trees::Text;
@@ -24,12 +24,13 @@ impl<D: Door + Drop> Kept<D> {
         place: u32,
         outcomes: &[Outcome],
     ) -> Result<(), AllocError>
-        ensures answered { IfOk result (λ _. HasAnswered (parts_of program.now) (told_of place outcomes.now) self.old self.new) }
+        ensures answered { IfOk result
+            (λ _. HasAnswered (parts_of program.now) (told_of place outcomes.now) self.old self.new) }
         ensures spent { OnErr result (self.new.spent ≡ true) }
         ensures halted { self.new.halted ≡ self.old.halted }
     {
         self.spent = true;
-        let number = number_at(&self.traffics, place)? as usize;
+        let number = number_at(&self.traffics, place)?;
         if number >= self.links.len() {
             return Err(AllocError);
         }
@@ -39,7 +40,7 @@ impl<D: Door + Drop> Kept<D> {
     }
 }
 
-impl<W: Wire + Drop> Link<W> {
+impl<W: Wire + Drop> Client<W> {
     /// Tells what the calls of the posting of a place came to. The connection must owe the answer of just this one.
     pub(crate) fn answer(
         &mut self,
@@ -51,7 +52,7 @@ impl<W: Wire + Drop> Link<W> {
         ensures { IfOk result (λ _. HasTold (parts_of program.now) (told_of place outcomes.now) self.old self.new) }
     {
         let text = self.text_of(alloc, program, place, outcomes)?;
-        self.owed = None;
+        self.pending = None;
         tell(&mut self.connection, bytes_of(&text))
     }
 
@@ -65,9 +66,9 @@ impl<W: Wire + Drop> Link<W> {
     ) -> Result<Option<Text>, AllocError>
         ensures { IfOk result (λ text. IsTextOf (parts_of program.now) (told_of place outcomes.now) self.now text) }
     {
-        match &self.owed {
-            Some(owed) if owed.place == place => {
-                response_to(alloc, program, self.service, &owed.read, outcomes)
+        match &self.pending {
+            Some(pending) if pending.place == place as usize => {
+                response_to(alloc, program, self.service, &pending.read, outcomes)
             }
             _ => Err(AllocError),
         }
@@ -75,7 +76,7 @@ impl<W: Wire + Drop> Link<W> {
 }
 
 /// Which connection has the posting of a place.
-fn number_at(traffics: &[u32], place: u32) -> Result<u32, AllocError>
+fn number_at(traffics: &[usize], place: u32) -> Result<usize, AllocError>
     ensures { IfOk result (λ number. slice_get traffics.now place ≡ Some number) }
 {
     traffics.get(place as usize).copied().ok_or(AllocError)

@@ -1,9 +1,9 @@
 ghost use Rattle.std.specs.Prelude.{◌≡◌, ◌<◌, length, true, nat_lt};
 ghost use Rattle.std.specs.List.{list_all};
 ghost use Rattle.behaviour_tree.specs.Data.{ProgramParts};
-ghost use Rattle.run_theorem.specs.Dealings.{Dealings, IsNew};
+ghost use Rattle.run_theorem.specs.Exchange.{Exchange, IsNew};
 ghost use Rattle.run_door_front.specs.Keeping.{IsEmpty, services_of};
-ghost use Rattle.run_door_front.specs.Dealt.{sides_of, MayHaveDealt};
+ghost use Rattle.run_door_front.specs.Exchanged.{sides_of, MayHaveExchanged};
 
 use crate::kept::Kept;
 use behaviour_tree::{Outcome, Program};
@@ -29,8 +29,9 @@ impl<'a, D: Door + Drop, N: Sink> DoorFront<'a, D, N> {
         ensures notes { result.notes.now ≡ notes.old }
         ensures same_kept { result.kept.ghost_name ≡ kept.entry.ghost_name }
         ensures same_notes { result.notes.ghost_name ≡ notes.entry.ghost_name }
-        ensures begun { (parts : ProgramParts) → list_all (λ n. nat_lt n (length parts.services)) (services_of result.kept.now) ≡ true
-            → (d : Dealings) × IsNew d × MayHaveDealt (λ line. (wire : D.W) × (line ≡ D.W.told wire)) parts
+        ensures begun { (parts : ProgramParts)
+            → list_all (λ n. nat_lt n (length parts.services)) (services_of result.kept.now) ≡ true
+            → (d : Exchange) × IsNew d × MayHaveExchanged (λ line. (wire : D.W) × (line ≡ D.W.told wire)) parts
             (sides_of result.kept.now (N.told result.notes.now))
             (sides_of result.kept.now (N.told result.notes.now))
             d }
@@ -40,13 +41,15 @@ impl<'a, D: Door + Drop, N: Sink> DoorFront<'a, D, N> {
 }
 
 impl<'a, D: Door + Drop, N: Sink> Front for DoorFront<'a, D, N> {
-    ghost dealt = { λ parts first now d.
+    ghost exchanged = { λ parts first now d.
         (now.kept.ghost_name ≡ first.kept.ghost_name)
         × (now.notes.ghost_name ≡ first.notes.ghost_name)
-        × MayHaveDealt (λ line. (wire : D.W) × (line ≡ D.W.told wire)) parts
+        × MayHaveExchanged (λ line. (wire : D.W) × (line ≡ D.W.told wire)) parts
         (sides_of first.kept.now (N.told first.notes.now))
         (sides_of now.kept.now (N.told now.notes.now))
         d };
+
+    ghost spent = { λ f. f.kept.now.spent };
 
     fn next(&mut self, _program: &Program) -> Result<Next, AllocError> {
         self.kept.next_posting(self.alloc)

@@ -2,8 +2,8 @@
 ghost use Rattle.std.specs.Prelude.{◌≡◌, [], true, false};
 ghost use Rattle.run_door_front.specs.Keeping.{Keeping};
 
-use crate::link::Link;
-use crate::port::Port;
+use crate::link::Client;
+use crate::port::Listener;
 use outside_doors::Door;
 use std::alloc::Global;
 use std::marker::Model;
@@ -12,9 +12,9 @@ use std::marker::Model;
 /// each posting is, how many it accepts at most, whether it halted, and whether memory ran out.
 #[derive(Drop)]
 pub struct Kept<D: Door + Drop> {
-    pub(crate) ports: Vec<Port<D>>,
-    pub(crate) links: Vec<Link<D::W>>,
-    pub(crate) traffics: Vec<u32>,
+    pub(crate) ports: Vec<Listener<D>>,
+    pub(crate) links: Vec<Client<D::W>>,
+    pub(crate) traffics: Vec<usize>,
     pub(crate) most: u32,
     pub(crate) halted: bool,
     pub(crate) spent: bool,
@@ -41,7 +41,7 @@ impl<D: Door + Drop> Model for Kept<D> {
 
 impl<D: Door + Drop> Kept<D> {
     /// With these doors, and before anything came. So many connections are accepted at most.
-    pub fn new(alloc: Global, ports: Vec<Port<D>>, most: u32) -> Kept<D>
+    pub fn new(alloc: Global, ports: Vec<Listener<D>>, most: u32) -> Kept<D>
         ensures ports { result.ports ≡ ports.items }
         ensures links { result.links ≡ [] }
         ensures traffics { result.traffics ≡ [] }
@@ -66,7 +66,7 @@ impl<D: Door + Drop> Kept<D> {
         self.halted
     }
 
-    /// Whether memory ran out in a call: then nothing is said of what passed.
+    /// Whether memory ran out in a call: then nothing is sent of what passed.
     pub fn spent(&self) -> bool
         ensures { result ≡ self.now.spent }
     {
@@ -81,7 +81,7 @@ impl<D: Door + Drop> Kept<D> {
     }
 
     /// The doors and the connections.
-    pub fn into_parts(self) -> (Vec<Port<D>>, Vec<Link<D::W>>)
+    pub fn into_parts(self) -> (Vec<Listener<D>>, Vec<Client<D::W>>)
         ensures ports { result.0.items ≡ self.ports }
         ensures links { result.1.items ≡ self.links }
     {

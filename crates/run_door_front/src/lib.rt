@@ -12,5 +12,5 @@ mod reading;
 
 pub use front::DoorFront;
 pub use kept::Kept;
-pub use link::Link;
-pub use port::Port;
+pub use link::Client;
+pub use port::Listener;

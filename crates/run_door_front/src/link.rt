@@ -8,47 +8,47 @@ use std::marker::Model;
 
 /// The request of a connection that has no answer yet: the place of its posting, and what it says.
 #[derive(Drop)]
-pub(crate) struct Owed {
-    pub(crate) place: u32,
+pub(crate) struct PendingReply {
+    pub(crate) place: usize,
     pub(crate) read: Read,
 }
 
-/// A connection of a run, the service of its door, and the request that is owed an answer, where one is.
+/// A connection of a run, the service of its door, and the request that is pending an answer, where one is.
 #[derive(Drop)]
-pub struct Link<W: Wire + Drop> {
+pub struct Client<W: Wire + Drop> {
     pub(crate) service: u32,
     pub(crate) connection: Connection<W>,
-    pub(crate) owed: Option<Owed>,
+    pub(crate) pending: Option<PendingReply>,
 }
 
-impl<W: Wire + Drop> Model for Link<W> {
+impl<W: Wire + Drop> Model for Client<W> {
     ghost use Rattle.http_connection.specs.Seen.{seen};
     ghost use Rattle.std.specs.Coded.{codes};
     ghost use Rattle.jolie_trees.specs.contracts.tree.Tree as tree;
-    ghost use Rattle.run_door_front.specs.Keeping.{LinkTold};
+    ghost use Rattle.run_door_front.specs.Keeping.{ClientTold};
 
-    ghost Value = { LinkTold };
+    ghost Value = { ClientTold };
 
     ghost coded = { Prim.hlevel (codes, tree.the_row.coded) };
 
     ghost view = { λ l. record {
       service = l.service;
       seen = seen l.connection.kept (W.told l.connection.wire);
-      owed = l.owed;
+      pending = l.pending;
     } };
 }
 
-impl<W: Wire + Drop> Link<W> {
+impl<W: Wire + Drop> Client<W> {
     /// The wire, the bytes that were read and the bytes that were written.
     pub fn into_parts(self) -> (W, Vec<u8>, Vec<u8>)
         ensures wire { W.told result.0 ≡ self.seen.line }
         ensures read { result.1 ≡ self.seen.kept.read }
         ensures written { result.2 ≡ self.seen.kept.written }
     {
-        let Link {
+        let Client {
             service: _,
             connection,
-            owed: _,
+            pending: _,
         } = self;
         connection.into_parts()
     }

@@ -5,7 +5,7 @@ ghost use Rattle.http_connection.specs.Stages.{stage_of};
 ghost use Rattle.http_connection.specs.declared.stage.Stage.TheVariants as Stages;
 ghost use Rattle.run_door_front.specs.NextSteps.{Answers, Turned, listing, reads as reading};
 
-use crate::link::{Link, Owed};
+use crate::link::{Client, PendingReply};
 use http_connection::Stage;
 use jsonrpc_postings::posting_of;
 use jsonrpc_text::read_message;
@@ -24,13 +24,15 @@ pub(crate) enum Turn {
     Idle,
 }
 
-/// Reads the first connection that reads. After want of memory nothing is said of the connections.
+/// Reads the first connection that reads. After want of memory nothing is sent of the connections.
 pub(crate) fn read_first<W: Wire + Drop>(
     alloc: Global,
-    links: &mut Vec<Link<W>>,
-    traffics: &mut Vec<u32>,
+    links: &mut Vec<Client<W>>,
+    traffics: &mut Vec<usize>,
 ) -> Result<Turn, AllocError>
-    ensures { IfOk result (λ turn. Turned turn (listing links.old.items traffics.old.items) (listing links.new.items traffics.new.items)) }
+    ensures { IfOk result
+        (λ turn. Turned turn (listing links.old.items traffics.old.items)
+        (listing links.new.items traffics.new.items)) }
 {
     match first_reading(links) {
         None => Ok(Turn::Idle),
@@ -39,7 +41,7 @@ pub(crate) fn read_first<W: Wire + Drop>(
 }
 
 /// The number of the first connection that reads.
-fn first_reading<W: Wire + Drop>(links: &[Link<W>]) -> Option<usize>
+fn first_reading<W: Wire + Drop>(links: &[Client<W>]) -> Option<usize>
     ensures { result ≡ position reading links.now }
 {
     links.iter().position(|link| link.reads())
@@ -48,35 +50,26 @@ fn first_reading<W: Wire + Drop>(links: &[Link<W>]) -> Option<usize>
 /// Reads the connection of a number.
 fn read_at<W: Wire + Drop>(
     alloc: Global,
-    links: &mut Vec<Link<W>>,
-    traffics: &mut Vec<u32>,
+    links: &mut Vec<Client<W>>,
+    traffics: &mut Vec<usize>,
     number: usize,
 ) -> Result<Turn, AllocError>
     requires { position reading links.old.items ≡ Some number }
-    ensures { IfOk result (λ turn. Turned turn (listing links.old.items traffics.old.items) (listing links.new.items traffics.new.items)) }
+    ensures { IfOk result
+        (λ turn. Turned turn (listing links.old.items traffics.old.items)
+        (listing links.new.items traffics.new.items)) }
 {
-    let place = number_of(traffics.len())?;
-    let traffic = number_of(number)?;
+    let place = traffics.len();
     match links[number].ask(alloc, place)? {
         None => Ok(Turn::Over),
         Some(posting) => {
-            traffics.push(traffic)?;
+            traffics.push(number)?;
             Ok(Turn::Posting(posting))
         }
     }
 }
 
-/// The same number in 32 bits. A number that is too large counts as want of memory.
-fn number_of(number: usize) -> Result<u32, AllocError>
-    ensures { IfOk result (λ it. it ≡ number) }
-{
-    match u32::try_from(number) {
-        Ok(number) => Ok(number),
-        Err(_) => Err(AllocError),
-    }
-}
-
-impl<W: Wire + Drop> Link<W> {
+impl<W: Wire + Drop> Client<W> {
     /// Whether the next request may be asked for.
     fn reads(&self) -> bool
         ensures { result ≡ reading self.now }
@@ -84,8 +77,9 @@ impl<W: Wire + Drop> Link<W> {
         self.connection.stage() == Stage::Reads
     }
 
-    /// Asks for the next request. Where one comes it is owed an answer, and its posting, which has this place, is given.
-    fn ask(&mut self, alloc: Global, place: u32) -> Result<Option<Posting>, AllocError>
+    /// Asks for the next request. Where one comes it is pending an answer, and its posting, which has this place, is
+    /// given.
+    fn ask(&mut self, alloc: Global, place: usize) -> Result<Option<Posting>, AllocError>
         requires { stage_of self.old.seen.kept.next ≡ Stages.Reads }
         ensures { IfOk result (λ came. Answers place came self.old self.new) }
     {
@@ -94,7 +88,7 @@ impl<W: Wire + Drop> Link<W> {
             Some(body) => {
                 let read = read_message(alloc, body.as_slice())?;
                 let posting = posting_of(alloc, self.service, &read)?;
-                self.owed = Some(Owed { place, read });
+                self.pending = Some(PendingReply { place, read });
                 Ok(Some(posting))
             }
         }

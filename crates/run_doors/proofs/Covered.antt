@@ -7,7 +7,7 @@ use Rattle.office_core.specs.Limits.{Setting}
 use Rattle.office_core.specs.Accepted.{past_of}
 use Rattle.run_record.specs.Order.{numbers_from, finished_at, finished_there, order_alone, is_finished}
 use Rattle.run_order_laws.proofs.Lists.{true_left, true_right, itself, any_append, eq_true}
-use Rattle.run_order_laws.proofs.Least.{least_bound}
+use Rattle.run_order_laws.proofs.Least.{at_bound}
 
 -- ---- a number among others
 
@@ -106,11 +106,11 @@ pub order_has : (w : Setting) (h : List Entry) (actor count j : ℕ) → j < cou
     → is_in j (order_alone w h actor count) ≡ true
 order_has w h actor count j below = before_has w h actor count j (suc count) below at_last
   where
-    bound : finished_at w (past_of w h) actor count j ≤ j + (count - j)
-    bound = least_bound (is_finished w (past_of w h) actor j) j (count - j)
+    bound : finished_at w (past_of w h) actor count j ≤ count
+    bound = at_bound (is_finished w (past_of w h) actor) count j below
 
     at_last : finished_at w (past_of w h) actor count j < suc count
-    at_last = omega (arith, bound, below)
+    at_last = omega (arith, bound)
 
 -- ---- what is answered early
 

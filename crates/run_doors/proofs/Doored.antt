@@ -20,15 +20,15 @@ use Rattle.run_theorem.specs.Statuses.{Causes, Failed}
 use Rattle.run_theorem.specs.Texts.{posting_of}
 use Rattle.outside_links.specs.Trips.{LinkTold}
 use Rattle.run_theorem.specs.Trips.{Travelled}
-use Rattle.run_theorem.specs.Dealings.{Dealings}
+use Rattle.run_theorem.specs.Exchange.{Exchange}
 use Rattle.run_alone.specs.declared.worker.Finished.{Finished}
 use Rattle.run_alone.specs.Ran.{AreNotes, Ran}
 use Rattle.run_theorem.specs.Picks.{TookPicks}
 use Rattle.run_alone.proofs.Noting.{front_longer}
 use Rattle.run_theorem.specs.Ports.{DoorAt, doors_of, has_door}
-use Rattle.run_theorem.specs.Visits.{Visit}
-use Rattle.run_door_front.specs.Keeping.{PortTold, Keeping, AreNew, IsEmpty, services_of}
-use Rattle.run_door_front.specs.Dealt.{Sides, HasDealt, MayHaveDealt}
+use Rattle.run_theorem.specs.RunConnections.{RunConnection}
+use Rattle.run_door_front.specs.Keeping.{ListenerTold, Keeping, AreNew, IsEmpty, services_of}
+use Rattle.run_door_front.specs.Exchanged.{Sides, HasExchanged, MayHaveExchanged}
 use Rattle.run_theorem.specs.declared.ended.Ended.{Ended}
 use Rattle.run_theorem.specs.Used.{Used, AreInOrder, IsUsed, RoseBy, came_at_door, leads_by, leads_to, wires_to, has_failed, with_wires, with_doors, tries_at}
 use Rattle.run_theorem.specs.Theorem.{Task, Outside, Around, rules_of, HasStatus, AreNoted, RanProgram, IsDoored}
@@ -38,7 +38,7 @@ use Rattle.run_doors.proofs.Leading.{service_at, service_in, place_in, wires_at,
 use Rattle.run_doors.proofs.Serving.{served_so, as_many, given_long}
 use Rattle.run_doors.proofs.Wires.{wires_are}
 use Rattle.run_doors.proofs.Ending.{noted_so, notes_failed_so, through_so}
-use Rattle.run_doors.proofs.Telling.{rose_then, rose_some, stood_calm}
+use Rattle.run_doors.proofs.Telling.{rose_then, rose_some, stood_unfailed}
 use Rattle.run_doors.proofs.Openings.{all_marked, any_marked, all_from}
 use Rattle.run_order_laws.proofs.Lists.{all_weaker}
 
@@ -92,7 +92,7 @@ within_so t tally opened kept ports =
 -- ---- places
 
 -- doors in the order in which they were opened, by their places
-in_order_by : (tally : Tally) (places : List DoorAt) (ports : List PortTold) → map place_in ports ≡ map place_in (ports_at tally places)
+in_order_by : (tally : Tally) (places : List DoorAt) (ports : List ListenerTold) → map place_in ports ≡ map place_in (ports_at tally places)
     → AreInOrder tally.opened (map door_of ports)
 in_order_by tally [] [] e = tt
 in_order_by tally [] (q ∷ qs) e = absurd (let clash : (q.door.place ∷ map place_in qs) ≡ [] = e in cc)
@@ -105,19 +105,19 @@ in_order_by tally (p ∷ ps) (q ∷ qs) e = (
 
 -- ---- sums
 
-wires_by : (ports : List PortTold) → sum_by (λ (door : DoorTold). door.wires) (map door_of ports) ≡ sum_by (λ (p : PortTold). p.door.wires) ports
+wires_by : (ports : List ListenerTold) → sum_by (λ (door : DoorTold). door.wires) (map door_of ports) ≡ sum_by (λ (p : ListenerTold). p.door.wires) ports
 wires_by [] = refl
 wires_by (p ∷ ps) =
     sum_by-cons (λ (door : DoorTold). door.wires) p.door (map door_of ps)
     ∙ ap (λ n. p.door.wires + n) (wires_by ps)
-    ∙ sym (sum_by-cons (λ (q : PortTold). q.door.wires) p ps)
+    ∙ sym (sum_by-cons (λ (q : ListenerTold). q.door.wires) p ps)
 
 -- ---- the run
 
 -- something failed or did not
 failed_by : (b : Bool) (x y : ℕ) → (b ≡ true → Rose x y) → (b ≡ false → y ≡ x) → Failed b x y
-failed_by true x y rose calm = rose refl
-failed_by false x y rose calm = calm refl
+failed_by true x y rose unfailed = rose refl
+failed_by false x y rose unfailed = unfailed refl
 
 one_before : (m j : ℕ) → m ≡ suc j → j ≡ m - 1
 one_before m j e = omega (arith, e)
@@ -127,10 +127,10 @@ abbrev pub outside_of : SourceTold → SinkTold → DoorsTold → SinkTold → L
 outside_of source output doors notes link =
     record { source = source; output = output; notes = notes; doors = doors; link = link }
 
-module _ {new : Dealings} (IsMade : WireTold → Type 0) (most_accepted : ℕ) (t : Task) (before mid after : DoorsTold) (ports : List PortTold) (failed : Bool)
+module _ {new : Exchange} (IsMade : WireTold → Type 0) (most_accepted : ℕ) (t : Task) (before mid after : DoorsTold) (ports : List ListenerTold) (failed : Bool)
     (o : Opens (doors_of t.parts) (opened_by before [] false) (opened_by mid ports failed))
     (first now : Sides) (begins : first.kept.ports ≡ ports) (most : first.kept.most ≡ most_accepted)
-    (d : Dealings) (finished : Finished) (ran : Ran (rules_of t) t.text new d finished) (f : HasDealt IsMade t.parts first now d)
+    (d : Exchange) (finished : Finished) (ran : Ran (rules_of t) t.text new d finished) (f : HasExchanged IsMade t.parts first now d)
     (picked : TookPicks (rules_of t) t.picks finished.report)
     (back : GivesBack (map wire_of now.kept.links) (map door_of now.kept.ports) mid after) where
   -- the history
@@ -182,51 +182,51 @@ module _ {new : Dealings} (IsMade : WireTold → Type 0) (most_accepted : ℕ) (
   }
 
   -- each connection came at a door that was opened
-  at_doors : list_all (came_at_door (leads_by opened used.doors)) f.visits ≡ true
+  at_doors : list_all (came_at_door (leads_by opened used.doors)) f.connections ≡ true
   at_doors =
-      subst (λ leads. list_all (came_at_door leads) f.visits ≡ true) (leads_at opened now.kept.ports services_now) f.doors
+      subst (λ leads. list_all (came_at_door leads) f.connections ≡ true) (leads_at opened now.kept.ports services_now) f.doors
 
   -- to each service lead as many connections as its doors gave
-  led_so : (n : ℕ) → wires_to n opened used.doors ≡ count_by (leads_to n) f.visits
-  led_so n = wires_at n opened now.kept.ports services_now ∙ f.led n ∙ leads_as IsMade n now.kept.links f.visits f.links
+  led_so : (n : ℕ) → wires_to n opened used.doors ≡ count_by (leads_to n) f.connections
+  led_so n = wires_at n opened now.kept.ports services_now ∙ f.led n ∙ leads_as IsMade n now.kept.links f.connections f.links
 
-  abbrev doors_so : list_all (λ (visit : Visit). has_door t.parts visit.service) f.visits ≡ true
+  abbrev doors_so : list_all (λ (connection : RunConnection). has_door t.parts connection.service) f.connections ≡ true
   doors_so =
-      all_weaker (came_at_door (leads_by opened used.doors)) (λ (visit : Visit). has_door t.parts visit.service)
+      all_weaker (came_at_door (leads_by opened used.doors)) (λ (connection : RunConnection). has_door t.parts connection.service)
       (λ v at. any_marked (λ (door : DoorAt). nat_eq v.service door.service) o.opened (doors_of t.parts)
       (any_led v.door v.service opened used.doors at))
-      f.visits at_doors
+      f.connections at_doors
 
-  abbrev noted : AreNoted (run_of t.parts) h d.said.halted first.notes now.notes
+  abbrev noted : AreNoted (run_of t.parts) h d.sent.halted first.notes now.notes
   noted =
-      noted_so (run_of t.parts) h first.notes now.notes d.said f.said.notes f.said.written f.said.noted
-      (subst (λ m. AreNotes m d.said.noted (notes (run_of t.parts) h)) f.said.notes_failed ran.dealt.noted)
+      noted_so (run_of t.parts) h first.notes now.notes d.sent f.sent.notes f.sent.written f.sent.noted
+      (subst (λ m. AreNotes m d.sent.noted (notes (run_of t.parts) h)) f.sent.notes_failed ran.exchanged.noted)
 
   -- as many came in as were asked for
-  given_came : length d.brought.given ≡ length f.all.came
+  given_came : length d.received.given ≡ length f.all.came
   given_came = ap length f.given ∙ length-map f.all.came posting_of
 
   came_long : length f.all.came ≡ length f.all.asked
-  came_long = sym given_came ∙ given_long IsMade t.parts h first now d f ran.dealt
+  came_long = sym given_came ∙ given_long IsMade t.parts h first now d f ran.exchanged
 
   -- what is noted before the last posting was noted
-  noted_early_so : (j : ℕ) → length f.all.came ≡ suc j → IsPrefix (noted_before (run_of t.parts) h j) f.said.notes
+  noted_early_so : (j : ℕ) → length f.all.came ≡ suc j → IsPrefix (noted_before (run_of t.parts) h j) f.sent.notes
   noted_early_so j long =
-      front_longer (noted_before (run_of t.parts) h j) d.brought.noted f.said.notes
-      (subst (λ (k : ℕ). IsPrefix (noted_before (run_of t.parts) h k) d.brought.noted)
-      (sym (one_before (length d.brought.given) j (given_came ∙ long))) ran.dealt.noted_then)
+      front_longer (noted_before (run_of t.parts) h j) d.received.noted f.sent.notes
+      (subst (λ (k : ℕ). IsPrefix (noted_before (run_of t.parts) h k) d.received.noted)
+      (sym (one_before (length d.received.given) j (given_came ∙ long))) ran.exchanged.noted_then)
       f.noted_by_then
 
   -- the end
   abbrev pub ended : Ended
   ended = record {
-    status = status_of d.said.halted (some_failed used) finished.spent;
+    status = status_of d.sent.halted (some_failed used) finished.spent;
     report = with_traffic finished.report (map traffic_of now.kept.links);
   }
 
-  accepted : length f.visits ≤ most_accepted
+  accepted : length f.connections ≤ most_accepted
   accepted =
-      subst (λ n. n ≤ most_accepted) (as_many IsMade now.kept.links f.visits f.links)
+      subst (λ n. n ≤ most_accepted) (as_many IsMade now.kept.links f.connections f.links)
       (subst (λ n. length now.kept.links ≤ n) (f.most ∙ most) f.accepted)
 
   module _ (source : SourceTold) (output : SinkTold) (link link_now : LinkTold) (travelled : Travelled (run_of t.parts) h link link_now) where
@@ -236,13 +236,13 @@ module _ {new : Dealings} (IsMade : WireTold → Type 0) (most_accepted : ℕ) (
 
     abbrev status_so : HasStatus a (IsSpent (run_of t.parts) t.budget ended.report) ended.status
     status_so = record {
-      causes = record { source = false; output = false; notes = d.said.halted; doors = some_failed used; spent = finished.spent };
+      causes = record { source = false; output = false; notes = d.sent.halted; doors = some_failed used; spent = finished.spent };
       source = refl;
       output = refl;
-      notes = notes_failed_so (run_of t.parts) h first.notes now.notes d.said f.said.notes f.said.noted;
+      notes = notes_failed_so (run_of t.parts) h first.notes now.notes d.sent f.sent.notes f.sent.noted;
       doors = failed_by (some_failed used) before.faults after.faults
           (rose_some not has_failed o.opened used.doors before.faults after.faults uses_so.faults)
-          (stood_calm not has_failed o.opened used.doors before.faults after.faults uses_so.faults);
+          (stood_unfailed not has_failed o.opened used.doors before.faults after.faults uses_so.faults);
       spent = (
         λ e. spent_with (run_of t.parts) t.budget finished.report (map traffic_of now.kept.links) (ran.spent.0 e),
         λ more. ran.spent.1 (spent_without (run_of t.parts) t.budget finished.report (map traffic_of now.kept.links) more),
@@ -253,12 +253,12 @@ module _ {new : Dealings} (IsMade : WireTold → Type 0) (most_accepted : ℕ) (
     abbrev ran_so : RanProgram t a ended
     ran_so = record {
       status = status_so;
-      run = run_with (run_of t.parts) t.budget finished.report (map traffic_of now.kept.links) alone d.said.halted
-          (subst (λ m. IsRun (run_of t.parts) t.budget alone m finished.report) f.said.notes_failed ran.run);
+      run = run_with (run_of t.parts) t.budget finished.report (map traffic_of now.kept.links) alone d.sent.halted
+          (subst (λ m. IsRun (run_of t.parts) t.budget alone m finished.report) f.sent.notes_failed ran.run);
       program = ran.program;
       came = f.all.came;
-      posted = ran.dealt.posted ∙ ap (posts_of 0) f.given;
-      posters = ran.dealt.posters;
+      posted = ran.exchanged.posted ∙ ap (posts_of 0) f.given;
+      posters = ran.exchanged.posters;
       picks = picked;
       consoles = ran.consoles;
       noted = noted;
@@ -273,7 +273,7 @@ module _ {new : Dealings} (IsMade : WireTold → Type 0) (most_accepted : ℕ) (
       source = refl;
       output = refl;
       no_lines = (refl, refl);
-      served = served_so IsMade t.parts h first now d f ran.dealt doors_so;
+      served = served_so IsMade t.parts h first now d f ran.exchanged doors_so;
       same = refl;
       accepted = accepted;
       doors = record {
@@ -281,10 +281,10 @@ module _ {new : Dealings} (IsMade : WireTold → Type 0) (most_accepted : ℕ) (
         uses = uses_so;
         came = at_doors;
         led = led_so;
-        wires = wires_are IsMade now.kept.links f.visits f.links;
+        wires = wires_are IsMade now.kept.links f.connections f.links;
       };
       through = λ running below.
-          through_so IsMade t.parts h first now d f ran.dealt most_accepted (f.most ∙ most) running
+          through_so IsMade t.parts h first now d f ran.exchanged most_accepted (f.most ∙ most) running
           (subst (λ n. n < most_postings) came_long below);
     }
 
@@ -309,10 +309,10 @@ doored-as IsMade most t before first now later a b f l i k =
     (subst (λ x. IsDoored IsMade most t (record { before = x; now = now }) a) f k))
 
 -- memory did not run out
-dealt_so : (IsMade : WireTold → Type 0) (parts : _) (first now : Sides) (d : Dealings) → now.kept.spent ≡ false
-    → MayHaveDealt IsMade parts first now d → HasDealt IsMade parts first now d
-dealt_so IsMade parts first now d unspent (inl out) = absurd (true≢false (sym out.0 ∙ unspent))
-dealt_so IsMade parts first now d unspent (inr f) = f
+exchanged_so : (IsMade : WireTold → Type 0) (parts : _) (first now : Sides) (d : Exchange) → now.kept.spent ≡ false
+    → MayHaveExchanged IsMade parts first now d → HasExchanged IsMade parts first now d
+exchanged_so IsMade parts first now d unspent (inl out) = absurd (true≢false (sym out.0 ∙ unspent))
+exchanged_so IsMade parts first now d unspent (inr f) = f
 
 -- what came of the doors and of what the front kept
 pub record Ends (failed : Bool) (mid after : DoorsTold) (kept : Keeping) (finished : Finished) (it : Ended) : Type 0 where
@@ -321,26 +321,26 @@ pub record Ends (failed : Bool) (mid after : DoorsTold) (kept : Keeping) (finish
   pub report : it.report ≡ with_traffic finished.report (map traffic_of kept.links)
 
 -- the whole by its parts
-pub doored_by : {new : Dealings} (IsMade : WireTold → Type 0) (most_accepted : ℕ) (t : Task) (before mid after : DoorsTold) (ports : List PortTold) (failed : Bool)
+pub doored_by : {new : Exchange} (IsMade : WireTold → Type 0) (most_accepted : ℕ) (t : Task) (before mid after : DoorsTold) (ports : List ListenerTold) (failed : Bool)
     (o : Opens (doors_of t.parts) (opened_by before [] false) (opened_by mid ports failed))
     (first now : Sides) (begins : first.kept.ports ≡ ports) (most : first.kept.most ≡ most_accepted)
-    (d : Dealings) (finished : Finished) (ran : Ran (rules_of t) t.text new d finished)
-    (may : MayHaveDealt IsMade t.parts first now d) (unspent : now.kept.spent ≡ false)
+    (d : Exchange) (finished : Finished) (ran : Ran (rules_of t) t.text new d finished)
+    (may : MayHaveExchanged IsMade t.parts first now d) (unspent : now.kept.spent ≡ false)
     (picked : TookPicks (rules_of t) t.picks finished.report) (it : Ended) (ends : Ends failed mid after now.kept finished it)
     (source : SourceTold) (output : SinkTold) (link link_now : LinkTold)
     (travelled : Travelled (run_of t.parts) finished.report.history.entries.items link link_now) (former later : Outside)
     → outside_of source output before first.notes link ≡ former → outside_of source output after now.notes link_now ≡ later
     → IsDoored IsMade most_accepted t (record { before = former; now = later }) it
 doored_by IsMade most_accepted t before mid after ports failed o first now begins most d finished ran may unspent picked it ends source output link link_now travelled former later w l =
-    let f = dealt_so IsMade t.parts first now d unspent may in
-    let halted : now.kept.halted ≡ d.said.halted = sym f.said.halted in
+    let f = exchanged_so IsMade t.parts first now d unspent may in
+    let halted : now.kept.halted ≡ d.sent.halted = sym f.sent.halted in
     let doors = failed_is IsMade most_accepted t before mid after ports failed o first now begins most d finished ran f picked ends.back in
     doored-as IsMade most_accepted t (outside_of source output before first.notes link) former (outside_of source output after now.notes link_now) later
     (ended IsMade most_accepted t before mid after ports failed o first now begins most d finished ran f picked ends.back) it w l
     (ended_by it _ _
     (ends.status
     ∙ ap (λ x. status_of x (failed || list_any has_failed (map door_of now.kept.ports)) finished.spent) halted
-    ∙ ap (λ x. status_of d.said.halted x finished.spent) doors)
+    ∙ ap (λ x. status_of d.sent.halted x finished.spent) doors)
     ends.report)
     (doored_so IsMade most_accepted t before mid after ports failed o first now begins most d finished ran f picked ends.back source output link link_now travelled)
 

@@ -10,17 +10,17 @@ use Rattle.behaviour_tree.specs.Data.{ProgramParts}
 use Rattle.office_core.specs.declared.history.Entry.{Entry}
 use Rattle.office_core.specs.Limits.{Setting, run_of}
 use Rattle.run_record.specs.Outside.{notes}
-use Rattle.run_theorem.specs.Dealings.{Told, Said, Dealings}
+use Rattle.run_theorem.specs.Exchange.{Told, Sent, Exchange}
 use Rattle.run_theorem.specs.Calls.{most_postings, is_of}
 use Rattle.run_theorem.specs.Lines.{IsProperPrefix}
 use Rattle.run_theorem.specs.Statuses.{Failed}
-use Rattle.run_alone.specs.Ran.{Dealt, AreNotes, IsOver, GaveNone, finished_early, most_waits}
-use Rattle.run_theorem.specs.Visits.{Visit}
+use Rattle.run_alone.specs.Ran.{Exchanged, AreNotes, IsOver, GaveNone, finished_early, most_waits}
+use Rattle.run_theorem.specs.RunConnections.{RunConnection}
 use Rattle.outside_traits.specs.Told.{SinkTold, WireTold}
 use Rattle.http_connection.specs.Stages.{IsOver as IsOverAt}
-use Rattle.run_door_front.specs.Keeping.{PortTold, LinkTold, Keeping, no_more as no_more_kept, rests_at as rests_kept}
-use Rattle.run_door_front.specs.Dealt.{Sides, AreLinks, HasDealt, HasNoted, entire, in_part, HadNone, most_open}
-use Rattle.run_door_front.specs.Dealt.{HadNoAnswer as HadNoneYet, WereBusy as WereBusyThen, HaveWaited}
+use Rattle.run_door_front.specs.Keeping.{ListenerTold, ClientTold, Keeping, no_more as no_more_kept, rests_at as rests_kept}
+use Rattle.run_door_front.specs.Exchanged.{Sides, AreClients, HasExchanged, HasNoted, entire, in_part, HadNone, most_open}
+use Rattle.run_door_front.specs.Exchanged.{HadNoAnswer as HadNoneYet, WereBusy as WereBusyThen, HaveWaited}
 use Rattle.run_doors.specs.Steps.{door_of}
 use Rattle.run_theorem.specs.Through.{HadNoAnswer, WereBusy, no_more, rests_at, waited_long, IsThrough}
 use Rattle.run_theorem.specs.Theorem.{AreNoted}
@@ -30,12 +30,12 @@ use Rattle.run_doors.proofs.Serving.{as_many, given_long}
 
 -- ---- notes
 
-module _ (w : Setting) (h : List Entry) (first now : SinkTold) (s : Said) (written : List ℕ) where
+module _ (w : Setting) (h : List Entry) (first now : SinkTold) (s : Sent) (written : List ℕ) where
   -- where it did not halt, all of them
   pub entire_so : HasNoted first now s written → AreNotes s.halted s.noted (notes w h) → s.halted ≡ false
       → (written ≡ notes w h) × (now.faults ≡ first.faults)
-  entire_so (entire running same is) all calm = (is ∙ all.1 calm, same)
-  entire_so (in_part halted rose part) all calm = absurd (true≢false (sym halted ∙ calm))
+  entire_so (entire running same is) all unfailed = (is ∙ all.1 unfailed, same)
+  entire_so (in_part halted rose part) all unfailed = absurd (true≢false (sym halted ∙ unfailed))
 
   -- else a front of them
   pub part_so : HasNoted first now s written → AreNotes s.halted s.noted (notes w h) → s.halted ≡ true
@@ -48,7 +48,7 @@ module _ (w : Setting) (h : List Entry) (first now : SinkTold) (s : Said) (writt
   noted_so appends k all = record {
     noted = written;
     written = appends;
-    entire = λ calm. (entire_so k all calm).0;
+    entire = λ unfailed. (entire_so k all unfailed).0;
     in_part = λ halted. (part_so k all halted).0;
   }
 
@@ -60,33 +60,33 @@ module _ (w : Setting) (h : List Entry) (first now : SinkTold) (s : Said) (writt
 -- ---- doors
 
 -- whether no connection can come any more, by what the doors tell
-no_more_is : (kept : Keeping) (visits : List Visit) (most : ℕ) → kept.most ≡ most → length kept.links ≡ length visits
-    → no_more_kept kept ≡ no_more most visits (map door_of kept.ports)
-no_more_is kept visits most is long =
-    ap (λ m. nat_le m (length kept.links) || list_all (λ (p : PortTold). has_ended p.door) kept.ports) is
-    ∙ ap (λ n. nat_le most n || list_all (λ (p : PortTold). has_ended p.door) kept.ports) long
-    ∙ ap (λ b. nat_le most (length visits) || b) (sym (all_map has_ended door_of kept.ports))
+no_more_is : (kept : Keeping) (connections : List RunConnection) (most : ℕ) → kept.most ≡ most → length kept.links ≡ length connections
+    → no_more_kept kept ≡ no_more most connections (map door_of kept.ports)
+no_more_is kept connections most is long =
+    ap (λ m. nat_le m (length kept.links) || list_all (λ (p : ListenerTold). has_ended p.door) kept.ports) is
+    ∙ ap (λ n. nat_le most n || list_all (λ (p : ListenerTold). has_ended p.door) kept.ports) long
+    ∙ ap (λ b. nat_le most (length connections) || b) (sym (all_map has_ended door_of kept.ports))
 
 enough : (n waits : ℕ) → n ≡ most_waits → min n (2 ^ 64 - 1) ≤ waits → most_waits ≤ waits
 enough n waits is h = let least : min most_waits (2 ^ 64 - 1) ≤ waits = subst (λ m. min m (2 ^ 64 - 1) ≤ waits) is h in omega (arith, least)
 
-waited_so : (n : ℕ) → n ≡ most_waits → (ports : List PortTold) → HaveWaited n ports → AllByRecursion waited_long (map door_of ports)
+waited_so : (n : ℕ) → n ≡ most_waits → (ports : List ListenerTold) → HaveWaited n ports → AllByRecursion waited_long (map door_of ports)
 waited_so n is [] k = tt
 waited_so n is (p ∷ ps) k =
     (⊎_elim (λ ended. inl ended) (λ long. inr (enough n p.door.waits is long)) k.0, waited_so n is ps k.1)
 
 -- how often was rested, by what the doors tell
-rests_by : (ports : List PortTold) → rests_at (map door_of ports) ≡ rests_kept ports
+rests_by : (ports : List ListenerTold) → rests_at (map door_of ports) ≡ rests_kept ports
 rests_by [] = refl
 rests_by (p ∷ ps) =
     sum_by-cons (λ (door : DoorTold). door.rests) p.door (map door_of ps)
     ∙ ap (λ n. p.door.rests + n) (rests_by ps)
-    ∙ sym (sum_by-cons (λ (q : PortTold). q.door.rests) p ps)
+    ∙ sym (sum_by-cons (λ (q : ListenerTold). q.door.rests) p ps)
 
 -- ---- connections
 
-module _ {new : Dealings} (IsMade : WireTold → Type 0) (parts : ProgramParts) (h : List Entry) (first now : Sides) (d : Dealings)
-    (f : HasDealt IsMade parts first now d) (k : Dealt (run_of parts) h new d) where
+module _ {new : Exchange} (IsMade : WireTold → Type 0) (parts : ProgramParts) (h : List Entry) (first now : Sides) (d : Exchange)
+    (f : HasExchanged IsMade parts first now d) (k : Exchanged (run_of parts) h new d) where
   -- the last request of a connection had no answer, by the history
   waited_for : GaveNone d → (n : ℕ) → HadNoneYet d n → HadNoAnswer (run_of parts) h f.all.asked n
   waited_for none n yet = record {
@@ -98,11 +98,11 @@ module _ {new : Dealings} (IsMade : WireTold → Type 0) (parts : ProgramParts) 
     unfinished =
         ap (λ c. is_in yet.place (finished_early (run_of parts) h c)) (sym (given_long IsMade parts h first now d f k))
         ∙ ap (is_in yet.place) (sym (k.seen none))
-        ∙ any_map (nat_eq yet.place) (λ (t : Told). t.place) (take d.brought.seen d.said.told)
+        ∙ any_map (nat_eq yet.place) (λ (t : Told). t.place) (take d.received.seen d.sent.told)
         ∙ yet.untold;
   }
 
-  busy_so : GaveNone d → (n : ℕ) (busy : List Bool) (ls : List LinkTold) (vs : List Visit) → AreLinks IsMade ls vs
+  busy_so : GaveNone d → (n : ℕ) (busy : List Bool) (ls : List ClientTold) (vs : List RunConnection) → AreClients IsMade ls vs
       → WereBusyThen d n busy ls → WereBusy (HadNoAnswer (run_of parts) h f.all.asked) n busy vs
   busy_so none n [] [] [] a b = tt
   busy_so none n [] [] (v ∷ vs) a b = absurd a
@@ -114,47 +114,47 @@ module _ {new : Dealings} (IsMade : WireTold → Type 0) (parts : ProgramParts) 
 
   module _ (most : ℕ) (is_most : now.kept.most ≡ most) where
     -- why no posting came, by the doors and the connections
-    why_so : (n : HadNone now.kept d) → (d.brought.ended ≡ true) ⊎ (d.brought.waits ≡ most_waits) → (b : Bool) → d.brought.ended ≡ b
-        → (no_more most f.visits (map door_of now.kept.ports) ≡ true)
+    why_so : (n : HadNone now.kept d) → (d.received.ended ≡ true) ⊎ (d.received.waits ≡ most_waits) → (b : Bool) → d.received.ended ≡ b
+        → (no_more most f.connections (map door_of now.kept.ports) ≡ true)
         ⊎ ((most_waits ≤ rests_at (map door_of now.kept.ports))
         × ((most_open ≤ count_by (λ (x : Bool). x) n.busy) ⊎ AllByRecursion waited_long (map door_of now.kept.ports)))
     why_so n so true e =
-        inl (sym (no_more_is now.kept f.visits most is_most (as_many IsMade now.kept.links f.visits f.links)) ∙ n.over e)
+        inl (sym (no_more_is now.kept f.connections most is_most (as_many IsMade now.kept.links f.connections f.links)) ∙ n.over e)
     why_so n (inl ended) false e = absurd (true≢false (sym ended ∙ e))
     why_so n (inr waits) false e =
         inr (
-          subst (λ r. most_waits ≤ r) (sym (rests_by now.kept.ports)) (enough d.brought.waits (rests_kept now.kept.ports) waits (n.rested e)),
-          ⊎_elim (λ full. inl full) (λ waited. inr (waited_so d.brought.waits waits now.kept.ports waited)) (n.waited e),
+          subst (λ r. most_waits ≤ r) (sym (rests_by now.kept.ports)) (enough d.received.waits (rests_kept now.kept.ports) waits (n.rested e)),
+          ⊎_elim (λ full. inl full) (λ waited. inr (waited_so d.received.waits waits now.kept.ports waited)) (n.waited e),
         )
 
-    through_by : GaveNone d → (d.brought.ended ≡ true) ⊎ (d.brought.waits ≡ most_waits) → HadNone now.kept d
-        → IsThrough (HadNoAnswer (run_of parts) h f.all.asked) most f.visits (map door_of now.kept.ports)
+    through_by : GaveNone d → (d.received.ended ≡ true) ⊎ (d.received.waits ≡ most_waits) → HadNone now.kept d
+        → IsThrough (HadNoAnswer (run_of parts) h f.all.asked) most f.connections (map door_of now.kept.ports)
     through_by none so n = record {
       busy = n.busy;
-      each = busy_so none 0 n.busy now.kept.links f.visits f.links n.each;
-      why = why_so n so d.brought.ended refl;
+      each = busy_so none 0 n.busy now.kept.links f.connections f.links n.each;
+      why = why_so n so d.received.ended refl;
     }
 
-    too_many : (n : ℕ) → length d.brought.given ≡ n → n < most_postings → most_postings ≤ length d.brought.given → ⊥
+    too_many : (n : ℕ) → length d.received.given ≡ n → n < most_postings → most_postings ≤ length d.received.given → ⊥
     too_many n is below many = omega (arith, is, below, many)
 
     some_waits : (n : ℕ) → n ≡ most_waits → 0 < n
     some_waits n is = omega (arith, is)
 
     -- Unless the front halted or there were the most postings, it went on until no more could come.
-    pub through_so : d.said.halted ≡ false → length f.all.asked < most_postings
-        → IsThrough (HadNoAnswer (run_of parts) h f.all.asked) most f.visits (map door_of now.kept.ports)
+    pub through_so : d.sent.halted ≡ false → length f.all.asked < most_postings
+        → IsThrough (HadNoAnswer (run_of parts) h f.all.asked) most f.connections (map door_of now.kept.ports)
     through_so running below = by k.over
       where
-        fewer : most_postings ≤ length d.brought.given → ⊥
+        fewer : most_postings ≤ length d.received.given → ⊥
         fewer = too_many (length f.all.asked) (given_long IsMade parts h first now d f k) below
 
-        with_none : GaveNone d → (d.brought.ended ≡ true) ⊎ (d.brought.waits ≡ most_waits)
-            → IsThrough (HadNoAnswer (run_of parts) h f.all.asked) most f.visits (map door_of now.kept.ports)
+        with_none : GaveNone d → (d.received.ended ≡ true) ⊎ (d.received.waits ≡ most_waits)
+            → IsThrough (HadNoAnswer (run_of parts) h f.all.asked) most f.connections (map door_of now.kept.ports)
         with_none none so = ⊎_elim (through_by none so) (λ many. absurd (fewer many)) (f.none running none)
 
-        by : IsOver d → IsThrough (HadNoAnswer (run_of parts) h f.all.asked) most f.visits (map door_of now.kept.ports)
+        by : IsOver d → IsThrough (HadNoAnswer (run_of parts) h f.all.asked) most f.connections (map door_of now.kept.ports)
         by (inl ended) = with_none (inl ended) (inl ended)
         by (inr (inl halted)) = absurd (true≢false (sym halted ∙ running))
-        by (inr (inr (inl waits))) = with_none (inr (some_waits d.brought.waits waits)) (inr waits)
+        by (inr (inr (inl waits))) = with_none (inr (some_waits d.received.waits waits)) (inr waits)
         by (inr (inr (inr many))) = absurd (fewer many)

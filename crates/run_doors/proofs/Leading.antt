@@ -5,10 +5,10 @@ use Rattle.std.specs.List.{sum_by, list_any}
 use Rattle.outside_doors.specs.Counts.{DoorTold}
 use Rattle.std.proofs.lemmas.List.Sums.{sum_by-cons}
 use Rattle.run_theorem.specs.Ports.{DoorAt}
-use Rattle.run_theorem.specs.Visits.{Visit}
+use Rattle.run_theorem.specs.RunConnections.{RunConnection}
 use Rattle.outside_traits.specs.Told.{WireTold}
-use Rattle.run_door_front.specs.Keeping.{PortTold, LinkTold, lead_of, is_led, is_of_door, wires_to as port_wires, leads_to as link_leads}
-use Rattle.run_door_front.specs.Dealt.{AreLinks}
+use Rattle.run_door_front.specs.Keeping.{ListenerTold, ClientTold, lead_of, is_led, is_of_door, wires_to as port_wires, leads_to as link_leads}
+use Rattle.run_door_front.specs.Exchanged.{AreClients}
 use Rattle.run_theorem.specs.Used.{wires_to, leads_to, leads_by}
 use Rattle.run_doors.specs.Steps.{door_of}
 
@@ -18,11 +18,11 @@ use Rattle.run_doors.specs.Steps.{door_of}
 abbrev pub service_at : DoorAt → ℕ
 service_at door = door.service
 
-abbrev pub service_in : PortTold → ℕ
+abbrev pub service_in : ListenerTold → ℕ
 service_in port = port.service
 
 -- how many doors had been opened before it
-abbrev pub place_in : PortTold → ℕ
+abbrev pub place_in : ListenerTold → ℕ
 place_in port = port.door.place
 
 pub same_first : (m n : ℕ) (ms ns : List ℕ) → m ∷ ms ≡ n ∷ ns → m ≡ n
@@ -32,7 +32,7 @@ pub same_rest : (m n : ℕ) (ms ns : List ℕ) → m ∷ ms ≡ n ∷ ns → ms 
 same_rest m n ms ns e = cc
 
 -- the wires of the doors that were opened at these places are those of the ports
-pub wires_at : (n : ℕ) (places : List DoorAt) (ports : List PortTold) → map service_in ports ≡ map service_at places
+pub wires_at : (n : ℕ) (places : List DoorAt) (ports : List ListenerTold) → map service_in ports ≡ map service_at places
     → wires_to n places (map door_of ports) ≡ sum_by (port_wires n) ports
 wires_at n [] [] e = refl
 wires_at n [] (q ∷ qs) e = absurd (let clash : (q.service ∷ map service_in qs) ≡ [] = e in cc)
@@ -43,7 +43,7 @@ wires_at n (p ∷ ps) (q ∷ qs) e =
     ∙ sym (sum_by-cons (port_wires n) q qs)
 
 -- and so is to which service each leads
-pub leads_at : (places : List DoorAt) (ports : List PortTold) → map service_in ports ≡ map service_at places
+pub leads_at : (places : List DoorAt) (ports : List ListenerTold) → map service_in ports ≡ map service_at places
     → map lead_of ports ≡ leads_by places (map door_of ports)
 leads_at [] [] e = refl
 leads_at [] (q ∷ qs) e = absurd (let clash : (q.service ∷ map service_in qs) ≡ [] = e in cc)
@@ -75,8 +75,8 @@ any_led door service (p ∷ ps) (d ∷ ds) e =
 -- ---- connections
 
 -- what passed on a connection leads where the connection leads
-pub leads_as : (IsMade : WireTold → Type 0) (n : ℕ) (links : List LinkTold) (visits : List Visit) → AreLinks IsMade links visits
-    → count_by (link_leads n) links ≡ count_by (leads_to n) visits
+pub leads_as : (IsMade : WireTold → Type 0) (n : ℕ) (links : List ClientTold) (connections : List RunConnection) → AreClients IsMade links connections
+    → count_by (link_leads n) links ≡ count_by (leads_to n) connections
 leads_as IsMade n [] [] k = refl
 leads_as IsMade n [] (v ∷ vs) k = absurd k
 leads_as IsMade n (l ∷ ls) [] k = absurd k

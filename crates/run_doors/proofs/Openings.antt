@@ -14,7 +14,7 @@ use Rattle.std.proofs.lemmas.Bool.{lt-ltb}
 use Rattle.behaviour_tree.specs.Data.{PortPart, ServicePart}
 use Rattle.outside_traits.specs.Told.{Lists}
 use Rattle.run_theorem.specs.Ports.{DoorAt, is_door, locations_of, doors_from}
-use Rattle.run_door_front.specs.Keeping.{PortTold}
+use Rattle.run_door_front.specs.Keeping.{ListenerTold}
 use Rattle.run_door_front.proofs.Entries.{count_append}
 use Rattle.run_theorem.specs.Used.{RoseBy, tries_at, with_openings}
 use Rattle.run_doors.specs.Steps.{door_to, location_in, doors_at, port_at, ports_at, Opened, opened_by, Opens}
@@ -223,17 +223,17 @@ or_true : (x : Bool) → true ≡ (x || true)
 or_true true = refl
 or_true false = refl
 
-abbrev port_of : ℕ → DoorTold → PortTold
+abbrev port_of : ℕ → DoorTold → ListenerTold
 port_of n door = record { service = n; door = door }
 
 -- a port with a door that was not tried yet
-pub port_opened : (n place : ℕ) (location : List ℕ) (port : PortTold) (door : DoorTold) → port ≡ port_of n door → door ≡ untried place
+pub port_opened : (n place : ℕ) (location : List ℕ) (port : ListenerTold) (door : DoorTold) → port ≡ port_of n door → door ≡ untried place
     → port ≡ port_at place (door_to n location)
 port_opened n place location port door made new = made ∙ ap (port_of n) new
 
-module _ (place : DoorAt) (a b : DoorsTold) (ports : List PortTold) (failed : Bool) where
+module _ (place : DoorAt) (a b : DoorsTold) (ports : List ListenerTold) (failed : Bool) where
   -- it is opened
-  pub opens_one : (more : List PortTold) → b.tally ≡ with_opened a.tally → Lists a.tries b.tries (try_told place.location true ∷ [])
+  pub opens_one : (more : List ListenerTold) → b.tally ≡ with_opened a.tally → Lists a.tries b.tries (try_told place.location true ∷ [])
       → b.returned ≡ a.returned → b.returned_doors ≡ a.returned_doors → b.faults ≡ a.faults
       → more ≡ ports ++ port_at a.tally.opened place ∷ []
       → Opens (place ∷ []) (opened_by a ports failed) (opened_by b more failed)

@@ -8,7 +8,7 @@ use Rattle.behaviour_tree.specs.Data.{ProgramParts}
 use Rattle.office_core.specs.declared.history.Entry.{Entry}
 use Rattle.office_core.specs.Limits.{run_of, first_worker}
 use Rattle.office_core.specs.Accepted.{past_of}
-use Rattle.run_theorem.specs.Dealings.{Asked, Told, Dealings}
+use Rattle.run_theorem.specs.Exchange.{Asked, Told, Exchange}
 use Rattle.run_theorem.specs.Calls.{is_of}
 use Rattle.run_record.specs.Postings.{told, posts_of}
 use Rattle.run_record.specs.Order.{finished_at}
@@ -16,18 +16,18 @@ use Rattle.run_theorem.specs.Lines.{finished_before}
 use Rattle.run_theorem.specs.Texts.{Came, posting_of, response}
 use Rattle.jsonrpc_postings.specs.Told.{response_told}
 use Rattle.jsonrpc_postings.proofs.Responses.{response_told-of}
-use Rattle.run_alone.specs.Ran.{Dealt}
+use Rattle.run_alone.specs.Ran.{Exchanged}
 use Rattle.run_theorem.specs.Ports.{has_door}
-use Rattle.run_theorem.specs.Visits.{Visit, came_at, HasPassed}
+use Rattle.run_theorem.specs.RunConnections.{RunConnection, came_at, HasPassed}
 use Rattle.run_theorem.specs.Served.{AreOneByOne, HadToWait, AreInTurn, AreToldEarly, IsServed, is_told}
 use Rattle.http_connection.specs.Stages.{IsOver}
 use Rattle.http_connection.specs.Law.{holding, Keeps}
 use Rattle.http_connection.specs.Talking.{log}
 use Rattle.outside_traits.specs.Told.{WireTold}
 use Rattle.http_connection.proofs.Words.{keeps_word}
-use Rattle.run_door_front.specs.Keeping.{LinkTold}
-use Rattle.run_door_front.specs.Dealt.{Sides, IsLink, AreLinks, IsHeard, IsOwed, WasOver, HasDealt}
-use Rattle.run_door_front.specs.Dealt.{HadToWait as HadToWaitThen}
+use Rattle.run_door_front.specs.Keeping.{ClientTold}
+use Rattle.run_door_front.specs.Exchanged.{Sides, IsClient, AreClients, IsHeard, IsPending, WasOver, HasExchanged}
+use Rattle.run_door_front.specs.Exchanged.{HadToWait as HadToWaitThen}
 use Rattle.run_doors.specs.Steps.{traffic_of}
 use Rattle.run_doors.proofs.Covered.{order_has, before_has, is_in, finished_below}
 use Rattle.run_doors.proofs.Requests.{IsNth, nth_of}
@@ -39,30 +39,30 @@ use Rattle.run_order_laws.proofs.Lists.{same_of, none_not_some, eq_true, itself}
 
 module _ (IsMade : WireTold → Type 0) where
   -- the bytes of a connection are what its requests and their texts make
-  link_passed : (l : LinkTold) (v : Visit) → IsLink IsMade l v → HasPassed v (traffic_of l)
+  link_passed : (l : ClientTold) (v : RunConnection) → IsClient IsMade l v → HasPassed v (traffic_of l)
   link_passed l v k = record {
     stage = k.memory;
     keeps = λ reading. subst (λ s. ∥ Keeps s (holding l.seen.kept.read.items reading) (log l.seen.kept.read.items l.seen.kept.written.items v.bodies v.texts) ∥₁)
         (sym k.stage) ((keeps_word k.first l.seen v.bodies v.texts k.talks).keeps reading);
   }
 
-  pub links_passed : (ls : List LinkTold) (vs : List Visit) → AreLinks IsMade ls vs → AllZip HasPassed vs (map traffic_of ls)
+  pub links_passed : (ls : List ClientTold) (vs : List RunConnection) → AreClients IsMade ls vs → AllZip HasPassed vs (map traffic_of ls)
   links_passed [] [] k = tt
   links_passed [] (v ∷ vs) k = absurd k
   links_passed (l ∷ ls) [] k = absurd k
   links_passed (l ∷ ls) (v ∷ vs) k = (link_passed l v k.0, links_passed ls vs k.1)
 
-  -- each visit has its connection
-  pub link_at : (ls : List LinkTold) (vs : List Visit) → AreLinks IsMade ls vs → (n : ℕ) (v : Visit) → slice_get vs n ≡ Some v
-      → (l : LinkTold) × (slice_get ls n ≡ Some l) × IsLink IsMade l v
+  -- each connection has its connection
+  pub link_at : (ls : List ClientTold) (vs : List RunConnection) → AreClients IsMade ls vs → (n : ℕ) (v : RunConnection) → slice_get vs n ≡ Some v
+      → (l : ClientTold) × (slice_get ls n ≡ Some l) × IsClient IsMade l v
   link_at [] [] k n v h = absurd (none_not_some v h)
   link_at [] (u ∷ vs) k n v h = absurd k
   link_at (l ∷ ls) [] k n v h = absurd k
-  link_at (l ∷ ls) (u ∷ vs) k zero v h = (l, refl, subst (IsLink IsMade l) (same_of u v h) k.0)
+  link_at (l ∷ ls) (u ∷ vs) k zero v h = (l, refl, subst (IsClient IsMade l) (same_of u v h) k.0)
   link_at (l ∷ ls) (u ∷ vs) k (suc n) v h = link_at ls vs k.1 n v h
 
   -- they are as many
-  pub as_many : (ls : List LinkTold) (vs : List Visit) → AreLinks IsMade ls vs → length ls ≡ length vs
+  pub as_many : (ls : List ClientTold) (vs : List RunConnection) → AreClients IsMade ls vs → length ls ≡ length vs
   as_many [] [] k = refl
   as_many [] (v ∷ vs) k = absurd k
   as_many (l ∷ ls) [] k = absurd k
@@ -70,27 +70,27 @@ module _ (IsMade : WireTold → Type 0) where
 
 -- ---- the run
 
-module _ {new : Dealings} (IsMade : WireTold → Type 0) (parts : ProgramParts) (h : List Entry) (first now : Sides) (d : Dealings)
-    (f : HasDealt IsMade parts first now d) (k : Dealt (run_of parts) h new d) where
+module _ {new : Exchange} (IsMade : WireTold → Type 0) (parts : ProgramParts) (h : List Entry) (first now : Sides) (d : Exchange)
+    (f : HasExchanged IsMade parts first now d) (k : Exchanged (run_of parts) h new d) where
   -- as many postings came in as requests were asked
   pub came_long : length f.all.asked ≡ length f.all.came
-  came_long = sym (length_map (came_at f.visits) f.all.asked) ∙ ap length f.came ∙ length_map Some f.all.came
+  came_long = sym (length_map (came_at f.connections) f.all.asked) ∙ ap length f.came ∙ length_map Some f.all.came
 
-  pub given_long : length d.brought.given ≡ length f.all.asked
+  pub given_long : length d.received.given ≡ length f.all.asked
   given_long = ap length f.given ∙ length_map posting_of f.all.came ∙ sym came_long
 
   -- what stands at a place came in
-  given_at : (j : ℕ) (c : Came) → slice_get f.all.came j ≡ Some c → slice_get d.brought.given j ≡ Some (posting_of c)
+  given_at : (j : ℕ) (c : Came) → slice_get f.all.came j ≡ Some c → slice_get d.received.given j ≡ Some (posting_of c)
   given_at j c h = ap (λ l. slice_get l j) f.given ∙ get_map posting_of f.all.came j ∙ ap (option_map posting_of) h
 
   -- what was told of a place is the response
   module _ (j : ℕ) (c : Came) (there : slice_get f.all.came j ≡ Some c) where
-    told_response : (t : Told) → Contains d.said.told t → t.place ≡ j
+    told_response : (t : Told) → Contains d.sent.told t → t.place ≡ j
         → response_told parts c t.outcomes ≡ response (run_of parts) (past_of (run_of parts) h) first_worker j c
     told_response t inside place =
         let is = k.told t inside in
         let same : is.0 ≡ posting_of c =
-        same_of is.0 (posting_of c) (sym is.1 ∙ ap (slice_get d.brought.given) place ∙ given_at j c there) in
+        same_of is.0 (posting_of c) (sym is.1 ∙ ap (slice_get d.received.given) place ∙ given_at j c there) in
         response_told-of (run_of parts) (past_of (run_of parts) h) c j t.outcomes
         (subst (λ n. told (run_of parts) (past_of (run_of parts) h) first_worker n (posting_of c) ≡ Some t.outcomes) place
         (subst (λ p. told (run_of parts) (past_of (run_of parts) h) first_worker t.place p ≡ Some t.outcomes) same is.2))
@@ -98,32 +98,32 @@ module _ {new : Dealings} (IsMade : WireTold → Type 0) (parts : ProgramParts) 
     heard_response : (at : Option (Option (List ℕ))) (text : Option (List ℕ)) → at ≡ Some text → IsHeard parts f.heard j c at
         → text ≡ response (run_of parts) (past_of (run_of parts) h) first_worker j c
     heard_response at text is heard =
-        same_of text (response_told parts c heard.told.outcomes) (sym is ∙ heard.said)
-        ∙ told_response heard.told (contains_front f.heard d.said.told heard.told f.told heard.there) heard.place
+        same_of text (response_told parts c heard.told.outcomes) (sym is ∙ heard.sent)
+        ∙ told_response heard.told (contains_front f.heard d.sent.told heard.told f.told heard.there) heard.place
 
-  owed_none : (j : ℕ) (a : Asked) (c : Came) (visit : Visit) (text : Option (List ℕ))
-      → slice_get visit.texts a.request ≡ Some text → IsOwed now.kept.links j a c visit → ⊥
-  owed_none j a c visit text is owed =
-      none_not_some text (sym (get_past visit.texts) ∙ ap (slice_get visit.texts) (sym owed.last) ∙ is)
+  pending_none : (j : ℕ) (a : Asked) (c : Came) (connection : RunConnection) (text : Option (List ℕ))
+      → slice_get connection.texts a.request ≡ Some text → IsPending now.kept.links j a c connection → ⊥
+  pending_none j a c connection text is pending =
+      none_not_some text (sym (get_past connection.texts) ∙ ap (slice_get connection.texts) (sym pending.last) ∙ is)
 
   -- each text is the response to its posting
-  pub response_so : (j : ℕ) (a : Asked) (c : Came) (visit : Visit) (text : Option (List ℕ))
+  pub response_so : (j : ℕ) (a : Asked) (c : Came) (connection : RunConnection) (text : Option (List ℕ))
       → slice_get f.all.asked j ≡ Some a → slice_get f.all.came j ≡ Some c
-      → slice_get f.visits a.traffic ≡ Some visit → slice_get visit.texts a.request ≡ Some text
+      → slice_get f.connections a.traffic ≡ Some connection → slice_get connection.texts a.request ≡ Some text
       → text ≡ response (run_of parts) (past_of (run_of parts) h) first_worker j c
-  response_so j a c visit text asked came there is =
-      ⊎_elim (λ heard. heard_response j c came (slice_get visit.texts a.request) text is heard)
-      (λ owed. absurd (owed_none j a c visit text is owed.0)) (f.answers j a c visit asked came there)
+  response_so j a c connection text asked came there is =
+      ⊎_elim (λ heard. heard_response j c came (slice_get connection.texts a.request) text is heard)
+      (λ pending. absurd (pending_none j a c connection text is pending.0)) (f.answers j a c connection asked came there)
 
   -- ---- one by one
 
   -- there is a count of what had been told when a posting was asked for
-  told_count : (j : ℕ) (a : Asked) → slice_get f.all.asked j ≡ Some a → (n : ℕ) × (slice_get d.brought.seens j ≡ Some n)
+  told_count : (j : ℕ) (a : Asked) → slice_get f.all.asked j ≡ Some a → (n : ℕ) × (slice_get d.received.seens j ≡ Some n)
   told_count j a there =
-      get_some d.brought.seens j
+      get_some d.received.seens j
       (subst (λ n. j < n) (ap length f.asked ∙ sym f.one_by_one.counts) (get_within f.all.asked j a there))
 
-  asked_there : (j : ℕ) (a : Asked) → slice_get f.all.asked j ≡ Some a → slice_get d.brought.asked j ≡ Some a
+  asked_there : (j : ℕ) (a : Asked) → slice_get f.all.asked j ≡ Some a → slice_get d.received.asked j ≡ Some a
   asked_there j a there = ap (λ l. slice_get l j) (sym f.asked) ∙ there
 
   -- each request of a connection was finished before the next was posted
@@ -133,15 +133,15 @@ module _ {new : Dealings} (IsMade : WireTold → Type 0) (parts : ProgramParts) 
       finished_below (run_of parts) h first_worker (length f.all.asked) i j
       (ap (λ c. is_in i (finished_before (run_of parts) h c j)) (sym given_long)
       ∙ ap (is_in i) (sym (k.told_before j n.0 n.1))
-      ∙ any_map (nat_eq i) (λ (t : Told). t.place) (take n.0 d.said.told)
+      ∙ any_map (nat_eq i) (λ (t : Told). t.place) (take n.0 d.sent.told)
       ∙ f.one_by_one.each i j n.0 a b (asked_there i a early) (asked_there j b late) same less n.1)
 
   -- what had been told when a posting was asked for has each that was finished before it
-  told_by : (i j n : ℕ) → slice_get d.brought.seens j ≡ Some n → i < length f.all.asked
+  told_by : (i j n : ℕ) → slice_get d.received.seens j ≡ Some n → i < length f.all.asked
       → finished_at (run_of parts) (past_of (run_of parts) h) first_worker (length f.all.asked) i < j
-      → list_any (λ (t : Told). nat_eq i t.place) (take n d.said.told) ≡ true
+      → list_any (λ (t : Told). nat_eq i t.place) (take n d.sent.told) ≡ true
   told_by i j n seen inside before =
-      sym (any_map (nat_eq i) (λ (t : Told). t.place) (take n d.said.told))
+      sym (any_map (nat_eq i) (λ (t : Told). t.place) (take n d.sent.told))
       ∙ ap (is_in i) (k.told_before j n seen)
       ∙ ap (λ c. is_in i (finished_before (run_of parts) h c j)) given_long
       ∙ before_has (run_of parts) h first_worker (length f.all.asked) i j inside before
@@ -149,7 +149,7 @@ module _ {new : Dealings} (IsMade : WireTold → Type 0) (parts : ProgramParts) 
   -- ---- in turn
 
   -- what had not been told of by then was finished there or later
-  waited_so : (j m n : ℕ) → slice_get d.brought.seens j ≡ Some n → HadToWaitThen d.brought.asked (take n d.said.told) j m
+  waited_so : (j m n : ℕ) → slice_get d.received.seens j ≡ Some n → HadToWaitThen d.received.asked (take n d.sent.told) j m
       → HadToWait (run_of parts) h f.all.asked j m
   waited_so j m n seen w = (w.0, w.1, there, w.3, w.4, by_order (nat_lt at j) refl)
     where
@@ -165,19 +165,19 @@ module _ {new : Dealings} (IsMade : WireTold → Type 0) (parts : ProgramParts) 
       by_order false e = ltb-false at j e
 
   -- one that was over then had all its requests posted before
-  over_so : (j m : ℕ) (l : LinkTold) (visit : Visit) → slice_get f.visits m ≡ Some visit → IsLink IsMade l visit → WasOver d.brought.asked l j m
-      → IsOver visit.stage × (count_by (is_of m) (take j f.all.asked) ≡ length visit.bodies)
-  over_so j m l visit there is over = (
+  over_so : (j m : ℕ) (l : ClientTold) (connection : RunConnection) → slice_get f.connections m ≡ Some connection → IsClient IsMade l connection → WasOver d.received.asked l j m
+      → IsOver connection.stage × (count_by (is_of m) (take j f.all.asked) ≡ length connection.bodies)
+  over_so j m l connection there is over = (
     subst IsOver (sym is.stage) over.0,
-    ap (λ asked. count_by (is_of m) (take j asked)) f.asked ∙ over.1 ∙ ap (count_by (is_of m)) (sym f.asked) ∙ f.taken.all m visit there,
+    ap (λ asked. count_by (is_of m) (take j asked)) f.asked ∙ over.1 ∙ ap (count_by (is_of m)) (sym f.asked) ∙ f.taken.all m connection there,
   )
 
   -- when a posting came each connection before its own waited for an answer or was over
-  pub in_turn_so : AreInTurn (run_of parts) h f.visits f.all.asked
-  in_turn_so j m a visit there at less =
+  pub in_turn_so : AreInTurn (run_of parts) h f.connections f.all.asked
+  in_turn_so j m a connection there at less =
       let n = told_count j a there in
-      let link = link_at IsMade now.kept.links f.visits f.links m visit at in
-      ⊎_elim (λ w. inl (waited_so j m n.0 n.1 w)) (λ over. inr (over_so j m link.0 visit at link.2 over))
+      let link = link_at IsMade now.kept.links f.connections f.links m connection at in
+      ⊎_elim (λ w. inl (waited_so j m n.0 n.1 w)) (λ over. inr (over_so j m link.0 connection at link.2 over))
       (f.in_turn j m n.0 a link.0 (asked_there j a there) n.1 link.1 less)
 
   -- ---- which were told
@@ -187,17 +187,17 @@ module _ {new : Dealings} (IsMade : WireTold → Type 0) (parts : ProgramParts) 
       get_some f.all.came j (subst (λ n. j < n) came_long (get_within f.all.asked j a asked))
 
   -- the request of a place that was heard has its text
-  text_heard : (j : ℕ) → list_any (λ (t : Told). nat_eq j t.place) f.heard ≡ true → (a : Asked) (visit : Visit)
-      → slice_get f.all.asked j ≡ Some a → slice_get f.visits a.traffic ≡ Some visit → a.request < length visit.texts
-  text_heard j is a visit asked there =
+  text_heard : (j : ℕ) → list_any (λ (t : Told). nat_eq j t.place) f.heard ≡ true → (a : Asked) (connection : RunConnection)
+      → slice_get f.all.asked j ≡ Some a → slice_get f.connections a.traffic ≡ Some connection → a.request < length connection.texts
+  text_heard j is a connection asked there =
       let came = came_there j a asked in
-      ⊎_elim (λ heard. get_within visit.texts a.request (response_told parts came.0 heard.told.outcomes) heard.said)
-      (λ owed. absurd (true≢false (sym is ∙ owed.1)))
-      (f.answers j a came.0 visit asked came.1 there)
+      ⊎_elim (λ heard. get_within connection.texts a.request (response_told parts came.0 heard.told.outcomes) heard.sent)
+      (λ pending. absurd (true≢false (sym is ∙ pending.1)))
+      (f.answers j a came.0 connection asked came.1 there)
 
   -- what had been told when the posting of a number was asked for was heard
-  heard_by_then : (i j n : ℕ) → slice_get d.brought.seens j ≡ Some n
-      → list_any (λ (t : Told). nat_eq i t.place) (take n d.said.told) ≡ true
+  heard_by_then : (i j n : ℕ) → slice_get d.received.seens j ≡ Some n
+      → list_any (λ (t : Told). nat_eq i t.place) (take n d.sent.told) ≡ true
       → list_any (λ (t : Told). nat_eq i t.place) f.heard ≡ true
   heard_by_then i j n seen is =
       any_first (λ (t : Told). nat_eq i t.place) n f.heard f.told.0 (f.heard_by j n seen)
@@ -207,73 +207,73 @@ module _ {new : Dealings} (IsMade : WireTold → Type 0) (parts : ProgramParts) 
   one_below n = omega arith
 
   -- so each was heard that was finished before the last posting
-  pub told_early_so : AreToldEarly (run_of parts) h f.visits f.all.asked
-  told_early_so j a visit asked there early =
+  pub told_early_so : AreToldEarly (run_of parts) h f.connections f.all.asked
+  told_early_so j a connection asked there early =
       let at : ℕ = finished_at (run_of parts) (past_of (run_of parts) h) first_worker (length f.all.asked) j in
       let next = get_some f.all.asked (suc at) early in
       let n = told_count (suc at) next.0 next.1 in
       text_heard j
       (heard_by_then j (suc at) n.0 n.1 (told_by j (suc at) n.0 n.1 (get_within f.all.asked j a asked) (one_below at)))
-      a visit asked there
+      a connection asked there
 
   -- ---- all were told
 
-  module _ (running : d.said.halted ≡ false) where
+  module _ (running : d.sent.halted ≡ false) where
     -- each place was told of
     told_each : (j : ℕ) → j < length f.all.asked → list_any (λ (t : Told). nat_eq j t.place) f.heard ≡ true
     told_each j below =
         ap (list_any (λ (t : Told). nat_eq j t.place)) (f.all_told running)
-        ∙ sym (any_map (nat_eq j) (λ (t : Told). t.place) d.said.told)
+        ∙ sym (any_map (nat_eq j) (λ (t : Told). t.place) d.sent.told)
         ∙ ap (is_in j) k.order
-        ∙ order_has (run_of parts) h first_worker (length d.brought.given) j (subst (λ n. j < n) (sym given_long) below)
+        ∙ order_has (run_of parts) h first_worker (length d.received.given) j (subst (λ n. j < n) (sym given_long) below)
 
     -- the last request of a connection has its text
-    last_told : (n : ℕ) (visit : Visit) → slice_get f.visits n ≡ Some visit → (m : ℕ) → length visit.bodies ≡ suc m
-        → m < length visit.texts
-    last_told n visit there m long =
+    last_told : (n : ℕ) (connection : RunConnection) → slice_get f.connections n ≡ Some connection → (m : ℕ) → length connection.bodies ≡ suc m
+        → m < length connection.texts
+    last_told n connection there m long =
         let nth : IsNth (is_of n) f.all.asked m =
-        nth_of (is_of n) f.all.asked m (less_than (count_by (is_of n) f.all.asked) m (f.taken.all n visit there ∙ long)) in
+        nth_of (is_of n) f.all.asked m (less_than (count_by (is_of n) f.all.asked) m (f.taken.all n connection there ∙ long)) in
         let of : n ≡ nth.item.traffic = eq_true n nth.item.traffic nth.kind in
         let request : nth.item.request ≡ m =
         f.taken.in_order nth.place nth.item nth.there
         ∙ ap (λ t. count_by (is_of t) (take nth.place f.all.asked)) (sym of) ∙ nth.before in
-        subst (λ r. r < length visit.texts) request
-        (text_heard nth.place (told_each nth.place (get_within f.all.asked nth.place nth.item nth.there)) nth.item visit nth.there
-        (ap (slice_get f.visits) (sym of) ∙ there))
+        subst (λ r. r < length connection.texts) request
+        (text_heard nth.place (told_each nth.place (get_within f.all.asked nth.place nth.item nth.there)) nth.item connection nth.there
+        (ap (slice_get f.connections) (sym of) ∙ there))
       where
         less_than : (c l : ℕ) → c ≡ suc l → l < c
         less_than c l e = omega (arith, e)
 
-    all_told_by : (n : ℕ) (visit : Visit) → slice_get f.visits n ≡ Some visit → (b : ℕ) → length visit.bodies ≡ b
-        → length visit.texts ≤ b → length visit.texts ≡ b
-    all_told_by n visit there zero long most = let none : length visit.texts ≤ 0 = most in omega (arith, none)
-    all_told_by n visit there (suc m) long most =
-        let last : m < length visit.texts = last_told n visit there m long in omega (arith, last, most)
+    all_told_by : (n : ℕ) (connection : RunConnection) → slice_get f.connections n ≡ Some connection → (b : ℕ) → length connection.bodies ≡ b
+        → length connection.texts ≤ b → length connection.texts ≡ b
+    all_told_by n connection there zero long most = let none : length connection.texts ≤ 0 = most in omega (arith, none)
+    all_told_by n connection there (suc m) long most =
+        let last : m < length connection.texts = last_told n connection there m long in omega (arith, last, most)
 
     same_eq : (m n : ℕ) → m ≡ n → nat_eq m n ≡ true
     same_eq m n e = subst (λ l. nat_eq m l ≡ true) e (itself m)
 
-    told_so : (n : ℕ) (visit : Visit) → slice_get f.visits n ≡ Some visit → is_told visit ≡ true
-    told_so n visit there =
-        let link = link_at IsMade now.kept.links f.visits f.links n visit there in
-        same_eq (length visit.texts) (length visit.bodies)
-        (all_told_by n visit there (length visit.bodies) refl
-        (texts_within link.2.first link.0.seen visit.bodies visit.texts
+    told_so : (n : ℕ) (connection : RunConnection) → slice_get f.connections n ≡ Some connection → is_told connection ≡ true
+    told_so n connection there =
+        let link = link_at IsMade now.kept.links f.connections f.links n connection there in
+        same_eq (length connection.texts) (length connection.bodies)
+        (all_told_by n connection there (length connection.bodies) refl
+        (texts_within link.2.first link.0.seen connection.bodies connection.texts
         (λ e. link.2.memory (link.2.stage ∙ e)) link.2.talks))
 
-    pub all_told_so : list_all is_told f.visits ≡ true
-    all_told_so = all_by_place is_told f.visits told_so
+    pub all_told_so : list_all is_told f.connections ≡ true
+    all_told_so = all_by_place is_told f.connections told_so
 
   -- ---- the whole
 
-  module _ (doors : list_all (λ (visit : Visit). has_door parts visit.service) f.visits ≡ true) where
+  module _ (doors : list_all (λ (connection : RunConnection). has_door parts connection.service) f.connections ≡ true) where
     -- what came on the connections was served
-    abbrev pub served_so : IsServed (run_of parts) h d.said.halted (map traffic_of now.kept.links)
+    abbrev pub served_so : IsServed (run_of parts) h d.sent.halted (map traffic_of now.kept.links)
     served_so = record {
-      visits = f.visits;
+      connections = f.connections;
       all = f.all;
       doors = doors;
-      passed = links_passed IsMade now.kept.links f.visits f.links;
+      passed = links_passed IsMade now.kept.links f.connections f.links;
       taken = record { in_order = f.taken.in_order; all = f.taken.all };
       came = f.came;
       posted = k.posted ∙ ap (posts_of 0) f.given;

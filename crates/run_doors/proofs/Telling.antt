@@ -13,7 +13,7 @@ use Rattle.run_theorem.specs.Ports.{DoorAt}
 use Rattle.run_theorem.specs.Used.{RoseBy, with_openings, with_wires, with_doors, has_failed}
 use Rattle.run_doors.specs.Steps.{GivesWires, GivesDoors, wire_of, door_of, traffic_of}
 use Rattle.run_record.specs.declared.record.Traffic.{Traffic}
-use Rattle.run_door_front.specs.Keeping.{LinkTold, PortTold}
+use Rattle.run_door_front.specs.Keeping.{ClientTold, ListenerTold}
 use Rattle.run_door_front.proofs.Entries.{one_if, count_cons, count_append}
 use Rattle.session_turn.proofs.Walking.{none-counts, some-counts}
 
@@ -24,11 +24,11 @@ stands a b e = omega (arith, e)
 
 -- no failure
 pub rose_none : (a b : ℕ) → b ≡ a → RoseBy 0 a b
-rose_none a b e = record { counted = stands a b e; calm = λ _. e }
+rose_none a b e = record { counted = stands a b e; unfailed = λ _. e }
 
 -- one failure
 pub rose_one : (a b : ℕ) → Rose a b → RoseBy 1 a b
-rose_one a b rose = record { counted = rose; calm = λ (none : 1 ≡ 0). absurd (omega arith) }
+rose_one a b rose = record { counted = rose; unfailed = λ (none : 1 ≡ 0). absurd (omega arith) }
 
 rises : (m n a b c : ℕ) → min (a + m) (2 ^ 64 - 1) ≤ b → min (b + n) (2 ^ 64 - 1) ≤ c → min (a + (m + n)) (2 ^ 64 - 1) ≤ c
 rises m n a b c h g = omega (arith, h, g)
@@ -43,7 +43,7 @@ no_second m n e = omega (arith, e)
 pub rose_then : (m n a b c : ℕ) → RoseBy m a b → RoseBy n b c → RoseBy (m + n) a c
 rose_then m n a b c h g = record {
   counted = rises m n a b c h.counted g.counted;
-  calm = λ none. g.calm (no_second m n none) ∙ h.calm (no_first m n none);
+  unfailed = λ none. g.unfailed (no_second m n none) ∙ h.unfailed (no_first m n none);
 }
 
 at_least_one : (n a b : ℕ) → 1 ≤ n → min (a + n) (2 ^ 64 - 1) ≤ b → min (a + 1) (2 ^ 64 - 1) ≤ b
@@ -65,10 +65,10 @@ module _ {A B : Type 0} (p : A → Bool) (q : B → Bool) (xs : List A) (ys : Li
       (one_of (list_any p xs) (list_any q ys) (count_by p xs) (count_by q ys) (some-counts p xs) (some-counts q ys) e)
       k.counted
 
-  pub stood_calm : (list_any p xs || list_any q ys) ≡ false → b ≡ a
-  stood_calm e =
+  pub stood_unfailed : (list_any p xs || list_any q ys) ≡ false → b ≡ a
+  stood_unfailed e =
       let parts = or_parts (list_any p xs) (list_any q ys) e in
-      k.calm (none_of (count_by p xs) (count_by q ys) (none-counts p xs parts.0) (none-counts q ys parts.1))
+      k.unfailed (none_of (count_by p xs) (count_by q ys) (none-counts p xs parts.0) (none-counts q ys parts.1))
 
 pub with_openings-append : (xs ys : List DoorAt) (t : Tally) → with_openings (xs ++ ys) t ≡ with_openings ys (with_openings xs t)
 with_openings-append [] ys t = refl
@@ -145,14 +145,14 @@ above (suc n) e = omega arith
 -- a count by whether one failed
 rose_if : (failed : Bool) (before now : ℕ) → (failed ≡ true → Rose before now) → (failed ≡ false → now ≡ before)
     → RoseBy (one_if failed + 0) before now
-rose_if true before now raised calm = rose_one before now (raised refl)
-rose_if false before now raised calm = rose_none before now (calm refl)
+rose_if true before now raised unfailed = rose_one before now (raised refl)
+rose_if false before now raised unfailed = rose_none before now (unfailed refl)
 
 -- one door that came back
 pub one_door : (told door : DoorTold) (a b : DoorsTold) → told ≡ door → b.tally ≡ with_door told a.tally
     → b.returned ≡ a.returned → Lists a.returned_doors b.returned_doors (told ∷ []) → b.tries ≡ a.tries
     → (0 < told.faults → Rose a.faults b.faults) → (told.faults ≡ 0 → b.faults ≡ a.faults) → GivesDoors (door ∷ []) a b
-one_door told door a b is tally returned came_back tries raised calm =
+one_door told door a b is tally returned came_back tries raised unfailed =
     subst (λ (d : DoorTold). GivesDoors (d ∷ []) a b) is (record {
       tally = tally;
       returned = returned;
@@ -161,7 +161,7 @@ one_door told door a b is tally returned came_back tries raised calm =
       faults = subst (λ n. RoseBy n a.faults b.faults) (sym (count_cons has_failed told []))
           (rose_if (has_failed told) a.faults b.faults
           (λ e. raised (above told.faults (not-true (told.faults == 0) e)))
-          (λ e. calm (eqb-true told.faults 0 (not-false (told.faults == 0) e))));
+          (λ e. unfailed (eqb-true told.faults 0 (not-false (told.faults == 0) e))));
     })
 
 -- ---- one after another
@@ -186,29 +186,29 @@ none_left (x ∷ xs) n e h = absurd (clash n (length xs) e h)
     clash m k f g = omega (arith, f, g)
 
 -- what the wires that are left make of all
-pub wires_on : (all : List WireTold) (a b c : DoorsTold) (x : LinkTold) (old rest : List LinkTold) → old ≡ x ∷ rest
+pub wires_on : (all : List WireTold) (a b c : DoorsTold) (x : ClientTold) (old rest : List ClientTold) → old ≡ x ∷ rest
     → ((after : DoorsTold) → GivesWires (map wire_of old) b after → GivesWires all a after) → GivesWires (wire_of x ∷ []) b c
     → (after : DoorsTold) → GivesWires (map wire_of rest) c after → GivesWires all a after
 wires_on all a b c x old rest is k one after m =
     k after (subst (λ l. GivesWires (map wire_of l) b after) (sym is) (more_wires (wire_of x ∷ []) (map wire_of rest) b c after one m))
 
-pub wires_end : (all : List WireTold) (a b : DoorsTold) (old : List LinkTold) → old ≡ []
+pub wires_end : (all : List WireTold) (a b : DoorsTold) (old : List ClientTold) → old ≡ []
     → ((after : DoorsTold) → GivesWires (map wire_of old) b after → GivesWires all a after) → GivesWires all a b
 wires_end all a b old none k = k b (subst (λ l. GivesWires (map wire_of l) b b) (sym none) (no_wires b))
 
 -- the same of doors
-pub doors_on : (all : List DoorTold) (a b c : DoorsTold) (x : PortTold) (old rest : List PortTold) → old ≡ x ∷ rest
+pub doors_on : (all : List DoorTold) (a b c : DoorsTold) (x : ListenerTold) (old rest : List ListenerTold) → old ≡ x ∷ rest
     → ((after : DoorsTold) → GivesDoors (map door_of old) b after → GivesDoors all a after) → GivesDoors (x.door ∷ []) b c
     → (after : DoorsTold) → GivesDoors (map door_of rest) c after → GivesDoors all a after
 doors_on all a b c x old rest is k one after m =
     k after (subst (λ l. GivesDoors (map door_of l) b after) (sym is) (more_doors (x.door ∷ []) (map door_of rest) b c after one m))
 
-pub doors_end : (all : List DoorTold) (a b : DoorsTold) (old : List PortTold) → old ≡ []
+pub doors_end : (all : List DoorTold) (a b : DoorsTold) (old : List ListenerTold) → old ≡ []
     → ((after : DoorsTold) → GivesDoors (map door_of old) b after → GivesDoors all a after) → GivesDoors all a b
 doors_end all a b old none k = k b (subst (λ l. GivesDoors (map door_of l) b b) (sym none) (no_doors b))
 
 -- whether one of the doors had failed
-pub failed_on : (f h all : Bool) (x : PortTold) (old rest : List PortTold) → old ≡ x ∷ rest → h ≡ has_failed x.door
+pub failed_on : (f h all : Bool) (x : ListenerTold) (old rest : List ListenerTold) → old ≡ x ∷ rest → h ≡ has_failed x.door
     → (f || list_any has_failed (map door_of old)) ≡ all → ((f || h) || list_any has_failed (map door_of rest)) ≡ all
 failed_on f h all x old rest is failed k =
     or_assoc f h (list_any has_failed (map door_of rest))
@@ -216,7 +216,7 @@ failed_on f h all x old rest is failed k =
     ∙ ap (λ l. f || list_any has_failed (map door_of l)) (sym is) ∙ k
 
 -- the bytes of one connection more
-pub traffic_on : (done all : List Traffic) (t : Traffic) (x : LinkTold) (old rest : List LinkTold) → old ≡ x ∷ rest → t ≡ traffic_of x
+pub traffic_on : (done all : List Traffic) (t : Traffic) (x : ClientTold) (old rest : List ClientTold) → old ≡ x ∷ rest → t ≡ traffic_of x
     → done ++ map traffic_of old ≡ all → (done ++ t ∷ []) ++ map traffic_of rest ≡ all
 traffic_on done all t x old rest is same k =
     append_assoc done (t ∷ []) (map traffic_of rest)

@@ -1,7 +1,7 @@
 -- The wires that come back are those of the connections.
 use Rattle.std.proofs.Common.{◌≡◌, ◌≢◌, ◌↔◌, ◌||◌, ℕ, Bool, true, false, not, List, [], ◌∷◌, map}
 use Rattle.std.proofs.Common.{refl, sym, ap, ap₂, subst, ◌∙◌, true≢false}
-use Rattle.run_theorem.specs.Visits.{Visit}
+use Rattle.run_theorem.specs.RunConnections.{RunConnection}
 use Rattle.http_connection.specs.declared.stage.Stage.{Stage}
 use Rattle.http_connection.specs.declared.stage.Stage.TheVariants as Stages
 use Rattle.outside_traits.specs.Told.{WireTold}
@@ -9,8 +9,8 @@ use Rattle.http_connection.specs.Seen.{Failures, failures_of}
 use Rattle.http_connection.specs.Stages.{stage_of}
 use Rattle.http_connection.specs.Talking.{WireTells}
 use Rattle.http_connection.proofs.Words.{keeps_word}
-use Rattle.run_door_front.specs.Keeping.{LinkTold}
-use Rattle.run_door_front.specs.Dealt.{IsLink, AreLinks}
+use Rattle.run_door_front.specs.Keeping.{ClientTold}
+use Rattle.run_door_front.specs.Exchanged.{IsClient, AreClients}
 use Rattle.run_doors.specs.Steps.{traffic_of, wire_of}
 use Rattle.run_theorem.specs.Used.{IsWireOf, AreWires}
 
@@ -32,8 +32,8 @@ is_lost Stages.Spent = false
 
 -- at such a stage none has failed
 unlost_at : (s : Stage) (lost : Bool) → is_lost s ≡ false → lost ≡ false → (s ≡ Stages.ReadFailed) ↔ (lost ≡ true)
-unlost_at s lost calm none =
-    (λ e. absurd (true≢false (sym (ap is_lost e) ∙ calm)), λ some. absurd (true≢false (sym some ∙ none)))
+unlost_at s lost unfailed none =
+    (λ e. absurd (true≢false (sym (ap is_lost e) ∙ unfailed)), λ some. absurd (true≢false (sym some ∙ none)))
 
 -- of a wire that had not failed a read has failed exactly at one stage
 lost_at : (s : Stage) (first line : WireTold) (read : List ℕ) → first.read_failed ≡ false → s ≢ Stages.Spent
@@ -58,8 +58,8 @@ is_cut Stages.Spent = false
 
 -- at such a stage none has failed
 uncut_at : (s : Stage) (cut : Bool) → is_cut s ≡ false → cut ≡ false → (s ≡ Stages.WriteFailed) ↔ (cut ≡ true)
-uncut_at s cut calm none =
-    (λ e. absurd (true≢false (sym (ap is_cut e) ∙ calm)), λ some. absurd (true≢false (sym some ∙ none)))
+uncut_at s cut unfailed none =
+    (λ e. absurd (true≢false (sym (ap is_cut e) ∙ unfailed)), λ some. absurd (true≢false (sym some ∙ none)))
 
 -- of an open wire that had not failed a write has failed exactly at one stage
 cut_at : (s : Stage) (first line : WireTold) (read : List ℕ) → first.write_failed ≡ false → first.closed ≡ false → s ≢ Stages.Spent
@@ -75,7 +75,7 @@ cut_at Stages.Spent first line read none is_open some k = absurd (some refl)
 
 module _ (IsMade : WireTold → Type 0) where
   -- a wire of a connection
-  wire_is : (l : LinkTold) (v : Visit) → IsLink IsMade l v → IsWireOf IsMade v (traffic_of l) (wire_of l)
+  wire_is : (l : ClientTold) (v : RunConnection) → IsClient IsMade l v → IsWireOf IsMade v (traffic_of l) (wire_of l)
   wire_is l v k =
       let word = keeps_word k.first l.seen v.bodies v.texts k.talks in
       record {
@@ -95,7 +95,7 @@ module _ (IsMade : WireTold → Type 0) where
       }
 
   -- the wires of all
-  pub wires_are : (ls : List LinkTold) (vs : List Visit) → AreLinks IsMade ls vs
+  pub wires_are : (ls : List ClientTold) (vs : List RunConnection) → AreClients IsMade ls vs
       → AreWires IsMade vs (map traffic_of ls) (map wire_of ls)
   wires_are [] [] k = tt
   wires_are [] (v ∷ vs) k = absurd k

@@ -9,7 +9,7 @@ use Rattle.behaviour_tree.specs.Data.{PortPart}
 use Rattle.run_record.specs.declared.record.Record.{Record}
 use Rattle.run_record.specs.declared.record.Traffic.{Traffic}
 use Rattle.run_theorem.specs.Ports.{DoorAt, is_door}
-use Rattle.run_door_front.specs.Keeping.{PortTold, LinkTold}
+use Rattle.run_door_front.specs.Keeping.{ListenerTold, ClientTold}
 use Rattle.run_theorem.specs.Used.{Used, RoseBy, tries_at, has_failed}
 use Rattle.run_theorem.specs.Used.{with_openings, with_wires, with_doors}
 
@@ -28,22 +28,22 @@ abbrev pub doors_at : ℕ → List PortPart → List DoorAt
 doors_at n ports = map (door_to n) (map location_in (filter is_door ports))
 
 -- a door that was opened there, behind so many others
-abbrev pub port_at : ℕ → DoorAt → PortTold
+abbrev pub port_at : ℕ → DoorAt → ListenerTold
 port_at place door = record { service = door.service; door = untried place }
 
 -- doors that were opened there one after another, behind those that were counted
-abbrev pub ports_at : Tally → List DoorAt → List PortTold
+abbrev pub ports_at : Tally → List DoorAt → List ListenerTold
 ports_at tally [] = []
 ports_at tally (door ∷ more) = port_at tally.opened door ∷ ports_at (with_opened tally) more
 
 -- doors while they are opened: what they tell, those that were opened, and whether one could not be
 pub record Opened : Type 0 where
   pub doors : DoorsTold
-  pub ports : List PortTold
+  pub ports : List ListenerTold
   pub failed : Bool
 
 -- the same by its parts
-abbrev pub opened_by : DoorsTold → List PortTold → Bool → Opened
+abbrev pub opened_by : DoorsTold → List ListenerTold → Bool → Opened
 opened_by doors ports failed = record { doors = doors; ports = ports; failed = failed }
 
 -- One try was made to open each of the wanted doors, in order; what could not be opened was left out.
@@ -83,16 +83,16 @@ pub record GivesBack (wires : List WireTold) (doors : List DoorTold) (before now
   pub doors_then : GivesDoors doors mid now
 
 -- the bytes of a connection
-abbrev pub traffic_of : LinkTold → Traffic
+abbrev pub traffic_of : ClientTold → Traffic
 traffic_of link = record { read = link.seen.kept.read.items; written = link.seen.kept.written.items }
 
 -- what its wire tells, once it is closed
-abbrev pub wire_of : LinkTold → WireTold
+abbrev pub wire_of : ClientTold → WireTold
 wire_of link =
     shut link.seen.line
 
 -- what a door tells
-abbrev pub door_of : PortTold → DoorTold
+abbrev pub door_of : ListenerTold → DoorTold
 door_of port = port.door
 
 -- ---- the end

@@ -6,7 +6,7 @@ ghost use Rattle.run_doors.specs.Steps.{GivesBack, GivesDoors, GivesWires, door_
 
 use jolie_trees::Bytes;
 use outside_doors::{Door, Doors};
-use run_door_front::{Kept, Link, Port};
+use run_door_front::{Client, Kept, Listener};
 use run_record::Traffic;
 use sqlite_items::Items;
 use std::alloc::{AllocError, Global};
@@ -40,7 +40,7 @@ pub(crate) fn give_back<D: Doors>(
 fn wires_back<D: Doors>(
     alloc: Global,
     doors: &mut D,
-    links: Vec<Link<<D::D as Door>::W>>,
+    links: Vec<Client<<D::D as Door>::W>>,
 ) -> Result<Items<Traffic>, AllocError>
     ensures traffic { IfOk result (λ traffic. traffic ≡ map traffic_of links.items) }
     ensures doors { OnOk result (GivesWires (map wire_of links.items)
@@ -56,7 +56,7 @@ fn wires_back<D: Doors>(
 }
 
 /// Gives back the wire of a connection. It says what was read and written on it.
-fn wire_back<D: Doors>(doors: &mut D, link: Link<<D::D as Door>::W>) -> Traffic
+fn wire_back<D: Doors>(doors: &mut D, link: Client<<D::D as Door>::W>) -> Traffic
     ensures traffic { result ≡ traffic_of link }
     ensures doors { GivesWires (wire_of link ∷ [])
         (D.told doors.old)
@@ -71,7 +71,7 @@ fn wire_back<D: Doors>(doors: &mut D, link: Link<<D::D as Door>::W>) -> Traffic
 }
 
 /// Gives back doors in order. It says whether one of them had failed.
-fn doors_back<D: Doors>(doors: &mut D, ports: Vec<Port<D::D>>) -> bool
+fn doors_back<D: Doors>(doors: &mut D, ports: Vec<Listener<D::D>>) -> bool
     ensures failed { result ≡ list_any has_failed (map door_of ports.items) }
     ensures doors { GivesDoors (map door_of ports.items)
         (D.told doors.old)
@@ -85,7 +85,7 @@ fn doors_back<D: Doors>(doors: &mut D, ports: Vec<Port<D::D>>) -> bool
 }
 
 /// Gives back a door. It says whether it had failed.
-fn door_back<D: Doors>(doors: &mut D, port: Port<D::D>) -> bool
+fn door_back<D: Doors>(doors: &mut D, port: Listener<D::D>) -> bool
     ensures failed { result ≡ has_failed port.door }
     ensures doors { GivesDoors (port.door ∷ [])
         (D.told doors.old)

@@ -7,13 +7,13 @@ ghost use Rattle.run_doors.specs.Steps.{Opens, doors_at, opened_by};
 use behaviour_tree::{Port as PortOf, Program, Service};
 use outside_doors::{Door, Doors};
 use program_locations::is_socket;
-use run_door_front::Port;
+use run_door_front::Listener;
 use std::alloc::{AllocError, Global};
 
 /// The doors that were opened, and whether one could not be.
 #[derive(Drop)]
 pub(crate) struct Opening<D: Door + Drop> {
-    pub ports: Vec<Port<D>>,
+    pub ports: Vec<Listener<D>>,
     pub failed: bool,
 }
 
@@ -84,7 +84,7 @@ fn open_at<D: Doors>(
         (opened_by (D.told doors.new) opening.new.ports.items opening.new.failed)) }
 {
     match doors.open(location) {
-        Ok(door) => opening.ports.push(Port::new(number, door))?,
+        Ok(door) => opening.ports.push(Listener::new(number, door))?,
         Err(_) => opening.failed = true,
     }
     Ok(())

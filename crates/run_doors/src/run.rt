@@ -38,8 +38,20 @@ pub fn run_doors<S: Seating, D: Doors, N: Sink, L: Link>(
         (λ line. (wire : D.D.W) × (line ≡ D.D.W.told wire))
         connections (record { parts = parts_of program; text = text.now; budget = budget; picks = [] })
         (record {
-          before = record { source = source; output = output; notes = N.told notes.old; doors = D.told doors.old; link = L.told link.old };
-          now = record { source = source; output = output; notes = N.told notes.new; doors = D.told doors.new; link = L.told link.new };
+          before = record {
+            source = source;
+            output = output;
+            notes = N.told notes.old;
+            doors = D.told doors.old;
+            link = L.told link.old;
+          };
+          now = record {
+            source = source;
+            output = output;
+            notes = N.told notes.new;
+            doors = D.told doors.new;
+            link = L.told link.new;
+          };
         })) }
 {
     let Opening { ports, failed } = open_doors(alloc, &program, doors)?;

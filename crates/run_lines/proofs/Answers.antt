@@ -10,7 +10,7 @@ use Rattle.office_core.specs.Past.{Past}
 use Rattle.run_record.specs.Postings.{told}
 use Rattle.run_theorem.specs.Texts.{Came, posting_of, response}
 use Rattle.run_theorem.specs.Lines.{line_if, line_of}
-use Rattle.run_theorem.specs.Dealings.{Told}
+use Rattle.run_theorem.specs.Exchange.{Told}
 use Rattle.jsonrpc_postings.proofs.Responses.{response_told-of}
 use Rattle.run_lines.specs.Told.{line_to, line_told, lines_told}
 use Rattle.run_alone.specs.Ran.{IsTold}

@@ -2,11 +2,11 @@
 use Rattle.std.proofs.Common.{◌≡◌, ◌≢◌, refl, sym, ap, subst, ◌∙◌, ℕ, zero, suc, ◌+◌, ◌≤◌, min, arith, List, [], ◌∷◌, ◌++◌, length, take, map}
 use Rattle.std.proofs.Common.{append_assoc, append-nil, length-append}
 use Rattle.std.proofs.lemmas.List.{map-append, length-map, length-take, take-append-le}
-use Rattle.run_theorem.specs.Split.{split, whole_lines, all_lines, said_lines}
+use Rattle.run_theorem.specs.Split.{split, whole_lines, all_lines, sent_lines}
 use Rattle.run_theorem.specs.Lines.{line_in, come_in, most_postings, IsPrefix, IsProperPrefix}
 use Rattle.run_lines.specs.Passing.{Passing, read_in}
 use Rattle.run_lines.proofs.Splitting.{split-append}
-use Rattle.run_lines.proofs.Postings.{said_lines-append}
+use Rattle.run_lines.proofs.Postings.{sent_lines-append}
 
 -- ---- fronts
 
@@ -40,7 +40,7 @@ come_in-front lines more =
     subst (λ l. IsPrefix (come_in lines) (take most_postings l)) (sym (map-append line_in lines more))
     (take_front most_postings (map line_in lines) (map line_in more))
 
--- where lines brought the most in, more bring nothing
+-- where lines received the most in, more bring nothing
 come_in-full : (lines more : List (List ℕ)) → most_postings ≤ length lines → come_in (lines ++ more) ≡ come_in lines
 come_in-full lines more many =
     ap (take most_postings) (map-append line_in lines more)
@@ -72,32 +72,32 @@ module _ (p : Passing) where
       ap (λ s. s.0 ++ s.1 ∷ []) (split-append p.passed p.rest) ∙ append_assoc (whole_lines p.passed) behind.0 (behind.1 ∷ [])
 
   -- what those bring in that have their end begins with what was passed
-  pub whole_front : IsPrefix (come_in (said_lines (whole_lines p.passed))) (come_in (said_lines (whole_lines (read_in p))))
+  pub whole_front : IsPrefix (come_in (sent_lines (whole_lines p.passed))) (come_in (sent_lines (whole_lines (read_in p))))
   whole_front =
-      subst (λ ls. IsPrefix (come_in (said_lines (whole_lines p.passed))) (come_in ls))
-      (sym (ap said_lines whole_lines-read ∙ said_lines-append (whole_lines p.passed) behind.0))
-      (come_in-front (said_lines (whole_lines p.passed)) (said_lines behind.0))
+      subst (λ ls. IsPrefix (come_in (sent_lines (whole_lines p.passed))) (come_in ls))
+      (sym (ap sent_lines whole_lines-read ∙ sent_lines-append (whole_lines p.passed) behind.0))
+      (come_in-front (sent_lines (whole_lines p.passed)) (sent_lines behind.0))
 
-  -- all said lines
-  said_all : said_lines (all_lines (read_in p)) ≡ said_lines (whole_lines p.passed) ++ said_lines (behind.0 ++ behind.1 ∷ [])
-  said_all = ap said_lines all_lines-read ∙ said_lines-append (whole_lines p.passed) (behind.0 ++ behind.1 ∷ [])
+  -- all sent lines
+  sent_all : sent_lines (all_lines (read_in p)) ≡ sent_lines (whole_lines p.passed) ++ sent_lines (behind.0 ++ behind.1 ∷ [])
+  sent_all = ap sent_lines all_lines-read ∙ sent_lines-append (whole_lines p.passed) (behind.0 ++ behind.1 ∷ [])
 
-  module _ (many : most_postings ≤ length (come_in (said_lines (whole_lines p.passed)))) where
+  module _ (many : most_postings ≤ length (come_in (sent_lines (whole_lines p.passed)))) where
     -- so many lines were passed
-    passed_most : most_postings ≤ length (said_lines (whole_lines p.passed))
+    passed_most : most_postings ≤ length (sent_lines (whole_lines p.passed))
     passed_most =
-        subst (λ n. most_postings ≤ n) (length-map (said_lines (whole_lines p.passed)) line_in)
-        (front_long most_postings (map line_in (said_lines (whole_lines p.passed))) many)
+        subst (λ n. most_postings ≤ n) (length-map (sent_lines (whole_lines p.passed)) line_in)
+        (front_long most_postings (map line_in (sent_lines (whole_lines p.passed))) many)
 
     -- all lines bring nothing more in
-    pub all_full : come_in (said_lines (all_lines (read_in p))) ≡ come_in (said_lines (whole_lines p.passed))
+    pub all_full : come_in (sent_lines (all_lines (read_in p))) ≡ come_in (sent_lines (whole_lines p.passed))
     all_full =
-        ap come_in said_all
-        ∙ come_in-full (said_lines (whole_lines p.passed)) (said_lines (behind.0 ++ behind.1 ∷ [])) passed_most
+        ap come_in sent_all
+        ∙ come_in-full (sent_lines (whole_lines p.passed)) (sent_lines (behind.0 ++ behind.1 ∷ [])) passed_most
 
     -- they are the most
-    pub all_most : most_postings ≤ length (said_lines (all_lines (read_in p)))
+    pub all_most : most_postings ≤ length (sent_lines (all_lines (read_in p)))
     all_most =
-        le_more most_postings (length (said_lines (whole_lines p.passed))) (length (said_lines (behind.0 ++ behind.1 ∷ [])))
-        (length (said_lines (all_lines (read_in p)))) passed_most
-        (ap length said_all ∙ length-append (said_lines (whole_lines p.passed)) (said_lines (behind.0 ++ behind.1 ∷ [])))
+        le_more most_postings (length (sent_lines (whole_lines p.passed))) (length (sent_lines (behind.0 ++ behind.1 ∷ [])))
+        (length (sent_lines (all_lines (read_in p)))) passed_most
+        (ap length sent_all ∙ length-append (sent_lines (whole_lines p.passed)) (sent_lines (behind.0 ++ behind.1 ∷ [])))

@@ -1,4 +1,4 @@
--- What a front over lines brought, as it reads on.
+-- What a front over lines received, as it reads on.
 use Rattle.std.proofs.Common.{◌≡◌, refl, sym, ap, subst, ◌∙◌, ℕ, zero, suc, ◌+◌, ◌<◌, ◌≤◌, min, Bool, true, false, not, arith, List, [], ◌∷◌, ◌++◌, length, take, drop, map}
 use Rattle.std.proofs.Common.{append_assoc, append-nil, length-append, Option, None, Some, Result, Ok, Err, ◌⊎◌, inl, inr, ⊎_elim, count_by, cond, ◌&&◌, ◌||◌, nat_le, ap₂, MatchResult, IfOk, OnOk, OnErr}
 use Rattle.std.specs.declared.alloc.AllocError.{AllocError}
@@ -18,16 +18,16 @@ use Rattle.jsonrpc_text.specs.declared.message.Early.{Early}
 use Rattle.jsonrpc_text.specs.declared.message.ReadCall.{ReadCall}
 use Rattle.jsonrpc_text.specs.declared.message.Read.{Read}
 use Rattle.office_core.specs.declared.front.Posting.{Posting}
-use Rattle.run_theorem.specs.Dealings.{Asked, Brought}
+use Rattle.run_theorem.specs.Exchange.{Asked, Received}
 use Rattle.run_theorem.specs.declared.front.Next.{Next}
 use Rattle.run_theorem.specs.declared.front.Next.TheVariants as next
 use Rattle.run_theorem.specs.Calls.{most_postings, names_service, is_of, Gives, Leaves, none_left, Ends, Came}
 use Rattle.run_record.specs.Order.{numbers_from}
-use Rattle.run_theorem.specs.Split.{split, whole_lines, all_lines, said_lines, is_blank, IsOpen}
+use Rattle.run_theorem.specs.Split.{split, whole_lines, all_lines, sent_lines, is_blank, IsOpen}
 use Rattle.run_theorem.specs.Texts.{call_in, posting_of}
 use Rattle.run_theorem.specs.Lines.{line_in, come_in}
 use Rattle.run_lines.specs.Passing.{Passing, read_in, IsLine, IsNear}
-use Rattle.run_lines.specs.Reading.{Input, input_of, came_by, came_in, asked_of, HasPassed, some, last, whole, full, cut, HasBrought}
+use Rattle.run_lines.specs.Reading.{Input, input_of, came_by, came_in, asked_of, HasPassed, some, last, whole, full, cut, HasReceived}
 use Rattle.run_lines.specs.declared.next_line.Step.{Step}
 use Rattle.run_lines.specs.declared.next_line.Step.TheVariants as step
 use Rattle.run_lines.specs.FrontSteps.{Reading, IsAsBefore, IsNext, Looks, GivesLine}
@@ -49,25 +49,25 @@ come_in-more lines line lt =
     ap (take most_postings) (map-append line_in lines (line ∷ [])) ∙ take_room most_postings (map line_in lines) (line_in line) lt
 
 -- the lines that are not blank among more lines
-pub said_lines-append : (lines more : List (List ℕ)) → said_lines (lines ++ more) ≡ said_lines lines ++ said_lines more
-said_lines-append lines more = filter-append (λ line. not (is_blank line)) lines more
+pub sent_lines-append : (lines more : List (List ℕ)) → sent_lines (lines ++ more) ≡ sent_lines lines ++ sent_lines more
+sent_lines-append lines more = filter-append (λ line. not (is_blank line)) lines more
 
 -- one that is blank is none of them
-pub said_lines-blank : (line : List ℕ) → is_blank line ≡ true → said_lines (line ∷ []) ≡ []
-said_lines-blank line h = rw h
+pub sent_lines-blank : (line : List ℕ) → is_blank line ≡ true → sent_lines (line ∷ []) ≡ []
+sent_lines-blank line h = rw h
 
 -- another is one
-pub said_lines-said : (line : List ℕ) → is_blank line ≡ false → said_lines (line ∷ []) ≡ line ∷ []
-said_lines-said line h = rw h
+pub sent_lines-sent : (line : List ℕ) → is_blank line ≡ false → sent_lines (line ∷ []) ≡ line ∷ []
+sent_lines-sent line h = rw h
 
 -- a blank line behind others adds nothing
-pub said_lines-more_blank : (lines : List (List ℕ)) (line : List ℕ) → is_blank line ≡ true → said_lines (lines ++ line ∷ []) ≡ said_lines lines
-said_lines-more_blank lines line h =
-    said_lines-append lines (line ∷ []) ∙ ap (λ t. said_lines lines ++ t) (said_lines-blank line h) ∙ append-nil (said_lines lines)
+pub sent_lines-more_blank : (lines : List (List ℕ)) (line : List ℕ) → is_blank line ≡ true → sent_lines (lines ++ line ∷ []) ≡ sent_lines lines
+sent_lines-more_blank lines line h =
+    sent_lines-append lines (line ∷ []) ∙ ap (λ t. sent_lines lines ++ t) (sent_lines-blank line h) ∙ append-nil (sent_lines lines)
 
 -- another adds itself
-pub said_lines-more : (lines : List (List ℕ)) (line : List ℕ) → is_blank line ≡ false → said_lines (lines ++ line ∷ []) ≡ said_lines lines ++ line ∷ []
-said_lines-more lines line h = said_lines-append lines (line ∷ []) ∙ ap (λ t. said_lines lines ++ t) (said_lines-said line h)
+pub sent_lines-more : (lines : List (List ℕ)) (line : List ℕ) → is_blank line ≡ false → sent_lines (lines ++ line ∷ []) ≡ sent_lines lines ++ line ∷ []
+sent_lines-more lines line h = sent_lines-append lines (line ∷ []) ∙ ap (λ t. sent_lines lines ++ t) (sent_lines-sent line h)
 
 -- ---- requests
 
@@ -112,8 +112,8 @@ module _ (parts : ProgramParts) (has_one : 0 < length parts.services) where
 
 -- ---- a front that has no posting any more
 
--- what a front brought once it ended
-abbrev pub ended_by : Brought → ℕ → Brought
+-- what a front received once it ended
+abbrev pub ended_by : Received → ℕ → Received
 ended_by b faults =
     record {
       given = b.given;
@@ -128,7 +128,7 @@ ended_by b faults =
     }
 
 -- it ends where nothing is told to be left
-ends_so : (first now : Input) (b : Brought) (faults : ℕ) → b.left ≡ None → b.faults ≤ faults → Ends b (ended_by b faults)
+ends_so : (first now : Input) (b : Received) (faults : ℕ) → b.left ≡ None → b.faults ≤ faults → Ends b (ended_by b faults)
 ends_so first now b faults none later = record {
   none = record { given = refl; asked = refl; left = inl refl; faults = later; seens = refl };
   over = none_left (λ ps is. absurd (let clash : None ≡ Some ps = sym none ∙ is in cc));
@@ -139,18 +139,18 @@ ends_so first now b faults none later = record {
 -- how far the lines were passed once it had the last or the most
 ended_passed : (first now : Input) (ended : Bool) → ended ≡ false → (now.over ≡ true) ⊎ (most_postings ≤ length now.reads)
     → HasPassed first now ended → HasPassed first now true
-ended_passed first now ended yet over (some e running calm came) =
+ended_passed first now ended yet over (some e running unfailed came) =
     let many : most_postings ≤ length now.reads = ⊎_elim (λ is. absurd (true≢false (sym is ∙ running))) (λ h. h) over in
-    full refl calm many came
-ended_passed first now ended yet over (last e stopped calm at_end came) = whole refl calm at_end came
-ended_passed first now ended yet over (whole e calm at_end came) = absurd (true≢false (sym e ∙ yet))
-ended_passed first now ended yet over (full e calm many came) = absurd (true≢false (sym e ∙ yet))
+    full refl unfailed many came
+ended_passed first now ended yet over (last e stopped unfailed at_end came) = whole refl unfailed at_end came
+ended_passed first now ended yet over (whole e unfailed at_end came) = absurd (true≢false (sym e ∙ yet))
+ended_passed first now ended yet over (full e unfailed many came) = absurd (true≢false (sym e ∙ yet))
 ended_passed first now ended yet over (cut e rose came) = absurd (true≢false (sym e ∙ yet))
 
 -- the front ends
-pub brought-ended : (first now : Input) (b : Brought) → (now.over ≡ true) ⊎ (most_postings ≤ length now.reads) → HasBrought first now b → b.ended ≡ false
-    → (after : Brought) × HasBrought first now after × Ends b after
-brought-ended first now b over h open_yet = (
+pub received-ended : (first now : Input) (b : Received) → (now.over ≡ true) ⊎ (most_postings ≤ length now.reads) → HasReceived first now b → b.ended ≡ false
+    → (after : Received) × HasReceived first now after × Ends b after
+received-ended first now b over h open_yet = (
   ended_by b b.faults,
   record {
     read = h.read;
@@ -165,9 +165,9 @@ brought-ended first now b over h open_yet = (
   ends_so first now b b.faults h.left (omega arith),
 )
 
--- what a front brought by an input that it reads on, behind what it had brought
-abbrev pub brought_by : Brought → Input → Brought
-brought_by before later = record {
+-- what a front received by an input that it reads on, behind what it had received
+abbrev pub received_by : Received → Input → Received
+received_by before later = record {
   given = map posting_of (came_in later);
   asked = asked_of (length later.reads);
   left = None;
@@ -183,17 +183,17 @@ brought_by before later = record {
 
 -- what came in with lines that were passed, while a front reads on
 passed_so : (first now : Input) (ended : Bool) → ended ≡ false → now.over ≡ false → HasPassed first now ended
-    → (now.faults ≡ first.faults) × (came_in now ≡ come_in (said_lines (whole_lines now.passing.passed)))
-passed_so first now ended yet running (some e r calm came) = (calm, came)
-passed_so first now ended yet running (last e stopped calm at_end came) = absurd (true≢false (sym stopped ∙ running))
-passed_so first now ended yet running (whole e calm at_end came) = absurd (true≢false (sym e ∙ yet))
-passed_so first now ended yet running (full e calm many came) = absurd (true≢false (sym e ∙ yet))
+    → (now.faults ≡ first.faults) × (came_in now ≡ come_in (sent_lines (whole_lines now.passing.passed)))
+passed_so first now ended yet running (some e r unfailed came) = (unfailed, came)
+passed_so first now ended yet running (last e stopped unfailed at_end came) = absurd (true≢false (sym stopped ∙ running))
+passed_so first now ended yet running (whole e unfailed at_end came) = absurd (true≢false (sym e ∙ yet))
+passed_so first now ended yet running (full e unfailed many came) = absurd (true≢false (sym e ∙ yet))
 passed_so first now ended yet running (cut e rose came) = absurd (true≢false (sym e ∙ yet))
 
-module _ (first : Input) (reads : List Read) (over : Bool) (running : over ≡ false) (before now : Reading) (b : Brought)
-    (same : IsAsBefore before now) (h : HasBrought first (input_of before.passing reads over before.left before.faults) b) (open_yet : b.ended ≡ false) where
+module _ (first : Input) (reads : List Read) (over : Bool) (running : over ≡ false) (before now : Reading) (b : Received)
+    (same : IsAsBefore before now) (h : HasReceived first (input_of before.passing reads over before.left before.faults) b) (open_yet : b.ended ≡ false) where
   -- what came in so far
-  here : (before.faults ≡ first.faults) × (map came_by reads ≡ come_in (said_lines (whole_lines before.passing.passed)))
+  here : (before.faults ≡ first.faults) × (map came_by reads ≡ come_in (sent_lines (whole_lines before.passing.passed)))
   here = passed_so first (input_of before.passing reads over before.left before.faults) b.ended open_yet running h.passed
 
   -- all that was read is what the source gave
@@ -203,25 +203,25 @@ module _ (first : Input) (reads : List Read) (over : Bool) (running : over ≡ f
       (Consumes-trans first.left before.left now.left (read_in before.passing) same.grows.bytes h.read same.grows.given)
 
   -- the same came in with the lines that were passed by now
-  came_now : map came_by reads ≡ come_in (said_lines (whole_lines now.passing.passed))
+  came_now : map came_by reads ≡ come_in (sent_lines (whole_lines now.passing.passed))
   came_now = here.1 ∙ ap come_in (sym same.lines)
 
   -- nothing came
-  pub brought-idle : now.faults ≡ before.faults → HasBrought first (input_of now.passing reads over now.left now.faults) b
-  brought-idle calm = record {
+  pub received-idle : now.faults ≡ before.faults → HasReceived first (input_of now.passing reads over now.left now.faults) b
+  received-idle unfailed = record {
     read = read_now;
     near = same.near h.near;
-    passed = some open_yet running (calm ∙ here.0) came_now;
+    passed = some open_yet running (unfailed ∙ here.0) came_now;
     given = h.given;
     asked = h.asked;
     left = h.left;
     waits = h.waits;
-    faults = h.faults ∙ sym calm;
+    faults = h.faults ∙ sym unfailed;
   }
 
   -- the front ends with lines that bring nothing more in
   ended_so : HasPassed first (input_of now.passing reads true now.left now.faults) true
-      → (after : Brought) × HasBrought first (input_of now.passing reads true now.left now.faults) after × Ends b after
+      → (after : Received) × HasReceived first (input_of now.passing reads true now.left now.faults) after × Ends b after
   ended_so passed = (
     ended_by b now.faults,
     record {
@@ -239,36 +239,36 @@ module _ (first : Input) (reads : List Read) (over : Bool) (running : over ≡ f
 
   module _ (ended : (split now.passing.passed).1 ≡ []) (inside : IsOpen now.passing.rest) where
     -- the source is at its end, and its last line is blank
-    pub brought-end : now.faults ≡ before.faults → is_blank now.passing.rest ≡ true → IsAtEnd now.left
-        → (after : Brought) × HasBrought first (input_of now.passing reads true now.left now.faults) after × Ends b after
-    brought-end calm blank at_end = ended_so
-        (whole refl (calm ∙ here.0) at_end
+    pub received-end : now.faults ≡ before.faults → is_blank now.passing.rest ≡ true → IsAtEnd now.left
+        → (after : Received) × HasReceived first (input_of now.passing reads true now.left now.faults) after × Ends b after
+    received-end unfailed blank at_end = ended_so
+        (whole refl (unfailed ∙ here.0) at_end
         (came_now
-        ∙ ap come_in (sym (said_lines-more_blank (whole_lines now.passing.passed) now.passing.rest blank)
-        ∙ ap said_lines (sym (lines-last now.passing.passed now.passing.rest ended inside)))))
+        ∙ ap come_in (sym (sent_lines-more_blank (whole_lines now.passing.passed) now.passing.rest blank)
+        ∙ ap sent_lines (sym (lines-last now.passing.passed now.passing.rest ended inside)))))
 
     -- the source failed
-    pub brought-cut : Rose before.faults now.faults
-        → (after : Brought) × HasBrought first (input_of now.passing reads true now.left now.faults) after × Ends b after
-    brought-cut rose = ended_so
+    pub received-cut : Rose before.faults now.faults
+        → (after : Received) × HasReceived first (input_of now.passing reads true now.left now.faults) after × Ends b after
+    received-cut rose = ended_so
         (cut refl (subst (λ n. Rose n now.faults) here.0 rose)
-        (came_now ∙ ap (λ ls. come_in (said_lines ls)) (sym (lines-cut now.passing.passed now.passing.rest ended inside))))
+        (came_now ∙ ap (λ ls. come_in (sent_lines ls)) (sym (lines-cut now.passing.passed now.passing.rest ended inside))))
 
   -- ---- a posting comes
 
   module _ (parts : ProgramParts) (has_one : 0 < length parts.services) (room : length reads < most_postings) (line : List ℕ) where
     -- what came in with the line
-    came_more : map came_by (reads ++ posted line ∷ []) ≡ come_in (said_lines (whole_lines now.passing.passed) ++ line ∷ [])
+    came_more : map came_by (reads ++ posted line ∷ []) ≡ come_in (sent_lines (whole_lines now.passing.passed) ++ line ∷ [])
     came_more =
-        let count : length (come_in (said_lines (whole_lines now.passing.passed))) ≡ length reads = ap length (sym came_now) ∙ length-map reads came_by in
+        let count : length (come_in (sent_lines (whole_lines now.passing.passed))) ≡ length reads = ap length (sym came_now) ∙ length-map reads came_by in
         map-append came_by reads (posted line ∷ []) ∙ ap (λ cs. cs ++ line_in line ∷ []) came_now
-        ∙ sym (come_in-more (said_lines (whole_lines now.passing.passed)) line (subst (λ n. n < most_postings) (sym count) room))
+        ∙ sym (come_in-more (sent_lines (whole_lines now.passing.passed)) line (subst (λ n. n < most_postings) (sym count) room))
 
     -- the front gives its posting
     gives_so : (p : Posting) (later : Input) → p ≡ posting_of (line_in line) → later.reads ≡ reads ++ posted line ∷ [] → later.left ≡ now.left
         → later.faults ≡ before.faults → read_in later.passing ≡ read_in now.passing → IsNear later.passing → HasPassed first later false
-        → (after : Brought) × HasBrought first later after × Gives parts p b after
-    gives_so p later is kept left calm read near passed =
+        → (after : Received) × HasReceived first later after × Gives parts p b after
+    gives_so p later is kept left unfailed read near passed =
         let more : length later.reads ≡ length reads + 1 = ap length kept ∙ length-append reads (posted line ∷ []) in
         let given : map posting_of (came_in later) ≡ b.given ++ posting_of (line_in line) ∷ [] =
         ap (λ rs. map posting_of (map came_by rs)) kept ∙ ap (map posting_of) (map-append came_by reads (posted line ∷ []))
@@ -277,8 +277,8 @@ module _ (first : Input) (reads : List Read) (over : Bool) (running : over ≡ f
         asked_of-more (length later.reads) (length reads) more ∙ ap (λ rs. rs ++ request_of (length reads) ∷ []) (sym h.asked) in
         let long : length (map posting_of (came_in later)) ≡ length later.reads =
         length-map (came_in later) posting_of ∙ length-map later.reads came_by in
-        subst (λ q. (after : Brought) × HasBrought first later after × Gives parts q b after) (sym is) (
-          brought_by b later,
+        subst (λ q. (after : Received) × HasReceived first later after × Gives parts q b after) (sym is) (
+          received_by b later,
           record {
             read = subst (λ l. Consumes first.left l (read_in later.passing)) (sym left) (subst (Consumes first.left now.left) (sym read) read_now);
             near = near;
@@ -296,46 +296,46 @@ module _ (first : Input) (reads : List Read) (over : Bool) (running : over ≡ f
             asked = asked;
             request = sym (ap (count_by (is_of 0)) h.asked ∙ count_asked 0 (length reads));
             services = all_named parts has_one (posted line).calls;
-            left = subst (λ l. Leaves (posting_of (line_in line)) l b (brought_by b later)) (sym h.left) refl;
+            left = subst (λ l. Leaves (posting_of (line_in line)) l b (received_by b later)) (sym h.left) refl;
             waits = refl;
             ended = refl;
-            faults = subst (λ n. b.faults ≤ n) (sym calm) (subst (λ n. n ≤ before.faults) (sym h.faults) (omega arith));
+            faults = subst (λ n. b.faults ≤ n) (sym unfailed) (subst (λ n. n ≤ before.faults) (sym h.faults) (omega arith));
             seens = refl;
           },
         )
 
   module _ (parts : ProgramParts) (has_one : 0 < length parts.services) (room : length reads < most_postings) (p : Posting) (later : Input)
-      (left : later.left ≡ now.left) (faults : later.faults ≡ now.faults) (calm : now.faults ≡ before.faults) (ended : (split now.passing.passed).1 ≡ []) where
+      (left : later.left ≡ now.left) (faults : later.faults ≡ now.faults) (unfailed : now.faults ≡ before.faults) (ended : (split now.passing.passed).1 ≡ []) where
     -- the next line has its end
-    pub brought-line : (n : ℕ) → IsLine n now.passing.rest → is_blank (take n now.passing.rest) ≡ false
+    pub received-line : (n : ℕ) → IsLine n now.passing.rest → is_blank (take n now.passing.rest) ≡ false
         → later.passing.passed ≡ now.passing.passed ++ take n now.passing.rest ++ 10 ∷ [] → later.passing.rest ≡ drop (n + 1) now.passing.rest
         → p ≡ posting_of (line_in (take n now.passing.rest)) → later.reads ≡ reads ++ posted (take n now.passing.rest) ∷ [] → later.over ≡ false
-        → (after : Brought) × HasBrought first later after × Gives parts p b after
-    brought-line n l said passed rest is kept still =
+        → (after : Received) × HasReceived first later after × Gives parts p b after
+    received-line n l sent passed rest is kept still =
         let line : List ℕ = take n now.passing.rest in
         let read : read_in later.passing ≡ read_in now.passing =
         ap₂ (λ x y. x ++ y) passed rest
         ∙ append_assoc (now.passing.passed ++ line) (10 ∷ []) (drop (n + 1) now.passing.rest)
         ∙ append_assoc now.passing.passed line (10 ∷ drop (n + 1) now.passing.rest)
         ∙ ap (λ r. now.passing.passed ++ r) (sym l.whole) in
-        let lines : said_lines (whole_lines now.passing.passed) ++ line ∷ [] ≡ said_lines (whole_lines later.passing.passed) =
-        sym (said_lines-more (whole_lines now.passing.passed) line said) ∙ ap said_lines (sym (ap whole_lines passed ∙ lines-passed now.passing.passed line ended l.inside)) in
-        gives_so parts has_one room line p later is kept left (faults ∙ calm) read
+        let lines : sent_lines (whole_lines now.passing.passed) ++ line ∷ [] ≡ sent_lines (whole_lines later.passing.passed) =
+        sym (sent_lines-more (whole_lines now.passing.passed) line sent) ∙ ap sent_lines (sym (ap whole_lines passed ∙ lines-passed now.passing.passed line ended l.inside)) in
+        gives_so parts has_one room line p later is kept left (faults ∙ unfailed) read
         (near_passed now.passing later.passing n l rest (same.near h.near))
-        (some refl still (faults ∙ calm ∙ here.0) (ap (map came_by) kept ∙ came_more parts has_one room line ∙ ap come_in lines))
+        (some refl still (faults ∙ unfailed ∙ here.0) (ap (map came_by) kept ∙ came_more parts has_one room line ∙ ap come_in lines))
 
     -- the last line has none
-    pub brought-last : IsOpen now.passing.rest → is_blank now.passing.rest ≡ false → IsAtEnd now.left → later.passing ≡ now.passing
+    pub received-last : IsOpen now.passing.rest → is_blank now.passing.rest ≡ false → IsAtEnd now.left → later.passing ≡ now.passing
         → p ≡ posting_of (line_in now.passing.rest) → later.reads ≡ reads ++ posted now.passing.rest ∷ [] → later.over ≡ true
-        → (after : Brought) × HasBrought first later after × Gives parts p b after
-    brought-last inside said at_end same_passing is kept over_now =
+        → (after : Received) × HasReceived first later after × Gives parts p b after
+    received-last inside sent at_end same_passing is kept over_now =
         let line : List ℕ = now.passing.rest in
-        let lines : said_lines (whole_lines now.passing.passed) ++ line ∷ [] ≡ said_lines (all_lines (read_in later.passing)) =
-        sym (said_lines-more (whole_lines now.passing.passed) line said)
-        ∙ ap said_lines (sym (ap (λ x. all_lines (read_in x)) same_passing ∙ lines-last now.passing.passed line ended inside)) in
-        gives_so parts has_one room line p later is kept left (faults ∙ calm) (ap read_in same_passing)
+        let lines : sent_lines (whole_lines now.passing.passed) ++ line ∷ [] ≡ sent_lines (all_lines (read_in later.passing)) =
+        sym (sent_lines-more (whole_lines now.passing.passed) line sent)
+        ∙ ap sent_lines (sym (ap (λ x. all_lines (read_in x)) same_passing ∙ lines-last now.passing.passed line ended inside)) in
+        gives_so parts has_one room line p later is kept left (faults ∙ unfailed) (ap read_in same_passing)
         (subst IsNear (sym same_passing) (same.near h.near))
-        (last refl over_now (faults ∙ calm ∙ here.0) (subst IsAtEnd (sym left) at_end) (ap (map came_by) kept ∙ came_more parts has_one room line ∙ ap come_in lines))
+        (last refl over_now (faults ∙ unfailed ∙ here.0) (subst IsAtEnd (sym left) at_end) (ap (map came_by) kept ∙ came_more parts has_one room line ∙ ap come_in lines))
 
 -- ---- calls
 
@@ -357,23 +357,23 @@ input_by i passing reads over left faults p r o l f =
     ∙ ap (λ x. input_of i.passing i.reads x left faults) (sym o) ∙ ap (λ x. input_of i.passing i.reads i.over x faults) (sym l)
     ∙ ap (λ x. input_of i.passing i.reads i.over i.left x) (sym f)
 
-module _ (first : Input) (reads : List Read) (over : Bool) (before now : Reading) (b : Brought)
+module _ (first : Input) (reads : List Read) (over : Bool) (before now : Reading) (b : Received)
     (running : (over || nat_le most_postings (length reads)) ≡ false)
-    (h : HasBrought first (input_of before.passing reads over before.left before.faults) b) (open_yet : b.ended ≡ false) where
+    (h : HasReceived first (input_of before.passing reads over before.left before.faults) b) (open_yet : b.ended ≡ false) where
   -- it reads on
   on : over ≡ false
   on = (not_all_passed over (length reads) running).0
 
   -- memory was wanting while it looked for a line
-  pub looked-unfound : IsAsBefore before now → now.faults ≡ before.faults → HasBrought first (input_of now.passing reads over now.left now.faults) b
-  looked-unfound same calm = brought-idle first reads over on before now b same h open_yet calm
+  pub looked-unfound : IsAsBefore before now → now.faults ≡ before.faults → HasReceived first (input_of now.passing reads over now.left now.faults) b
+  looked-unfound same unfailed = received-idle first reads over on before now b same h open_yet unfailed
 
   module _ (s : Step) (looks : Looks s before now) (later : Input) (left : later.left ≡ now.left) (faults : later.faults ≡ now.faults) where
     -- nothing came with what was read
-    kept_so : now.faults ≡ before.faults → later.passing ≡ now.passing → later.reads ≡ reads → later.over ≡ over → HasBrought first later b
-    kept_so calm p r o =
-        subst (λ i. HasBrought first i b) (input_by later now.passing reads over now.left now.faults p r o left faults)
-        (brought-idle first reads over on before now b looks.same h open_yet calm)
+    kept_so : now.faults ≡ before.faults → later.passing ≡ now.passing → later.reads ≡ reads → later.over ≡ over → HasReceived first later b
+    kept_so unfailed p r o =
+        subst (λ i. HasReceived first i b) (input_by later now.passing reads over now.left now.faults p r o left faults)
+        (received-idle first reads over on before now b looks.same h open_yet unfailed)
 
     -- the posting of the next line, or no memory for it
     pub looked-line : (parts : ProgramParts) → 0 < length parts.services → (n : ℕ) → s ≡ step.Line n → (result : Result Next AllocError)
@@ -381,11 +381,11 @@ module _ (first : Input) (reads : List Read) (over : Bool) (before now : Reading
         → OnOk result (later.passing.passed ≡ now.passing.passed ++ take n now.passing.rest ++ 10 ∷ [])
         → OnOk result (later.passing.rest ≡ drop (n + 1) now.passing.rest)
         → later.over ≡ over → OnErr result (later.passing ≡ now.passing) → OnErr result (later.reads ≡ reads)
-        → MatchResult result (λ w. (x : Brought) × HasBrought first later x × Came parts w b x) (λ _. HasBrought first later b)
+        → MatchResult result (λ w. (x : Received) × HasReceived first later x × Came parts w b x) (λ _. HasReceived first later b)
     looked-line parts has_one n is (Ok w) gives passed rest still same kept =
         let k : IsNext (step.Line n) before now = subst (λ v. IsNext v before now) is looks.found in
-        subst (λ v. (x : Brought) × HasBrought first later x × Came parts v b x) (sym gives.given)
-        (brought-line first reads over on before now b looks.same h open_yet parts has_one (not_all_passed over (length reads) running).1
+        subst (λ v. (x : Received) × HasReceived first later x × Came parts v b x) (sym gives.given)
+        (received-line first reads over on before now b looks.same h open_yet parts has_one (not_all_passed over (length reads) running).1
         (posting_of (line_in (take n now.passing.rest))) later left faults k.0 looks.ended n k.1 k.2 passed rest refl gives.kept (still ∙ on))
     looked-line parts has_one n is (Err e) gives passed rest still same kept =
         let k : IsNext (step.Line n) before now = subst (λ v. IsNext v before now) is looks.found in
@@ -395,11 +395,11 @@ module _ (first : Input) (reads : List Read) (over : Bool) (before now : Reading
     pub looked-last : (parts : ProgramParts) → 0 < length parts.services → s ≡ step.Last → (result : Result Next AllocError)
         → IfOk result (λ w. GivesLine now.passing.rest w reads later.reads) → later.passing ≡ now.passing
         → OnOk result (later.over ≡ true) → OnErr result (later.over ≡ over) → OnErr result (later.reads ≡ reads)
-        → MatchResult result (λ w. (x : Brought) × HasBrought first later x × Came parts w b x) (λ _. HasBrought first later b)
+        → MatchResult result (λ w. (x : Received) × HasReceived first later x × Came parts w b x) (λ _. HasReceived first later b)
     looked-last parts has_one is (Ok w) gives same ends still kept =
         let k : IsNext step.Last before now = subst (λ v. IsNext v before now) is looks.found in
-        subst (λ v. (x : Brought) × HasBrought first later x × Came parts v b x) (sym gives.given)
-        (brought-last first reads over on before now b looks.same h open_yet parts has_one (not_all_passed over (length reads) running).1
+        subst (λ v. (x : Received) × HasReceived first later x × Came parts v b x) (sym gives.given)
+        (received-last first reads over on before now b looks.same h open_yet parts has_one (not_all_passed over (length reads) running).1
         (posting_of (line_in now.passing.rest)) later left faults k.0 looks.ended k.1 k.2 k.3 same refl gives.kept ends)
     looked-last parts has_one is (Err e) gives same ends still kept =
         let k : IsNext step.Last before now = subst (λ v. IsNext v before now) is looks.found in
@@ -411,22 +411,22 @@ module _ (first : Input) (reads : List Read) (over : Bool) (before now : Reading
       later_is = input_by later now.passing reads true now.left now.faults same kept over_now left faults
 
       -- the end by what is there
-      ended_as : ((x : Brought) × HasBrought first (input_of now.passing reads true now.left now.faults) x × Ends b x) → (x : Brought) × HasBrought first later x × Came parts w b x
+      ended_as : ((x : Received) × HasReceived first (input_of now.passing reads true now.left now.faults) x × Ends b x) → (x : Received) × HasReceived first later x × Came parts w b x
       ended_as k =
-          subst (λ v. (x : Brought) × HasBrought first later x × Came parts v b x) (sym ends)
-          (k.0, subst (λ i. HasBrought first i k.0) later_is k.1, k.2)
+          subst (λ v. (x : Received) × HasReceived first later x × Came parts v b x) (sym ends)
+          (k.0, subst (λ i. HasReceived first i k.0) later_is k.1, k.2)
 
       -- the source is at its end
-      pub looked-end : s ≡ step.End → (x : Brought) × HasBrought first later x × Came parts w b x
+      pub looked-end : s ≡ step.End → (x : Received) × HasReceived first later x × Came parts w b x
       looked-end is =
           let k : IsNext step.End before now = subst (λ v. IsNext v before now) is looks.found in
-          ended_as (brought-end first reads over on before now b looks.same h open_yet looks.ended k.1 k.0 k.2 k.3)
+          ended_as (received-end first reads over on before now b looks.same h open_yet looks.ended k.1 k.0 k.2 k.3)
 
       -- the source failed
-      pub looked-cut : s ≡ step.Cut → (x : Brought) × HasBrought first later x × Came parts w b x
+      pub looked-cut : s ≡ step.Cut → (x : Received) × HasReceived first later x × Came parts w b x
       looked-cut is =
           let k : IsNext step.Cut before now = subst (λ v. IsNext v before now) is looks.found in
-          ended_as (brought-cut first reads over on before now b looks.same h open_yet looks.ended k.1 k.0)
+          ended_as (received-cut first reads over on before now b looks.same h open_yet looks.ended k.1 k.0)
 
 -- ---- what came in stays
 

@@ -1,4 +1,4 @@
--- What a front over lines wrote, as more is said to it.
+-- What a front over lines wrote, as more is sent to it.
 use Rattle.std.proofs.Common.{◌≡◌, ◌≢◌, refl, sym, ap, subst, ◌∙◌, ℕ, ◌+◌, ◌-◌, ◌^◌, ◌<◌, ◌≤◌, min, nat_lt, Bool, true, false, arith, List, [], ◌∷◌, ◌++◌, length, take, drop}
 use Rattle.std.proofs.Common.{append_assoc, append-nil, inl, inr}
 use Rattle.std.specs.Io.KnownBytes.{Appends}
@@ -8,14 +8,14 @@ use Rattle.std.proofs.lemmas.List.{take_all, take-append-drop, length-drop}
 use Rattle.std.proofs.lemmas.List.Concat.{flat_map-append}
 use Rattle.outside_traits.specs.Causes.{Rose}
 use Rattle.behaviour_tree.specs.Data.{ProgramParts}
-use Rattle.run_theorem.specs.Dealings.{Told, Said}
+use Rattle.run_theorem.specs.Exchange.{Told, Sent}
 use Rattle.run_theorem.specs.Calls.{Halts}
 use Rattle.run_theorem.specs.Texts.{Came}
 use Rattle.run_theorem.specs.Lines.{IsPrefix, IsProperPrefix}
 use Rattle.run_lines.specs.Told.{line_told, lines_told}
 use Rattle.outside_traits.specs.Told.{SinkTold}
 use Rattle.outside_writing.specs.Sinks.{Takes}
-use Rattle.run_lines.specs.Writing.{Output, faults_of, Due, HasWritten, entire, in_lines, in_notes, HasSaid}
+use Rattle.run_lines.specs.Writing.{Output, faults_of, Due, HasWritten, entire, in_lines, in_notes, HasSent}
 
 -- ---- fronts of longer lists
 
@@ -72,35 +72,35 @@ lines_told-more parts came told t =
 lines_cut : (first now : Output) (notes_failed : Bool) (noted : List ℕ) (old new : Due) (text : List ℕ) → now.halted ≡ true
     → new.lines ≡ old.lines ++ text → new.notes ≡ old.notes → HasWritten first now notes_failed noted old → HasWritten first now notes_failed noted new
 lines_cut first now notes_failed noted old new text halted l n (entire running u a b c d) = absurd (true≢false (sym halted ∙ running))
-lines_cut first now notes_failed noted old new text halted l n (in_lines e u rose calm all part) =
-    in_lines e u rose calm (all ∙ sym n) (subst (IsProperPrefix now.written) (sym l) (IsProperPrefix-longer now.written old.lines text part))
-lines_cut first now notes_failed noted old new text halted l n (in_notes e m rose calm front part) =
-    in_notes e m rose calm (subst (IsPrefix now.written) (sym l) (IsPrefix-longer now.written old.lines text front))
+lines_cut first now notes_failed noted old new text halted l n (in_lines e u rose unfailed all part) =
+    in_lines e u rose unfailed (all ∙ sym n) (subst (IsProperPrefix now.written) (sym l) (IsProperPrefix-longer now.written old.lines text part))
+lines_cut first now notes_failed noted old new text halted l n (in_notes e m rose unfailed front part) =
+    in_notes e m rose unfailed (subst (IsPrefix now.written) (sym l) (IsPrefix-longer now.written old.lines text front))
     (subst (IsProperPrefix noted) (sym n) part)
 
 -- nor where a text is noted behind a note that failed
 notes_cut : (first now : Output) (notes_failed : Bool) (noted : List ℕ) (old new : Due) (text : List ℕ) → notes_failed ≡ true
     → new.lines ≡ old.lines → new.notes ≡ old.notes ++ text → HasWritten first now notes_failed noted old → HasWritten first now notes_failed noted new
 notes_cut first now notes_failed noted old new text is l n (entire running u a b c d) = absurd (true≢false (sym is ∙ u))
-notes_cut first now notes_failed noted old new text is l n (in_lines e u rose calm all part) = absurd (true≢false (sym is ∙ u))
-notes_cut first now notes_failed noted old new text is l n (in_notes e m rose calm front part) =
-    in_notes e m rose calm (subst (IsPrefix now.written) (sym l) front)
+notes_cut first now notes_failed noted old new text is l n (in_lines e u rose unfailed all part) = absurd (true≢false (sym is ∙ u))
+notes_cut first now notes_failed noted old new text is l n (in_notes e m rose unfailed front part) =
+    in_notes e m rose unfailed (subst (IsPrefix now.written) (sym l) front)
     (subst (IsProperPrefix noted) (sym n) (IsProperPrefix-longer noted old.notes text part))
 
 -- what is known of a front that did not halt
 record IsWhole (first now : Output) (notes_failed : Bool) (noted : List ℕ) (due : Due) : Type 0 where
   notes_unfailed : notes_failed ≡ false
-  lines_calm : now.lines.faults ≡ first.lines.faults
-  notes_calm : now.notes.faults ≡ first.notes.faults
+  lines_unfailed : now.lines.faults ≡ first.lines.faults
+  notes_silent : now.notes.faults ≡ first.notes.faults
   written : now.written ≡ due.lines
   all_noted : noted ≡ due.notes
 
 whole_so : (first now : Output) (notes_failed : Bool) (noted : List ℕ) (due : Due) → now.halted ≡ false → HasWritten first now notes_failed noted due
     → IsWhole first now notes_failed noted due
 whole_so first now notes_failed noted due running (entire e u a b c d) =
-    record { notes_unfailed = u; lines_calm = a; notes_calm = b; written = c; all_noted = d }
-whole_so first now notes_failed noted due running (in_lines e u rose calm all part) = absurd (true≢false (sym e ∙ running))
-whole_so first now notes_failed noted due running (in_notes e m rose calm front part) = absurd (true≢false (sym e ∙ running))
+    record { notes_unfailed = u; lines_unfailed = a; notes_silent = b; written = c; all_noted = d }
+whole_so first now notes_failed noted due running (in_lines e u rose unfailed all part) = absurd (true≢false (sym e ∙ running))
+whole_so first now notes_failed noted due running (in_notes e m rose unfailed front part) = absurd (true≢false (sym e ∙ running))
 
 -- a text behind the lines that were written
 lines_go : (first before now : Output) (notes_failed : Bool) (noted text : List ℕ) (old new : Due) (count : ℕ) (short : Bool) → nat_lt count (length text) ≡ short → now.halted ≡ short
@@ -109,14 +109,14 @@ lines_go : (first before now : Output) (notes_failed : Bool) (noted text : List 
 lines_go first before now notes_failed noted text old new count true test halted takes same written l n w =
     let lt : count < length text = ltb-true count (length text) test in
     let is : now.written ≡ old.lines ++ take count text = written ∙ ap (λ b. b ++ take count text) w.written in
-    in_lines halted w.notes_unfailed (subst (λ k. Rose k now.lines.faults) w.lines_calm (takes.cause lt))
-    (ap (λ (t : SinkTold). t.faults) same ∙ w.notes_calm) (w.all_noted ∙ sym n)
+    in_lines halted w.notes_unfailed (subst (λ k. Rose k now.lines.faults) w.lines_unfailed (takes.cause lt))
+    (ap (λ (t : SinkTold). t.faults) same ∙ w.notes_silent) (w.all_noted ∙ sym n)
     (subst (λ b. IsProperPrefix b new.lines) (sym is) (subst (IsProperPrefix (old.lines ++ take count text)) (sym l) (part_is_proper old.lines text count lt)))
 lines_go first before now notes_failed noted text old new count false test halted takes same written l n w =
     let le : length text ≤ count = ltb-false count (length text) test in
     let within = takes.within in
     let full : take count text ≡ text = take_all count text le in
-    entire halted w.notes_unfailed (takes.calm (omega arith) ∙ w.lines_calm) (ap (λ (t : SinkTold). t.faults) same ∙ w.notes_calm)
+    entire halted w.notes_unfailed (takes.unfailed (omega arith) ∙ w.lines_unfailed) (ap (λ (t : SinkTold). t.faults) same ∙ w.notes_silent)
     (written ∙ ap (λ b. b ++ take count text) w.written ∙ ap (λ t. old.lines ++ t) full ∙ sym l) (w.all_noted ∙ sym n)
 
 -- a text behind the notes that were written
@@ -127,47 +127,47 @@ notes_go : (first before now : Output) (notes_failed : Bool) (noted text : List 
 notes_go first before now notes_failed noted text old new count true test halted takes same written l n w =
     let lt : count < length text = ltb-true count (length text) test in
     let is : noted ++ take count text ≡ old.notes ++ take count text = ap (λ b. b ++ take count text) w.all_noted in
-    in_notes halted refl (subst (λ k. Rose k now.notes.faults) w.notes_calm (takes.cause lt))
-    (ap (λ (t : SinkTold). t.faults) same ∙ w.lines_calm) (front_of_all now.written new.lines (written ∙ w.written ∙ sym l))
+    in_notes halted refl (subst (λ k. Rose k now.notes.faults) w.notes_silent (takes.cause lt))
+    (ap (λ (t : SinkTold). t.faults) same ∙ w.lines_unfailed) (front_of_all now.written new.lines (written ∙ w.written ∙ sym l))
     (subst (λ b. IsProperPrefix b new.notes) (sym is) (subst (IsProperPrefix (old.notes ++ take count text)) (sym n) (part_is_proper old.notes text count lt)))
 notes_go first before now notes_failed noted text old new count false test halted takes same written l n w =
     let le : length text ≤ count = ltb-false count (length text) test in
     let within = takes.within in
     let full : take count text ≡ text = take_all count text le in
-    entire halted refl (ap (λ (t : SinkTold). t.faults) same ∙ w.lines_calm) (takes.calm (omega arith) ∙ w.notes_calm)
+    entire halted refl (ap (λ (t : SinkTold). t.faults) same ∙ w.lines_unfailed) (takes.unfailed (omega arith) ∙ w.notes_silent)
     (written ∙ w.written ∙ sym l) (ap (λ b. b ++ take count text) w.all_noted ∙ ap (λ t. old.notes ++ t) full ∙ sym n)
 
 -- ---- halts
 
 -- nothing was written
-halts_still : (before now : Said) → now.halted ≡ before.halted → now.faults ≡ before.faults → Halts before now
-halts_still before now same calm = record {
+halts_still : (before now : Sent) → now.halted ≡ before.halted → now.faults ≡ before.faults → Halts before now
+halts_still before now same unfailed = record {
   cause = λ e. inl (sym same ∙ e);
-  calm = λ e. (sym same ∙ e, calm);
+  unfailed = λ e. (sym same ∙ e, unfailed);
   faults = omega arith;
 }
 
 -- a text was written as far as a sink took it
-halts_so : (before now : Said) (text : List ℕ) (count : ℕ) (old new : SinkTold) → before.halted ≡ false → now.halted ≡ nat_lt count (length text)
+halts_so : (before now : Sent) (text : List ℕ) (count : ℕ) (old new : SinkTold) → before.halted ≡ false → now.halted ≡ nat_lt count (length text)
     → Takes text count old new → (old.faults ≡ new.faults → now.faults ≡ before.faults) → (Rose old.faults new.faults → Rose before.faults now.faults) → before.faults ≤ now.faults
     → Halts before now
-halts_so before now text count old new running halted takes calm rose later = record {
+halts_so before now text count old new running halted takes unfailed rose later = record {
   cause = λ e. inr (rose (takes.cause (ltb-true count (length text) (sym halted ∙ e))));
-  calm = λ e.
+  unfailed = λ e.
       let le : length text ≤ count = ltb-false count (length text) (sym halted ∙ e) in
-      let within = takes.within in (running, calm (sym (takes.calm (omega arith))));
+      let within = takes.within in (running, unfailed (sym (takes.unfailed (omega arith))));
   faults = later;
 }
 
--- ---- what is said
+-- ---- what is sent
 
-module _ (parts : ProgramParts) (came : List Came) (first before : Output) (s : Said) (h : HasSaid parts came first before s) where
+module _ (parts : ProgramParts) (came : List Came) (first before : Output) (s : Sent) (h : HasSent parts came first before s) where
   -- a front that halted is told of a place
   pub told-halted : (t : Told) → before.halted ≡ true
-      → (after : Said) × (it : HasSaid parts came first before after) × (after.told ≡ s.told ++ t ∷ []) × (after.noted ≡ s.noted)
+      → (after : Sent) × (it : HasSent parts came first before after) × (after.told ≡ s.told ++ t ∷ []) × (after.noted ≡ s.noted)
       × (after.notes_failed ≡ s.notes_failed) × Halts s after × IsPrefix before.written before.written × IsPrefix h.notes it.notes
   told-halted t halted =
-      let after : Said = record { told = s.told ++ t ∷ []; noted = s.noted; halted = s.halted; notes_failed = s.notes_failed; faults = s.faults } in (
+      let after : Sent = record { told = s.told ++ t ∷ []; noted = s.noted; halted = s.halted; notes_failed = s.notes_failed; faults = s.faults } in (
         after,
         record {
           written = h.written;
@@ -189,10 +189,10 @@ module _ (parts : ProgramParts) (came : List Came) (first before : Output) (s : 
 
   -- a text is noted to a front that halted, by no answer
   pub noted-halted : (text : List ℕ) → before.halted ≡ true → s.notes_failed ≡ s.halted
-      → (after : Said) × (it : HasSaid parts came first before after) × (after.told ≡ s.told) × (after.noted ≡ s.noted ++ text)
+      → (after : Sent) × (it : HasSent parts came first before after) × (after.told ≡ s.told) × (after.noted ≡ s.noted ++ text)
       × (after.notes_failed ≡ after.halted) × Halts s after × IsPrefix before.written before.written × IsPrefix h.notes it.notes
   noted-halted text halted mutes =
-      let after : Said = record { told = s.told; noted = s.noted ++ text; halted = s.halted; notes_failed = s.notes_failed; faults = s.faults } in (
+      let after : Sent = record { told = s.told; noted = s.noted ++ text; halted = s.halted; notes_failed = s.notes_failed; faults = s.faults } in (
         after,
         record {
           written = h.written;
@@ -219,10 +219,10 @@ module _ (parts : ProgramParts) (came : List Came) (first before : Output) (s : 
   -- a front is told of a place, and its line is written as far as the output takes it
   pub told-written : (t : Told) (now : Output) (text : List ℕ) (count : ℕ) → before.halted ≡ false → text ≡ line_told parts came t
       → Takes text count before.lines now.lines → now.notes ≡ before.notes → now.written ≡ before.written ++ take count text → now.halted ≡ nat_lt count (length text)
-      → (after : Said) × (it : HasSaid parts came first now after) × (after.told ≡ s.told ++ t ∷ []) × (after.noted ≡ s.noted)
+      → (after : Sent) × (it : HasSent parts came first now after) × (after.told ≡ s.told ++ t ∷ []) × (after.noted ≡ s.noted)
       × (after.notes_failed ≡ s.notes_failed) × Halts s after × IsPrefix before.written now.written × IsPrefix h.notes it.notes
   told-written t now text count running is takes same written halted =
-      let after : Said = record { told = s.told ++ t ∷ []; noted = s.noted; halted = now.halted; notes_failed = s.notes_failed; faults = faults_of now } in
+      let after : Sent = record { told = s.told ++ t ∷ []; noted = s.noted; halted = now.halted; notes_failed = s.notes_failed; faults = faults_of now } in
       let other : now.notes.faults ≡ before.notes.faults = ap (λ (x : SinkTold). x.faults) same in
       let later = takes.later in
       let count_is : s.faults ≡ min (before.lines.faults + before.notes.faults) (2 ^ 64 - 1) = h.faults in (
@@ -252,10 +252,10 @@ module _ (parts : ProgramParts) (came : List Came) (first before : Output) (s : 
   -- a text is noted, as far as the notes' sink takes it
   pub noted-written : (now : Output) (text : List ℕ) (count : ℕ) → before.halted ≡ false
       → Takes text count before.notes now.notes → now.lines ≡ before.lines → now.written ≡ before.written → now.halted ≡ nat_lt count (length text)
-      → (after : Said) × (it : HasSaid parts came first now after) × (after.told ≡ s.told) × (after.noted ≡ s.noted ++ text)
+      → (after : Sent) × (it : HasSent parts came first now after) × (after.told ≡ s.told) × (after.noted ≡ s.noted ++ text)
       × (after.notes_failed ≡ after.halted) × Halts s after × IsPrefix before.written now.written × IsPrefix h.notes it.notes
   noted-written now text count running takes same written halted =
-      let after : Said = record { told = s.told; noted = s.noted ++ text; halted = now.halted; notes_failed = now.halted; faults = faults_of now } in
+      let after : Sent = record { told = s.told; noted = s.noted ++ text; halted = now.halted; notes_failed = now.halted; faults = faults_of now } in
       let other : now.lines.faults ≡ before.lines.faults = ap (λ (x : SinkTold). x.faults) same in
       let later = takes.later in
       let count_is : s.faults ≡ min (before.lines.faults + before.notes.faults) (2 ^ 64 - 1) = h.faults in (

@@ -1,6 +1,6 @@
 -- These definitions serve the proofs alone: no promise speaks of them.
 -- How a front over lines comes to its next line, and what a sink takes.
-use Rattle.std.specs.Prelude.{◌≡◌, ◌≤◌, ℕ, List, [], ◌∷◌, ◌++◌, take, Option, None, Some}
+use Rattle.std.specs.Prelude.{◌≡◌, ◌≤◌, ◌<◌, ◌+◌, ℕ, List, [], ◌∷◌, ◌++◌, length, take, Option, None, Some}
 use Rattle.std.specs.Prelude.{true, false, if◌then◌else◌}
 use Rattle.std.specs.Io.KnownBytes.{Consumes, IsAtEnd}
 use Rattle.outside_traits.specs.Causes.{Rose}
@@ -10,7 +10,7 @@ use Rattle.run_theorem.specs.declared.front.Next.{Next}
 use Rattle.run_theorem.specs.declared.front.Next.TheVariants as next
 use Rattle.run_theorem.specs.Texts.{posting_of}
 use Rattle.run_theorem.specs.Lines.{line_in}
-use Rattle.run_theorem.specs.Split.{IsOpen, split, whole_lines, is_blank, said_lines}
+use Rattle.run_theorem.specs.Split.{IsOpen, split, whole_lines, is_blank, sent_lines}
 use Rattle.run_lines.specs.Passing.{Passing, read_in, IsNear, IsLine}
 use Rattle.run_lines.specs.declared.piece.Piece.{Piece}
 use Rattle.run_lines.specs.declared.piece.Piece.TheVariants as piece
@@ -50,7 +50,7 @@ pub record ReadsPiece (which : Piece) (before now : Reading) : Type 0 where
 pub record IsAsBefore (before now : Reading) : Type 0 where
   pub grows : Grows before now
   pub near : IsNear before.passing → IsNear now.passing
-  pub lines : said_lines (whole_lines now.passing.passed) ≡ said_lines (whole_lines before.passing.passed)
+  pub lines : sent_lines (whole_lines now.passing.passed) ≡ sent_lines (whole_lines before.passing.passed)
 
 -- what comes next behind the lines that were passed
 abbrev pub IsNext : Step → Reading → Reading → Type 0
@@ -76,6 +76,21 @@ IsIdle before now = IsAsBefore before now × (now.faults ≡ before.faults)
 abbrev pub Comes : Option Step → Reading → Reading → Type 0
 Comes None before now = IsIdle before now
 Comes (Some which) before now = Looks which before now
+
+-- how far a reader came: each byte counts once when it is read, and once more when its line is passed
+abbrev pub progress : Passing → ℕ
+progress p = length p.passed + length p.passed + length p.rest
+
+-- where nothing came yet a reader came further
+abbrev pub ComesFurther : Option Step → Passing → Passing → Type 0
+ComesFurther None before now = progress before < progress now
+ComesFurther (Some which) before now = Unit {0}
+
+-- there is more behind a piece that was read, or there need not be
+abbrev pub IsMore : Piece → Passing → Passing → Type 0
+IsMore piece.More before now = length before.rest < length now.rest
+IsMore piece.End before now = Unit {0}
+IsMore piece.Failed before now = Unit {0}
 
 -- what the rest is once the source is at its end: the last line, unless it is blank
 abbrev pub last_step : List ℕ → Step

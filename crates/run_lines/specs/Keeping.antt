@@ -5,9 +5,9 @@ use Rattle.run_lines.specs.Passing.{nothing_read}
 use Rattle.run_lines.specs.Reading.{input_of}
 use Rattle.outside_traits.specs.Told.{SinkTold}
 use Rattle.run_lines.specs.Writing.{output_of}
-use Rattle.run_lines.specs.Dealt.{Sides, sides_of}
+use Rattle.run_lines.specs.Exchanged.{Sides, sides_of}
 
--- Nothing was read or written, and nothing failed.
+-- Nothing was read or written, nothing failed, and memory did not run out.
 pub record IsEmpty (kept : Kept) : Type 0 where
   pub lines : kept.reader.lines ≡ nothing_read
   pub reads : kept.reader.reads ≡ []
@@ -15,6 +15,7 @@ pub record IsEmpty (kept : Kept) : Type 0 where
   pub failed : kept.reader.failed ≡ false
   pub written : kept.written.items ≡ []
   pub halted : kept.halted ≡ false
+  pub spent : kept.spent ≡ false
 
 -- the sides of a front by what it keeps, what its source has left and how often it failed, and its sinks
 abbrev pub sides_in : Kept → Option (List ℕ) → ℕ → SinkTold → SinkTold → Sides

@@ -2,7 +2,7 @@ pub mod Passing
 pub mod Told
 pub mod Reading
 pub mod Writing
-pub mod Dealt
+pub mod Exchanged
 pub mod Keeping
 pub mod FrontSteps
 pub mod Steps

@@ -1,17 +1,17 @@
--- What a front over lines read, and the postings that it brought by then.
+-- What a front over lines read, and the postings that it received by then.
 use Rattle.std.specs.Prelude.{◌≡◌, ℕ, ◌≤◌, Bool, true, false, List, map, length, Option, None}
 use Rattle.std.specs.Io.KnownBytes.{Consumes, IsAtEnd}
 use Rattle.outside_traits.specs.Causes.{Rose}
 use Rattle.jsonrpc_text.specs.declared.message.Read.{Read}
-use Rattle.run_theorem.specs.Dealings.{Asked, Brought}
+use Rattle.run_theorem.specs.Exchange.{Asked, Received}
 use Rattle.run_theorem.specs.Calls.{most_postings}
 use Rattle.run_record.specs.Order.{numbers_from}
-use Rattle.run_theorem.specs.Split.{whole_lines, all_lines, said_lines}
+use Rattle.run_theorem.specs.Split.{whole_lines, all_lines, sent_lines}
 use Rattle.run_theorem.specs.Texts.{Came, posting_of}
 use Rattle.run_theorem.specs.Lines.{come_in}
 use Rattle.run_lines.specs.Passing.{Passing, read_in, IsNear}
 
--- The input of a front: what was read, and how far its lines were passed; what the lines said that were not blank;
+-- The input of a front: what was read, and how far its lines were passed; what the lines sent that were not blank;
 -- whether nothing more is read; what the source has left, where that is told, and how often it failed.
 pub record Input : Type 0 where
   pub passing : Passing
@@ -25,7 +25,7 @@ abbrev pub input_of : Passing → List Read → Bool → Option (List ℕ) → �
 input_of passing reads over left faults =
     record { passing = passing; reads = reads; over = over; left = left; faults = faults }
 
--- what a line said, to the first service
+-- what a line sent, to the first service
 abbrev pub came_by : Read → Came
 came_by read = record { service = 0; read = read }
 
@@ -47,19 +47,19 @@ Fails true before now = Rose before now
 -- and of all that have their end, once the source failed.
 pub data HasPassed (first now : Input) (ended : Bool) : Type 0 where
   some : ended ≡ false → now.over ≡ false → now.faults ≡ first.faults
-      → came_in now ≡ come_in (said_lines (whole_lines now.passing.passed)) → HasPassed first now ended
+      → came_in now ≡ come_in (sent_lines (whole_lines now.passing.passed)) → HasPassed first now ended
   last : ended ≡ false → now.over ≡ true → now.faults ≡ first.faults → IsAtEnd now.left
-      → came_in now ≡ come_in (said_lines (all_lines (read_in now.passing))) → HasPassed first now ended
+      → came_in now ≡ come_in (sent_lines (all_lines (read_in now.passing))) → HasPassed first now ended
   whole : ended ≡ true → now.faults ≡ first.faults → IsAtEnd now.left
-      → came_in now ≡ come_in (said_lines (all_lines (read_in now.passing))) → HasPassed first now ended
+      → came_in now ≡ come_in (sent_lines (all_lines (read_in now.passing))) → HasPassed first now ended
   full : ended ≡ true → now.faults ≡ first.faults → most_postings ≤ length now.reads
-      → came_in now ≡ come_in (said_lines (whole_lines now.passing.passed)) → HasPassed first now ended
+      → came_in now ≡ come_in (sent_lines (whole_lines now.passing.passed)) → HasPassed first now ended
   cut : ended ≡ true → Rose first.faults now.faults
-      → came_in now ≡ come_in (said_lines (whole_lines (read_in now.passing))) → HasPassed first now ended
+      → came_in now ≡ come_in (sent_lines (whole_lines (read_in now.passing))) → HasPassed first now ended
 
--- What a front brought, since its input was the first: the postings of what came in, which is what the lines say of the
+-- What a front received, since its input was the first: the postings of what came in, which is what the lines say of the
 -- bytes that the source gave. It read on for the next line alone, a piece at a time.
-pub record HasBrought (first now : Input) (b : Brought) : Type 0 where
+pub record HasReceived (first now : Input) (b : Received) : Type 0 where
   pub read : Consumes first.left now.left (read_in now.passing)
   pub near : IsNear now.passing
   pub passed : HasPassed first now b.ended

@@ -2,12 +2,12 @@
 use Rattle.std.specs.Prelude.{ℕ, List, [], flat_map, None, Some, slice_get}
 use Rattle.behaviour_tree.specs.Data.{ProgramParts}
 use Rattle.behaviour_tree.specs.declared.words.Outcome.{Outcome}
-use Rattle.run_theorem.specs.Dealings.{Told}
+use Rattle.run_theorem.specs.Exchange.{Told}
 use Rattle.run_theorem.specs.Texts.{Came}
 use Rattle.run_theorem.specs.Lines.{line_if}
 use Rattle.jsonrpc_postings.specs.Told.{response_told}
 
--- the line that answers what came in, none where nothing is said
+-- the line that answers what came in, none where nothing is sent
 abbrev pub line_to : ProgramParts → Came → List Outcome → List ℕ
 line_to parts came outcomes = line_if (response_told parts came outcomes)
 

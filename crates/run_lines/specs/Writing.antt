@@ -4,7 +4,7 @@ use Rattle.std.specs.Io.KnownBytes.{Appends}
 use Rattle.outside_traits.specs.Causes.{Rose}
 use Rattle.outside_traits.specs.Told.{SinkTold}
 use Rattle.behaviour_tree.specs.Data.{ProgramParts}
-use Rattle.run_theorem.specs.Dealings.{Said}
+use Rattle.run_theorem.specs.Exchange.{Sent}
 use Rattle.run_theorem.specs.Texts.{Came}
 use Rattle.run_theorem.specs.Lines.{IsPrefix, IsProperPrefix}
 use Rattle.run_lines.specs.Told.{lines_told}
@@ -29,9 +29,9 @@ pub record Due : Type 0 where
   pub lines : List ℕ
   pub notes : List ℕ
 
--- Of what was due all was written, and neither of the two sinks failed. Or it halted since one of them did: where it was
--- that of the lines they were cut, and all was noted; where a note failed the notes were cut, and the other sink did not
--- fail.
+-- Of what was due all was written, and neither of the two sinks failed. Or it halted since one of them did: where it
+-- was that of the lines they were cut, and all was noted; where a note failed the notes were cut, and the other sink
+-- did not fail.
 pub data HasWritten (first now : Output) (notes_failed : Bool) (noted : List ℕ) (due : Due) : Type 0 where
   entire : now.halted ≡ false → notes_failed ≡ false → now.lines.faults ≡ first.lines.faults
       → now.notes.faults ≡ first.notes.faults → now.written ≡ due.lines → noted ≡ due.notes
@@ -43,9 +43,9 @@ pub data HasWritten (first now : Output) (notes_failed : Bool) (noted : List ℕ
       → now.lines.faults ≡ first.lines.faults → IsPrefix now.written due.lines → IsProperPrefix noted due.notes
       → HasWritten first now notes_failed noted due
 
--- What was said to a front, since its output was the first: the lines of what it was told, in the order in which it
+-- What was sent to a front, since its output was the first: the lines of what it was told, in the order in which it
 -- was, and the notes are what its sinks took, unless it halted.
-pub record HasSaid (parts : ProgramParts) (came : List Came) (first now : Output) (s : Said) : Type 0 where
+pub record HasSent (parts : ProgramParts) (came : List Came) (first now : Output) (s : Sent) : Type 0 where
   pub written : Appends first.lines.written now.lines.written now.written
   pub notes : List ℕ
   pub noted : Appends first.notes.written now.notes.written notes

@@ -1,10 +1,10 @@
 ghost use Rattle.std.specs.Prelude.{◌≡◌, false, IfOk, string_bytes, map};
 ghost use Rattle.behaviour_tree.specs.Data.{ProgramParts};
 ghost use Rattle.behaviour_tree.specs.PartsView.{parts_of};
-ghost use Rattle.run_theorem.specs.Dealings.{Dealings, IsNew};
+ghost use Rattle.run_theorem.specs.Exchange.{Exchange, IsNew};
 ghost use Rattle.run_lines.specs.Reading.{came_by, Fails};
 ghost use Rattle.run_lines.specs.Told.{line_told};
-ghost use Rattle.run_lines.specs.Dealt.{HasDealt};
+ghost use Rattle.run_lines.specs.Exchanged.{HasExchanged};
 ghost use Rattle.run_lines.specs.Keeping.{sides_in, IsEmpty};
 
 use crate::kept::Kept;
@@ -46,9 +46,11 @@ impl<'a, S: Source, K: Sink, N: Sink> LineFront<'a, S, K, N> {
         ensures same_output { result.output.ghost_name ≡ output.entry.ghost_name }
         ensures same_notes { result.notes.ghost_name ≡ notes.entry.ghost_name }
         ensures same_kept { result.kept.ghost_name ≡ kept.entry.ghost_name }
-        ensures begun { (parts : ProgramParts) → (d : Dealings) × IsNew d × HasDealt parts
-            (sides_in result.kept.now (S.told result.source.now).unread (S.told result.source.now).faults (K.told result.output.now) (N.told result.notes.now))
-            (sides_in result.kept.now (S.told result.source.now).unread (S.told result.source.now).faults (K.told result.output.now) (N.told result.notes.now))
+        ensures begun { (parts : ProgramParts) → (d : Exchange) × IsNew d × HasExchanged parts
+            (sides_in result.kept.now (S.told result.source.now).unread (S.told result.source.now).faults
+            (K.told result.output.now) (N.told result.notes.now))
+            (sides_in result.kept.now (S.told result.source.now).unread (S.told result.source.now).faults
+            (K.told result.output.now) (N.told result.notes.now))
             d }
     {
         LineFront {
@@ -62,19 +64,30 @@ impl<'a, S: Source, K: Sink, N: Sink> LineFront<'a, S, K, N> {
 }
 
 impl<'a, S: Source, K: Sink, N: Sink> Front for LineFront<'a, S, K, N> {
-    ghost dealt = { λ parts first now d.
+    ghost exchanged = { λ parts first now d.
         (now.source.ghost_name ≡ first.source.ghost_name)
         × (now.output.ghost_name ≡ first.output.ghost_name)
         × (now.notes.ghost_name ≡ first.notes.ghost_name)
         × (now.kept.ghost_name ≡ first.kept.ghost_name)
-        × (first.kept.now.reader.failed ≡ false → Fails now.kept.now.reader.failed (S.told first.source.now).faults (S.told now.source.now).faults)
-        × HasDealt parts
-        (sides_in first.kept.now (S.told first.source.now).unread (S.told first.source.now).faults (K.told first.output.now) (N.told first.notes.now))
-        (sides_in now.kept.now (S.told now.source.now).unread (S.told now.source.now).faults (K.told now.output.now) (N.told now.notes.now))
+        × (first.kept.now.reader.failed ≡ false
+        → Fails now.kept.now.reader.failed (S.told first.source.now).faults (S.told now.source.now).faults)
+        × HasExchanged parts
+        (sides_in first.kept.now (S.told first.source.now).unread (S.told first.source.now).faults
+        (K.told first.output.now) (N.told first.notes.now))
+        (sides_in now.kept.now (S.told now.source.now).unread (S.told now.source.now).faults (K.told now.output.now)
+        (N.told now.notes.now))
         d };
 
+    ghost spent = { λ f. f.kept.now.spent };
+
     fn next(&mut self, _program: &Program) -> Result<Next, AllocError> {
-        self.kept.reader.next(self.alloc, self.source)
+        if self.kept.spent() {
+            return Err(AllocError);
+        }
+        let came = self.kept.reader.next(self.alloc, self.source);
+        let wanting = came.is_err();
+        self.kept.spent = wanting;
+        came
     }
 
     fn answer(
@@ -83,9 +96,13 @@ impl<'a, S: Source, K: Sink, N: Sink> Front for LineFront<'a, S, K, N> {
         place: u32,
         outcomes: &[Outcome],
     ) -> Result<(), AllocError> {
-        if self.kept.halted {
+        if self.kept.spent() {
+            return Err(AllocError);
+        }
+        if self.kept.halted() {
             return Ok(());
         }
+        self.kept.spent = true;
         let line = line_at(
             self.alloc,
             program,
@@ -95,6 +112,7 @@ impl<'a, S: Source, K: Sink, N: Sink> Front for LineFront<'a, S, K, N> {
         )?;
         let cut = write_kept(self.output, line.as_bytes(), &mut self.kept.written)?;
         self.kept.halted = cut;
+        self.kept.spent = false;
         Ok(())
     }
 
@@ -111,7 +129,7 @@ impl<'a, S: Source, K: Sink, N: Sink> Front for LineFront<'a, S, K, N> {
     }
 }
 
-/// The line that answers the posting of a place, empty where nothing is said or none is there.
+/// The line that answers the posting of a place, empty where nothing is sent or none is there.
 fn line_at(
     alloc: Global,
     program: &Program,
@@ -119,7 +137,9 @@ fn line_at(
     place: u32,
     outcomes: &[Outcome],
 ) -> Result<String, AllocError>
-    ensures { IfOk result (λ line. string_bytes line ≡ line_told (parts_of program.now) (map came_by reads.now) (record { place = place; outcomes = outcomes.now })) }
+    ensures { IfOk result
+        (λ line. string_bytes line ≡ line_told (parts_of program.now) (map came_by reads.now)
+        (record { place = place; outcomes = outcomes.now })) }
 {
     match reads.get(place as usize) {
         None => Ok(String::new(alloc)),

@@ -9,12 +9,14 @@ use jolie_trees::Bytes;
 use run_record::Traffic;
 use std::alloc::Global;
 
-/// What a front over lines keeps: what it read, what its output took, and whether it halted.
+/// What a front over lines keeps: what it read, what its output took, whether it halted, and whether memory ran out in
+/// a call.
 #[derive(Drop)]
 pub struct Kept {
     pub(crate) reader: Reader,
     pub(crate) written: Vec<u8>,
     pub(crate) halted: bool,
+    pub(crate) spent: bool,
 }
 
 impl Kept {
@@ -25,6 +27,7 @@ impl Kept {
             reader: Reader::new(alloc),
             written: Vec::new(alloc),
             halted: false,
+            spent: false,
         }
     }
 
@@ -42,6 +45,13 @@ impl Kept {
         self.halted
     }
 
+    /// Whether memory ran out in a call: then it is want of memory that the front answers.
+    pub fn spent(&self) -> bool
+        ensures { result ≡ self.now.spent }
+    {
+        self.spent
+    }
+
     /// The bytes that were read and written.
     pub fn into_traffic(self) -> Traffic
         ensures read { result.read ≡ read_in self.reader.lines }
@@ -51,6 +61,7 @@ impl Kept {
             reader,
             written,
             halted: _,
+            spent: _,
         } = self;
         Traffic {
             read: Bytes::from_vec(reader.into_bytes()),

@@ -1,6 +1,6 @@
 //! What was read, cut into lines.
 
-ghost use Rattle.std.specs.Prelude.{◌≡◌, ◌≤◌, ◌+◌, [], ◌∷◌, ◌++◌, length, take, drop, position, ◌==◌, MatchOption, MatchResult, OnOk};
+ghost use Rattle.std.specs.Prelude.{◌≡◌, ◌≤◌, ◌<◌, ◌+◌, ◌^◌, [], ◌∷◌, ◌++◌, length, take, drop, position, ◌==◌, MatchOption, MatchResult, OnOk, IfOk};
 ghost use Rattle.run_theorem.specs.Split.{IsOpen, split};
 ghost use Rattle.run_lines.specs.Passing.{IsLine, longest_piece, nothing_read};
 
@@ -35,7 +35,7 @@ impl Model for Lines {
 }
 
 impl Lines {
-    ghost use Rattle.run_lines.specs.FrontSteps.{reading, ReadsPiece};
+    ghost use Rattle.run_lines.specs.FrontSteps.{reading, progress, IsMore, ReadsPiece};
 
     pub(crate) fn new(alloc: Global) -> Lines
         ensures { result ≡ nothing_read }
@@ -52,6 +52,7 @@ impl Lines {
         ensures same { self.new ≡ self.old }
         ensures ended { (split self.old.passed).1 ≡ [] }
         ensures found { MatchOption result (IsOpen self.old.rest) (λ n. IsLine n self.old.rest) }
+        ensures within { progress self.old < 2 ^ 64 }
     {
         let seen = self.seen;
         match first_end(&self.bytes[self.passed + seen..]) {
@@ -96,9 +97,11 @@ impl Lines {
     /// Reads a piece behind what was read. After want of memory nothing was read.
     pub(crate) fn fill<S: Source>(&mut self, source: &mut S) -> Result<Piece, AllocError>
         ensures read { MatchResult result
-            (λ piece. ReadsPiece piece (reading self.old (S.told source.old).unread (S.told source.old).faults) (reading self.new (S.told source.new).unread (S.told source.new).faults))
+            (λ piece. ReadsPiece piece (reading self.old (S.told source.old).unread (S.told source.old).faults)
+            (reading self.new (S.told source.new).unread (S.told source.new).faults))
             (λ _. (self.new ≡ self.old) × (source.new ≡ source.old)) }
         ensures short { OnOk result (length self.new.rest ≤ length self.old.rest + longest_piece) }
+        ensures more { IfOk result (λ piece. IsMore piece self.old self.new) }
     {
         self.bytes.reserve(PIECE)?;
         let mut buffer = [0u8; PIECE];

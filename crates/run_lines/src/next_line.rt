@@ -1,9 +1,9 @@
 //! The next line that is not blank.
 
-ghost use Rattle.std.specs.Prelude.{◌≡◌, [], List, ℕ, Option, MatchResult};
+ghost use Rattle.std.specs.Prelude.{◌≡◌, ◌<◌, ◌^◌, [], List, ℕ, Option, IfOk, MatchResult};
 ghost use Rattle.run_theorem.specs.Split.{split, IsOpen, is_blank as blank};
 ghost use Rattle.run_lines.specs.Passing.{IsLine};
-ghost use Rattle.run_lines.specs.FrontSteps.{reading, last_step, step_after, Comes, IsIdle, Looks};
+ghost use Rattle.run_lines.specs.FrontSteps.{reading, last_step, progress, step_after, Comes, ComesFurther, IsIdle, Looks};
 
 use crate::lines::Lines;
 use crate::piece::Piece;
@@ -27,24 +27,29 @@ pub(crate) enum Step {
 /// passed.
 pub(crate) fn next_line<S: Source>(source: &mut S, lines: &mut Lines) -> Result<Step, AllocError>
     ensures { MatchResult result
-        (λ step. Looks step (reading lines.old (S.told source.old).unread (S.told source.old).faults) (reading lines.new (S.told source.new).unread (S.told source.new).faults))
-        (λ _. IsIdle (reading lines.old (S.told source.old).unread (S.told source.old).faults) (reading lines.new (S.told source.new).unread (S.told source.new).faults)) }
+        (λ step. Looks step (reading lines.old (S.told source.old).unread (S.told source.old).faults)
+        (reading lines.new (S.told source.new).unread (S.told source.new).faults))
+        (λ _. IsIdle (reading lines.old (S.told source.old).unread (S.told source.old).faults)
+        (reading lines.new (S.told source.new).unread (S.told source.new).faults)) }
 {
-    for _ in 0..u64::MAX {
+    loop {
         let found = look(source, lines)?;
         match found {
             Some(step) => return Ok(step),
             None => {}
         }
     }
-    Err(AllocError)
 }
 
 /// Looks whether a line is there that is not blank. Else it passes a blank line or reads a piece.
 fn look<S: Source>(source: &mut S, lines: &mut Lines) -> Result<Option<Step>, AllocError>
-    ensures { MatchResult result
-        (λ step. Comes step (reading lines.old (S.told source.old).unread (S.told source.old).faults) (reading lines.new (S.told source.new).unread (S.told source.new).faults))
-        (λ _. IsIdle (reading lines.old (S.told source.old).unread (S.told source.old).faults) (reading lines.new (S.told source.new).unread (S.told source.new).faults)) }
+    ensures comes { MatchResult result
+        (λ step. Comes step (reading lines.old (S.told source.old).unread (S.told source.old).faults)
+        (reading lines.new (S.told source.new).unread (S.told source.new).faults))
+        (λ _. IsIdle (reading lines.old (S.told source.old).unread (S.told source.old).faults)
+        (reading lines.new (S.told source.new).unread (S.told source.new).faults)) }
+    ensures further { IfOk result (λ step. ComesFurther step lines.old lines.new) }
+    ensures within { progress lines.old < 2 ^ 64 }
 {
     match lines.find() {
         Some(length) => Ok(line_of(lines, length)),
@@ -56,7 +61,9 @@ fn look<S: Source>(source: &mut S, lines: &mut Lines) -> Result<Option<Step>, Al
 fn line_of(lines: &mut Lines, length: usize) -> Option<Step>
     requires line { IsLine length lines.old.rest }
     requires ended { (split lines.old.passed).1 ≡ [] }
-    ensures { (left : Option (List ℕ)) (faults : ℕ) → Comes result (reading lines.old left faults) (reading lines.new left faults) }
+    ensures comes { (left : Option (List ℕ)) (faults : ℕ)
+        → Comes result (reading lines.old left faults) (reading lines.new left faults) }
+    ensures further { ComesFurther result lines.old lines.new }
 {
     if is_blank(lines.line(length)) {
         lines.pass(length);
@@ -69,9 +76,12 @@ fn line_of(lines: &mut Lines, length: usize) -> Option<Step>
 fn read_on<S: Source>(source: &mut S, lines: &mut Lines) -> Result<Option<Step>, AllocError>
     requires unended { IsOpen lines.old.rest }
     requires ended { (split lines.old.passed).1 ≡ [] }
-    ensures { MatchResult result
-        (λ step. Comes step (reading lines.old (S.told source.old).unread (S.told source.old).faults) (reading lines.new (S.told source.new).unread (S.told source.new).faults))
-        (λ _. IsIdle (reading lines.old (S.told source.old).unread (S.told source.old).faults) (reading lines.new (S.told source.new).unread (S.told source.new).faults)) }
+    ensures comes { MatchResult result
+        (λ step. Comes step (reading lines.old (S.told source.old).unread (S.told source.old).faults)
+        (reading lines.new (S.told source.new).unread (S.told source.new).faults))
+        (λ _. IsIdle (reading lines.old (S.told source.old).unread (S.told source.old).faults)
+        (reading lines.new (S.told source.new).unread (S.told source.new).faults)) }
+    ensures further { IfOk result (λ step. ComesFurther step lines.old lines.new) }
 {
     let piece = lines.fill(source)?;
     Ok(after_piece(lines, piece))

@@ -2,11 +2,11 @@
 
 ghost use Rattle.std.specs.Prelude.{◌≡◌, ℕ, ◌<◌, ◌+◌, ◌++◌, ◌∷◌, ◌||◌, [], false, true, length, nat_le, take, drop, List, IfOk, OnOk, OnErr, MatchResult};
 ghost use Rattle.behaviour_tree.specs.Data.{ProgramParts};
-ghost use Rattle.jsonrpc_text.specs.declared.message.Read.{Read as Said};
-ghost use Rattle.run_theorem.specs.Dealings.{Brought};
+ghost use Rattle.jsonrpc_text.specs.declared.message.Read.{Read as Sent};
+ghost use Rattle.run_theorem.specs.Exchange.{Received};
 ghost use Rattle.run_theorem.specs.Calls.{most_postings, Came};
 ghost use Rattle.run_lines.specs.Passing.{nothing_read, read_in, IsLine};
-ghost use Rattle.run_lines.specs.Reading.{Input, input_of, Fails, HasBrought};
+ghost use Rattle.run_lines.specs.Reading.{Input, input_of, Fails, HasReceived};
 ghost use Rattle.run_lines.specs.FrontSteps.{GivesLine};
 
 use crate::lines::Lines;
@@ -21,7 +21,7 @@ use std::alloc::{AllocError, Global};
 /// The most postings of a front: the lines behind them are passed over.
 const MOST_POSTINGS: usize = 4_294_967_295;
 
-/// What was read of a source, what its lines said, whether nothing more is read, and whether the source failed.
+/// What was read of a source, what its lines sent, whether nothing more is read, and whether the source failed.
 #[derive(Drop)]
 pub(crate) struct Reader {
     pub(crate) lines: Lines,
@@ -51,13 +51,18 @@ impl Reader {
         alloc: Global,
         source: &mut S,
     ) -> Result<Next, AllocError>
-        ensures came { (parts : ProgramParts) (first : Input) (before : Brought) → 0 < length parts.services
-            → HasBrought first (input_of self.old.lines self.old.reads self.old.over (S.told source.old).unread (S.told source.old).faults) before
+        ensures came { (parts : ProgramParts) (first : Input) (before : Received) → 0 < length parts.services
+            → HasReceived first (input_of self.old.lines self.old.reads self.old.over (S.told source.old).unread
+            (S.told source.old).faults) before
             → before.ended ≡ false → MatchResult result
-            (λ next. (now : Brought) × HasBrought first (input_of self.new.lines self.new.reads self.new.over (S.told source.new).unread (S.told source.new).faults) now × Came parts next before now)
-            (λ _. HasBrought first (input_of self.new.lines self.new.reads self.new.over (S.told source.new).unread (S.told source.new).faults) before) }
-        ensures longer { (more : List Said) × (self.new.reads ≡ self.old.reads ++ more) }
-        ensures failed { (count : ℕ) → Fails self.old.failed count (S.told source.old).faults → Fails self.new.failed count (S.told source.new).faults }
+            (λ next. (now : Received) × HasReceived first
+            (input_of self.new.lines self.new.reads self.new.over (S.told source.new).unread
+            (S.told source.new).faults) now × Came parts next before now)
+            (λ _. HasReceived first (input_of self.new.lines self.new.reads self.new.over (S.told source.new).unread
+            (S.told source.new).faults) before) }
+        ensures longer { (more : List Sent) × (self.new.reads ≡ self.old.reads ++ more) }
+        ensures failed { (count : ℕ) → Fails self.old.failed count (S.told source.old).faults
+            → Fails self.new.failed count (S.told source.new).faults }
     {
         if self.has_all() {
             return Ok(Next::End);
@@ -84,8 +89,10 @@ impl Reader {
     /// Gives the posting of the next line, which is so long, and passes it.
     fn give_line(&mut self, alloc: Global, length: usize) -> Result<Next, AllocError>
         requires { IsLine length self.old.lines.rest }
-        ensures gives { IfOk result (λ next. GivesLine (take length self.old.lines.rest) next self.old.reads self.new.reads) }
-        ensures passed { OnOk result (self.new.lines.passed ≡ self.old.lines.passed ++ take length self.old.lines.rest ++ 10 ∷ []) }
+        ensures gives { IfOk result
+            (λ next. GivesLine (take length self.old.lines.rest) next self.old.reads self.new.reads) }
+        ensures passed { OnOk result (self.new.lines.passed ≡ self.old.lines.passed
+            ++ take length self.old.lines.rest ++ 10 ∷ []) }
         ensures rest { OnOk result (self.new.lines.rest ≡ drop (length + 1) self.old.lines.rest) }
         ensures over { self.new.over ≡ self.old.over }
         ensures failed { self.new.failed ≡ self.old.failed }

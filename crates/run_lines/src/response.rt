@@ -10,14 +10,15 @@ use jsonrpc_postings::response_to;
 use jsonrpc_text::Read;
 use std::alloc::{AllocError, Global};
 
-/// The line that answers what came in, by what its calls came to; empty where nothing is said.
+/// The line that answers what came in, by what its calls came to; empty where nothing is sent.
 pub(crate) fn line_to(
     alloc: Global,
     program: &Program,
     read: &Read,
     outcomes: &[Outcome],
 ) -> Result<String, AllocError>
-    ensures { IfOk result (λ line. string_bytes line ≡ line_to (parts_of program.now) (came_by read.now) outcomes.now) }
+    ensures { IfOk result
+        (λ line. string_bytes line ≡ line_to (parts_of program.now) (came_by read.now) outcomes.now) }
 {
     let mut line = String::new(alloc);
     if let Some(text) = response_to(alloc, program, 0, read, outcomes)? {

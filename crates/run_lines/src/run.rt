@@ -35,8 +35,20 @@ pub fn run_lines<S: Seating, I: Source, K: Sink, N: Sink, L: Link>(
     ensures { (doors : DoorsTold) → IfOk result (IsLined
         (record { parts = parts_of program; text = text.now; budget = budget; picks = picks.now })
         (record {
-          before = record { source = I.told input.old; output = K.told output.old; notes = N.told notes.old; doors = doors; link = L.told link.old };
-          now = record { source = I.told input.new; output = K.told output.new; notes = N.told notes.new; doors = doors; link = L.told link.new };
+          before = record {
+            source = I.told input.old;
+            output = K.told output.old;
+            notes = N.told notes.old;
+            doors = doors;
+            link = L.told link.old;
+          };
+          now = record {
+            source = I.told input.new;
+            output = K.told output.new;
+            notes = N.told notes.new;
+            doors = doors;
+            link = L.told link.new;
+          };
         })) }
 {
     let mut kept = Kept::new(alloc);

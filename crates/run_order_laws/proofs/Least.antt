@@ -2,9 +2,10 @@
 -- which they are finished.
 use Rattle.std.proofs.Common.{◌≡◌, ◌<◌, ◌≤◌, ℕ, zero, suc, ◌+◌, ◌-◌, Bool, true, false, not, ◌&&◌, List, [], ◌∷◌}
 use Rattle.std.proofs.Common.{◌++◌, refl, sym, ap, subst, ◌∙◌, cond, arith}
-use Rattle.std.specs.Prelude.{nat_eq, flat_map, if◌then◌else◌}
+use Rattle.std.specs.Prelude.{nat_eq, flat_map, if◌then◌else◌, unwrap_or}
 use Rattle.std.specs.List.{filter}
-use Rattle.run_record.specs.Order.{numbers_from, least_from}
+use Rattle.office_core.specs.Keys.{first as first_in}
+use Rattle.run_record.specs.Order.{numbers_from}
 use Rattle.run_order_laws.proofs.Lists.{itself, not_eq, eq_true, append_nil, append_assoc}
 
 -- ---- lists of numbers
@@ -72,11 +73,35 @@ flat_map_append f (x ∷ xs) ys =
 
 -- ---- the least number
 
+-- the least of the so many numbers from i on that is of a kind, and the number behind them where none is
+abbrev least_from : (ℕ → Bool) → ℕ → ℕ → ℕ
+least_from is_it i zero = i
+least_from is_it i (suc n) = if is_it i then i else least_from is_it (suc i) n
+
+-- it is the first of those of the kind
+first_is_least : (f : ℕ → Bool) (i n count : ℕ) → i + n ≡ count
+    → unwrap_or (first_in (filter f (numbers_from i n))) count ≡ least_from f i n
+first_is_least f i zero count e = none i count e
+  where
+    none : (m k : ℕ) → m + 0 ≡ k → k ≡ m
+    none m k e = omega (arith, e)
+first_is_least f i (suc n) count e = by (f i) (first_is_least f (suc i) n count (moved i n count e))
+  where
+    moved : (m l k : ℕ) → m + suc l ≡ k → suc m + l ≡ k
+    moved m l k e = omega (arith, e)
+
+    by : (b : Bool)
+        → unwrap_or (first_in (filter f (numbers_from (suc i) n))) count ≡ least_from f (suc i) n
+        → unwrap_or (first_in (cond b (i ∷ filter f (numbers_from (suc i) n)) (filter f (numbers_from (suc i) n)))) count
+        ≡ (if b then i else least_from f (suc i) n)
+    by true h = refl
+    by false h = h
+
 -- where it is with one number more to look at
 abbrev pub later : Bool → ℕ → ℕ → ℕ
 later b at r = if nat_eq at r then (if b then at else suc at) else r
 
-pub least_one_more : (f : ℕ → Bool) (i n : ℕ) → least_from f i (suc n) ≡ later (f (i + n)) (i + n) (least_from f i n)
+least_one_more : (f : ℕ → Bool) (i n : ℕ) → least_from f i (suc n) ≡ later (f (i + n)) (i + n) (least_from f i n)
 least_one_more f i zero =
     sym (ap (λ m. later (f m) m i) (number i) ∙ ap (λ b. if b then (if f i then i else suc i) else i) (itself i))
   where
@@ -98,7 +123,7 @@ least_one_more f i (suc n) = by (f i) (least_one_more f (suc i) n)
     by false h =
         h ∙ ap (λ m. later (f m) m (least_from f (suc i) n)) number
 
-pub least_bound : (f : ℕ → Bool) (i n : ℕ) → least_from f i n ≤ i + n
+least_bound : (f : ℕ → Bool) (i n : ℕ) → least_from f i n ≤ i + n
 least_bound f i zero = number i
   where
     number : (m : ℕ) → m ≤ m + 0
@@ -115,7 +140,7 @@ least_bound f i (suc n) = by (f i) (least_bound f (suc i) n)
     by true h = here
     by false h = wider (least_from f (suc i) n) h
 
-pub least_alike : (f g : ℕ → Bool) (i n : ℕ) → ((k : ℕ) → k < i + n → f k ≡ g k) → least_from f i n ≡ least_from g i n
+least_alike : (f g : ℕ → Bool) (i n : ℕ) → ((k : ℕ) → k < i + n → f k ≡ g k) → least_from f i n ≡ least_from g i n
 least_alike f g i zero same = refl
 least_alike f g i (suc n) same =
     λ k. if same i here k then i else least_alike f g (suc i) n (λ j less. same j (wider j less)) k
@@ -130,7 +155,14 @@ least_alike f g i (suc n) same =
 
 -- where posting j of so many is finished
 abbrev pub at_by : (ℕ → ℕ → Bool) → ℕ → ℕ → ℕ
-at_by f count j = least_from (f j) j (count - j)
+at_by f count j = unwrap_or (first_in (filter (f j) (numbers_from j (count - j)))) count
+
+-- it is the least from its own on
+at_least : (f : ℕ → ℕ → Bool) (count j : ℕ) → j ≤ count → at_by f count j ≡ least_from (f j) j (count - j)
+at_least f count j most = first_is_least (f j) j (count - j) count whole
+  where
+    whole : j + (count - j) ≡ count
+    whole = omega (arith, most)
 
 -- the postings among so many that are finished at i
 abbrev pub there_by : (ℕ → ℕ → Bool) → ℕ → ℕ → List ℕ
@@ -143,12 +175,20 @@ AreAlike count f g = (j i : ℕ) → j < count → i < count → f j i ≡ g j i
 at_more : (f g : ℕ → ℕ → Bool) (count j : ℕ) → AreAlike count f g → j < count
     → at_by g (suc count) j ≡ later (g j count) count (at_by f count j)
 at_more f g count j same below =
-    ap (λ n. least_from (g j) j n) one_more
+    at_least g (suc count) j longer
+    ∙ ap (λ n. least_from (g j) j n) one_more
     ∙ least_one_more (g j) j (count - j)
     ∙ ap (λ n. later (g j n) n (least_from (g j) j (count - j))) whole
     ∙ ap (later (g j count) count)
-    (sym (least_alike (f j) (g j) j (count - j) (λ i less. same j i below (subst (λ n. i < n) whole less))))
+    (sym (least_alike (f j) (g j) j (count - j) (λ i less. same j i below (subst (λ n. i < n) whole less)))
+    ∙ sym (at_least f count j within))
   where
+    within : j ≤ count
+    within = omega (arith, below)
+
+    longer : j ≤ suc count
+    longer = omega (arith, below)
+
     one_more : suc count - j ≡ suc (count - j)
     one_more = omega (arith, below)
 
@@ -156,14 +196,22 @@ at_more f g count j same below =
     whole = omega (arith, below)
 
 at_new : (g : ℕ → ℕ → Bool) (count : ℕ) → at_by g (suc count) count ≡ (if g count count then count else suc count)
-at_new g count = ap (λ n. least_from (g count) count n) one
+at_new g count = at_least g (suc count) count longer ∙ ap (λ n. least_from (g count) count n) one
   where
+    longer : count ≤ suc count
+    longer = omega arith
+
     one : suc count - count ≡ 1
     one = omega arith
 
-at_bound : (f : ℕ → ℕ → Bool) (count j : ℕ) → j < count → at_by f count j ≤ count
-at_bound f count j below = subst (λ n. at_by f count j ≤ n) whole (least_bound (f j) j (count - j))
+pub at_bound : (f : ℕ → ℕ → Bool) (count j : ℕ) → j < count → at_by f count j ≤ count
+at_bound f count j below =
+    subst (λ n. n ≤ count) (sym (at_least f count j within))
+    (subst (λ n. least_from (f j) j (count - j) ≤ n) whole (least_bound (f j) j (count - j)))
   where
+    within : j ≤ count
+    within = omega (arith, below)
+
     whole : j + (count - j) ≡ count
     whole = omega (arith, below)
 
@@ -290,12 +338,17 @@ there_same f g count i same =
     filter_alike (λ j. nat_eq i (at_by f count j)) (λ j. nat_eq i (at_by g count j)) 0 count
     (λ j less. ap (nat_eq i) (at_same j (below_zero count j less)))
   where
+    within : (j : ℕ) → j < count → j ≤ count
+    within j below = omega (arith, below)
+
     whole : (j : ℕ) → j < count → j + (count - j) ≡ count
     whole j below = omega (arith, below)
 
     at_same : (j : ℕ) → j < count → at_by f count j ≡ at_by g count j
     at_same j below =
-        least_alike (f j) (g j) j (count - j) (λ k less. same j k below (subst (λ n. k < n) (whole j below) less))
+        at_least f count j (within j below)
+        ∙ least_alike (f j) (g j) j (count - j) (λ k less. same j k below (subst (λ n. k < n) (whole j below) less))
+        ∙ sym (at_least g count j (within j below))
 
 -- and so are those before one of them
 pub before_same : (f g : ℕ → ℕ → Bool) (count j : ℕ) → AreAlike count f g

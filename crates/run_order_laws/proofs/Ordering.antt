@@ -179,7 +179,7 @@ answers_until w h more count i n g below h_there = by (list_any (cut_at i) h) re
     some = omega (arith, below)
 
     is_silent : list_all adds_none silent ≡ true
-    is_silent = before_less adds_none (cuts count) (cut_at i) (λ e. cuts_wider i count e below) more (g.calm some)
+    is_silent = before_less adds_none (cuts count) (cut_at i) (λ e. cuts_wider i count e below) more (g.unfailed some)
 
     by : (b : Bool) → list_any (cut_at i) h ≡ b
         → answers w (past_by (before_first (cut_at i) (past_of w h).entries) old) n
@@ -338,17 +338,17 @@ before_ends w h more count j g =
 -- ---- what comes with a posting
 
 -- a post of the posting cuts at once
-pub calm_at_post : (count : ℕ) (e : Entry) (more : List Entry) → cuts count e ≡ true
+pub unfailed_at_post : (count : ℕ) (e : Entry) (more : List Entry) → cuts count e ≡ true
     → list_all adds_none (before_first (cuts count) (e ∷ more)) ≡ true
-calm_at_post count e more h = ap (λ b. list_all adds_none (if b then [] else e ∷ before_first (cuts count) more)) h
+unfailed_at_post count e more h = ap (λ b. list_all adds_none (if b then [] else e ∷ before_first (cuts count) more)) h
 
 -- entries that answer nothing before it do no harm
-pub calm_behind : (count : ℕ) (es more : List Entry) → list_all adds_none es ≡ true
+pub unfailed_behind : (count : ℕ) (es more : List Entry) → list_all adds_none es ≡ true
     → list_all adds_none (before_first (cuts count) more) ≡ true
     → list_all adds_none (before_first (cuts count) (es ++ more)) ≡ true
-calm_behind count [] more h g = g
-calm_behind count (e ∷ es) more h g =
-    by (calm_behind count es more (right_true (adds_none e) (list_all adds_none es) h) g) (cuts count e)
+unfailed_behind count [] more h g = g
+unfailed_behind count (e ∷ es) more h g =
+    by (unfailed_behind count es more (right_true (adds_none e) (list_all adds_none es) h) g) (cuts count e)
   where
     by : list_all adds_none (before_first (cuts count) (es ++ more)) ≡ true → (b : Bool)
         → list_all adds_none (if b then [] else e ∷ before_first (cuts count) (es ++ more)) ≡ true
@@ -358,6 +358,6 @@ calm_behind count (e ∷ es) more h g =
         (left_true (adds_none e) (list_all adds_none es) h) next
 
 -- what adds no answer, and no post, before the stop: adoptions, and that the input is at its end
-pub calm_at_stop : (count actor : ℕ) (more : List Entry)
+pub unfailed_at_stop : (count actor : ℕ) (more : List Entry)
     → list_all adds_none (before_first (cuts count) (record { actor = actor; act = act.Stop } ∷ more)) ≡ true
-calm_at_stop count actor more = refl
+unfailed_at_stop count actor more = refl

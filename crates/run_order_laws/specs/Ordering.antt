@@ -20,7 +20,7 @@ pub record Grows (w : Setting) (h more : List Entry) (count : ℕ) : Type 0 wher
   pub running : some_entry (past_of w h) stops ≡ false
   pub under : list_all (posts_under count) h ≡ true
   pub over : list_all (posts_over count) more ≡ true
-  pub calm : 0 < count → list_all adds_none (before_first (cuts count) more) ≡ true
+  pub unfailed : 0 < count → list_all adds_none (before_first (cuts count) more) ≡ true
 
 -- each accepted message of posting j has an answer by now
 abbrev pub is_answered : Setting → Past → ℕ → Bool

@@ -15,9 +15,9 @@ use Rattle.office_plain.specs.Entries.{post_entry}
 use Rattle.office_plain.proofs.Paths.{next_of}
 use Rattle.run_order_laws.proofs.Lists.{append_nil, append_assoc}
 use Rattle.run_order_laws.proofs.Growing.{past_then}
-use Rattle.run_cells.specs.Crews.{State, Stays, list_of, past_in}
-use Rattle.run_posts.specs.declared.pending.Fate.{Fate}
-use Rattle.run_posts.specs.Fates.{call_entries, call_fate, fate_of, fates_of, posted_entries, reply_to}
+use Rattle.run_cells.specs.RunStates.{State, Stays, list_of, past_in}
+use Rattle.run_posts.specs.declared.pending.CallState.{CallState}
+use Rattle.run_posts.specs.CallStates.{call_entries, state_of_call, call_state_of, call_states_of, posted_entries, reply_to}
 
 -- Of two states all but the history is the same.
 pub record IsSame (old now : State) : Type 0 where
@@ -43,24 +43,24 @@ pub past_stays : (old new : State) (more : List Entry) → Stays old new more
 past_stays old new more s = (λ k. past_of (s.setting k) (s.history k)) ∙ past_then old.setting old.history more
 
 -- Of posting j the calls below i were posted, and this became of them.
-pub record IsPosting (old now : State) (ji : ℕ × ℕ) (calls : List CallIn) (so_far : List Fate) : Type 0 where
+pub record IsPosting (old now : State) (ji : ℕ × ℕ) (calls : List CallIn) (so_far : List CallState) : Type 0 where
   pub same : IsSame old now
   pub history : now.history ++ posted_entries now.setting (past_in now) ji (drop ji.1 calls)
       ≡ old.history ++ posted_entries old.setting (past_in old) (ji.0, 0) calls
-  pub fates : so_far ++ fates_of now.setting (past_in now) ji (drop ji.1 calls)
-      ≡ fates_of old.setting (past_in old) (ji.0, 0) calls
+  pub call_states : so_far ++ call_states_of now.setting (past_in now) ji (drop ji.1 calls)
+      ≡ call_states_of old.setting (past_in old) (ji.0, 0) calls
 
 -- none yet
 pub posting_starts : (s : State) (j : ℕ) (calls : List CallIn) → IsPosting s s (j, 0) calls []
-posting_starts s j calls = record { same = itself s; history = refl; fates = refl }
+posting_starts s j calls = record { same = itself s; history = refl; call_states = refl }
 
 -- one more
-pub posting_turn : (old mid new : State) (j i n next : ℕ) (calls : List CallIn) (c : CallIn) (fates : List Fate)
-    (f : Fate)
+pub posting_turn : (old mid new : State) (j i n next : ℕ) (calls : List CallIn) (c : CallIn) (call_states : List CallState)
+    (f : CallState)
     → n ≡ i → next ≡ i + 1 → i < length calls → c ≡ get_or calls i c
-    → Stays mid new (call_entries mid.setting (past_in mid) (j, n) c) → f ≡ call_fate mid.setting (past_in mid) c
-    → IsPosting old mid (j, i) calls fates → IsPosting old new (j, next) calls (fates ++ f ∷ [])
-posting_turn old mid new j i n next calls c fates f number step within is s fate p = record {
+    → Stays mid new (call_entries mid.setting (past_in mid) (j, n) c) → f ≡ state_of_call mid.setting (past_in mid) c
+    → IsPosting old mid (j, i) calls call_states → IsPosting old new (j, next) calls (call_states ++ f ∷ [])
+posting_turn old mid new j i n next calls c call_states f number step within is s call_state p = record {
   same = same_then old mid new (call_entries mid.setting (past_in mid) (j, n) c) p.same s;
   history =
       (λ k. s.history k ++ posted_entries (s.setting k) (past_stays mid new _ s k) (j, step k) (drop (step k) calls))
@@ -73,31 +73,31 @@ posting_turn old mid new j i n next calls c fates f number step within is s fate
       (j, suc i) (drop (i + 1) calls))
       ∙ ap (λ cs. mid.history ++ posted_entries mid.setting (past_in mid) (j, i) cs) (sym (next_of calls i c within is))
       ∙ p.history;
-  fates =
-      (λ k. (fates ++ f ∷ []) ++ fates_of (s.setting k) (past_stays mid new _ s k) (j, step k) (drop (step k) calls))
-      ∙ (λ k. (fates ++ fate k ∷ [])
-      ++ fates_of mid.setting
+  call_states =
+      (λ k. (call_states ++ f ∷ []) ++ call_states_of (s.setting k) (past_stays mid new _ s k) (j, step k) (drop (step k) calls))
+      ∙ (λ k. (call_states ++ call_state k ∷ [])
+      ++ call_states_of mid.setting
       (then_all mid.setting (past_in mid) (call_entries mid.setting (past_in mid) (j, number k) c))
       (j, after k) (drop (i + 1) calls))
-      ∙ append_assoc fates (call_fate mid.setting (past_in mid) c ∷ [])
-      (fates_of mid.setting (then_all mid.setting (past_in mid) (call_entries mid.setting (past_in mid) (j, i) c))
+      ∙ append_assoc call_states (state_of_call mid.setting (past_in mid) c ∷ [])
+      (call_states_of mid.setting (then_all mid.setting (past_in mid) (call_entries mid.setting (past_in mid) (j, i) c))
       (j, suc i) (drop (i + 1) calls))
-      ∙ ap (λ cs. fates ++ fates_of mid.setting (past_in mid) (j, i) cs) (sym (next_of calls i c within is))
-      ∙ p.fates;
+      ∙ ap (λ cs. call_states ++ call_states_of mid.setting (past_in mid) (j, i) cs) (sym (next_of calls i c within is))
+      ∙ p.call_states;
 }
   where
     after : i + 1 ≡ suc i
     after = omega arith
 
 -- the same of what stands in memory
-pub posting_pushed : (old mid new : State) (j i n : ℕ) (calls : List CallIn) (c : CallIn) (done now : List Fate)
-    (f : Fate)
+pub posting_pushed : (old mid new : State) (j i n : ℕ) (calls : List CallIn) (c : CallIn) (done now : List CallState)
+    (f : CallState)
     → n ≡ i → i < length calls → c ≡ get_or calls i c → now ≡ done ++ f ∷ []
-    → Stays mid new (call_entries mid.setting (past_in mid) (j, n) c) → f ≡ call_fate mid.setting (past_in mid) c
+    → Stays mid new (call_entries mid.setting (past_in mid) (j, n) c) → f ≡ state_of_call mid.setting (past_in mid) c
     → IsPosting old mid (j, i) calls done → IsPosting old new (j, i + 1) calls now
-posting_pushed old mid new j i n calls c done now f number within is pushed s fate p =
+posting_pushed old mid new j i n calls c done now f number within is pushed s call_state p =
     subst (IsPosting old new (j, i + 1) calls) (sym pushed)
-    (posting_turn old mid new j i n (i + 1) calls c done f number refl within is s fate p)
+    (posting_turn old mid new j i n (i + 1) calls c done f number refl within is s call_state p)
 
 none_left : {A : Type 0} (xs : List A) (i : ℕ) → length xs ≤ i → drop i xs ≡ []
 none_left [] i h = nothing i
@@ -109,9 +109,9 @@ none_left (x ∷ xs) zero h = absurd (omega (arith, h))
 none_left (x ∷ xs) (suc i) h = none_left xs i (omega (arith, h))
 
 -- all of them: what was added is what the posting adds
-pub posting_added : (old now : State) (j i : ℕ) (calls : List CallIn) (fates : List Fate) → length calls ≤ i
-    → IsPosting old now (j, i) calls fates → Stays old now (posted_entries old.setting (past_in old) (j, 0) calls)
-posting_added old now j i calls fates past p = record {
+pub posting_added : (old now : State) (j i : ℕ) (calls : List CallIn) (call_states : List CallState) → length calls ≤ i
+    → IsPosting old now (j, i) calls call_states → Stays old now (posted_entries old.setting (past_in old) (j, 0) calls)
+posting_added old now j i calls call_states past p = record {
   setting = p.same.setting;
   budget = p.same.budget;
   history =
@@ -123,12 +123,12 @@ posting_added old now j i calls fates past p = record {
 }
 
 -- and that became of them
-pub posting_fates : (old now : State) (j i : ℕ) (calls : List CallIn) (fates : List Fate) → length calls ≤ i
-    → IsPosting old now (j, i) calls fates → fates ≡ fates_of old.setting (past_in old) (j, 0) calls
-posting_fates old now j i calls fates past p =
-    sym (append_nil fates)
-    ∙ ap (λ cs. fates ++ fates_of now.setting (past_in now) (j, i) cs) (sym (none_left calls i past))
-    ∙ p.fates
+pub posting_call_states : (old now : State) (j i : ℕ) (calls : List CallIn) (call_states : List CallState) → length calls ≤ i
+    → IsPosting old now (j, i) calls call_states → call_states ≡ call_states_of old.setting (past_in old) (j, 0) calls
+posting_call_states old now j i calls call_states past p =
+    sym (append_nil call_states)
+    ∙ ap (λ cs. call_states ++ call_states_of now.setting (past_in now) (j, i) cs) (sym (none_left calls i past))
+    ∙ p.call_states
 
 -- ---- a post
 
@@ -145,11 +145,11 @@ posted_one old new j i q copy r same is s =
     replied = is ∙ ap (reply_to old.setting (past_in old)) same
 
 -- and so is what becomes of it
-pub posted_fate : (old : State) (q copy : Posted) (r : PostReply) (f : Fate) → copy ≡ q
-    → r ≡ reply_to old.setting (past_in old) copy → f ≡ fate_of r
-    → f ≡ call_fate old.setting (past_in old) (call.Post q)
-posted_fate old q copy r f same is f_is =
-    f_is ∙ ap fate_of (is ∙ ap (reply_to old.setting (past_in old)) same)
+pub posted_call_state : (old : State) (q copy : Posted) (r : PostReply) (f : CallState) → copy ≡ q
+    → r ≡ reply_to old.setting (past_in old) copy → f ≡ call_state_of r
+    → f ≡ state_of_call old.setting (past_in old) (call.Post q)
+posted_call_state old q copy r f same is f_is =
+    f_is ∙ ap call_state_of (is ∙ ap (reply_to old.setting (past_in old)) same)
 
 -- nothing is added
 pub nothing_added : (s : State) → Stays s s []

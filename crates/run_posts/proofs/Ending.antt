@@ -15,7 +15,7 @@ use Rattle.office_core.specs.Keys.{first}
 use Rattle.office_core.specs.Accepted.{then_all, past_of}
 use Rattle.office_core.specs.Answers.{answers}
 use Rattle.office_core.specs.Legal.{AreLegal, IsLegal}
-use Rattle.run_theorem.specs.Dealings.{Told, Dealings}
+use Rattle.run_theorem.specs.Exchange.{Told, Exchange}
 use Rattle.run_theorem.specs.Calls.{Fit}
 use Rattle.run_record.specs.Order.{messages_for, finished_there, numbers_from, order_alone}
 use Rattle.run_record.specs.Postings.{outcomes_from}
@@ -29,15 +29,15 @@ use Rattle.run_order_laws.proofs.Staying.{answers_same_all}
 use Rattle.run_order_laws.proofs.Posting.{is_other, posts_under, posted_others}
 use Rattle.run_order_laws.proofs.Accepting.{posted_there}
 use Rattle.run_order_laws.proofs.Ordering.{Grows, InOrder, is_answered, order_goes_on, order_early, order_ends}
-use Rattle.run_posts.specs.declared.pending.Fate.{Fate}
+use Rattle.run_posts.specs.declared.pending.CallState.{CallState}
 pub use Rattle.run_posts.specs.Open.{StandsInOrder}
-use Rattle.run_posts.specs.Fates.{Wait, messages_in, messages_of, collection, collected, collected_in, all_collected}
-use Rattle.run_posts.specs.Fates.{settled, settled_in, is_finished, is_open, outcomes_in, told_of}
-use Rattle.run_posts.specs.declared.pending.Fate.TheVariants.{Message, Known}
+use Rattle.run_posts.specs.CallStates.{Wait, messages_in, messages_of, collection, collected, collected_in, all_collected}
+use Rattle.run_posts.specs.CallStates.{settled, settled_in, is_finished, is_open, outcomes_in, told_of}
+use Rattle.run_posts.specs.declared.pending.CallState.TheVariants.{Message, Known}
 use Rattle.run_posts.specs.Telling.{AreExpected}
 use Rattle.run_posts.proofs.Settling.{collect_waits, none_of_all}
-use Rattle.run_posts.proofs.Fates.{calls_of, fates_stay, fates_settle, all_known}
-use Rattle.run_posts.proofs.Fates.{all_outcomes, all_fit}
+use Rattle.run_posts.proofs.CallStates.{calls_of, call_states_stay, call_states_settle, all_known}
+use Rattle.run_posts.proofs.CallStates.{all_outcomes, all_fit}
 use Rattle.run_posts.proofs.Opening.{AreWaiting, IsTold, AreTold, AreApart, places, told_places, IsOpen}
 use Rattle.run_posts.proofs.Opening.{others_same, told_then}
 
@@ -47,7 +47,7 @@ other_collection : (n : ℕ) (o : Option Outcome) → list_all is_other (collect
 other_collection n None = refl
 other_collection n (Some o) = refl
 
-other_collected : (w : Setting) (past : Past) (f : Fate) → list_all is_other (collected w past f) ≡ true
+other_collected : (w : Setting) (past : Past) (f : CallState) → list_all is_other (collected w past f) ≡ true
 other_collected w past (Message n) = other_collection n (first (answers w past n))
 other_collected w past (Known o) = refl
 
@@ -58,7 +58,7 @@ all_append p (x ∷ xs) ys h g =
     both_true (p x) (list_all p (xs ++ ys)) (left_true (p x) (list_all p xs) h)
     (all_append p xs ys (right_true (p x) (list_all p xs) h) g)
 
-other_in : (w : Setting) (past : Past) (fs : List Fate) → list_all is_other (collected_in w past fs) ≡ true
+other_in : (w : Setting) (past : Past) (fs : List CallState) → list_all is_other (collected_in w past fs) ≡ true
 other_in w past [] = refl
 other_in w past (f ∷ fs) =
     all_append is_other (collected w past f) (collected_in w past fs) (other_collected w past f) (other_in w past fs)
@@ -67,7 +67,7 @@ other_in w past (f ∷ fs) =
 pub other_all : (w : Setting) (past : Past) (xs : List Wait) → list_all is_other (all_collected w past xs) ≡ true
 other_all w past [] = refl
 other_all w past (x ∷ xs) =
-    all_append is_other (collected_in w past x.fates) (all_collected w past xs) (other_in w past x.fates)
+    all_append is_other (collected_in w past x.call_states) (all_collected w past xs) (other_in w past x.call_states)
     (other_all w past xs)
 
 places_settled : (w : Setting) (past : Past) (xs : List Wait) → places (map (settled_in w past) xs) ≡ places xs
@@ -85,9 +85,9 @@ waiting_settled w past es all (x ∷ xs) legal other h = (
     given = h.0.given;
     calls = h.0.calls;
     are = h.0.are;
-    fates =
-        fates_stay w (x.place, 0) h.0.calls (map (settled w past) x.fates) past es legal
-        (fates_settle w past (x.place, 0) h.0.calls x.fates h.0.fates);
+    call_states =
+        call_states_stay w (x.place, 0) h.0.calls (map (settled w past) x.call_states) past es legal
+        (call_states_settle w past (x.place, 0) h.0.calls x.call_states h.0.call_states);
     messages = others_same w past es other x.place ∙ h.0.messages;
   },
   waiting_settled w past es all xs legal other h.1,
@@ -130,7 +130,7 @@ settled_then : (w : Setting) (past : Past) (es : List Entry) (all : List Posting
     → AreWaiting w past all xs → AreSettled w (then_all w past es) (map (settled_in w past) xs)
 settled_then w past es all [] same other h = tt
 settled_then w past es all (x ∷ xs) same other h = (
-  all_known w past (x.place, 0) h.0.calls x.fates h.0.fates
+  all_known w past (x.place, 0) h.0.calls x.call_states h.0.call_states
       ∙ ap (list_all (λ n. is_some (first (answers w past n)))) (sym h.0.messages)
       ∙ list_same (λ n. is_some (first (answers w past n))) (λ n. is_some (first (answers w (then_all w past es) n)))
       (λ n. ap (λ os. is_some (first os)) (sym (same n))) (messages_for past first_worker x.place)
@@ -188,24 +188,24 @@ open_places w past (x ∷ xs) h = by (is_finished x) (is_answered w past x.place
 -- ---- telling
 
 -- each posting that waits is expected by a front that was told that much
-pub all_expected : (w : Setting) (past : Past) (all : List Posting) (ts : List Told) (xs : List Wait) (d : Dealings)
-    → d.brought.given ≡ all → d.said.told ≡ ts → AreWaiting w past all xs → AreApart (places xs) (told_places ts)
+pub all_expected : (w : Setting) (past : Past) (all : List Posting) (ts : List Told) (xs : List Wait) (d : Exchange)
+    → d.received.given ≡ all → d.sent.told ≡ ts → AreWaiting w past all xs → AreApart (places xs) (told_places ts)
     → AreExpected xs d
-all_expected w past all ts [] d given said h apart = tt
-all_expected w past all ts (x ∷ xs) d given said h apart = (
+all_expected w past all ts [] d given sent h apart = tt
+all_expected w past all ts (x ∷ xs) d given sent h apart = (
   record {
     posting = h.0.posting;
     given = ap (λ ps. slice_get ps x.place) given ∙ h.0.given;
-    fit = λ known. fits h.0.are (all_fit w past (x.place, 0) h.0.calls x.fates h.0.fates known);
-    untold = ap (list_any (λ (t : Told). nat_eq x.place t.place)) said ∙ out x.place ts apart.1;
+    fit = λ known. fits h.0.are (all_fit w past (x.place, 0) h.0.calls x.call_states h.0.call_states known);
+    untold = ap (list_any (λ (t : Told). nat_eq x.place t.place)) sent ∙ out x.place ts apart.1;
   },
   among x.place xs apart.0,
-  all_expected w past all ts xs d given said h.1 apart.2,
+  all_expected w past all ts xs d given sent h.1 apart.2,
 )
   where
-    fits : calls_of h.0.calls ≡ h.0.posting.calls → Fit (calls_of h.0.calls) (outcomes_in x.fates)
-        → Fit h.0.posting.calls (outcomes_in x.fates)
-    fits are fit = subst (λ cs. Fit cs (outcomes_in x.fates)) are fit
+    fits : calls_of h.0.calls ≡ h.0.posting.calls → Fit (calls_of h.0.calls) (outcomes_in x.call_states)
+        → Fit h.0.posting.calls (outcomes_in x.call_states)
+    fits are fit = subst (λ cs. Fit cs (outcomes_in x.call_states)) are fit
 
     out : (n : ℕ) (us : List Told) → list_any (nat_eq n) (told_places us) ≡ false
         → list_any (λ (t : Told). nat_eq n t.place) us ≡ false
@@ -223,9 +223,9 @@ all_expected w past all ts (x ∷ xs) d given said h apart = (
         || list_any (λ (z : Wait). nat_eq n z.place) ys)
         ∙ among n ys (false_right (nat_eq n y.place) (list_any (nat_eq n) (places ys)) g)
 
-pub open_expected : (w : Setting) (h : List Entry) (all : List Posting) (ts : List Told) (xs : List Wait) (d : Dealings)
-    → d.brought.given ≡ all → d.said.told ≡ ts → IsOpen w h all ts xs → AreExpected xs d
-open_expected w h all ts xs d given said o = all_expected w (past_of w h) all ts xs d given said o.waiting o.apart
+pub open_expected : (w : Setting) (h : List Entry) (all : List Posting) (ts : List Told) (xs : List Wait) (d : Exchange)
+    → d.received.given ≡ all → d.sent.told ≡ ts → IsOpen w h all ts xs → AreExpected xs d
+open_expected w h all ts xs d given sent o = all_expected w (past_of w h) all ts xs d given sent o.waiting o.apart
 
 kept_waiting : (w : Setting) (past : Past) (all : List Posting) (xs : List Wait) → AreWaiting w past all xs
     → AreWaiting w past all (filter is_open xs)
@@ -310,9 +310,9 @@ kept_uncollected : (past : Past) (xs : List Wait) → AreUncollected past (messa
     → AreUncollected past (messages_of (filter is_open xs))
 kept_uncollected past [] h = tt
 kept_uncollected past (x ∷ xs) h = by (is_open x)
-    (front_and past (messages_in x.fates) (messages_of xs) (messages_of (filter is_open xs)) h
-    (λ n out. kept_number n xs out) (kept_uncollected past xs (rest_of past (messages_in x.fates) (messages_of xs) h)))
-    (kept_uncollected past xs (rest_of past (messages_in x.fates) (messages_of xs) h))
+    (front_and past (messages_in x.call_states) (messages_of xs) (messages_of (filter is_open xs)) h
+    (λ n out. kept_number n xs out) (kept_uncollected past xs (rest_of past (messages_in x.call_states) (messages_of xs) h)))
+    (kept_uncollected past xs (rest_of past (messages_in x.call_states) (messages_of xs) h))
   where
     rest_of : (p : Past) (ns ms : List ℕ) → AreUncollected p (ns ++ ms) → AreUncollected p ms
     rest_of p [] ms g = g
@@ -322,16 +322,16 @@ kept_uncollected past (x ∷ xs) h = by (is_open x)
         → list_any (nat_eq n) (messages_of (filter is_open ys)) ≡ false
     kept_number n [] out = refl
     kept_number n (y ∷ ys) out = one (is_open y)
-        (kept_number n ys (false_right (list_any (nat_eq n) (messages_in y.fates))
+        (kept_number n ys (false_right (list_any (nat_eq n) (messages_in y.call_states))
         (list_any (nat_eq n) (messages_of ys))
-        (sym (any_append (nat_eq n) (messages_in y.fates) (messages_of ys)) ∙ out)))
+        (sym (any_append (nat_eq n) (messages_in y.call_states) (messages_of ys)) ∙ out)))
       where
         one : (b : Bool) → list_any (nat_eq n) (messages_of (filter is_open ys)) ≡ false
             → list_any (nat_eq n) (messages_of (cond b (y ∷ filter is_open ys) (filter is_open ys))) ≡ false
         one true rest =
-            any_append (nat_eq n) (messages_in y.fates) (messages_of (filter is_open ys))
-            ∙ (λ i. false_left (list_any (nat_eq n) (messages_in y.fates)) (list_any (nat_eq n) (messages_of ys))
-            (sym (any_append (nat_eq n) (messages_in y.fates) (messages_of ys)) ∙ out) i
+            any_append (nat_eq n) (messages_in y.call_states) (messages_of (filter is_open ys))
+            ∙ (λ i. false_left (list_any (nat_eq n) (messages_in y.call_states)) (list_any (nat_eq n) (messages_of ys))
+            (sym (any_append (nat_eq n) (messages_in y.call_states) (messages_of ys)) ∙ out) i
             || list_any (nat_eq n) (messages_of (filter is_open ys)))
             ∙ rest
         one false rest = rest
@@ -351,7 +351,7 @@ kept_uncollected past (x ∷ xs) h = by (is_open x)
       front_and p ns ms ks g.2 out u,
     )
 
-    by : (b : Bool) → AreUncollected past (messages_in x.fates ++ messages_of (filter is_open xs))
+    by : (b : Bool) → AreUncollected past (messages_in x.call_states ++ messages_of (filter is_open xs))
         → AreUncollected past (messages_of (filter is_open xs))
         → AreUncollected past (messages_of (cond b (x ∷ filter is_open xs) (filter is_open xs)))
     by true with_it without = with_it
@@ -370,7 +370,7 @@ finished_told w past all (x ∷ xs) h = by (is_finished x) refl (finished_told w
         h.0.posting,
         h.0.given,
         ap (λ cs. all_there (outcomes_from w past first_worker (x.place, 0) cs)) (sym h.0.are)
-            ∙ all_outcomes w past (x.place, 0) h.0.calls x.fates h.0.fates known,
+            ∙ all_outcomes w past (x.place, 0) h.0.calls x.call_states h.0.call_states known,
       ),
       rest,
     )

@@ -4,11 +4,11 @@ use Rattle.std.proofs.Common.{subst, ◌∙◌, IsErrAnd}
 use Rattle.std.specs.Prelude.{nat_eq, slice_get, MatchResult, Result, Ok, Err}
 use Rattle.std.specs.List.{list_any, filter}
 use Rattle.behaviour_tree.specs.declared.words.Outcome.{Outcome}
-use Rattle.run_theorem.specs.Dealings.{Told, Dealings}
+use Rattle.run_theorem.specs.Exchange.{Told, Exchange}
 use Rattle.run_theorem.specs.Calls.{After, Tells, IsDue}
 use Rattle.run_order_laws.proofs.Lists.{false_left, false_right, turned, append_nil, append_assoc, any_append}
 use Rattle.run_posts.specs.declared.pending.Pending.{Pending}
-use Rattle.run_posts.specs.Fates.{Wait, is_finished, is_open, outcomes_in, told_of, wait_of}
+use Rattle.run_posts.specs.CallStates.{Wait, is_finished, is_open, outcomes_in, told_of, wait_of}
 use Rattle.run_posts.specs.Telling.{Answers, AnswersNone, AreExpected, TellsAll, TellsOn, TellsSome}
 use Rattle.run_posts.proofs.Halting.{halts_not, halts_on}
 
@@ -51,39 +51,39 @@ kept_pushed all done now before rest p steps open_yet pushed h =
 -- ---- what passed so far
 
 -- Of all postings those before the rest were told, as far as they are finished, and the rest is expected.
-pub record IsTelling (all rest : List Wait) (before now : Dealings) : Type 0 where
-  pub said : List Told
-  pub tells : TellsAll said before now
-  pub all_of : said ++ map told_of (filter is_finished rest) ≡ map told_of (filter is_finished all)
+pub record IsTelling (all rest : List Wait) (before now : Exchange) : Type 0 where
+  pub sent : List Told
+  pub tells : TellsAll sent before now
+  pub all_of : sent ++ map told_of (filter is_finished rest) ≡ map told_of (filter is_finished all)
   pub expected : AreExpected rest now
 
-pub telling_starts : (all : List Wait) (d : Dealings) → AreExpected all d → IsTelling all all d d
+pub telling_starts : (all : List Wait) (d : Exchange) → AreExpected all d → IsTelling all all d d
 telling_starts all d h = record {
-  said = [];
+  sent = [];
   tells = record {
-    told = sym (append_nil d.said.told);
+    told = sym (append_nil d.sent.told);
     noted = refl;
     notes_failed = refl;
-    halts = halts_not d.said;
-    brought = refl;
+    halts = halts_not d.sent;
+    received = refl;
   };
   all_of = refl;
   expected = h;
 }
 
 -- a posting that is not finished is passed by
-pub telling_passes : (all rest : List Wait) (x : Wait) (before now : Dealings) → is_finished x ≡ false
+pub telling_passes : (all rest : List Wait) (x : Wait) (before now : Exchange) → is_finished x ≡ false
     → IsTelling all (x ∷ rest) before now → IsTelling all rest before now
 telling_passes all rest x before now h t = record {
-  said = t.said;
+  sent = t.sent;
   tells = t.tells;
-  all_of = ap (λ l. t.said ++ map told_of l) (sym (passed is_finished x rest h)) ∙ t.all_of;
+  all_of = ap (λ l. t.sent ++ map told_of l) (sym (passed is_finished x rest h)) ∙ t.all_of;
   expected = t.expected.2;
 }
 
 -- a posting that is finished is due
-pub is_due : (all rest : List Wait) (x : Wait) (before now : Dealings) → is_finished x ≡ true
-    → IsTelling all (x ∷ rest) before now → IsDue x.place (outcomes_in x.fates) now
+pub is_due : (all rest : List Wait) (x : Wait) (before now : Exchange) → is_finished x ≡ true
+    → IsTelling all (x ∷ rest) before now → IsDue x.place (outcomes_in x.call_states) now
 is_due all rest x before now h t = record {
   posting = t.expected.0.posting;
   given = t.expected.0.given;
@@ -91,18 +91,18 @@ is_due all rest x before now h t = record {
   untold = t.expected.0.untold;
 }
 
-expected_still : (x : Wait) (outcomes : List Outcome) (xs : List Wait) (now next : Dealings)
+expected_still : (x : Wait) (outcomes : List Outcome) (xs : List Wait) (now next : Exchange)
     → Tells x.place outcomes now next
     → list_any (λ (y : Wait). nat_eq x.place y.place) xs ≡ false → AreExpected xs now → AreExpected xs next
 expected_still x outcomes [] now next t apart h = tt
 expected_still x outcomes (y ∷ xs) now next t apart h = (
   record {
     posting = h.0.posting;
-    given = ap (λ b. slice_get b.given y.place) t.brought ∙ h.0.given;
+    given = ap (λ b. slice_get b.given y.place) t.received ∙ h.0.given;
     fit = h.0.fit;
     untold =
         ap (list_any (λ (u : Told). nat_eq y.place u.place)) t.told
-        ∙ any_append (λ (u : Told). nat_eq y.place u.place) now.said.told
+        ∙ any_append (λ (u : Told). nat_eq y.place u.place) now.sent.told
         ((record { place = x.place; outcomes = outcomes }) ∷ [])
         ∙ (λ i. h.0.untold i || (turned y.place x.place i || false))
         ∙ ap (λ b. b || false)
@@ -114,85 +114,85 @@ expected_still x outcomes (y ∷ xs) now next t apart h = (
 )
 
 -- and it is told
-pub telling_turn : (all rest : List Wait) (x : Wait) (before now next : Dealings) → is_finished x ≡ true
-    → Tells x.place (outcomes_in x.fates) now next → IsTelling all (x ∷ rest) before now
+pub telling_turn : (all rest : List Wait) (x : Wait) (before now next : Exchange) → is_finished x ≡ true
+    → Tells x.place (outcomes_in x.call_states) now next → IsTelling all (x ∷ rest) before now
     → IsTelling all rest before next
 telling_turn all rest x before now next h t s = record {
-  said = s.said ++ told_of x ∷ [];
+  sent = s.sent ++ told_of x ∷ [];
   tells = record {
     told =
         t.told ∙ ap (λ l. l ++ told_of x ∷ []) s.tells.told
-        ∙ append_assoc before.said.told s.said (told_of x ∷ []);
+        ∙ append_assoc before.sent.told s.sent (told_of x ∷ []);
     noted = t.noted ∙ s.tells.noted;
     notes_failed = t.notes_failed ∙ s.tells.notes_failed;
-    halts = halts_on before.said now.said next.said s.tells.halts t.halts;
-    brought = t.brought ∙ s.tells.brought;
+    halts = halts_on before.sent now.sent next.sent s.tells.halts t.halts;
+    received = t.received ∙ s.tells.received;
   };
   all_of =
-      append_assoc s.said (told_of x ∷ []) (map told_of (filter is_finished rest))
-      ∙ ap (λ l. s.said ++ map told_of l) (sym (kept is_finished x rest h))
+      append_assoc s.sent (told_of x ∷ []) (map told_of (filter is_finished rest))
+      ∙ ap (λ l. s.sent ++ map told_of l) (sym (kept is_finished x rest h))
       ∙ s.all_of;
-  expected = expected_still x (outcomes_in x.fates) rest now next t s.expected.1 s.expected.2;
+  expected = expected_still x (outcomes_in x.call_states) rest now next t s.expected.1 s.expected.2;
 }
 
 -- at the end all were told that are finished
-pub telling_ends : (all : List Wait) (before now : Dealings) → IsTelling all [] before now
+pub telling_ends : (all : List Wait) (before now : Exchange) → IsTelling all [] before now
     → TellsAll (map told_of (filter is_finished all)) before now
 telling_ends all before now t =
-    subst (λ l. TellsAll l before now) (sym (append_nil t.said) ∙ t.all_of) t.tells
+    subst (λ l. TellsAll l before now) (sym (append_nil t.sent) ∙ t.all_of) t.tells
 
 -- the first of them were told
-telling_some : (all rest : List Wait) (before now : Dealings) → IsTelling all rest before now
+telling_some : (all rest : List Wait) (before now : Exchange) → IsTelling all rest before now
     → TellsSome (map told_of (filter is_finished all)) before now
-telling_some all rest before now t = (t.said, map told_of (filter is_finished rest), t.all_of, t.tells)
+telling_some all rest before now t = (t.sent, map told_of (filter is_finished rest), t.all_of, t.tells)
 
 -- ---- a front
 
-pub tells_starts : {F : Type 0} (dealt : F → F → Dealings → Type 0) (f : F) (xs : List Wait)
-    → TellsOn dealt f f xs (IsTelling xs xs)
-tells_starts dealt f xs first before was expected = (before, was, telling_starts xs before expected)
+pub tells_starts : {F : Type 0} (exchanged : F → F → Exchange → Type 0) (f : F) (xs : List Wait)
+    → TellsOn exchanged f f xs (IsTelling xs xs)
+tells_starts exchanged f xs first before was expected = (before, was, telling_starts xs before expected)
 
-pub tells_passes : {F : Type 0} (dealt : F → F → Dealings → Type 0) (old now : F) (all rest : List Wait) (x : Wait)
-    → is_finished x ≡ false → TellsOn dealt old now all (IsTelling all (x ∷ rest))
-    → TellsOn dealt old now all (IsTelling all rest)
-tells_passes dealt old now all rest x h t first before was expected =
-    let g : After (dealt first now) (IsTelling all (x ∷ rest) before) = t first before was expected in
+pub tells_passes : {F : Type 0} (exchanged : F → F → Exchange → Type 0) (old now : F) (all rest : List Wait) (x : Wait)
+    → is_finished x ≡ false → TellsOn exchanged old now all (IsTelling all (x ∷ rest))
+    → TellsOn exchanged old now all (IsTelling all rest)
+tells_passes exchanged old now all rest x h t first before was expected =
+    let g : After (exchanged first now) (IsTelling all (x ∷ rest) before) = t first before was expected in
     (g.0, g.1, telling_passes all rest x before g.0 h g.2)
 
 -- what a front says of it
-pub answer_said : {F T E : Type 0} (dealt : F → F → Dealings → Type 0) (old now : F) (x : Wait)
+pub answer_sent : {F T E : Type 0} (exchanged : F → F → Exchange → Type 0) (old now : F) (x : Wait)
     (outcomes : List Outcome)
-    (r : Result T E) → outcomes ≡ outcomes_in x.fates
-    → ((first : F) (before : Dealings) → dealt first old before → IsDue x.place outcomes before
-    → MatchResult r (λ _. After (dealt first now) (Tells x.place outcomes before)) (λ _. dealt first now before))
-    → MatchResult r (λ _. Answers dealt old now x) (λ _. AnswersNone dealt old now x)
-answer_said dealt old now x outcomes (Ok t) same call = λ first before was due.
-    subst (λ os. After (dealt first now) (Tells x.place os before)) same
+    (r : Result T E) → outcomes ≡ outcomes_in x.call_states
+    → ((first : F) (before : Exchange) → exchanged first old before → IsDue x.place outcomes before
+    → MatchResult r (λ _. After (exchanged first now) (Tells x.place outcomes before)) (λ _. exchanged first now before))
+    → MatchResult r (λ _. Answers exchanged old now x) (λ _. AnswersNone exchanged old now x)
+answer_sent exchanged old now x outcomes (Ok t) same call = λ first before was due.
+    subst (λ os. After (exchanged first now) (Tells x.place os before)) same
     (call first before was (subst (λ os. IsDue x.place os before) (sym same) due))
-answer_said dealt old now x outcomes (Err e) same call = λ first before was due.
+answer_sent exchanged old now x outcomes (Err e) same call = λ first before was due.
     call first before was (subst (λ os. IsDue x.place os before) (sym same) due)
 
 -- where memory was wanting before, nothing passed
-pub answer_not_said : {F T E : Type 0} (dealt : F → F → Dealings → Type 0) (f : F) (x : Wait) (r : Result T E) (e : E)
-    → r ≡ Err e → MatchResult r (λ _. Answers dealt f f x) (λ _. AnswersNone dealt f f x)
-answer_not_said dealt f x r e is =
-    subst (λ v. MatchResult v (λ _. Answers dealt f f x) (λ _. AnswersNone dealt f f x)) (sym is)
+pub answer_not_sent : {F T E : Type 0} (exchanged : F → F → Exchange → Type 0) (f : F) (x : Wait) (r : Result T E) (e : E)
+    → r ≡ Err e → MatchResult r (λ _. Answers exchanged f f x) (λ _. AnswersNone exchanged f f x)
+answer_not_sent exchanged f x r e is =
+    subst (λ v. MatchResult v (λ _. Answers exchanged f f x) (λ _. AnswersNone exchanged f f x)) (sym is)
     (λ first before was due. was)
 
-pub tells_turn : {F : Type 0} (dealt : F → F → Dealings → Type 0) (old mid now : F) (all rest : List Wait) (x : Wait)
-    → is_finished x ≡ true → Answers dealt mid now x → TellsOn dealt old mid all (IsTelling all (x ∷ rest))
-    → TellsOn dealt old now all (IsTelling all rest)
-tells_turn dealt old mid now all rest x h call t first before was expected =
-    let g : After (dealt first mid) (IsTelling all (x ∷ rest) before) = t first before was expected in
-    let n : After (dealt first now) (Tells x.place (outcomes_in x.fates) g.0) =
+pub tells_turn : {F : Type 0} (exchanged : F → F → Exchange → Type 0) (old mid now : F) (all rest : List Wait) (x : Wait)
+    → is_finished x ≡ true → Answers exchanged mid now x → TellsOn exchanged old mid all (IsTelling all (x ∷ rest))
+    → TellsOn exchanged old now all (IsTelling all rest)
+tells_turn exchanged old mid now all rest x h call t first before was expected =
+    let g : After (exchanged first mid) (IsTelling all (x ∷ rest) before) = t first before was expected in
+    let n : After (exchanged first now) (Tells x.place (outcomes_in x.call_states) g.0) =
     call first g.0 g.1 (is_due all rest x before g.0 h g.2) in
     (n.0, n.1, telling_turn all rest x before g.0 n.0 h n.2 g.2)
 
-pub tells_ends : {F : Type 0} (dealt : F → F → Dealings → Type 0) (old now : F) (all : List Wait)
-    → TellsOn dealt old now all (IsTelling all [])
-    → TellsOn dealt old now all (TellsAll (map told_of (filter is_finished all)))
-tells_ends dealt old now all t first before was expected =
-    let g : After (dealt first now) (IsTelling all [] before) = t first before was expected in
+pub tells_ends : {F : Type 0} (exchanged : F → F → Exchange → Type 0) (old now : F) (all : List Wait)
+    → TellsOn exchanged old now all (IsTelling all [])
+    → TellsOn exchanged old now all (TellsAll (map told_of (filter is_finished all)))
+tells_ends exchanged old now all t first before was expected =
+    let g : After (exchanged first now) (IsTelling all [] before) = t first before was expected in
     (g.0, g.1, telling_ends all before g.0 g.2)
 
 -- ---- where memory was wanting
@@ -204,17 +204,17 @@ failing A Q (Ok x) h b = absurd h
 failing A Q (Err y) h b = b
 
 -- the first of them were told
-pub tells_some : {F : Type 0} (dealt : F → F → Dealings → Type 0) (old now : F) (all rest : List Wait)
-    → TellsOn dealt old now all (IsTelling all rest)
-    → TellsOn dealt old now all (TellsSome (map told_of (filter is_finished all)))
-tells_some dealt old now all rest t first before was expected =
-    let g : After (dealt first now) (IsTelling all rest before) = t first before was expected in
+pub tells_some : {F : Type 0} (exchanged : F → F → Exchange → Type 0) (old now : F) (all rest : List Wait)
+    → TellsOn exchanged old now all (IsTelling all rest)
+    → TellsOn exchanged old now all (TellsSome (map told_of (filter is_finished all)))
+tells_some exchanged old now all rest t first before was expected =
+    let g : After (exchanged first now) (IsTelling all rest before) = t first before was expected in
     (g.0, g.1, telling_some all rest before g.0 g.2)
 
 -- and the next was not
-pub tells_not : {F : Type 0} (dealt : F → F → Dealings → Type 0) (old mid now : F) (all rest : List Wait) (x : Wait)
-    → is_finished x ≡ true → AnswersNone dealt mid now x → TellsOn dealt old mid all (IsTelling all (x ∷ rest))
-    → TellsOn dealt old now all (TellsSome (map told_of (filter is_finished all)))
-tells_not dealt old mid now all rest x h call t first before was expected =
-    let g : After (dealt first mid) (IsTelling all (x ∷ rest) before) = t first before was expected in
+pub tells_not : {F : Type 0} (exchanged : F → F → Exchange → Type 0) (old mid now : F) (all rest : List Wait) (x : Wait)
+    → is_finished x ≡ true → AnswersNone exchanged mid now x → TellsOn exchanged old mid all (IsTelling all (x ∷ rest))
+    → TellsOn exchanged old now all (TellsSome (map told_of (filter is_finished all)))
+tells_not exchanged old mid now all rest x h call t first before was expected =
+    let g : After (exchanged first mid) (IsTelling all (x ∷ rest) before) = t first before was expected in
     (g.0, call first g.0 g.1 (is_due all rest x before g.0 h g.2), telling_some all (x ∷ rest) before g.0 g.2)

@@ -1,7 +1,7 @@
 -- A front halts in one call or in the next.
 use Rattle.std.proofs.Common.{◌≡◌, ◌⊎◌, ℕ, ◌≤◌, true, refl, ◌∙◌, inl, inr, le_refl, arith}
 use Rattle.outside_traits.specs.Causes.{Rose}
-use Rattle.run_theorem.specs.Dealings.{Said}
+use Rattle.run_theorem.specs.Exchange.{Sent}
 use Rattle.run_theorem.specs.Calls.{Halts}
 
 rose_later : (a b c : ℕ) → Rose a b → b ≤ c → Rose a c
@@ -14,16 +14,16 @@ le_both : (a b c : ℕ) → a ≤ b → b ≤ c → a ≤ c
 le_both a b c h g = omega arith
 
 -- it halted nowhere
-pub halts_not : (s : Said) → Halts s s
-halts_not s = record { cause = λ h. inl h; calm = λ h. (h, refl); faults = le_refl s.faults }
+pub halts_not : (s : Sent) → Halts s s
+halts_not s = record { cause = λ h. inl h; unfailed = λ h. (h, refl); faults = le_refl s.faults }
 
 -- it halted in the one or in the other
-pub halts_on : (a b c : Said) → Halts a b → Halts b c → Halts a c
+pub halts_on : (a b c : Sent) → Halts a b → Halts b c → Halts a c
 halts_on a b c x y =
     record {
       cause = λ h. elim
           (y.cause h) [ inl g ↦ before (x.cause g) | inr g ↦ inr (rose_sooner a.faults b.faults c.faults x.faults g) ];
-      calm = λ h. ((x.calm (y.calm h).0).0, (y.calm h).1 ∙ (x.calm (y.calm h).0).1);
+      unfailed = λ h. ((x.unfailed (y.unfailed h).0).0, (y.unfailed h).1 ∙ (x.unfailed (y.unfailed h).0).1);
       faults = le_both a.faults b.faults c.faults x.faults y.faults;
     }
   where

@@ -2,6 +2,6 @@ pub mod Added
 pub mod Settling
 pub mod Halting
 pub mod Expecting
-pub mod Fates
+pub mod CallStates
 pub mod Opening
 pub mod Ending

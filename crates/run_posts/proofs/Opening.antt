@@ -17,7 +17,7 @@ use Rattle.office_core.specs.Limits.{Setting, first_worker}
 use Rattle.office_core.specs.Past.{Past}
 use Rattle.office_core.specs.Accepted.{then_one, then_all, past_of}
 use Rattle.office_core.specs.Legal.{collects, IsLegalEntry, AreLegal, IsLegal}
-use Rattle.run_theorem.specs.Dealings.{Told}
+use Rattle.run_theorem.specs.Exchange.{Told}
 use Rattle.run_record.specs.Order.{accepted_as, message_in as accepted_by, messages_for}
 use Rattle.run_record.specs.Postings.{reply_in}
 use Rattle.run_order_laws.specs.Uncollected.{IsUncollected, AreUncollected}
@@ -31,10 +31,10 @@ use Rattle.run_order_laws.proofs.Posting.{is_other, posts_under, ArePosted, IsPo
 use Rattle.run_order_laws.proofs.Posting.{posting_passes, posting_ends, posted_others}
 use Rattle.run_order_laws.proofs.Accepting.{AreOther, all_uncollected_still, uncollected_first, post_accepted}
 pub use Rattle.run_posts.specs.Open.{IsWaiting, AreWaiting, IsTold, AreTold, AreApart, places, told_places, IsOpen}
-use Rattle.run_posts.specs.Fates.{Wait, message_in, messages_in, messages_of, fate_of, reply_to, call_entries}
-use Rattle.run_posts.specs.Fates.{call_fate, posted_entries, fates_of}
-use Rattle.run_posts.proofs.Fates.{NoReply, numbers_of, numbered, numbered_calls}
-use Rattle.run_posts.proofs.Fates.{calls_become, messages_come, fates_stay}
+use Rattle.run_posts.specs.CallStates.{Wait, message_in, messages_in, messages_of, call_state_of, reply_to, call_entries}
+use Rattle.run_posts.specs.CallStates.{state_of_call, posted_entries, call_states_of}
+use Rattle.run_posts.proofs.CallStates.{NoReply, numbers_of, numbered, numbered_calls}
+use Rattle.run_posts.proofs.CallStates.{calls_become, messages_come, call_states_stay}
 
 -- ---- what holds
 
@@ -72,7 +72,7 @@ waiting_then w past es all more (x ∷ xs) legal same low h = (
     given = stays_there all more x.place h.0.posting h.0.given;
     calls = h.0.calls;
     are = h.0.are;
-    fates = fates_stay w (x.place, 0) h.0.calls x.fates past es legal h.0.fates;
+    call_states = call_states_stay w (x.place, 0) h.0.calls x.call_states past es legal h.0.call_states;
     messages =
         same x.place (left_true (nat_lt x.place (length all)) (list_all (λ n. nat_lt n (length all)) (places xs)) low)
         ∙ h.0.messages;
@@ -315,7 +315,7 @@ post_uncollected : (w : Setting) (h : List Entry) (ns : List ℕ) (j i : ℕ) (q
     → IsLegalEntry w (past_of w h) (record { actor = first_worker; act = act.Post j i q r })
     → AreUncollected (past_of w h) ns
     → AreUncollected (then_one w (past_of w h) (record { actor = first_worker; act = act.Post j i q r }))
-    (ns ++ cons_option (message_in (fate_of r)) [])
+    (ns ++ cons_option (message_in (call_state_of r)) [])
 post_uncollected w h ns j i q (answer.Accepted n) legal fits u =
     append_one (then_one w (past_of w h)
     (record { actor = first_worker; act = act.Post j i q (answer.Accepted n) })) ns n
@@ -335,7 +335,7 @@ post_uncollected w h ns j i q (answer.Refused why) legal fits u =
 call_uncollected : (w : Setting) (h : List Entry) (ns : List ℕ) (ji : ℕ × ℕ) (c : CallIn) → IsLegal w h
     → AreLegal w (past_of w h) (call_entries w (past_of w h) ji c) → AreUncollected (past_of w h) ns
     → AreUncollected (then_all w (past_of w h) (call_entries w (past_of w h) ji c))
-    (ns ++ cons_option (message_in (call_fate w (past_of w h) c)) [])
+    (ns ++ cons_option (message_in (state_of_call w (past_of w h) c)) [])
 call_uncollected w h ns ji (call.Post q) legal fits u =
     post_uncollected w h ns ji.0 ji.1 q (reply_to w (past_of w h) q) legal fits.0 u
 call_uncollected w h ns ji (call.Answered o) legal fits u =
@@ -347,17 +347,17 @@ moved (Some n) front rest = append_assoc front (n ∷ []) rest
 
 posts_uncollected : (w : Setting) (h : List Entry) (past : Past) (ns : List ℕ) (ji : ℕ × ℕ) (cs : List CallIn)
     → past_of w h ≡ past → IsLegal w (h ++ posted_entries w past ji cs) → AreUncollected past ns
-    → AreUncollected (then_all w past (posted_entries w past ji cs)) (ns ++ messages_in (fates_of w past ji cs))
+    → AreUncollected (then_all w past (posted_entries w past ji cs)) (ns ++ messages_in (call_states_of w past ji cs))
 posts_uncollected w h past ns ji [] is legal u = subst (AreUncollected past) (sym (append_nil ns)) u
 posts_uncollected w h past ns ji (c ∷ cs) is legal u =
-    subst (λ p. AreUncollected p (ns ++ messages_in (fates_of w past ji (c ∷ cs))))
+    subst (λ p. AreUncollected p (ns ++ messages_in (call_states_of w past ji (c ∷ cs))))
     (sym (append_then w past (call_entries w past ji c) (posted_entries w now (ji.0, suc ji.1) cs)))
     (subst (AreUncollected (then_all w now (posted_entries w now (ji.0, suc ji.1) cs)))
-    (moved (message_in (call_fate w past c)) ns (messages_in (fates_of w now (ji.0, suc ji.1) cs)))
-    (posts_uncollected w (h ++ call_entries w past ji c) now (ns ++ cons_option (message_in (call_fate w past c)) [])
+    (moved (message_in (state_of_call w past c)) ns (messages_in (call_states_of w now (ji.0, suc ji.1) cs)))
+    (posts_uncollected w (h ++ call_entries w past ji c) now (ns ++ cons_option (message_in (state_of_call w past c)) [])
     (ji.0, suc ji.1) cs here longer
     (subst (λ p. AreUncollected (then_all w p (call_entries w p ji c)) (ns
-    ++ cons_option (message_in (call_fate w p c)) [])) is
+    ++ cons_option (message_in (state_of_call w p c)) [])) is
     (call_uncollected w h ns ji c
     (legal_front w h (call_entries w past ji c) (legal_front w (h
     ++ call_entries w past ji c) (posted_entries w now (ji.0, suc ji.1) cs) longer))
@@ -397,11 +397,11 @@ places_append : (xs : List Wait) (x : Wait) → places (xs ++ x ∷ []) ≡ plac
 places_append [] x = refl
 places_append (y ∷ xs) x = ap (λ l. y.place ∷ l) (places_append xs x)
 
-messages_append : (xs : List Wait) (x : Wait) → messages_of (xs ++ x ∷ []) ≡ messages_of xs ++ messages_in x.fates
-messages_append [] x = append_nil (messages_in x.fates)
+messages_append : (xs : List Wait) (x : Wait) → messages_of (xs ++ x ∷ []) ≡ messages_of xs ++ messages_in x.call_states
+messages_append [] x = append_nil (messages_in x.call_states)
 messages_append (y ∷ xs) x =
-    ap (λ l. messages_in y.fates ++ l) (messages_append xs x)
-    ∙ sym (append_assoc (messages_in y.fates) (messages_of xs) (messages_in x.fates))
+    ap (λ l. messages_in y.call_states ++ l) (messages_append xs x)
+    ∙ sym (append_assoc (messages_in y.call_states) (messages_of xs) (messages_in x.call_states))
 
 pub low_apart : (ns : List ℕ) (n : ℕ) → list_all (λ k. nat_lt k n) ns ≡ true → list_any (nat_eq n) ns ≡ false
 low_apart [] n h = refl
@@ -433,7 +433,7 @@ low_more count ns h = all_weaker (λ k. nat_lt k count) (λ k. nat_lt k (suc cou
 
 -- a posting that was just posted
 abbrev pub next_wait : (w : Setting) (past : Past) (count : ℕ) (p : Posting) → Wait
-next_wait w past count p = record { place = count; fates = fates_of w past (count, 0) p.calls }
+next_wait w past count p = record { place = count; call_states = call_states_of w past (count, 0) p.calls }
 
 -- with one posting more, what is open is it too
 pub open_posts : (w : Setting) (h : List Entry) (all : List Posting) (ts : List Told) (xs : List Wait) (p : Posting)
@@ -453,7 +453,7 @@ open_posts w h all ts xs p legal o = record {
         given = slice_end all p;
         calls = numbered w (past_of w h) (length all, 0) p.calls;
         are = numbered_calls w (past_of w h) (length all, 0) p.calls;
-        fates =
+        call_states =
             calls_become w (past_of w h) (length all, 0) p.calls (legal_rest w h es legal)
             (no_reply w h (length all) o.posted.under);
         messages =
@@ -466,7 +466,7 @@ open_posts w h all ts xs p legal o = record {
       }));
   uncollected =
       subst (AreUncollected (past_of w (h ++ es))) (sym (messages_append xs (next_wait w (past_of w h) (length all) p)))
-      (subst (λ q. AreUncollected q (messages_of xs ++ messages_in (fates_of w (past_of w h) (length all, 0) p.calls)))
+      (subst (λ q. AreUncollected q (messages_of xs ++ messages_in (call_states_of w (past_of w h) (length all, 0) p.calls)))
       (sym (past_then w h es))
       (posts_uncollected w h (past_of w h) (messages_of xs) (length all, 0) p.calls refl legal o.uncollected));
   told = told_then w h es all (p ∷ []) ts legal o.told;

@@ -17,12 +17,12 @@ use Rattle.run_order_laws.specs.Uncollected.{AreUncollected}
 use Rattle.run_order_laws.proofs.Lists.{false_left, false_right, any_append, append_nil, append_assoc, all_append}
 use Rattle.run_order_laws.proofs.Staying.{adds_none, answers_same_all}
 use Rattle.run_order_laws.proofs.Accepting.{all_uncollected_still, uncollected_still, others_of, collectable}
-use Rattle.run_cells.specs.Crews.{State, Stays, list_of, past_in}
-use Rattle.run_posts.specs.declared.pending.Fate.{Fate}
-use Rattle.run_posts.specs.declared.pending.Fate.TheVariants.{Message, Known}
+use Rattle.run_cells.specs.RunStates.{State, Stays, list_of, past_in}
+use Rattle.run_posts.specs.declared.pending.CallState.{CallState}
+use Rattle.run_posts.specs.declared.pending.CallState.TheVariants.{Message, Known}
 use Rattle.run_posts.specs.declared.pending.Pending.{Pending}
-use Rattle.run_posts.specs.Fates.{Wait, message_in, messages_in, messages_of, collection, collected, collected_in}
-use Rattle.run_posts.specs.Fates.{all_collected, settled_by, settled, settled_in, wait_of}
+use Rattle.run_posts.specs.CallStates.{Wait, message_in, messages_in, messages_of, collection, collected, collected_in}
+use Rattle.run_posts.specs.CallStates.{all_collected, settled_by, settled, settled_in, wait_of}
 use Rattle.run_posts.proofs.Added.{IsSame, itself, same_then, past_stays}
 
 -- ---- an answer is collected
@@ -58,30 +58,30 @@ none_collection : (n : ℕ) (o : Option Outcome) → list_all adds_none (collect
 none_collection n None = refl
 none_collection n (Some o) = refl
 
-none_collected : (w : Setting) (past : Past) (f : Fate) → list_all adds_none (collected w past f) ≡ true
+none_collected : (w : Setting) (past : Past) (f : CallState) → list_all adds_none (collected w past f) ≡ true
 none_collected w past (Message n) = none_collection n (first (answers w past n))
 none_collected w past (Known o) = refl
 
 -- these entries answer nothing
-pub none_in : (w : Setting) (past : Past) (fates : List Fate) → list_all adds_none (collected_in w past fates) ≡ true
+pub none_in : (w : Setting) (past : Past) (call_states : List CallState) → list_all adds_none (collected_in w past call_states) ≡ true
 none_in w past [] = refl
-none_in w past (f ∷ fates) =
-    all_append adds_none (collected w past f) (collected_in w past fates) (none_collected w past f)
-    (none_in w past fates)
+none_in w past (f ∷ call_states) =
+    all_append adds_none (collected w past f) (collected_in w past call_states) (none_collected w past f)
+    (none_in w past call_states)
 
 pub none_of_all : (w : Setting) (past : Past) (xs : List Wait) → list_all adds_none (all_collected w past xs) ≡ true
 none_of_all w past [] = refl
 none_of_all w past (x ∷ xs) =
-    all_append adds_none (collected_in w past x.fates) (all_collected w past xs) (none_in w past x.fates)
+    all_append adds_none (collected_in w past x.call_states) (all_collected w past xs) (none_in w past x.call_states)
     (none_of_all w past xs)
 
 -- where answers are the same, so is what is collected
-collected_alike : (w : Setting) (past now : Past) → ((n : ℕ) → answers w now n ≡ answers w past n) → (f : Fate)
+collected_alike : (w : Setting) (past now : Past) → ((n : ℕ) → answers w now n ≡ answers w past n) → (f : CallState)
     → collected w now f ≡ collected w past f
 collected_alike w past now same (Message n) = ap (λ os. collection n (first os)) (same n)
 collected_alike w past now same (Known o) = refl
 
-settled_alike : (w : Setting) (past now : Past) → ((n : ℕ) → answers w now n ≡ answers w past n) → (f : Fate)
+settled_alike : (w : Setting) (past now : Past) → ((n : ℕ) → answers w now n ≡ answers w past n) → (f : CallState)
     → settled w now f ≡ settled w past f
 settled_alike w past now same (Message n) = ap (λ os. settled_by n (first os)) (same n)
 settled_alike w past now same (Known o) = refl
@@ -98,40 +98,40 @@ collect_one : (w : Setting) (past now : Past) (front rest : List ℕ) (n : ℕ) 
 collect_one w past now front rest n None h = h
 collect_one w past now front rest n (Some o) h = collect_middle w now n o front rest h
 
-collect_fate : (w : Setting) (past now : Past) (front rest : List ℕ) (f : Fate)
+collect_call_state : (w : Setting) (past now : Past) (front rest : List ℕ) (f : CallState)
     → AreUncollected now (front ++ cons_option (message_in f) rest)
     → AreUncollected (then_all w now (collected w past f)) (front ++ cons_option (message_in (settled w past f)) rest)
-collect_fate w past now front rest (Message n) h = collect_one w past now front rest n (first (answers w past n)) h
-collect_fate w past now front rest (Known o) h = h
+collect_call_state w past now front rest (Message n) h = collect_one w past now front rest n (first (answers w past n)) h
+collect_call_state w past now front rest (Known o) h = h
 
 moved : (o : Option ℕ) (front rest : List ℕ) → front ++ cons_option o rest ≡ (front ++ cons_option o []) ++ rest
 moved None front rest = ap (λ l. l ++ rest) (sym (append_nil front))
 moved (Some n) front rest = sym (append_assoc front (n ∷ []) rest)
 
 -- what is to be collected behind that of calls
-pub collect_fates : (w : Setting) (past now : Past) (front : List ℕ) (fates : List Fate) (back : List ℕ)
-    → AreUncollected now (front ++ (messages_in fates ++ back))
-    → AreUncollected (then_all w now (collected_in w past fates))
-    (front ++ (messages_in (map (settled w past) fates) ++ back))
-collect_fates w past now front [] back h = h
-collect_fates w past now front (f ∷ fates) back h =
-    subst (λ p. AreUncollected p (front ++ (messages_in (map (settled w past) (f ∷ fates)) ++ back)))
-    (sym (then_all_append w now (collected w past f) (collected_in w past fates)))
-    (subst (AreUncollected (then_all w (then_all w now (collected w past f)) (collected_in w past fates)))
-    (sym (shape (settled w past f) (messages_in (map (settled w past) fates))))
-    (collect_fates w past (then_all w now (collected w past f)) (front
+pub collect_call_states : (w : Setting) (past now : Past) (front : List ℕ) (call_states : List CallState) (back : List ℕ)
+    → AreUncollected now (front ++ (messages_in call_states ++ back))
+    → AreUncollected (then_all w now (collected_in w past call_states))
+    (front ++ (messages_in (map (settled w past) call_states) ++ back))
+collect_call_states w past now front [] back h = h
+collect_call_states w past now front (f ∷ call_states) back h =
+    subst (λ p. AreUncollected p (front ++ (messages_in (map (settled w past) (f ∷ call_states)) ++ back)))
+    (sym (then_all_append w now (collected w past f) (collected_in w past call_states)))
+    (subst (AreUncollected (then_all w (then_all w now (collected w past f)) (collected_in w past call_states)))
+    (sym (shape (settled w past f) (messages_in (map (settled w past) call_states))))
+    (collect_call_states w past (then_all w now (collected w past f)) (front
     ++ cons_option (message_in (settled w past f)) [])
-    fates back
+    call_states back
     (subst (AreUncollected (then_all w now (collected w past f)))
-    (moved (message_in (settled w past f)) front (messages_in fates ++ back))
-    (collect_fate w past now front (messages_in fates ++ back) f
-    (subst (AreUncollected now) (shape_old (message_in f) (messages_in fates)) h)))))
+    (moved (message_in (settled w past f)) front (messages_in call_states ++ back))
+    (collect_call_state w past now front (messages_in call_states ++ back) f
+    (subst (AreUncollected now) (shape_old (message_in f) (messages_in call_states)) h)))))
   where
     shape_old : (o : Option ℕ) (ns : List ℕ) → front ++ (cons_option o ns ++ back) ≡ front ++ cons_option o (ns ++ back)
     shape_old None ns = refl
     shape_old (Some n) ns = refl
 
-    shape : (g : Fate) (ns : List ℕ)
+    shape : (g : CallState) (ns : List ℕ)
         → front ++ (cons_option (message_in g) ns ++ back) ≡ (front ++ cons_option (message_in g) []) ++ (ns ++ back)
     shape g ns = shape_old (message_in g) ns ∙ moved (message_in g) front (ns ++ back)
 
@@ -142,14 +142,14 @@ pub collect_waits : (w : Setting) (past now : Past) (front : List ℕ) (xs : Lis
 collect_waits w past now front [] h = h
 collect_waits w past now front (x ∷ xs) h =
     subst (λ p. AreUncollected p (front ++ messages_of (map (settled_in w past) (x ∷ xs))))
-    (sym (then_all_append w now (collected_in w past x.fates) (all_collected w past xs)))
-    (subst (AreUncollected (then_all w (then_all w now (collected_in w past x.fates)) (all_collected w past xs)))
-    (append_assoc front (messages_in (map (settled w past) x.fates)) (messages_of (map (settled_in w past) xs)))
-    (collect_waits w past (then_all w now (collected_in w past x.fates))
-    (front ++ messages_in (map (settled w past) x.fates)) xs
-    (subst (AreUncollected (then_all w now (collected_in w past x.fates)))
-    (sym (append_assoc front (messages_in (map (settled w past) x.fates)) (messages_of xs)))
-    (collect_fates w past now front x.fates (messages_of xs) h))))
+    (sym (then_all_append w now (collected_in w past x.call_states) (all_collected w past xs)))
+    (subst (AreUncollected (then_all w (then_all w now (collected_in w past x.call_states)) (all_collected w past xs)))
+    (append_assoc front (messages_in (map (settled w past) x.call_states)) (messages_of (map (settled_in w past) xs)))
+    (collect_waits w past (then_all w now (collected_in w past x.call_states))
+    (front ++ messages_in (map (settled w past) x.call_states)) xs
+    (subst (AreUncollected (then_all w now (collected_in w past x.call_states)))
+    (sym (append_assoc front (messages_in (map (settled w past) x.call_states)) (messages_of xs)))
+    (collect_call_states w past now front x.call_states (messages_of xs) h))))
 
 -- ---- where the loops stand
 
@@ -166,14 +166,14 @@ uncollected_rest past [] ys h = h
 uncollected_rest past (x ∷ xs) ys h = uncollected_rest past xs ys h.2
 
 -- the first of what is to be collected
-pub head_of : (past : Past) (f : Fate) (fates : List Fate)
-    → AreUncollected past (messages_in (f ∷ fates)) → AreUncollected past (messages_in (f ∷ []))
-head_of past (Message n) fates h = (h.0, refl, tt)
-head_of past (Known o) fates h = tt
+pub head_of : (past : Past) (f : CallState) (call_states : List CallState)
+    → AreUncollected past (messages_in (f ∷ call_states)) → AreUncollected past (messages_in (f ∷ []))
+head_of past (Message n) call_states h = (h.0, refl, tt)
+head_of past (Known o) call_states h = tt
 
 pub front_of : (past : Past) (x : Wait) (xs : List Wait)
-    → AreUncollected past (messages_of (x ∷ xs)) → AreUncollected past (messages_in x.fates)
-front_of past x xs h = uncollected_front past (messages_in x.fates) (messages_of xs) h
+    → AreUncollected past (messages_of (x ∷ xs)) → AreUncollected past (messages_in x.call_states)
+front_of past x xs h = uncollected_front past (messages_in x.call_states) (messages_of xs) h
 
 -- it can be collected
 pub collects_it : (past : Past) (n : ℕ) → AreUncollected past (messages_in (Message n ∷ []))
@@ -181,36 +181,36 @@ pub collects_it : (past : Past) (n : ℕ) → AreUncollected past (messages_in (
 collects_it past n h = collectable past n h.0
 
 -- Of calls the answers are collected, but for those of the last ones.
-pub record IsSettling (old now : State) (all left done : List Fate) : Type 0 where
+pub record IsSettling (old now : State) (all left done : List CallState) : Type 0 where
   pub same : IsSame old now
   pub history : now.history ++ collected_in old.setting (past_in old) left
       ≡ old.history ++ collected_in old.setting (past_in old) all
-  pub fates : done ++ map (settled old.setting (past_in old)) left ≡ map (settled old.setting (past_in old)) all
+  pub call_states : done ++ map (settled old.setting (past_in old)) left ≡ map (settled old.setting (past_in old)) all
   pub answers : (n : ℕ) → answers old.setting (past_in now) n ≡ answers old.setting (past_in old) n
   pub open_yet : AreUncollected (past_in now) (messages_in left)
 
-pub settling_starts : (s : State) (fates : List Fate) → AreUncollected (past_in s) (messages_in fates)
-    → IsSettling s s fates fates []
-settling_starts s fates h = record { same = itself s; history = refl; fates = refl; answers = λ n. refl; open_yet = h }
+pub settling_starts : (s : State) (call_states : List CallState) → AreUncollected (past_in s) (messages_in call_states)
+    → IsSettling s s call_states call_states []
+settling_starts s call_states h = record { same = itself s; history = refl; call_states = refl; answers = λ n. refl; open_yet = h }
 
 -- what happened so far, in the setting of before
 past_now : (old mid new : State) (more : List Entry) → IsSame old mid → Stays mid new more
     → past_in new ≡ then_all old.setting (past_in mid) more
 past_now old mid new more same s = past_stays mid new more s ∙ ap (λ w. then_all w (past_in mid) more) same.setting
 
-pub settling_turn : (old mid new : State) (fates left done : List Fate) (f now : Fate)
+pub settling_turn : (old mid new : State) (call_states left done : List CallState) (f now : CallState)
     → Stays mid new (collected mid.setting (past_in mid) f) → now ≡ settled mid.setting (past_in mid) f
-    → IsSettling old mid fates (f ∷ left) done → IsSettling old new fates left (done ++ now ∷ [])
-settling_turn old mid new fates left done f now s is p = record {
+    → IsSettling old mid call_states (f ∷ left) done → IsSettling old new call_states left (done ++ now ∷ [])
+settling_turn old mid new call_states left done f now s is p = record {
   same = same_then old mid new (collected mid.setting (past_in mid) f) p.same s;
   history =
       ap (λ h. h ++ collected_in old.setting (past_in old) left) (s.history ∙ ap (λ es. mid.history ++ es) entries)
       ∙ append_assoc mid.history (collected old.setting (past_in old) f) (collected_in old.setting (past_in old) left)
       ∙ p.history;
-  fates =
-      ap (λ g. (done ++ g ∷ []) ++ map (settled old.setting (past_in old)) left) (is ∙ fate)
+  call_states =
+      ap (λ g. (done ++ g ∷ []) ++ map (settled old.setting (past_in old)) left) (is ∙ call_state)
       ∙ append_assoc done (settled old.setting (past_in old) f ∷ []) (map (settled old.setting (past_in old)) left)
-      ∙ p.fates;
+      ∙ p.call_states;
   answers = λ n.
       ap (λ q. answers old.setting q n) come
       ∙ answers_same_all old.setting (past_in mid) (collected old.setting (past_in old) f)
@@ -222,7 +222,7 @@ settling_turn old mid new fates left done f now s is p = record {
       (cons_option (message_in (settled old.setting (past_in old) f)) []) (messages_in left)
       (subst (AreUncollected (then_all old.setting (past_in mid) (collected old.setting (past_in old) f)))
       (moved (message_in (settled old.setting (past_in old) f)) [] (messages_in left))
-      (collect_fate old.setting (past_in old) (past_in mid) [] (messages_in left) f p.open_yet)));
+      (collect_call_state old.setting (past_in old) (past_in mid) [] (messages_in left) f p.open_yet)));
 }
   where
     entries : collected mid.setting (past_in mid) f ≡ collected old.setting (past_in old) f
@@ -230,8 +230,8 @@ settling_turn old mid new fates left done f now s is p = record {
         ap (λ w. collected w (past_in mid) f) p.same.setting
         ∙ collected_alike old.setting (past_in old) (past_in mid) p.answers f
 
-    fate : settled mid.setting (past_in mid) f ≡ settled old.setting (past_in old) f
-    fate =
+    call_state : settled mid.setting (past_in mid) f ≡ settled old.setting (past_in old) f
+    call_state =
         ap (λ w. settled w (past_in mid) f) p.same.setting
         ∙ settled_alike old.setting (past_in old) (past_in mid) p.answers f
 
@@ -241,16 +241,16 @@ settling_turn old mid new fates left done f now s is p = record {
         ∙ ap (then_all old.setting (past_in mid)) entries
 
 -- the same of what stands in memory
-pub settling_pushed : (old mid new : State) (all before rest done now : List Fate) (f g : Fate) → before ≡ f ∷ rest
+pub settling_pushed : (old mid new : State) (all before rest done now : List CallState) (f g : CallState) → before ≡ f ∷ rest
     → now ≡ done ++ g ∷ [] → Stays mid new (collected mid.setting (past_in mid) f)
     → g ≡ settled mid.setting (past_in mid) f → IsSettling old mid all before done → IsSettling old new all rest now
 settling_pushed old mid new all before rest done now f g steps pushed s is h =
     subst (IsSettling old new all rest) (sym pushed)
     (settling_turn old mid new all rest done f g s is (subst (λ l. IsSettling old mid all l done) steps h))
 
-pub settling_added : (old now : State) (fates done : List Fate) → IsSettling old now fates [] done
-    → Stays old now (collected_in old.setting (past_in old) fates)
-settling_added old now fates done p = record {
+pub settling_added : (old now : State) (call_states done : List CallState) → IsSettling old now call_states [] done
+    → Stays old now (collected_in old.setting (past_in old) call_states)
+settling_added old now call_states done p = record {
   setting = p.same.setting;
   budget = p.same.budget;
   history = sym (append_nil now.history) ∙ p.history;
@@ -258,9 +258,9 @@ settling_added old now fates done p = record {
   picks = p.same.picks;
 }
 
-pub settling_fates : (old now : State) (fates done : List Fate) → IsSettling old now fates [] done
-    → done ≡ map (settled old.setting (past_in old)) fates
-settling_fates old now fates done p = sym (append_nil done) ∙ p.fates
+pub settling_call_states : (old now : State) (call_states done : List CallState) → IsSettling old now call_states [] done
+    → done ≡ map (settled old.setting (past_in old)) call_states
+settling_call_states old now call_states done p = sym (append_nil done) ∙ p.call_states
 
 -- ---- the same of postings
 
@@ -287,14 +287,14 @@ flat_map_alike f g same [] = refl
 flat_map_alike f g same (x ∷ xs) = λ i. same x i ++ flat_map_alike f g same xs i
 
 pub gathering_turn : (old mid new : State) (xs left done : List Wait) (x y : Wait)
-    → Stays mid new (collected_in mid.setting (past_in mid) x.fates)
+    → Stays mid new (collected_in mid.setting (past_in mid) x.call_states)
     → y ≡ settled_in mid.setting (past_in mid) x
     → IsGathering old mid xs (x ∷ left) done → IsGathering old new xs left (done ++ y ∷ [])
 gathering_turn old mid new xs left done x y s is p = record {
-  same = same_then old mid new (collected_in mid.setting (past_in mid) x.fates) p.same s;
+  same = same_then old mid new (collected_in mid.setting (past_in mid) x.call_states) p.same s;
   history =
       ap (λ h. h ++ all_collected old.setting (past_in old) left) (s.history ∙ ap (λ es. mid.history ++ es) entries)
-      ∙ append_assoc mid.history (collected_in old.setting (past_in old) x.fates)
+      ∙ append_assoc mid.history (collected_in old.setting (past_in old) x.call_states)
       (all_collected old.setting (past_in old) left)
       ∙ p.history;
   waits =
@@ -304,47 +304,47 @@ gathering_turn old mid new xs left done x y s is p = record {
       ∙ p.waits;
   answers = λ n.
       ap (λ q. answers old.setting q n) come
-      ∙ answers_same_all old.setting (past_in mid) (collected_in old.setting (past_in old) x.fates)
-      (none_in old.setting (past_in old) x.fates) n
+      ∙ answers_same_all old.setting (past_in mid) (collected_in old.setting (past_in old) x.call_states)
+      (none_in old.setting (past_in old) x.call_states) n
       ∙ p.answers n;
   open_yet =
       subst (λ q. AreUncollected q (messages_of left)) (sym come)
-      (uncollected_rest (then_all old.setting (past_in mid) (collected_in old.setting (past_in old) x.fates))
-      (messages_in (map (settled old.setting (past_in old)) x.fates)) (messages_of left)
-      (collect_fates old.setting (past_in old) (past_in mid) [] x.fates (messages_of left) p.open_yet));
+      (uncollected_rest (then_all old.setting (past_in mid) (collected_in old.setting (past_in old) x.call_states))
+      (messages_in (map (settled old.setting (past_in old)) x.call_states)) (messages_of left)
+      (collect_call_states old.setting (past_in old) (past_in mid) [] x.call_states (messages_of left) p.open_yet));
 }
   where
-    entries : collected_in mid.setting (past_in mid) x.fates ≡ collected_in old.setting (past_in old) x.fates
+    entries : collected_in mid.setting (past_in mid) x.call_states ≡ collected_in old.setting (past_in old) x.call_states
     entries =
-        ap (λ w. collected_in w (past_in mid) x.fates) p.same.setting
+        ap (λ w. collected_in w (past_in mid) x.call_states) p.same.setting
         ∙ flat_map_alike (collected old.setting (past_in mid)) (collected old.setting (past_in old))
-        (collected_alike old.setting (past_in old) (past_in mid) p.answers) x.fates
+        (collected_alike old.setting (past_in old) (past_in mid) p.answers) x.call_states
 
     wait : settled_in mid.setting (past_in mid) x ≡ settled_in old.setting (past_in old) x
     wait =
         ap (λ w. settled_in w (past_in mid) x) p.same.setting
         ∙ (λ i. record {
           place = x.place;
-          fates = map_alike (settled old.setting (past_in mid)) (settled old.setting (past_in old))
-              (settled_alike old.setting (past_in old) (past_in mid) p.answers) x.fates i;
+          call_states = map_alike (settled old.setting (past_in mid)) (settled old.setting (past_in old))
+              (settled_alike old.setting (past_in old) (past_in mid) p.answers) x.call_states i;
         })
 
-    come : past_in new ≡ then_all old.setting (past_in mid) (collected_in old.setting (past_in old) x.fates)
+    come : past_in new ≡ then_all old.setting (past_in mid) (collected_in old.setting (past_in old) x.call_states)
     come =
-        past_now old mid new (collected_in mid.setting (past_in mid) x.fates) p.same s
+        past_now old mid new (collected_in mid.setting (past_in mid) x.call_states) p.same s
         ∙ ap (then_all old.setting (past_in mid)) entries
 
 -- the same of what stands in memory
 pub gathering_pushed : (old mid new : State) (all : List Wait) (p : Pending) (before rest done now : List Pending)
     (q : Pending)
-    → before ≡ p ∷ rest → q.place ≡ p.place → Stays mid new (collected_in mid.setting (past_in mid) p.fates.items)
-    → q.fates.items ≡ map (settled mid.setting (past_in mid)) p.fates.items → now ≡ done ++ q ∷ []
+    → before ≡ p ∷ rest → q.place ≡ p.place → Stays mid new (collected_in mid.setting (past_in mid) p.call_states.items)
+    → q.call_states.items ≡ map (settled mid.setting (past_in mid)) p.call_states.items → now ≡ done ++ q ∷ []
     → IsGathering old mid all (map wait_of before) (map wait_of done)
     → IsGathering old new all (map wait_of rest) (map wait_of now)
-gathering_pushed old mid new all p before rest done now q steps place s fates pushed g =
+gathering_pushed old mid new all p before rest done now q steps place s call_states pushed g =
     subst (IsGathering old new all (map wait_of rest)) (sym (ap (map wait_of) pushed ∙ map_more done))
     (gathering_turn old mid new all (map wait_of rest) (map wait_of done) (wait_of p) (wait_of q) s
-    (λ i. record { place = place i; fates = fates i })
+    (λ i. record { place = place i; call_states = call_states i })
     (subst (λ (l : List Pending). IsGathering old mid all (map wait_of l) (map wait_of done)) steps g))
   where
     map_more : (xs : List Pending) → map wait_of (xs ++ q ∷ []) ≡ map wait_of xs ++ wait_of q ∷ []

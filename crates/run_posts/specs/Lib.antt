@@ -1,3 +1,3 @@
-pub mod Fates
+pub mod CallStates
 pub mod Telling
 pub mod Open

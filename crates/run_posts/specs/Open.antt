@@ -14,17 +14,17 @@ use Rattle.office_core.specs.Past.{Past}
 use Rattle.office_core.specs.Keys.{first}
 use Rattle.office_core.specs.Accepted.{past_of}
 use Rattle.office_core.specs.Answers.{answers}
-use Rattle.run_theorem.specs.Dealings.{Told}
+use Rattle.run_theorem.specs.Exchange.{Told}
 use Rattle.run_record.specs.Order.{messages_for}
 use Rattle.run_record.specs.Postings.{outcome_of, told}
 use Rattle.run_order_laws.specs.Uncollected.{AreUncollected}
 use Rattle.run_order_laws.specs.Posting.{ArePosted, reply_of}
 use Rattle.run_order_laws.specs.Ordering.{InOrder}
-use Rattle.run_posts.specs.declared.pending.Fate.{Fate}
-use Rattle.run_posts.specs.declared.pending.Fate.TheVariants.{Message, Known}
-use Rattle.run_posts.specs.Fates.{Wait, messages_of}
+use Rattle.run_posts.specs.declared.pending.CallState.{CallState}
+use Rattle.run_posts.specs.declared.pending.CallState.TheVariants.{Message, Known}
+use Rattle.run_posts.specs.CallStates.{Wait, messages_of}
 
--- ---- what a fate is
+-- ---- what a call state is
 
 -- Call i of posting j is a post that was accepted as message n.
 pub record IsPostedAs (past : Past) (ji : ℕ × ℕ) (c : CallIn) (n : ℕ) : Type 0 where
@@ -43,17 +43,17 @@ pub record Numbered : Type 0 where
   pub number : Option ℕ
 
 -- what became of call i of posting j: what is known is its outcome; what is not known is its message
-abbrev pub IsFate : Setting → Past → ℕ × ℕ → Numbered → Fate → Type 0
-IsFate w past ji c (Known o) =
+abbrev pub IsCallState : Setting → Past → ℕ × ℕ → Numbered → CallState → Type 0
+IsCallState w past ji c (Known o) =
     (outcome_of w past first_worker ji c.made ≡ Some o) × (answered_if w past c.number ≡ true)
-IsFate w past ji c (Message n) = (c.number ≡ Some n) × IsPostedAs past ji c.made n
+IsCallState w past ji c (Message n) = (c.number ≡ Some n) × IsPostedAs past ji c.made n
 
 -- the same of all calls, the first of which has the number i
-abbrev pub AreFates : Setting → Past → ℕ × ℕ → List Numbered → List Fate → Type 0
-AreFates w past ji [] [] = Unit {0}
-AreFates w past ji [] (f ∷ fs) = ⊥
-AreFates w past ji (c ∷ cs) [] = ⊥
-AreFates w past ji (c ∷ cs) (f ∷ fs) = IsFate w past ji c f × AreFates w past (ji.0, suc ji.1) cs fs
+abbrev pub AreCallStates : Setting → Past → ℕ × ℕ → List Numbered → List CallState → Type 0
+AreCallStates w past ji [] [] = Unit {0}
+AreCallStates w past ji [] (f ∷ fs) = ⊥
+AreCallStates w past ji (c ∷ cs) [] = ⊥
+AreCallStates w past ji (c ∷ cs) (f ∷ fs) = IsCallState w past ji c f × AreCallStates w past (ji.0, suc ji.1) cs fs
 
 -- the calls
 abbrev pub calls_of : List Numbered → List CallIn
@@ -71,7 +71,7 @@ pub record IsWaiting (w : Setting) (past : Past) (all : List Posting) (x : Wait)
   pub given : slice_get all x.place ≡ Some posting
   pub calls : List Numbered
   pub are : calls_of calls ≡ posting.calls
-  pub fates : AreFates w past (x.place, 0) calls x.fates
+  pub call_states : AreCallStates w past (x.place, 0) calls x.call_states
   pub messages : messages_for past first_worker x.place ≡ numbers_of calls
 
 -- each of these postings waits

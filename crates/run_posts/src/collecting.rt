@@ -2,8 +2,8 @@
 
 ghost use Rattle.std.specs.Prelude.{◌≡◌, ◌∷◌, [], IfOk, OnOk, map};
 ghost use Rattle.run_order_laws.specs.Uncollected.{AreUncollected};
-ghost use Rattle.run_cells.specs.Crews.{AtWork, IsOurs, Stays, past_in, state_of};
-ghost use Rattle.run_posts.specs.Fates.{
+ghost use Rattle.run_cells.specs.RunStates.{AtWork, IsOurs, Stays, past_in, state_of};
+ghost use Rattle.run_posts.specs.CallStates.{
   all_collected,
   collected,
   collected_in,
@@ -17,7 +17,7 @@ ghost use Rattle.run_posts.specs.Fates.{
 };
 
 use crate::counter::Counter;
-use crate::pending::{Fate, Pending, Pendings};
+use crate::pending::{CallState, Pending, Pendings};
 use behaviour_tree::Outcome;
 use std::alloc::{AllocError, Global};
 use std::mem;
@@ -25,16 +25,17 @@ use std::mem;
 impl Pendings {
     /// Collects the answers that are there. After want of memory the postings that waited are gone.
     pub fn collect_all<C: Counter>(&mut self, cells: &mut C) -> Result<(), AllocError>
-        requires ours { IsOurs (C.crew cells.old) }
-        requires collectable { AreUncollected (past_in (state_of (C.crew cells.old))) (messages_of (waits self.old)) }
-        ensures program { (C.crew cells.new).program ≡ (C.crew cells.old).program }
-        ensures ours { IsOurs (C.crew cells.new) }
-        ensures work { AtWork (C.crew cells.old) → OnOk result (AtWork (C.crew cells.new)) }
-        ensures collected { OnOk result (Stays (state_of (C.crew cells.old)) (state_of (C.crew cells.new))
-            (all_collected (state_of (C.crew cells.old)).setting (past_in (state_of (C.crew cells.old)))
+        requires ours { IsOurs (C.run_state cells.old) }
+        requires collectable { AreUncollected (past_in (state_of (C.run_state cells.old)))
+            (messages_of (waits self.old)) }
+        ensures program { (C.run_state cells.new).program ≡ (C.run_state cells.old).program }
+        ensures ours { IsOurs (C.run_state cells.new) }
+        ensures work { AtWork (C.run_state cells.old) → OnOk result (AtWork (C.run_state cells.new)) }
+        ensures collected { OnOk result (Stays (state_of (C.run_state cells.old)) (state_of (C.run_state cells.new))
+            (all_collected (state_of (C.run_state cells.old)).setting (past_in (state_of (C.run_state cells.old)))
             (waits self.old))) }
         ensures waiting { OnOk result (waits self.new
-            ≡ map (settled_in (state_of (C.crew cells.old)).setting (past_in (state_of (C.crew cells.old))))
+            ≡ map (settled_in (state_of (C.run_state cells.old)).setting (past_in (state_of (C.run_state cells.old))))
             (waits self.old)) }
         ensures postings { self.new.postings ≡ self.old.postings }
     {
@@ -50,24 +51,24 @@ fn gather<C: Counter>(
     cells: &mut C,
     waiting: Vec<Pending>,
 ) -> Result<Vec<Pending>, AllocError>
-    requires ours { IsOurs (C.crew cells.old) }
-    requires collectable { AreUncollected (past_in (state_of (C.crew cells.old))) (messages_of
+    requires ours { IsOurs (C.run_state cells.old) }
+    requires collectable { AreUncollected (past_in (state_of (C.run_state cells.old))) (messages_of
         (map wait_of waiting.items)) }
-    ensures program { (C.crew cells.new).program ≡ (C.crew cells.old).program }
-    ensures ours { IsOurs (C.crew cells.new) }
-    ensures work { AtWork (C.crew cells.old) → OnOk result (AtWork (C.crew cells.new)) }
-    ensures collected { OnOk result (Stays (state_of (C.crew cells.old)) (state_of (C.crew cells.new))
-        (all_collected (state_of (C.crew cells.old)).setting (past_in (state_of (C.crew cells.old)))
+    ensures program { (C.run_state cells.new).program ≡ (C.run_state cells.old).program }
+    ensures ours { IsOurs (C.run_state cells.new) }
+    ensures work { AtWork (C.run_state cells.old) → OnOk result (AtWork (C.run_state cells.new)) }
+    ensures collected { OnOk result (Stays (state_of (C.run_state cells.old)) (state_of (C.run_state cells.new))
+        (all_collected (state_of (C.run_state cells.old)).setting (past_in (state_of (C.run_state cells.old)))
         (map wait_of waiting.items))) }
     ensures settled { IfOk result (λ all. map wait_of all.items
-        ≡ map (settled_in (state_of (C.crew cells.old)).setting (past_in (state_of (C.crew cells.old))))
+        ≡ map (settled_in (state_of (C.run_state cells.old)).setting (past_in (state_of (C.run_state cells.old))))
         (map wait_of waiting.items)) }
 {
     let mut all = Vec::new(alloc);
     for pending in waiting {
         let place = pending.place;
-        let fates = settle_all(alloc, cells, pending.fates)?;
-        all.push(Pending { place, fates })?;
+        let call_states = settle_all(alloc, cells, pending.call_states)?;
+        all.push(Pending { place, call_states })?;
     }
     Ok(all)
 }
@@ -76,21 +77,24 @@ fn gather<C: Counter>(
 fn settle_all<C: Counter>(
     alloc: Global,
     cells: &mut C,
-    fates: Vec<Fate>,
-) -> Result<Vec<Fate>, AllocError>
-    requires ours { IsOurs (C.crew cells.old) }
-    requires collectable { AreUncollected (past_in (state_of (C.crew cells.old))) (messages_in fates.items) }
-    ensures program { (C.crew cells.new).program ≡ (C.crew cells.old).program }
-    ensures ours { IsOurs (C.crew cells.new) }
-    ensures work { AtWork (C.crew cells.old) → OnOk result (AtWork (C.crew cells.new)) }
-    ensures collected { OnOk result (Stays (state_of (C.crew cells.old)) (state_of (C.crew cells.new))
-        (collected_in (state_of (C.crew cells.old)).setting (past_in (state_of (C.crew cells.old))) fates.items)) }
+    call_states: Vec<CallState>,
+) -> Result<Vec<CallState>, AllocError>
+    requires ours { IsOurs (C.run_state cells.old) }
+    requires collectable { AreUncollected (past_in (state_of (C.run_state cells.old)))
+        (messages_in call_states.items) }
+    ensures program { (C.run_state cells.new).program ≡ (C.run_state cells.old).program }
+    ensures ours { IsOurs (C.run_state cells.new) }
+    ensures work { AtWork (C.run_state cells.old) → OnOk result (AtWork (C.run_state cells.new)) }
+    ensures collected { OnOk result (Stays (state_of (C.run_state cells.old)) (state_of (C.run_state cells.new))
+        (collected_in (state_of (C.run_state cells.old)).setting (past_in (state_of (C.run_state cells.old)))
+        call_states.items)) }
     ensures settled { IfOk result (λ all. all.items
-        ≡ map (settled (state_of (C.crew cells.old)).setting (past_in (state_of (C.crew cells.old)))) fates.items) }
+        ≡ map (settled (state_of (C.run_state cells.old)).setting (past_in (state_of (C.run_state cells.old))))
+        call_states.items) }
 {
     let mut all = Vec::new(alloc);
-    for fate in fates {
-        let now = settle(cells, fate)?;
+    for call_state in call_states {
+        let now = settle(cells, call_state)?;
         all.push(now)?;
     }
     Ok(all)
@@ -98,32 +102,34 @@ fn settle_all<C: Counter>(
 
 /// Collects the answer of a message, if it is there.
 #[tactic(auto, using(crate::proofs::Settling::collected_one, crate::proofs::Settling::settled_one, crate::proofs::Settling::collects_it))]
-fn settle<C: Counter>(cells: &mut C, fate: Fate) -> Result<Fate, AllocError>
-    requires ours { IsOurs (C.crew cells.old) }
-    requires collectable { AreUncollected (past_in (state_of (C.crew cells.old))) (messages_in (fate ∷ [])) }
-    ensures program { (C.crew cells.new).program ≡ (C.crew cells.old).program }
-    ensures ours { IsOurs (C.crew cells.new) }
-    ensures work { AtWork (C.crew cells.old) → OnOk result (AtWork (C.crew cells.new)) }
-    ensures collected { OnOk result (Stays (state_of (C.crew cells.old)) (state_of (C.crew cells.new))
-        (collected (state_of (C.crew cells.old)).setting (past_in (state_of (C.crew cells.old))) fate)) }
-    ensures settled { IfOk result (λ now. now ≡ settled (state_of (C.crew cells.old)).setting (past_in (state_of
-        (C.crew cells.old))) fate) }
+fn settle<C: Counter>(cells: &mut C, call_state: CallState) -> Result<CallState, AllocError>
+    requires ours { IsOurs (C.run_state cells.old) }
+    requires collectable { AreUncollected (past_in (state_of (C.run_state cells.old)))
+        (messages_in (call_state ∷ [])) }
+    ensures program { (C.run_state cells.new).program ≡ (C.run_state cells.old).program }
+    ensures ours { IsOurs (C.run_state cells.new) }
+    ensures work { AtWork (C.run_state cells.old) → OnOk result (AtWork (C.run_state cells.new)) }
+    ensures collected { OnOk result (Stays (state_of (C.run_state cells.old)) (state_of (C.run_state cells.new))
+        (collected (state_of (C.run_state cells.old)).setting (past_in (state_of (C.run_state cells.old)))
+        call_state)) }
+    ensures settled { IfOk result (λ now. now ≡ settled (state_of (C.run_state cells.old)).setting (past_in (state_of
+        (C.run_state cells.old))) call_state) }
 {
-    match fate {
-        Fate::Message(message) => {
+    match call_state {
+        CallState::Message(message) => {
             let answer = cells.collect(message)?;
             Ok(answered(message, answer))
         }
-        Fate::Known(outcome) => Ok(Fate::Known(outcome)),
+        CallState::Known(outcome) => Ok(CallState::Known(outcome)),
     }
 }
 
 /// What becomes of a call by the answer of its message, if there is one.
-fn answered(message: u32, answer: Option<Outcome>) -> Fate
+fn answered(message: u32, answer: Option<Outcome>) -> CallState
     ensures { result ≡ settled_by message answer }
 {
     match answer {
-        Some(outcome) => Fate::Known(outcome),
-        None => Fate::Message(message),
+        Some(outcome) => CallState::Known(outcome),
+        None => CallState::Message(message),
     }
 }

@@ -10,4 +10,4 @@ mod posting;
 mod telling;
 
 pub use counter::Counter;
-pub use pending::{Fate, Pending, Pendings};
+pub use pending::{CallState, Pending, Pendings};

@@ -5,7 +5,7 @@ use std::alloc::Global;
 
 /// What became of a call of a posting: it is a message, or its outcome is known.
 #[derive(Drop)]
-pub enum Fate {
+pub enum CallState {
     Message(u32),
     Known(Outcome),
 }
@@ -14,7 +14,7 @@ pub enum Fate {
 #[derive(Drop)]
 pub struct Pending {
     pub place: u32,
-    pub fates: Vec<Fate>,
+    pub call_states: Vec<CallState>,
 }
 
 /// How many postings came so far, and those that were not answered yet, in order.

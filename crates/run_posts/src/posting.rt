@@ -2,12 +2,12 @@
 
 ghost use Rattle.std.specs.Prelude.{◌≡◌, ◌∷◌, ◌++◌, ◌<◌, [], suc, IfOk, OnOk};
 ghost use Rattle.run_theorem.specs.Calls.{most_postings};
-ghost use Rattle.run_cells.specs.Crews.{AtWork, Stays, past_in, state_of};
-ghost use Rattle.run_posts.specs.Fates as specs;
-ghost use Rattle.run_posts.specs.Fates.{call_entries, call_fate, fates_of, posted_entries, waits};
+ghost use Rattle.run_cells.specs.RunStates.{AtWork, Stays, past_in, state_of};
+ghost use Rattle.run_posts.specs.CallStates as specs;
+ghost use Rattle.run_posts.specs.CallStates.{call_entries, state_of_call, call_states_of, posted_entries, waits};
 
 use crate::counter::Counter;
-use crate::pending::{Fate, Pending, Pendings};
+use crate::pending::{CallState, Pending, Pendings};
 use behaviour_tree::Outcome;
 use office_core::{CallIn, PostReply, Posted, Posting};
 use office_plain::numbered;
@@ -17,25 +17,25 @@ use std::alloc::{AllocError, Global};
 impl Pendings {
     /// Posts the calls of the next posting, in order. There are fewer than 4,294,967,295 before.
     pub fn post<C: Counter>(&mut self, cells: &mut C, posting: &Posting) -> Result<(), AllocError>
-        requires work { AtWork (C.crew cells.old) }
+        requires work { AtWork (C.run_state cells.old) }
         requires room { self.old.postings < most_postings }
-        ensures program { (C.crew cells.new).program ≡ (C.crew cells.old).program }
-        ensures work { OnOk result (AtWork (C.crew cells.new)) }
-        ensures posted { OnOk result (Stays (state_of (C.crew cells.old)) (state_of (C.crew cells.new))
-            (posted_entries (state_of (C.crew cells.old)).setting (past_in (state_of (C.crew cells.old)))
+        ensures program { (C.run_state cells.new).program ≡ (C.run_state cells.old).program }
+        ensures work { OnOk result (AtWork (C.run_state cells.new)) }
+        ensures posted { OnOk result (Stays (state_of (C.run_state cells.old)) (state_of (C.run_state cells.new))
+            (posted_entries (state_of (C.run_state cells.old)).setting (past_in (state_of (C.run_state cells.old)))
             (self.old.postings, 0)
             posting.now.calls)) }
         ensures waiting { OnOk result (waits self.new ≡ waits self.old ++ (record {
           place = self.old.postings;
-          fates = fates_of (state_of (C.crew cells.old)).setting (past_in (state_of (C.crew cells.old)))
+          call_states = call_states_of (state_of (C.run_state cells.old)).setting (past_in (state_of (C.run_state cells.old)))
               (self.old.postings, 0)
               posting.now.calls;
         }) ∷ []) }
         ensures postings { OnOk result (self.new.postings ≡ suc self.old.postings) }
     {
         let place = self.postings;
-        let fates = post_calls(self.alloc, cells, place, posting.calls.as_slice())?;
-        self.waiting.push(Pending { place, fates })?;
+        let call_states = post_calls(self.alloc, cells, place, posting.calls.as_slice())?;
+        self.waiting.push(Pending { place, call_states })?;
         self.postings = place + 1;
         Ok(())
     }
@@ -47,62 +47,63 @@ fn post_calls<C: Counter>(
     cells: &mut C,
     posting: u32,
     calls: &[CallIn],
-) -> Result<Vec<Fate>, AllocError>
-    requires work { AtWork (C.crew cells.old) }
-    ensures program { (C.crew cells.new).program ≡ (C.crew cells.old).program }
-    ensures work { OnOk result (AtWork (C.crew cells.new)) }
-    ensures posted { OnOk result (Stays (state_of (C.crew cells.old)) (state_of (C.crew cells.new))
-        (posted_entries (state_of (C.crew cells.old)).setting (past_in (state_of (C.crew cells.old)))
+) -> Result<Vec<CallState>, AllocError>
+    requires work { AtWork (C.run_state cells.old) }
+    ensures program { (C.run_state cells.new).program ≡ (C.run_state cells.old).program }
+    ensures work { OnOk result (AtWork (C.run_state cells.new)) }
+    ensures posted { OnOk result (Stays (state_of (C.run_state cells.old)) (state_of (C.run_state cells.new))
+        (posted_entries (state_of (C.run_state cells.old)).setting (past_in (state_of (C.run_state cells.old)))
         (posting, 0) calls.now)) }
-    ensures fates { IfOk result (λ fates. fates.items
-        ≡ fates_of (state_of (C.crew cells.old)).setting (past_in (state_of (C.crew cells.old)))
+    ensures call_states { IfOk result (λ call_states. call_states.items
+        ≡ call_states_of (state_of (C.run_state cells.old)).setting (past_in (state_of (C.run_state cells.old)))
         (posting, 0) calls.now) }
 {
-    let mut fates = Vec::new(alloc);
+    let mut call_states = Vec::new(alloc);
     let mut index = 0;
     for call in calls {
         let number = numbered(index)?;
-        let fate = post_call(cells, posting, number, call)?;
-        fates.push(fate)?;
+        let call_state = post_call(cells, posting, number, call)?;
+        call_states.push(call_state)?;
         index += 1;
     }
-    Ok(fates)
+    Ok(call_states)
 }
 
 /// Posts a call, unless it was answered before.
-#[tactic(auto, using(crate::proofs::Added::posted_one, crate::proofs::Added::posted_fate, crate::proofs::Added::nothing_added))]
+#[tactic(auto, using(crate::proofs::Added::posted_one, crate::proofs::Added::posted_call_state, crate::proofs::Added::nothing_added))]
 fn post_call<C: Counter>(
     cells: &mut C,
     posting: u32,
     index: u32,
     call: &CallIn,
-) -> Result<Fate, AllocError>
-    requires work { AtWork (C.crew cells.old) }
-    ensures program { (C.crew cells.new).program ≡ (C.crew cells.old).program }
-    ensures work { OnOk result (AtWork (C.crew cells.new)) }
-    ensures posted { OnOk result (Stays (state_of (C.crew cells.old)) (state_of (C.crew cells.new))
-        (call_entries (state_of (C.crew cells.old)).setting (past_in (state_of (C.crew cells.old)))
+) -> Result<CallState, AllocError>
+    requires work { AtWork (C.run_state cells.old) }
+    ensures program { (C.run_state cells.new).program ≡ (C.run_state cells.old).program }
+    ensures work { OnOk result (AtWork (C.run_state cells.new)) }
+    ensures posted { OnOk result (Stays (state_of (C.run_state cells.old)) (state_of (C.run_state cells.new))
+        (call_entries (state_of (C.run_state cells.old)).setting (past_in (state_of (C.run_state cells.old)))
         (posting, index) call.now)) }
-    ensures fate { IfOk result (λ fate. fate
-        ≡ call_fate (state_of (C.crew cells.old)).setting (past_in (state_of (C.crew cells.old))) call.now) }
+    ensures call_state { IfOk result (λ call_state. call_state
+        ≡ state_of_call (state_of (C.run_state cells.old)).setting (past_in (state_of (C.run_state cells.old)))
+        call.now) }
 {
     match call {
         CallIn::Post { posted } => {
             let copy = copy_of(posted)?;
             let reply = cells.post(Origin::Port { posting, index }, copy)?;
-            Ok(fate_of(reply))
+            Ok(call_state_of(reply))
         }
-        CallIn::Answered { outcome } => Ok(Fate::Known(outcome.copied()?)),
+        CallIn::Answered { outcome } => Ok(CallState::Known(outcome.copied()?)),
     }
 }
 
 /// What becomes of a call by the reply to its post.
-fn fate_of(reply: PostReply) -> Fate
-    ensures { result ≡ specs.fate_of reply }
+fn call_state_of(reply: PostReply) -> CallState
+    ensures { result ≡ specs.call_state_of reply }
 {
     match reply {
-        PostReply::Accepted(message) => Fate::Message(message),
-        PostReply::Refused(reason) => Fate::Known(Outcome::Refused(reason)),
+        PostReply::Accepted(message) => CallState::Message(message),
+        PostReply::Refused(reason) => CallState::Known(Outcome::Refused(reason)),
     }
 }
 

@@ -3,11 +3,11 @@
 ghost use Rattle.std.specs.Prelude.{◌≡◌, map, MatchResult, IfOk, OnOk};
 ghost use Rattle.std.specs.List.{filter};
 ghost use Rattle.behaviour_tree.specs.PartsView.{parts_of};
-ghost use Rattle.run_posts.specs.Fates as specs;
-ghost use Rattle.run_posts.specs.Fates.{is_open, outcomes_in, told_of, wait_of, waits};
+ghost use Rattle.run_posts.specs.CallStates as specs;
+ghost use Rattle.run_posts.specs.CallStates.{is_open, outcomes_in, told_of, wait_of, waits};
 ghost use Rattle.run_posts.specs.Telling.{Answers, AnswersNone, TellsAll, TellsOn, TellsSome};
 
-use crate::pending::{Fate, Pending, Pendings};
+use crate::pending::{CallState, Pending, Pendings};
 use behaviour_tree::{Outcome, Program};
 use run_theorem::Front;
 use std::alloc::{AllocError, Global};
@@ -24,9 +24,9 @@ impl Pendings {
         ensures waiting { OnOk result (waits self.new ≡ filter is_open (waits self.old)) }
         ensures postings { self.new.postings ≡ self.old.postings }
         ensures told { MatchResult result
-            (λ _. TellsOn (F.dealt (parts_of program.now)) front.old front.new (waits self.old)
+            (λ _. TellsOn (F.exchanged (parts_of program.now)) front.old front.new (waits self.old)
             (TellsAll (map told_of (filter specs.is_finished (waits self.old)))))
-            (λ _. TellsOn (F.dealt (parts_of program.now)) front.old front.new (waits self.old)
+            (λ _. TellsOn (F.exchanged (parts_of program.now)) front.old front.new (waits self.old)
             (TellsSome (map told_of (filter specs.is_finished (waits self.old))))) }
     {
         let waiting = mem::replace(&mut self.waiting, Vec::new(self.alloc));
@@ -44,9 +44,9 @@ fn tell_each<F: Front>(
 ) -> Result<Vec<Pending>, AllocError>
     ensures waiting { IfOk result (λ left. map wait_of left.items ≡ filter is_open (map wait_of waiting.items)) }
     ensures told { MatchResult result
-        (λ _. TellsOn (F.dealt (parts_of program.now)) front.old front.new (map wait_of waiting.items)
+        (λ _. TellsOn (F.exchanged (parts_of program.now)) front.old front.new (map wait_of waiting.items)
         (TellsAll (map told_of (filter specs.is_finished (map wait_of waiting.items)))))
-        (λ _. TellsOn (F.dealt (parts_of program.now)) front.old front.new (map wait_of waiting.items)
+        (λ _. TellsOn (F.exchanged (parts_of program.now)) front.old front.new (map wait_of waiting.items)
         (TellsSome (map told_of (filter specs.is_finished (map wait_of waiting.items))))) }
 {
     let mut left = Vec::new(alloc);
@@ -68,11 +68,11 @@ fn tell<F: Front>(
     posting: Pending,
 ) -> Result<(), AllocError>
     ensures { MatchResult result
-        (λ _. Answers (F.dealt (parts_of program.now)) front.old front.new (wait_of posting))
-        (λ _. AnswersNone (F.dealt (parts_of program.now)) front.old front.new (wait_of posting)) }
+        (λ _. Answers (F.exchanged (parts_of program.now)) front.old front.new (wait_of posting))
+        (λ _. AnswersNone (F.exchanged (parts_of program.now)) front.old front.new (wait_of posting)) }
 {
     let place = posting.place;
-    let outcomes = outcomes_of(alloc, posting.fates)?;
+    let outcomes = outcomes_of(alloc, posting.call_states)?;
     front.answer(program, place, outcomes.as_slice())
 }
 
@@ -80,23 +80,26 @@ fn tell<F: Front>(
 fn is_finished(posting: &Pending) -> bool
     ensures { result ≡ specs.is_finished (wait_of posting.now) }
 {
-    posting.fates.iter().all(|fate| is_known(fate))
+    posting
+        .call_states
+        .iter()
+        .all(|call_state| is_known(call_state))
 }
 
 /// Whether the outcome of a call is known.
-fn is_known(fate: &Fate) -> bool
-    ensures { result ≡ specs.is_known fate.now }
+fn is_known(call_state: &CallState) -> bool
+    ensures { result ≡ specs.is_known call_state.now }
 {
-    matches!(fate, Fate::Known(_))
+    matches!(call_state, CallState::Known(_))
 }
 
 /// The outcomes of calls that all have theirs.
-fn outcomes_of(alloc: Global, fates: Vec<Fate>) -> Result<Vec<Outcome>, AllocError>
-    ensures { IfOk result (λ outcomes. outcomes.items ≡ outcomes_in fates.items) }
+fn outcomes_of(alloc: Global, call_states: Vec<CallState>) -> Result<Vec<Outcome>, AllocError>
+    ensures { IfOk result (λ outcomes. outcomes.items ≡ outcomes_in call_states.items) }
 {
     let mut outcomes = Vec::new(alloc);
-    for fate in fates {
-        if let Fate::Known(outcome) = fate {
+    for call_state in call_states {
+        if let CallState::Known(outcome) = call_state {
             outcomes.push(outcome)?;
         }
     }

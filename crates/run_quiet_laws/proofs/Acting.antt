@@ -64,23 +64,25 @@ module _ {a : Seat} {es : List Event} {now : Moment} (k : Kept a es now) where
       let service : x.2.service ≡ now.service = of_service k x.2 in
       let last : x.0 ≡ k.here = same_of (sym x.1 ∙ k.at) in
       record {
-        live = lives_by n g d e;
         last = x.0;
         agrees = x.2;
-        strand = n;
-        gift = g;
-        done = d;
-        event = (λ i. after a.setting.parts (service i) (last i) n g) ∙ e;
-        given = there;
+        acts = record {
+          live = lives_by n g d e;
+          strand = n;
+          gift = g;
+          done = d;
+          event = (λ i. after a.setting.parts (service i) (last i) n g) ∙ e;
+          given = there;
+        };
       }
 
   -- how a kept session that can act can
   pub acted : (x : CanAct a.setting now.seen a.session es)
-      → after a.setting.parts now.service k.here x.strand x.gift ≡ Some x.done
+      → after a.setting.parts now.service k.here x.acts.strand x.acts.gift ≡ Some x.acts.done
   acted x =
       let service : x.agrees.service ≡ now.service = of_service k x.agrees in
       let last : x.last ≡ k.here = same_of (sym (one_last k x.agrees) ∙ k.at) in
-      sym (λ i. after a.setting.parts (service i) (last i) x.strand x.gift) ∙ x.event
+      sym (λ i. after a.setting.parts (service i) (last i) x.acts.strand x.acts.gift) ∙ x.acts.event
 
 -- ---- an event that happens
 
@@ -141,13 +143,14 @@ module _ {a : Seat} {es : List Event} {strands : List ℕ} {old new : Moment} (a
     (enabled : AreEnabled a old strands) where
   all_passed : ((n : ℕ) → Contains strands n → Passed a n old new) → CannotAct a.setting old.seen a.session es
   all_passed passed x =
-      let e : after a.setting.parts old.service k.here x.strand x.gift ≡ Some x.done = acted k x in
+      let y = x.acts in
+      let e : after a.setting.parts old.service k.here y.strand y.gift ≡ Some y.done = acted k x in
       let here : enabled.config ≡ k.here = same_of (sym enabled.at ∙ k.at) in
-      let has : after a.setting.parts old.service enabled.config x.strand x.gift ≡ Some x.done
-      = ap (λ (c : Config). after a.setting.parts old.service c x.strand x.gift) here ∙ e in
+      let has : after a.setting.parts old.service enabled.config y.strand y.gift ≡ Some y.done
+      = ap (λ (c : Config). after a.setting.parts old.service c y.strand y.gift) here ∙ e in
       passed_not {new = new} alone
-      (passed x.strand ((enabled.exact x.strand).1 (x.gift, x.done, has)))
-      k.here k.at x.gift x.done e x.given
+      (passed y.strand ((enabled.exact y.strand).1 (y.gift, y.done, has)))
+      k.here k.at y.gift y.done e y.given
 
 -- a number of a list by its place
 at_place : (xs : List ℕ) (i n : ℕ) → i < length xs → slice_index_or xs i n ≡ n → slice_index xs i ≡ n
@@ -192,7 +195,7 @@ pub ended_cannot_act : {a : Seat} {es : List Event} {now : Moment} {c : Config} 
     → c.ended ≡ true → CannotAct a.setting now.seen a.session es
 ended_cannot_act {c = c} k at over x =
     let here : k.here ≡ c = same_of (sym k.at ∙ at) in
-    not-ended k.here.ended _ x.done (acted k x) (ap (λ (x : Config). x.ended) here ∙ over)
+    not-ended k.here.ended _ x.acts.done (acted k x) (ap (λ (x : Config). x.ended) here ∙ over)
 
 -- ---- what a look answers
 
@@ -238,27 +241,31 @@ module _ {w : Setting} {h : List Entry} {e : Entry} {s : ℕ} {es : List Event} 
   -- a session that can act after such an entry could before
   pub could_act : CanAct w (h ++ e ∷ []) s es → CanAct w h s es
   could_act x = record {
-    live = sym (live_aside w h l s) ∙ x.live;
     last = x.last;
     agrees = agrees_with (λ d born. sym (births_aside w h l s) ∙ born) (calls_same w h s e other) x.agrees;
-    strand = x.strand;
-    gift = x.gift;
-    done = x.done;
-    event = x.event;
-    given = sym (given_aside w h l s x.done.need) ∙ x.given;
+    acts = record {
+      live = sym (live_aside w h l s) ∙ x.acts.live;
+      strand = x.acts.strand;
+      gift = x.acts.gift;
+      done = x.acts.done;
+      event = x.acts.event;
+      given = sym (given_aside w h l s x.acts.done.need) ∙ x.acts.given;
+    };
   }
 
   -- one that could act still can
   pub can_still : CanAct w h s es → CanAct w (h ++ e ∷ []) s es
   can_still x = record {
-    live = live_aside w h l s ∙ x.live;
     last = x.last;
     agrees = agrees_with (λ d born. births_aside w h l s ∙ born) (sym (calls_same w h s e other)) x.agrees;
-    strand = x.strand;
-    gift = x.gift;
-    done = x.done;
-    event = x.event;
-    given = given_aside w h l s x.done.need ∙ x.given;
+    acts = record {
+      live = live_aside w h l s ∙ x.acts.live;
+      strand = x.acts.strand;
+      gift = x.acts.gift;
+      done = x.acts.done;
+      event = x.acts.event;
+      given = given_aside w h l s x.acts.done.need ∙ x.acts.given;
+    };
   }
 
   -- one that can not act still can not

@@ -46,7 +46,7 @@ pub record Leaves (e : Entry) : Type 0 where
   pub replied : (n : ℕ) → reply_in n e ≡ None
   pub ended : (s : ℕ) → ends s e ≡ false
   pub stopped : stops e ≡ false
-  pub brought : (c : Call) → brought_in c e ≡ None
+  pub received : (c : Call) → brought_in c e ≡ None
 
 leaves_by : (n : ℕ) (a : Act) → is_aside (record { actor = n; act = a }) ≡ true → Leaves (record { actor = n; act = a })
 leaves_by n (act.Adopt d) h = record {
@@ -56,7 +56,7 @@ leaves_by n (act.Adopt d) h = record {
   replied = λ m. refl;
   ended = λ s. refl;
   stopped = refl;
-  brought = λ c. refl;
+  received = λ c. refl;
 }
 leaves_by n (act.Collect i o) h = record {
   accepted = λ w past. refl;
@@ -65,7 +65,7 @@ leaves_by n (act.Collect i o) h = record {
   replied = λ m. refl;
   ended = λ s. refl;
   stopped = refl;
-  brought = λ c. refl;
+  received = λ c. refl;
 }
 leaves_by n (act.Fetch s k) h = record {
   accepted = λ w past. refl;
@@ -74,7 +74,7 @@ leaves_by n (act.Fetch s k) h = record {
   replied = λ m. refl;
   ended = λ t. refl;
   stopped = refl;
-  brought = λ c. refl;
+  received = λ c. refl;
 }
 leaves_by n act.Close h = record {
   accepted = λ w past. refl;
@@ -83,7 +83,7 @@ leaves_by n act.Close h = record {
   replied = λ m. refl;
   ended = λ s. refl;
   stopped = refl;
-  brought = λ c. refl;
+  received = λ c. refl;
 }
 leaves_by n a h = absurd (false≢true h)
 
@@ -152,7 +152,7 @@ module _ (w : Setting) (past : Past) (e : Entry) (l : Leaves e) where
   calls_same = given_same w past e sent_in l.sent
 
   outcome_same : (c : Call) (p : Placed) → outcome_by w (with_one past e) c p ≡ outcome_by w past c p
-  outcome_same c at.Out = ap first (given_same w past e (brought_in c) (l.brought c))
+  outcome_same c at.Out = ap first (given_same w past e (brought_in c) (l.received c))
   outcome_same c (at.Refused why) = refl
   outcome_same c (at.At n) = ap first (answers_same n)
 
@@ -176,7 +176,7 @@ module _ (w : Setting) (past : Past) (e : Entry) (l : Leaves e) where
 
   outstanding_same : outstanding (with_one past e) ≡ outstanding past
   outstanding_same =
-      λ i. filter (λ c. goes_out c && not (some_same w past e (brings c) (ap is_some (l.brought c)) i)) (calls_same i)
+      λ i. filter (λ c. goes_out c && not (some_same w past e (brings c) (ap is_some (l.received c)) i)) (calls_same i)
 
   adopted_still : (s : ℕ) → was_adopted past s ≡ true → was_adopted (with_one past e) s ≡ true
   adopted_still s h = some_more w past e (adopts s) ∙ or_left (was_adopted past s) (adopts s e) h
@@ -199,7 +199,7 @@ module _ (w : Setting) (h : List Entry) {e : Entry} (l : Leaves e) where
   pub given_aside : (s : ℕ) (n : Need) → is_given w (past_of w (h ++ e ∷ [])) s n ≡ is_given w (past_of w h) s n
   given_aside s n = ap (λ (p : Past). is_given w p s n) then_one_more ∙ given_still w (past_of w h) e l s n
 
-  -- what was not brought
+  -- what was not received
   pub outstanding_aside : outstanding (past_of w (h ++ e ∷ [])) ≡ outstanding (past_of w h)
   outstanding_aside = ap outstanding then_one_more ∙ outstanding_same w (past_of w h) e l
 

@@ -123,7 +123,6 @@ could_before w h s es x quiet can =
     ∙ asked_before w.parts service from (steps_of es cs) y can.last led quiet
     ∙ sym (asked_at w.parts service from (steps_of es cs) can.agrees.run.1) in
     record {
-      live = can.live;
       last = r.mid;
       agrees = record {
         service = service;
@@ -131,11 +130,14 @@ could_before w h s es x quiet can =
         run = (from, can.agrees.run.1, r.leads);
         calls = subst (λ (ns : List Need). AreCalls s ns cs) asked can.agrees.calls;
       };
-      strand = x.strand;
-      gift = given.Nothing;
-      done = r.done;
-      event = r.event;
-      given = quiet_given w (past_of w h) s given.Nothing r.done.event r.done.need
-          (is_told w.parts service r.mid x.strand given.Nothing r.done r.event).tells
-          (ap (λ (e : Event). makes_call e.kind) r.is ∙ quiet);
+      acts = record {
+        live = can.acts.live;
+        strand = x.strand;
+        gift = given.Nothing;
+        done = r.done;
+        event = r.event;
+        given = quiet_given w (past_of w h) s given.Nothing r.done.event r.done.need
+            (is_told w.parts service r.mid x.strand given.Nothing r.done r.event).tells
+            (ap (λ (e : Event). makes_call e.kind) r.is ∙ quiet);
+      };
     }

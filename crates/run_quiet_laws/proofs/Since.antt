@@ -74,10 +74,11 @@ pub idle_since : {a : Seat} {es : List Event} {strands : List ℕ} {pick : ℕ} 
     → CannotAct a.setting now.seen a.session es
 idle_since {a} {es} {strands} {pick} {old} {new} {now} alone k config service enabled stood same x =
     let here : enabled.config ≡ k.here = same_of (sym enabled.at ∙ sym config ∙ k.at) in
-    let has : after a.setting.parts old.service enabled.config x.strand x.gift ≡ Some x.done
-    = sym (λ i. after a.setting.parts (service i) (sym here i) x.strand x.gift) ∙ acted k x in
+    let y = x.acts in
+    let has : after a.setting.parts old.service enabled.config y.strand y.gift ≡ Some y.done
+    = sym (λ i. after a.setting.parts (service i) (sym here i) y.strand y.gift) ∙ acted k x in
     passed_not {new = new} alone
-    (each_turn (λ n. Passed a n old new) strands pick stood.passed x.strand
-    ((enabled.exact x.strand).1 (x.gift, x.done, has)))
-    enabled.config enabled.at x.gift x.done has
-    (sym (same x.done.need) ∙ x.given)
+    (each_turn (λ n. Passed a n old new) strands pick stood.passed y.strand
+    ((enabled.exact y.strand).1 (y.gift, y.done, has)))
+    enabled.config enabled.at y.gift y.done has
+    (sym (same y.done.need) ∙ y.given)

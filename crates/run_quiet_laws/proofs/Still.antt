@@ -29,6 +29,7 @@ use Rattle.run_quiet_laws.proofs.CallsOn.{calls_fewer}
 use Rattle.run_quiet_laws.proofs.Cutting.{Cut, MadeAll, WasAt, calls_made, cut, events_whole, made_all, more, same, session_at, was_at}
 use Rattle.run_quiet_laws.proofs.Fewer.{could_before}
 use Rattle.run_quiet_laws.proofs.Once.{same_of}
+use Rattle.run_quiet_laws.proofs.Quiet.{done_all, quiet_by}
 
 -- ---- where an entry stands
 
@@ -132,14 +133,12 @@ HaveMadeAll w h ss = (s : ℕ) (es : List Event) → slice_get ss s ≡ Some es 
 -- where nothing is left to do for the sessions as they are, nothing is for them as they were at this moment
 pub quiet_at : (w : Setting) (budget : ℕ) (h : List Entry) (ss : List (List Event)) → HaveMadeAll w h ss
     → IsQuiet w budget h ss → IsQuiet w budget h (sessions_at w h 0 ss)
-quiet_at w budget h ss made q = record {
-  adopted = q.adopted;
-  brought = q.brought;
-  idle = λ s events there can.
-      let x = was_at w h ss s events there in
-      let same : x.now ≡ events = sym (events_whole w h s x.now (made s x.now x.there)) ∙ x.then_had in
-      q.idle s events (x.there ∙ ap (λ (es : List Event). Some es) same) can;
-}
+quiet_at w budget h ss made q =
+    quiet_by q.adopted q.received
+    (λ s events there can.
+    let x = was_at w h ss s events there in
+    let same : x.now ≡ events = sym (events_whole w h s x.now (made s x.now x.there)) ∙ x.then_had in
+    done_all q s events (x.there ∙ ap (λ (es : List Event). Some es) same) can)
 
 -- a post of a posting that may begin
 pub still_by_posting : (w : Setting) (budget actor j : ℕ) (h : List Entry) (e : Entry) (ss : List (List Event))
@@ -194,13 +193,13 @@ module _ {w : Setting} {budget : ℕ} {h : List Entry} {s : ℕ} {es : List Even
       es x
       → CanAct w before s events → length events ≡ budget
   by_cut events is (same p) can =
-      quiet.idle s events (had s old es goes.there ∙ ap (λ (xs : List Event). Some xs) (sym p ∙ is)) can
+      done_all quiet s events (had s old es goes.there ∙ ap (λ (xs : List Event). Some xs) (sym p ∙ is)) can
   by_cut events is (more other all longer) can =
       let then_can : CanAct w before s es
       = could_before w before s es x other
       (subst (λ (xs : List Event). CanAct w before s xs) (sym is ∙ longer) can) in
       absurd (not_less (length es) budget
-      (quiet.idle s es (had s old es goes.there ∙ ap (λ (xs : List Event). Some xs) all) then_can) goes.left)
+      (done_all quiet s es (had s old es goes.there ∙ ap (λ (xs : List Event). Some xs) all) then_can) goes.left)
 
   at_itself : (events : List Event) → slice_get (sessions_at w before 0 new) s ≡ Some events → CanAct w before s events
       → length events ≡ budget
@@ -211,25 +210,23 @@ module _ {w : Setting} {budget : ℕ} {h : List Entry} {s : ℕ} {es : List Even
   at_other : (t : ℕ) → t ≢ s → (events : List Event) → slice_get (sessions_at w before 0 new) t ≡ Some events
       → CanAct w before t events → length events ≡ budget
   at_other t apart events there can =
-      quiet.idle t events
+      done_all quiet t events
       (session_at w before old t
       ∙ ap (option_map (events_for (length (calls_of w before t)))) (sym (goes.changed.others t apart))
       ∙ sym (session_at w before new t) ∙ there)
       can
 
   quiet_then : IsQuiet w budget before (sessions_at w before 0 new)
-  quiet_then = record {
-    adopted = quiet.adopted;
-    brought = quiet.brought;
-    idle = λ t events there can.
-        ⊎_elim
-        (λ (is : t ≡ s).
-        at_itself events
-        (ap (slice_get (sessions_at w before 0 new)) (sym is) ∙ there)
-        (subst (λ (n : ℕ). CanAct w before n events) is can))
-        (λ (apart : t ≢ s). at_other t apart events there can)
-        (cases_eq t s);
-  }
+  quiet_then =
+      quiet_by quiet.adopted quiet.received
+      (λ t events there can.
+      ⊎_elim
+      (λ (is : t ≡ s).
+      at_itself events
+      (ap (slice_get (sessions_at w before 0 new)) (sym is) ∙ there)
+      (subst (λ (n : ℕ). CanAct w before n events) is can))
+      (λ (apart : t ≢ s). at_other t apart events there can)
+      (cases_eq t s))
 
 -- an event of a session, with its entries, which are no posts
 pub still_by_event : {w : Setting} {budget : ℕ} {h : List Entry} (own : List Entry)
@@ -314,7 +311,7 @@ still_by_adoption w budget h e ss other fresh still =
         → (t : ℕ) (events : List Event) → (y : WasAt w before (ss ++ [] ∷ []) t events) → CanAct w before t events
         → Pushed ss [] t y.now → length events ≡ budget
     idle_then before later x p q t events y can (stood there) =
-        q.idle t events
+        done_all q t events
         (session_at w before ss t ∙ ap (option_map (events_for (length (calls_of w before t)))) there
         ∙ ap (λ (xs : List Event). Some xs) y.then_had)
         can
@@ -326,10 +323,8 @@ still_by_adoption w budget h e ss other fresh still =
     quiet_adopted : (before later : List Entry) (x : Entry) → h ≡ before ++ x ∷ later
         → IsQuiet w budget before (sessions_at w before 0 ss)
         → IsQuiet w budget before (sessions_at w before 0 (ss ++ [] ∷ []))
-    quiet_adopted before later x p q = record {
-      adopted = q.adopted;
-      brought = q.brought;
-      idle = λ t events there can.
-          let y = was_at w before (ss ++ [] ∷ []) t events there in
-          idle_then before later x p q t events y can (pushed_at ss [] t y.now y.there);
-    }
+    quiet_adopted before later x p q =
+        quiet_by q.adopted q.received
+        (λ t events there can.
+        let y = was_at w before (ss ++ [] ∷ []) t events there in
+        idle_then before later x p q t events y can (pushed_at ss [] t y.now y.there))

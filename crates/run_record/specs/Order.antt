@@ -1,7 +1,7 @@
 -- In which order postings are answered.
 use Rattle.std.specs.Prelude.{◌≡◌, ℕ, zero, suc, ◌-◌, ◌<◌, Bool, false, ◌&&◌, ◌||◌, List, [], ◌∷◌, nat_eq}
 use Rattle.std.specs.Prelude.{nat_lt, if◌then◌else◌, Option, None, Some, is_some, slice_get, flat_map}
-use Rattle.std.specs.Prelude.{count_by}
+use Rattle.std.specs.Prelude.{count_by, unwrap_or}
 use Rattle.std.specs.List.{list_all, list_any, filter, filter_map}
 use Rattle.office_core.specs.declared.post.PostReply.{PostReply}
 use Rattle.office_core.specs.declared.post.PostReply.TheVariants as answer
@@ -58,15 +58,11 @@ abbrev pub is_finished : Setting → Past → ℕ → ℕ → ℕ → Bool
 is_finished w past actor j i =
     list_all (λ n. is_some (first (answers w (until_posting past actor i) n))) (messages_for past actor j)
 
--- the least of the so many numbers from i on that is of a kind, and the number behind them where none is
-abbrev pub least_from : (ℕ → Bool) → ℕ → ℕ → ℕ
-least_from is_it i zero = i
-least_from is_it i (suc n) = if is_it i then i else least_from is_it (suc i) n
-
 -- where posting j of so many is finished: at the first posting from its own on before whose end it had its answers;
 -- and at the end, which is a number of its own, where the stop alone gave one
 abbrev pub finished_at : Setting → Past → ℕ → ℕ → ℕ → ℕ
-finished_at w past actor count j = least_from (is_finished w past actor j) j (count - j)
+finished_at w past actor count j =
+    unwrap_or (first (filter (is_finished w past actor j) (numbers_from j (count - j)))) count
 
 -- the postings among so many that are finished at i, in order
 abbrev pub finished_there : Setting → Past → ℕ → ℕ → ℕ → List ℕ

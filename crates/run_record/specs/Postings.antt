@@ -1,4 +1,4 @@
--- What a front brought in, and what it was told.
+-- What a front received in, and what it was told.
 use Rattle.std.specs.Prelude.{ℕ, suc, ◌&&◌, List, [], ◌∷◌, ◌++◌, nat_eq}
 use Rattle.std.specs.Prelude.{if◌then◌else◌, Option, None, Some, option_and_then}
 use Rattle.std.specs.List.{filter_map}

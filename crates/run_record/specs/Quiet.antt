@@ -29,31 +29,35 @@ is_given w past s (need.Take ops) = is_some (first (queue past s ops))
 is_given w past s (need.Answer k) = is_some (result w past s k)
 is_given w past s n = true
 
--- A session can act: it lives, and after its events one of its strands has an event for which the history has what it
--- asks for.
-pub record CanAct (w : Setting) (h : List Entry) (s : ℕ) (events : List Event) : Type 0 where
+-- What a session can do at a configuration: it lives, and one of its strands has an event there for which the history
+-- has what it asks for.
+pub record CanActAt (w : Setting) (h : List Entry) (s service : ℕ) (config : Config) : Type 0 where
   pub live : is_live w (past_of w h) s ≡ true
-  pub last : Config
-  pub agrees : Agrees w h s events last
   pub strand : ℕ
   pub gift : Given
   pub done : Done
-  pub event : after w.parts agrees.service last strand gift ≡ Some done
+  pub event : after w.parts service config strand gift ≡ Some done
   pub given : is_given w (past_of w h) s done.need ≡ true
+
+-- A session can act after its events, which agree with the history: where these end.
+pub record CanAct (w : Setting) (h : List Entry) (s : ℕ) (events : List Event) : Type 0 where
+  pub last : Config
+  pub agrees : Agrees w h s events last
+  pub acts : CanActAt w h s agrees.service last
 
 -- ---- a record
 
--- the calls that went out and whose outcome nobody brought
+-- the calls that went out and whose outcome nobody received
 abbrev pub outstanding : Past → List Call
 outstanding past = filter (λ c. goes_out c && not (some_entry past (brings c))) (calls past)
 
 -- Nothing is left to do, after the entries of h and these events: each session that was born was adopted, each call
--- that went out has its outcome, and a session that could still act used its whole budget.
+-- that went out has its outcome, and a session that can still act where its events end used its whole budget.
 pub record IsQuiet (w : Setting) (budget : ℕ) (h : List Entry) (sessions : List (List Event)) : Type 0 where
   pub adopted : (s service : ℕ) → service_of w (past_of w h) s ≡ Some service → was_adopted (past_of w h) s ≡ true
-  pub brought : outstanding (past_of w h) ≡ []
-  pub idle : (s : ℕ) (events : List Event) → slice_get sessions s ≡ Some events
-      → CanAct w h s events → length events ≡ budget
+  pub received : outstanding (past_of w h) ≡ []
+  pub idle : (s : ℕ) (events : List Event) (last : Config) → slice_get sessions s ≡ Some events
+      → (agrees : Agrees w h s events last) → CanActAt w h s agrees.service last → length events ≡ budget
 
 -- the entries before the stop
 abbrev pub before_stop : List Entry → List Entry

@@ -17,17 +17,17 @@ use Rattle.office_core.specs.Legal.{IsLegal, is_fetched}
 use Rattle.office_plain.specs.Entries.{fetch_entry}
 use Rattle.office_plain.specs.Replies.{next_outgoing}
 use Rattle.office_plain.proofs.Lists.{none_not_some, itself}
-use Rattle.run_theorem.specs.Dealings.{Dealings}
+use Rattle.run_theorem.specs.Exchange.{Exchange}
 use Rattle.run_theorem.specs.Calls.{Notes}
 use Rattle.outside_traits.specs.Told.{Lists}
 use Rattle.outside_links.specs.Trips.{Made}
 use Rattle.jsonrpc_calls.specs.Console.{console_line}
-use Rattle.run_cells.specs.Crews.{State, Stays, Team, list_of, past_in}
-use Rattle.run_trip_laws.specs.Going.{fetch_of, answer_of, went_out, AreSettled, NotedSoFar, Toured, IsHeard}
+use Rattle.run_cells.specs.RunStates.{State, Stays, Team, list_of, past_in}
+use Rattle.run_trip_laws.specs.Going.{fetch_of, answer_of, went_out, AreSettled, NotedSoFar, Completed, IsHeard}
 use Rattle.run_trip_laws.proofs.Settling.{legal_front, fetched_is, settled_back, waits_less, waits_else, noted_console}
 use Rattle.run_trip_laws.proofs.Settling.{noted_remote, none_waits, none_next}
-use Rattle.run_trip_laws.proofs.Touring.{toured_console, toured_remote}
-use Rattle.run_sweep.specs.Swept.{is_errand, NotesBy, ToursBy, Errands, Cleared}
+use Rattle.run_trip_laws.proofs.Completing.{completed_console, completed_remote}
+use Rattle.run_sweep.specs.Swept.{is_errand, NotesBy, CompletedCallsBy, Errands, Cleared}
 use Rattle.run_sweep.proofs.Notes.{notes_one, notes_on}
 use Rattle.run_theorem.specs.Trips.{HasCounted}
 
@@ -50,13 +50,13 @@ errands_none w k s settled =
       some = λ h none. true≢false (sym h);
     }
 
--- A call is fetched, and then its outcome is brought.
+-- A call is fetched, and then its outcome is received.
 pub record Errand (w : Setting) (k : OutKind) (old new : State) (out : Outgoing) : Type 0 where
   pub next : next_outgoing w (past_of w old.history) k ≡ Some out
   pub one : State
   pub fetched : Stays old one (fetch_of first_worker out ∷ [])
   pub answer : Outcome
-  pub brought : Stays one new (answer_of first_worker out answer ∷ [])
+  pub received : Stays one new (answer_of first_worker out answer ∷ [])
   pub void : same_kind kind.Console k ≡ true → answer ≡ outcome.Value void_tree
   pub legal : IsLegal w new.history
 
@@ -64,7 +64,7 @@ pub record Errand (w : Setting) (k : OutKind) (old new : State) (out : Outgoing)
 pub went : {w : Setting} {k : OutKind} {old new : State} {out : Outgoing} (x : Errand w k old new out)
     → new.history ≡ went_out old.history first_worker out x.answer
 went {w} {k} {old} {new} {out} x =
-    x.brought.history ∙ ap (λ h. h ++ answer_of first_worker out x.answer ∷ []) x.fetched.history
+    x.received.history ∙ ap (λ h. h ++ answer_of first_worker out x.answer ∷ []) x.fetched.history
 
 -- the history was legal before
 pub was_legal : {w : Setting} {k : OutKind} {old new : State} {out : Outgoing} → Errand w k old new out
@@ -82,13 +82,13 @@ errands_more w k old mid new out moved e x =
     record {
       more = (e.more ++ f ∷ []) ++ a ∷ [];
       stays = record {
-        setting = x.brought.setting ∙ x.fetched.setting ∙ e.stays.setting;
-        budget = x.brought.budget ∙ x.fetched.budget ∙ e.stays.budget;
+        setting = x.received.setting ∙ x.fetched.setting ∙ e.stays.setting;
+        budget = x.received.budget ∙ x.fetched.budget ∙ e.stays.budget;
         history = went x ∙ ap (λ h. (h ++ f ∷ []) ++ a ∷ []) e.stays.history
             ∙ ap (λ h. h ++ a ∷ []) (append_assoc old.history e.more (f ∷ []))
             ∙ append_assoc old.history (e.more ++ f ∷ []) (a ∷ []);
-        stands = x.brought.stands ∙ x.fetched.stands ∙ e.stays.stands;
-        picks = x.brought.picks ∙ x.fetched.picks ∙ e.stays.picks;
+        stands = x.received.stands ∙ x.fetched.stands ∙ e.stays.stands;
+        picks = x.received.picks ∙ x.fetched.picks ∙ e.stays.picks;
       };
       each = list_all-append is_errand (e.more ++ f ∷ []) (a ∷ [])
           ∙ (λ i. (list_all-append is_errand e.more (f ∷ []) ∙ (λ j. e.each j && (mine && true))) i && (mine && true))
@@ -147,14 +147,14 @@ cleared w k old new moved e legal none = record { errands = e; none = none_waits
 -- ---- notes and trips
 
 -- the line of a call to the console is noted
-pub noted_more : (w : Setting) (old : List Entry) (mid new : State) (out : Outgoing) (before now later : Dealings)
+pub noted_more : (w : Setting) (old : List Entry) (mid new : State) (out : Outgoing) (before now later : Exchange)
     → Errand w kind.Console mid new out → NotesBy w old mid.history before now
     → Notes (console_line (root_of out.value)) now later → NotesBy w old new.history before later
 noted_more w old mid new out before now later x so notes = (
   notes_on before now later so.0 (notes_one (console_line (root_of out.value)) now later notes),
   λ first. subst (NotedSoFar w new.history) (sym notes.noted)
-      (subst (λ h. NotedSoFar w h (now.said.noted ++ console_line (root_of out.value))) (sym (went x))
-      (noted_console w mid.history first_worker out x.answer now.said.noted (was_legal x) x.next (so.1 first))),
+      (subst (λ h. NotedSoFar w h (now.sent.noted ++ console_line (root_of out.value))) (sym (went x))
+      (noted_console w mid.history first_worker out x.answer now.sent.noted (was_legal x) x.next (so.1 first))),
 )
 
 -- a trip is not noted
@@ -165,21 +165,21 @@ noted_same w mid new out noted x so =
     (noted_remote w mid.history first_worker out x.answer noted (was_legal x) x.next so)
 
 -- no trip is made for a call to the console
-pub toured_same : (w : Setting) (old : List Entry) (mid new : State) (out : Outgoing) (before now : LinkTold)
-    → Errand w kind.Console mid new out → ToursBy w old mid.history before now → ToursBy w old new.history before now
-toured_same w old mid new out before now x so first t =
-    subst (λ h. Toured w h first now) (sym (went x))
-    (toured_console w first now mid.history out x.answer (subst (IsLegal w) (went x) x.legal) x.next (so first t))
+pub completed_same : (w : Setting) (old : List Entry) (mid new : State) (out : Outgoing) (before now : LinkTold)
+    → Errand w kind.Console mid new out → CompletedCallsBy w old mid.history before now → CompletedCallsBy w old new.history before now
+completed_same w old mid new out before now x so first t =
+    subst (λ h. Completed w h first now) (sym (went x))
+    (completed_console w first now mid.history out x.answer (subst (IsLegal w) (went x) x.legal) x.next (so first t))
 
 -- the trip of a call to a service elsewhere is made
-pub toured_more : (w : Setting) (old : List Entry) (mid new : State) (out : Outgoing) (m : Made)
+pub completed_more : (w : Setting) (old : List Entry) (mid new : State) (out : Outgoing) (m : Made)
     (before now later : LinkTold)
     → (x : Errand w kind.Remote mid new out) → AreSettled w mid.history → IsHeard w.parts out m x.answer
     → Lists now.trips later.trips (m ∷ []) → HasCounted now.faults later.faults (m ∷ [])
-    → ToursBy w old mid.history before now → ToursBy w old new.history before later
-toured_more w old mid new out m before now later x settled heard travels counts so first t =
-    subst (λ h. Toured w h first later) (sym (went x))
-    (toured_remote w first now later mid.history out x.answer m
+    → CompletedCallsBy w old mid.history before now → CompletedCallsBy w old new.history before later
+completed_more w old mid new out m before now later x settled heard travels counts so first t =
+    subst (λ h. Completed w h first later) (sym (went x))
+    (completed_remote w first now later mid.history out x.answer m
     (subst (IsLegal w) (went x) x.legal) settled x.next heard travels counts
     (so first t))
 
@@ -205,15 +205,15 @@ pub errand_of : (k : OutKind) (old mid one new : State) (out : Outgoing) (o : Ou
     → Stays one new (answer_of first_worker out o ∷ [])
     → (same_kind kind.Console k ≡ true → o ≡ outcome.Value void_tree)
     → Team new → Errand old.setting k mid new out
-errand_of k old mid one new out o moved e next fetched brought void team =
+errand_of k old mid one new out o moved e next fetched received void team =
     record {
       next = subst (λ w. next_outgoing w (past_of w mid.history) k ≡ Some out) e.stays.setting next;
       one = one;
       fetched = fetched;
       answer = o;
-      brought = brought;
+      received = received;
       void = void;
-      legal = subst (λ w. IsLegal w new.history) (brought.setting ∙ fetched.setting ∙ e.stays.setting) team.legal;
+      legal = subst (λ w. IsLegal w new.history) (received.setting ∙ fetched.setting ∙ e.stays.setting) team.legal;
     }
 
 -- where nothing came
@@ -293,15 +293,15 @@ less_of k old mid new out m n x =
 -- ---- trips, as the calls tell them
 
 -- the trip of a call that was fetched is made
-pub toured_of : (old mid one new : State) (out : Outgoing) (o : Outcome) (moved : Bool) (m : Made)
+pub completed_of : (old mid one new : State) (out : Outgoing) (o : Outcome) (moved : Bool) (m : Made)
     (before now later : LinkTold) → Errands old.setting kind.Remote old mid moved
     → IsFetched kind.Remote mid one out → Stays one new (answer_of first_worker out o ∷ []) → Team new
     → IsHeard old.setting.parts out m o
     → Lists now.trips later.trips (m ∷ []) → HasCounted now.faults later.faults (m ∷ [])
-    → ToursBy old.setting old.history mid.history before now
-    → ToursBy old.setting old.history new.history before later
+    → CompletedCallsBy old.setting old.history mid.history before now
+    → CompletedCallsBy old.setting old.history new.history before later
 unfolding errand_of
-toured_of old mid one new out o moved m before now later e f brought team heard travels counts so =
-    toured_more old.setting old.history mid new out m before now later
-    (errand_of kind.Remote old mid one new out o moved e f.next f.stays brought (λ h. absurd (true≢false (sym h))) team)
+completed_of old mid one new out o moved m before now later e f received team heard travels counts so =
+    completed_more old.setting old.history mid new out m before now later
+    (errand_of kind.Remote old mid one new out o moved e f.next f.stays received (λ h. absurd (true≢false (sym h))) team)
     e.settled heard travels counts so

@@ -27,6 +27,6 @@ pub heard_of : {E : Type 0} (parts : ProgramParts) (out : Outgoing) (before now 
     → IfOk r (λ o. o ≡ heard out m.came)
     → IfOk r (λ o. (n : Made) × (IsHeard parts out n o) × (Lists before.trips now.trips (n ∷ []))
     × (HasCounted before.faults now.faults (n ∷ [])))
-heard_of parts out before now m (Ok o) location text travels counts said =
-    (m, record { location = location; text = text; outcome = said }, travels, counts)
-heard_of parts out before now m (Err e) location text travels counts said = tt
+heard_of parts out before now m (Ok o) location text travels counts sent =
+    (m, record { location = location; text = text; outcome = sent }, travels, counts)
+heard_of parts out before now m (Err e) location text travels counts sent = tt

@@ -17,19 +17,19 @@ use Rattle.office_core.specs.Calls.{outgoing}
 use Rattle.office_core.specs.Legal.{IsLegal}
 use Rattle.office_plain.specs.Entries.{entry}
 use Rattle.office_plain.proofs.Acting.{left as left_of, right as right_of}
-use Rattle.run_theorem.specs.Dealings.{Dealings}
+use Rattle.run_theorem.specs.Exchange.{Exchange}
 use Rattle.run_record.specs.Quiet.{IsQuiet, IsStill, posts, outstanding}
 use Rattle.run_quiet_laws.proofs.Workers.{still_by_others}
-use Rattle.run_cells.specs.Crews.{State, Stays, Team, events_of, past_in}
+use Rattle.run_cells.specs.RunStates.{State, Stays, Team, events_of, past_in}
 use Rattle.run_cells.specs.Rounds.{Went, IsQuietAt, IsStillAt, is_by_session, is_adoption, left, events_left}
 use Rattle.run_cells.proofs.Resting.{rests_quiet}
-use Rattle.run_trip_laws.specs.Going.{is_inward, is_silent, AreSettled, NotedSoFar, Toured}
+use Rattle.run_trip_laws.specs.Going.{is_inward, is_silent, AreSettled, NotedSoFar, Completed}
 use Rattle.run_trip_laws.proofs.Settling.{settled_over, noted_over, none_over, none_outstanding, quiet_none}
-use Rattle.run_trip_laws.proofs.Touring.{toured_over}
+use Rattle.run_trip_laws.proofs.Completing.{completed_over}
 use Rattle.run_sweep.specs.Courses.{Goes, stays, round, adopts, works, is_by_worker}
 use Rattle.run_sweep.specs.declared.sweeping.Round.{Round}
 use Rattle.run_sweep.specs.declared.sweeping.Round.TheVariants as end
-use Rattle.run_sweep.specs.Swept.{is_errand, is_swept, NotesBy, ToursBy, Errands, Cleared, Swept, StaysQuiet}
+use Rattle.run_sweep.specs.Swept.{is_errand, is_swept, NotesBy, CompletedCallsBy, Errands, Cleared, Swept, StaysQuiet}
 use Rattle.run_sweep.proofs.Notes.{notes_on}
 
 -- ---- entries
@@ -169,11 +169,11 @@ noted_then {old} {one} {turned} x noted so =
     (noted_over old.setting noted old.history x.went.more (legal_more x) x.went.sessions so)
 
 -- and make no trip
-pub toured_then : {old one : State} {turned : Bool} (x : Turns old one turned) (now : LinkTold)
-    → ToursBy old.setting old.history one.history now now
-toured_then {old} {one} {turned} x now first t =
-    subst (λ h. Toured old.setting h first now) (sym x.went.history)
-    (toured_over old.setting first now old.history x.went.more (legal_more x) x.went.sessions t)
+pub completed_then : {old one : State} {turned : Bool} (x : Turns old one turned) (now : LinkTold)
+    → CompletedCallsBy old.setting old.history one.history now now
+completed_then {old} {one} {turned} x now first t =
+    subst (λ h. Completed old.setting h first now) (sym x.went.history)
+    (completed_over old.setting first now old.history x.went.more (legal_more x) x.went.sessions t)
 
 pub swept_then : {old one : State} {turned : Bool} → Team old → Turns old one turned → Swept old one
 swept_then {old} {one} {turned} team x =
@@ -230,10 +230,10 @@ travelled_not {old} {one} {two} {three} {turned} {noted} {travelled} r off =
     ∙ none_then r.turns kind.Remote off))
 
 -- at the end of a round each call has its outcome
-brought_by : {old one two three : State} {turned noted travelled : Bool}
+received_by : {old one two three : State} {turned noted travelled : Bool}
     → WholeRound old one two three turned noted travelled
     → outstanding (past_of old.setting three.history) ≡ []
-brought_by {old} {one} {two} {three} {turned} {noted} {travelled} r =
+received_by {old} {one} {two} {three} {turned} {noted} {travelled} r =
     none_outstanding old.setting three.history r.remotes.errands.settled
     (r.remotes.errands.others kind.Console refl ∙ r.consoles.none)
     r.remotes.none
@@ -243,11 +243,11 @@ setting_then : {old one two three : State} {turned noted travelled : Bool}
     → three.setting ≡ old.setting
 setting_then r = r.remotes.errands.stays.setting ∙ r.consoles.errands.stays.setting ∙ r.turns.went.setting
 
-pub round_brought : {old one two three : State} {turned noted travelled : Bool}
+pub round_received : {old one two three : State} {turned noted travelled : Bool}
     → WholeRound old one two three turned noted travelled
     → outstanding (past_in three) ≡ []
-round_brought {old} {one} {two} {three} {turned} {noted} {travelled} r =
-    ap (λ w. outstanding (past_of w three.history)) (setting_then r) ∙ brought_by r
+round_received {old} {one} {two} {three} {turned} {noted} {travelled} r =
+    ap (λ w. outstanding (past_of w three.history)) (setting_then r) ∙ received_by r
 
 left_then : {old one two three : State} {turned noted travelled : Bool}
     → WholeRound old one two three turned noted travelled
@@ -296,7 +296,7 @@ round_quiet {old} {one} {two} {three} {turned} {noted} {travelled} r off =
     none : outstanding (past_in one) ≡ []
     none =
         (λ i. outstanding (past_of (r.turns.went.setting i) (sym same i)))
-        ∙ brought_by r
+        ∙ received_by r
 
 -- a round where nothing was left to do does nothing
 pub half_still : {old one two : State} {turned noted : Bool} → Turns old one turned
@@ -376,46 +376,46 @@ still_half went team settled start c = half_still (turns_of went team settled st
 -- what was noted in the first half of a round
 pub half_notes : {old one : State} {turned : Bool} (h : List Entry) → Went old one turned → Team one
     → AreSettled old.setting old.history → outstanding (past_in old) ≡ []
-    → (a b : Dealings) → NotesBy one.setting one.history h a b → NotesBy old.setting old.history h a b
+    → (a b : Exchange) → NotesBy one.setting one.history h a b → NotesBy old.setting old.history h a b
 half_notes {old} {one} {turned} h went team settled start a b n = (
   n.0,
-  λ so. subst (λ w. NotedSoFar w h b.said.noted) went.setting
-      (n.1 (subst (λ w. NotedSoFar w one.history a.said.noted) (sym went.setting)
-      (noted_then (turns_of went team settled start) a.said.noted so))),
+  λ so. subst (λ w. NotedSoFar w h b.sent.noted) went.setting
+      (n.1 (subst (λ w. NotedSoFar w one.history a.sent.noted) (sym went.setting)
+      (noted_then (turns_of went team settled start) a.sent.noted so))),
 )
 
 -- and in the whole round
 pub round_notes : {old one two three : State} {turned noted travelled : Bool}
     → WholeRound old one two three turned noted travelled
     → ((n : List ℕ) → NotedSoFar two.setting two.history n → NotedSoFar two.setting three.history n)
-    → (a b : Dealings) → NotesBy old.setting old.history two.history a b
+    → (a b : Exchange) → NotesBy old.setting old.history two.history a b
     → NotesBy old.setting old.history three.history a b
 round_notes {old} {one} {two} {three} r trips a b n = (
   n.0,
-  λ so. subst (λ w. NotedSoFar w three.history b.said.noted) here
-      (trips b.said.noted (subst (λ w. NotedSoFar w two.history b.said.noted) (sym here) (n.1 so))),
+  λ so. subst (λ w. NotedSoFar w three.history b.sent.noted) here
+      (trips b.sent.noted (subst (λ w. NotedSoFar w two.history b.sent.noted) (sym here) (n.1 so))),
 )
   where
     here : two.setting ≡ old.setting
     here = r.consoles.errands.stays.setting ∙ r.turns.went.setting
 
 -- the trips of the first half: none
-pub half_tours : {old one : State} {turned : Bool} (h : List Entry) (now : LinkTold) → Went old one turned
+pub half_completed_calls : {old one : State} {turned : Bool} (h : List Entry) (now : LinkTold) → Went old one turned
     → Team one
     → AreSettled old.setting old.history → outstanding (past_in old) ≡ []
-    → ToursBy one.setting one.history h now now → ToursBy old.setting old.history h now now
-half_tours {old} {one} {turned} h now went team settled start t first x =
-    subst (λ w. Toured w h first now) went.setting
-    (t first (subst (λ w. Toured w one.history first now) (sym went.setting)
-    (toured_then (turns_of went team settled start) now first x)))
+    → CompletedCallsBy one.setting one.history h now now → CompletedCallsBy old.setting old.history h now now
+half_completed_calls {old} {one} {turned} h now went team settled start t first x =
+    subst (λ w. Completed w h first now) went.setting
+    (t first (subst (λ w. Completed w one.history first now) (sym went.setting)
+    (completed_then (turns_of went team settled start) now first x)))
 
-pub round_tours : {old one two three : State} {turned noted travelled : Bool} (now later : LinkTold)
+pub round_completed_calls : {old one two three : State} {turned noted travelled : Bool} (now later : LinkTold)
     → WholeRound old one two three turned noted travelled
-    → ToursBy old.setting old.history two.history now now → ToursBy two.setting two.history three.history now later
-    → ToursBy old.setting old.history three.history now later
-round_tours {old} {one} {two} {three} now later r f g first x =
-    subst (λ w. Toured w three.history first later) here
-    (g first (subst (λ w. Toured w two.history first now) (sym here) (f first x)))
+    → CompletedCallsBy old.setting old.history two.history now now → CompletedCallsBy two.setting two.history three.history now later
+    → CompletedCallsBy old.setting old.history three.history now later
+round_completed_calls {old} {one} {two} {three} now later r f g first x =
+    subst (λ w. Completed w three.history first later) here
+    (g first (subst (λ w. Completed w two.history first now) (sym here) (f first x)))
   where
     here : two.setting ≡ old.setting
     here = r.consoles.errands.stays.setting ∙ r.turns.went.setting
@@ -423,21 +423,21 @@ round_tours {old} {one} {two} {three} now later r f g first x =
 -- ---- one round after the other
 
 -- what the rounds so far noted, and one more
-pub notes_then : (old mid new : State) → mid.setting ≡ old.setting → (a b c : Dealings)
+pub notes_then : (old mid new : State) → mid.setting ≡ old.setting → (a b c : Exchange)
     → NotesBy old.setting old.history mid.history a b → NotesBy mid.setting mid.history new.history b c
     → NotesBy old.setting old.history new.history a c
 notes_then old mid new here a b c x y = (
   notes_on a b c x.0 y.0,
-  λ so. subst (λ w. NotedSoFar w new.history c.said.noted) here
-      (y.1 (subst (λ w. NotedSoFar w mid.history b.said.noted) (sym here) (x.1 so))),
+  λ so. subst (λ w. NotedSoFar w new.history c.sent.noted) here
+      (y.1 (subst (λ w. NotedSoFar w mid.history b.sent.noted) (sym here) (x.1 so))),
 )
 
-pub tours_then : (old mid new : State) (a b c : LinkTold) → mid.setting ≡ old.setting
-    → ToursBy old.setting old.history mid.history a b → ToursBy mid.setting mid.history new.history b c
-    → ToursBy old.setting old.history new.history a c
-tours_then old mid new a b c here f g first x =
-    subst (λ w. Toured w new.history first c) here
-    (g first (subst (λ w. Toured w mid.history first b) (sym here) (f first x)))
+pub completed_calls_then : (old mid new : State) (a b c : LinkTold) → mid.setting ≡ old.setting
+    → CompletedCallsBy old.setting old.history mid.history a b → CompletedCallsBy mid.setting mid.history new.history b c
+    → CompletedCallsBy old.setting old.history new.history a c
+completed_calls_then old mid new a b c here f g first x =
+    subst (λ w. Completed w new.history first c) here
+    (g first (subst (λ w. Completed w mid.history first b) (sym here) (f first x)))
 
 -- where nothing was left to do at first, nothing is
 pub quiet_then : (old mid : State) → Swept old mid → StaysQuiet old mid → IsQuietAt old → IsQuietAt mid
@@ -451,29 +451,29 @@ still_then old mid new swept still next q =
 
 -- ---- what a round came to
 
-pub again_by : (m : Bool) (r : Round) → r ≡ (if m then end.Again else end.Calm) → r ≡ end.Again → m ≡ true
+pub again_by : (m : Bool) (r : Round) → r ≡ (if m then end.Again else end.Idle) → r ≡ end.Again → m ≡ true
 again_by true r e h = refl
 again_by false r e h =
     absurd (true≢false
-    (ap (λ x. elim x [ end.Again ↦ true | end.Calm ↦ false | end.Halted ↦ false ]) (sym h ∙ e)))
+    (ap (λ x. elim x [ end.Again ↦ true | end.Idle ↦ false | end.Halted ↦ false ]) (sym h ∙ e)))
 
-pub calm_by : (m : Bool) (r : Round) → r ≡ (if m then end.Again else end.Calm) → r ≡ end.Calm → m ≡ false
-calm_by true r e h =
+pub unfailed_by : (m : Bool) (r : Round) → r ≡ (if m then end.Again else end.Idle) → r ≡ end.Idle → m ≡ false
+unfailed_by true r e h =
     absurd (true≢false
-    (ap (λ x. elim x [ end.Again ↦ true | end.Calm ↦ false | end.Halted ↦ false ]) (sym e ∙ h)))
-calm_by false r e h = refl
+    (ap (λ x. elim x [ end.Again ↦ true | end.Idle ↦ false | end.Halted ↦ false ]) (sym e ∙ h)))
+unfailed_by false r e h = refl
 
-pub not_halted : (m : Bool) (r : Round) → r ≡ (if m then end.Again else end.Calm) → r ≡ end.Halted → ⊥
+pub not_halted : (m : Bool) (r : Round) → r ≡ (if m then end.Again else end.Idle) → r ≡ end.Halted → ⊥
 not_halted true r e h =
-    true≢false (ap (λ x. elim x [ end.Again ↦ true | end.Calm ↦ true | end.Halted ↦ false ]) (sym e ∙ h))
+    true≢false (ap (λ x. elim x [ end.Again ↦ true | end.Idle ↦ true | end.Halted ↦ false ]) (sym e ∙ h))
 not_halted false r e h =
-    true≢false (ap (λ x. elim x [ end.Again ↦ true | end.Calm ↦ true | end.Halted ↦ false ]) (sym e ∙ h))
+    true≢false (ap (λ x. elim x [ end.Again ↦ true | end.Idle ↦ true | end.Halted ↦ false ]) (sym e ∙ h))
 
--- a round that was calm did not halt
-pub calm_goes_on : {r : Round} → r ≡ end.Calm → r ≡ end.Halted → ⊥
-calm_goes_on is halted =
-    true≢false (ap (λ x. elim x [ end.Again ↦ false | end.Calm ↦ true | end.Halted ↦ false ]) (sym is ∙ halted))
+-- a round that was unfailed did not halt
+pub unfailed_goes_on : {r : Round} → r ≡ end.Idle → r ≡ end.Halted → ⊥
+unfailed_goes_on is halted =
+    true≢false (ap (λ x. elim x [ end.Again ↦ false | end.Idle ↦ true | end.Halted ↦ false ]) (sym is ∙ halted))
 
 -- a round that halted is no other
 pub halted_only : end.Halted ≡ end.Again → ⊥
-halted_only h = true≢false (ap (λ x. elim x [ end.Again ↦ false | end.Calm ↦ false | end.Halted ↦ true ]) h)
+halted_only h = true≢false (ap (λ x. elim x [ end.Again ↦ false | end.Idle ↦ false | end.Halted ↦ true ]) h)

@@ -5,7 +5,7 @@ use Rattle.std.specs.List.{list_all}
 use Rattle.office_core.specs.declared.history.Entry.{Entry}
 use Rattle.office_core.specs.Limits.{first_worker}
 use Rattle.run_record.specs.Quiet.{outstanding}
-use Rattle.run_cells.specs.Crews.{State, Stays, Team, past_in}
+use Rattle.run_cells.specs.RunStates.{State, Stays, Team, past_in}
 use Rattle.run_cells.specs.Turns.{IsAdoption, RoundFrom}
 
 -- an entry of the one worker

@@ -8,11 +8,11 @@ use Rattle.office_core.specs.declared.outgoing.OutKind.{OutKind}
 use Rattle.office_core.specs.Limits.{Setting, first_worker}
 use Rattle.office_core.specs.Accepted.{past_of}
 use Rattle.office_core.specs.Calls.{same_kind, outgoing}
-use Rattle.run_theorem.specs.Dealings.{Dealings}
+use Rattle.run_theorem.specs.Exchange.{Exchange}
 use Rattle.run_theorem.specs.Calls.{After, Notes}
-use Rattle.run_cells.specs.Crews.{State, Stays}
+use Rattle.run_cells.specs.RunStates.{State, Stays}
 use Rattle.run_cells.specs.Rounds.{is_by_session, IsQuietAt, IsStillAt}
-use Rattle.run_trip_laws.specs.Going.{is_inward, AreSettled, NotedSoFar, Toured}
+use Rattle.run_trip_laws.specs.Going.{is_inward, AreSettled, NotedSoFar, Completed}
 use Rattle.run_sweep.specs.Courses.{Goes}
 
 -- ---- entries
@@ -29,35 +29,35 @@ is_swept e = is_by_session e || is_errand e
 
 -- whatever may have passed between a front and a run, but for an answer that halted it, something more may have passed
 -- since
-abbrev pub PassedOn : {F : Type 0} → (ProgramParts → F → F → Dealings → Type 0) → F → F
-    → (Dealings → Dealings → Type 0) → Type 0
-PassedOn {F} dealt old new IsSo =
-    (parts : ProgramParts) (first : F) (before : Dealings) → dealt parts first old before
-    → before.said.notes_failed ≡ before.said.halted → After (dealt parts first new) (IsSo before)
+abbrev pub PassedOn : {F : Type 0} → (ProgramParts → F → F → Exchange → Type 0) → F → F
+    → (Exchange → Exchange → Type 0) → Type 0
+PassedOn {F} exchanged old new IsSo =
+    (parts : ProgramParts) (first : F) (before : Exchange) → exchanged parts first old before
+    → before.sent.notes_failed ≡ before.sent.halted → After (exchanged parts first new) (IsSo before)
 
 -- the front halted
-abbrev pub HasHalted : {F : Type 0} → (ProgramParts → F → F → Dealings → Type 0) → F → Type 0
-HasHalted {F} dealt front =
-    (parts : ProgramParts) (first : F) (now : Dealings) → dealt parts first front now → now.said.halted ≡ true
+abbrev pub HasHalted : {F : Type 0} → (ProgramParts → F → F → Exchange → Type 0) → F → Type 0
+HasHalted {F} exchanged front =
+    (parts : ProgramParts) (first : F) (now : Exchange) → exchanged parts first front now → now.sent.halted ≡ true
 
 -- the front did not halt
-abbrev pub HasNotHalted : {F : Type 0} → (ProgramParts → F → F → Dealings → Type 0) → F → Type 0
-HasNotHalted {F} dealt front =
-    (parts : ProgramParts) (first : F) (now : Dealings) → dealt parts first front now → now.said.halted ≡ false
+abbrev pub HasNotHalted : {F : Type 0} → (ProgramParts → F → F → Exchange → Type 0) → F → Type 0
+HasNotHalted {F} exchanged front =
+    (parts : ProgramParts) (first : F) (now : Exchange) → exchanged parts first front now → now.sent.halted ≡ false
 
 -- Texts were noted to a front, one after the other, and nothing else passed.
-pub record NotesMore (before now : Dealings) : Type 0 where
+pub record NotesMore (before now : Exchange) : Type 0 where
   pub text : List ℕ
   pub notes : Notes text before now
 
 -- what was noted of a history h is what was noted of it, where that was so of the history before
-abbrev pub NotesBy : Setting → List Entry → List Entry → Dealings → Dealings → Type 0
+abbrev pub NotesBy : Setting → List Entry → List Entry → Exchange → Exchange → Type 0
 NotesBy w old new before now =
-    NotesMore before now × (NotedSoFar w old before.said.noted → NotedSoFar w new now.said.noted)
+    NotesMore before now × (NotedSoFar w old before.sent.noted → NotedSoFar w new now.sent.noted)
 
 -- the trips that a link made are those of the history now, where they were those of the history before
-abbrev pub ToursBy : Setting → List Entry → List Entry → LinkTold → LinkTold → Type 0
-ToursBy w old new before now = (first : LinkTold) → Toured w old first before → Toured w new first now
+abbrev pub CompletedCallsBy : Setting → List Entry → List Entry → LinkTold → LinkTold → Type 0
+CompletedCallsBy w old new before now = (first : LinkTold) → Completed w old first before → Completed w new first now
 
 -- ---- the run
 

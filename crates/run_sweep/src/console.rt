@@ -9,10 +9,10 @@ ghost use Rattle.office_core.specs.Limits.{first_worker};
 ghost use Rattle.office_core.specs.Legal.{is_fetched};
 ghost use Rattle.run_theorem.specs.Calls.{Notes};
 ghost use Rattle.jsonrpc_calls.specs.Console as lines;
-ghost use Rattle.run_cells.specs.Crews.{AtWork, Stays, past_in, state_of};
+ghost use Rattle.run_cells.specs.RunStates.{AtWork, Stays, past_in, state_of};
 ghost use Rattle.run_trip_laws.specs.Going.{AreSettled, answer_of};
 ghost use Rattle.outside_links.specs.Trips.{Made};
-ghost use Rattle.run_sweep.specs.Swept.{Cleared, NotesBy, NotesMore, PassedOn, ToursBy};
+ghost use Rattle.run_sweep.specs.Swept.{Cleared, NotesBy, NotesMore, PassedOn, CompletedCallsBy};
 
 use crate::sessions::Sessions;
 use behaviour_tree::Outcome;
@@ -28,22 +28,23 @@ pub(crate) fn note_all<C: Sessions, F: Front>(
     cells: &mut C,
     front: &mut F,
 ) -> Result<bool, AllocError>
-    requires work { AtWork (C.crew cells.old) }
-    requires settled { AreSettled (state_of (C.crew cells.old)).setting (state_of (C.crew cells.old)).history }
-    ensures program { (C.crew cells.new).program ≡ (C.crew cells.old).program }
-    ensures work { OnOk result (AtWork (C.crew cells.new)) }
+    requires work { AtWork (C.run_state cells.old) }
+    requires settled { AreSettled (state_of (C.run_state cells.old)).setting
+        (state_of (C.run_state cells.old)).history }
+    ensures program { (C.run_state cells.new).program ≡ (C.run_state cells.old).program }
+    ensures work { OnOk result (AtWork (C.run_state cells.new)) }
     ensures cleared { IfOk result
-        (λ moved. Cleared (state_of (C.crew cells.old)).setting kind.Console (state_of (C.crew cells.old))
-        (state_of (C.crew cells.new)) moved) }
-    ensures toured { OnOk result
+        (λ moved. Cleared (state_of (C.run_state cells.old)).setting kind.Console (state_of (C.run_state cells.old))
+        (state_of (C.run_state cells.new)) moved) }
+    ensures completed { OnOk result
         ((now : LinkTold)
-        → ToursBy (state_of (C.crew cells.old)).setting (state_of (C.crew cells.old)).history
-        (state_of (C.crew cells.new)).history now now) }
+        → CompletedCallsBy (state_of (C.run_state cells.old)).setting (state_of (C.run_state cells.old)).history
+        (state_of (C.run_state cells.new)).history now now) }
     ensures noted { MatchResult result
-        (λ _. PassedOn F.dealt front.old front.new
-        (NotesBy (state_of (C.crew cells.old)).setting (state_of (C.crew cells.old)).history
-        (state_of (C.crew cells.new)).history))
-        (λ _. PassedOn F.dealt front.old front.new NotesMore) }
+        (λ _. PassedOn F.exchanged front.old front.new
+        (NotesBy (state_of (C.run_state cells.old)).setting (state_of (C.run_state cells.old)).history
+        (state_of (C.run_state cells.new)).history))
+        (λ _. PassedOn F.exchanged front.old front.new NotesMore) }
 {
     let mut moved = false;
     while let Some(out) = cells.fetch(OutKind::Console)? {
@@ -60,17 +61,17 @@ fn note<C: Sessions, F: Front>(
     front: &mut F,
     out: &Outgoing,
 ) -> Result<(), AllocError>
-    requires work { AtWork (C.crew cells.old) }
+    requires work { AtWork (C.run_state cells.old) }
     requires fetched { is_fetched
-        (past_in (state_of (C.crew cells.old))) first_worker out.now.session out.now.call ≡ true }
-    ensures program { (C.crew cells.new).program ≡ (C.crew cells.old).program }
-    ensures work { OnOk result (AtWork (C.crew cells.new)) }
+        (past_in (state_of (C.run_state cells.old))) first_worker out.now.session out.now.call ≡ true }
+    ensures program { (C.run_state cells.new).program ≡ (C.run_state cells.old).program }
+    ensures work { OnOk result (AtWork (C.run_state cells.new)) }
     ensures stays { OnOk result
-        (Stays (state_of (C.crew cells.old)) (state_of (C.crew cells.new))
+        (Stays (state_of (C.run_state cells.old)) (state_of (C.run_state cells.new))
         (answer_of first_worker out.now (outcome.Value void_tree) ∷ [])) }
     ensures noted { MatchResult result
-        (λ _. PassedOn F.dealt front.old front.new (Notes (lines.console_line (root_of out.now.value))))
-        (λ _. PassedOn F.dealt front.old front.new NotesMore) }
+        (λ _. PassedOn F.exchanged front.old front.new (Notes (lines.console_line (root_of out.now.value))))
+        (λ _. PassedOn F.exchanged front.old front.new NotesMore) }
 {
     let line = console_line(alloc, out.value.root())?;
     front.note(line.as_str().as_bytes());

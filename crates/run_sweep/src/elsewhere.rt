@@ -5,9 +5,9 @@ ghost use Rattle.behaviour_tree.specs.PartsView.{parts_of};
 ghost use Rattle.office_core.specs.declared.outgoing.OutKind.TheVariants as kind;
 ghost use Rattle.outside_traits.specs.Told.{Lists};
 ghost use Rattle.outside_links.specs.Trips.{Made};
-ghost use Rattle.run_cells.specs.Crews.{AtWork, state_of};
+ghost use Rattle.run_cells.specs.RunStates.{AtWork, state_of};
 ghost use Rattle.run_trip_laws.specs.Going.{AreSettled, IsHeard, NotedSoFar};
-ghost use Rattle.run_sweep.specs.Swept.{Cleared, ToursBy};
+ghost use Rattle.run_sweep.specs.Swept.{Cleared, CompletedCallsBy};
 ghost use Rattle.run_theorem.specs.Trips.{HasCounted};
 
 use crate::sessions::Sessions;
@@ -24,20 +24,21 @@ pub(crate) fn trip_all<C: Sessions, L: Link>(
     cells: &mut C,
     link: &mut L,
 ) -> Result<bool, AllocError>
-    requires work { AtWork (C.crew cells.old) }
-    requires settled { AreSettled (state_of (C.crew cells.old)).setting (state_of (C.crew cells.old)).history }
-    ensures program { (C.crew cells.new).program ≡ (C.crew cells.old).program }
-    ensures work { OnOk result (AtWork (C.crew cells.new)) }
+    requires work { AtWork (C.run_state cells.old) }
+    requires settled { AreSettled (state_of (C.run_state cells.old)).setting
+        (state_of (C.run_state cells.old)).history }
+    ensures program { (C.run_state cells.new).program ≡ (C.run_state cells.old).program }
+    ensures work { OnOk result (AtWork (C.run_state cells.new)) }
     ensures cleared { IfOk result
-        (λ moved. Cleared (state_of (C.crew cells.old)).setting kind.Remote (state_of (C.crew cells.old))
-        (state_of (C.crew cells.new)) moved) }
-    ensures toured { OnOk result
-        (ToursBy (state_of (C.crew cells.old)).setting (state_of (C.crew cells.old)).history
-        (state_of (C.crew cells.new)).history (L.told link.old) (L.told link.new)) }
+        (λ moved. Cleared (state_of (C.run_state cells.old)).setting kind.Remote (state_of (C.run_state cells.old))
+        (state_of (C.run_state cells.new)) moved) }
+    ensures completed { OnOk result
+        (CompletedCallsBy (state_of (C.run_state cells.old)).setting (state_of (C.run_state cells.old)).history
+        (state_of (C.run_state cells.new)).history (L.told link.old) (L.told link.new)) }
     ensures noted { OnOk result
-        ((noted : List ℕ) → NotedSoFar (state_of (C.crew cells.old)).setting
-        (state_of (C.crew cells.old)).history noted
-        → NotedSoFar (state_of (C.crew cells.old)).setting (state_of (C.crew cells.new)).history noted) }
+        ((noted : List ℕ) → NotedSoFar (state_of (C.run_state cells.old)).setting
+        (state_of (C.run_state cells.old)).history noted
+        → NotedSoFar (state_of (C.run_state cells.old)).setting (state_of (C.run_state cells.new)).history noted) }
 {
     let mut moved = false;
     while let Some(out) = cells.fetch(OutKind::Remote)? {

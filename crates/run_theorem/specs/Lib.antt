@@ -1,4 +1,4 @@
-pub mod Dealings
+pub mod Exchange
 pub mod Calls
 pub mod Texts
 pub mod Split
@@ -7,7 +7,7 @@ pub mod Statuses
 pub mod Picks
 pub mod Trips
 pub mod Ports
-pub mod Visits
+pub mod RunConnections
 pub mod Served
 pub mod Used
 pub mod Through

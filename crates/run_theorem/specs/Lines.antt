@@ -15,7 +15,7 @@ use Rattle.run_record.specs.Order.{numbers_from, until_posting, finished_there, 
 use Rattle.run_record.specs.Outside.{notes}
 use Rattle.run_record.specs.Run.{Hands, alone, workers}
 use Rattle.run_theorem.specs.Texts.{Came, response}
-use Rattle.run_theorem.specs.Split.{whole_lines, all_lines, said_lines}
+use Rattle.run_theorem.specs.Split.{whole_lines, all_lines, sent_lines}
 use Rattle.run_theorem.specs.Statuses.{Causes, halts}
 
 -- the most postings of a front: what comes behind them is passed over
@@ -84,21 +84,21 @@ IsProperPrefix {A} xs ys = (rest : List A) × (rest ≢ []) × (xs ++ rest ≡ y
 
 -- ---- a run over lines
 
--- the source was read to its end, or brought as many postings as there may be
+-- the source was read to its end, or received as many postings as there may be
 abbrev pub IsExhausted : Option (List ℕ) → List ℕ → Type 0
-IsExhausted unread read = IsAtEnd unread ⊎ (most_postings ≤ length (said_lines (all_lines read)))
+IsExhausted unread read = IsAtEnd unread ⊎ (most_postings ≤ length (sent_lines (all_lines read)))
 
 -- Which of the lines that were read came in: all, where nothing failed and the source was exhausted; those that have
--- their end, where the source failed; and where a write failed the first of these, or of all once the source came to its
--- end without a failure.
+-- their end, where the source failed; and where a write failed the first of these, or of all once the source came to
+-- its end without a failure.
 pub data CameIn (c : Causes) (before now : SourceTold) (read : List ℕ) (came : List Came) : Type 0 where
   whole : now.faults ≡ before.faults → halts c ≡ false → IsExhausted now.unread read
-      → came ≡ come_in (said_lines (all_lines read)) → CameIn c before now read came
-  cut : Rose before.faults now.faults → halts c ≡ false → came ≡ come_in (said_lines (whole_lines read))
+      → came ≡ come_in (sent_lines (all_lines read)) → CameIn c before now read came
+  cut : Rose before.faults now.faults → halts c ≡ false → came ≡ come_in (sent_lines (whole_lines read))
       → CameIn c before now read came
-  halted : halts c ≡ true → IsPrefix came (come_in (said_lines (whole_lines read))) → CameIn c before now read came
+  halted : halts c ≡ true → IsPrefix came (come_in (sent_lines (whole_lines read))) → CameIn c before now read came
   halted_at_end : halts c ≡ true → now.faults ≡ before.faults → IsAtEnd now.unread
-      → IsPrefix came (come_in (said_lines (all_lines read))) → CameIn c before now read came
+      → IsPrefix came (come_in (sent_lines (all_lines read))) → CameIn c before now read came
 
 -- The lines that are due for what came in: those that answer its postings, each once, in the order of those who work.
 pub record AreDue (hands : Hands) (w : Setting) (h : List Entry) (came : List Came) (due : List ℕ) : Type 0 where
@@ -106,7 +106,8 @@ pub record AreDue (hands : Hands) (w : Setting) (h : List Entry) (came : List Ca
   pub in_order : IsOrderOf hands w h (length came) order
   pub lines : due ≡ lines_in w h came order
 
--- What was written of what is due: not all of it, where the output failed; a front of it, where a note failed; else all.
+-- What was written of what is due: not all of it, where the output failed; a front of it, where a note failed; else
+-- all.
 abbrev pub IsWritten : Causes → List ℕ → List ℕ → Type 0
 IsWritten c due written =
     MatchBool c.output (IsProperPrefix written due) (MatchBool c.notes (IsPrefix written due) (written ≡ due))

@@ -46,7 +46,7 @@ pub record HasStrands (w : Setting) (h : List Entry) (s : ℕ) (events : List Ev
 
 -- a session can act by strand n
 abbrev pub CanActBy : Setting → List Entry → ℕ → List Event → ℕ → Type 0
-CanActBy w h s events n = (can : CanAct w h s events) × (can.strand ≡ n)
+CanActBy w h s events n = (can : CanAct w h s events) × (can.acts.strand ≡ n)
 
 -- The event that came of a turn of a session that had had these: of its strands, in their order from the pick on,
 -- cyclically, it is that of the first by which the session can act.

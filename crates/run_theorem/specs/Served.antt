@@ -5,7 +5,7 @@ use Rattle.std.specs.List.{list_all, AllZip}
 use Rattle.office_core.specs.declared.history.Entry.{Entry}
 use Rattle.office_core.specs.Limits.{Setting, first_worker}
 use Rattle.office_core.specs.Accepted.{past_of}
-use Rattle.run_theorem.specs.Dealings.{Asked}
+use Rattle.run_theorem.specs.Exchange.{Asked}
 use Rattle.run_theorem.specs.Calls.{is_of}
 use Rattle.run_record.specs.declared.record.Traffic.{Traffic}
 use Rattle.run_record.specs.Postings.{posts_by, posts_of}
@@ -13,7 +13,7 @@ use Rattle.run_record.specs.Order.{finished_at}
 use Rattle.run_theorem.specs.Texts.{Came, posting_of, response}
 use Rattle.http_connection.specs.Stages.{IsOver}
 use Rattle.run_theorem.specs.Ports.{has_door}
-use Rattle.run_theorem.specs.Visits.{Visit, came_at, AreTaken, HasPassed}
+use Rattle.run_theorem.specs.RunConnections.{RunConnection, came_at, AreTaken, HasPassed}
 
 -- whose request each posting is, and what it brings in, in the order of the postings
 pub record Requests : Type 0 where
@@ -21,10 +21,10 @@ pub record Requests : Type 0 where
   pub came : List Came
 
 -- Each text that was told to a request is the response to its posting.
-abbrev pub AreResponses : Setting → List Entry → List Visit → Requests → Type 0
-AreResponses w h visits all = (j : ℕ) (a : Asked) (c : Came) (visit : Visit) (text : Option (List ℕ))
+abbrev pub AreResponses : Setting → List Entry → List RunConnection → Requests → Type 0
+AreResponses w h connections all = (j : ℕ) (a : Asked) (c : Came) (connection : RunConnection) (text : Option (List ℕ))
     → slice_get all.asked j ≡ Some a → slice_get all.came j ≡ Some c
-    → slice_get visits a.traffic ≡ Some visit → slice_get visit.texts a.request ≡ Some text
+    → slice_get connections a.traffic ≡ Some connection → slice_get connection.texts a.request ≡ Some text
     → text ≡ response w (past_of w h) first_worker j c
 
 -- Of two requests of one connection the posting of the first was finished at a posting before that of the second: each
@@ -40,20 +40,20 @@ HadToWait w h asked j k = (i : ℕ) × (a : Asked) × (slice_get asked i ≡ Som
 
 -- When a posting came each connection before its own waited for an answer, or was over: it is over in the end, and each
 -- request that was taken from it had been posted before.
-abbrev pub AreInTurn : Setting → List Entry → List Visit → List Asked → Type 0
-AreInTurn w h visits asked = (j k : ℕ) (a : Asked) (visit : Visit) → slice_get asked j ≡ Some a
-    → slice_get visits k ≡ Some visit → k < a.traffic
-    → HadToWait w h asked j k ⊎ (IsOver visit.stage × (count_by (is_of k) (take j asked) ≡ length visit.bodies))
+abbrev pub AreInTurn : Setting → List Entry → List RunConnection → List Asked → Type 0
+AreInTurn w h connections asked = (j k : ℕ) (a : Asked) (connection : RunConnection) → slice_get asked j ≡ Some a
+    → slice_get connections k ≡ Some connection → k < a.traffic
+    → HadToWait w h asked j k ⊎ (IsOver connection.stage × (count_by (is_of k) (take j asked) ≡ length connection.bodies))
 
 -- A text was told to each request whose posting was finished at one before the last.
-abbrev pub AreToldEarly : Setting → List Entry → List Visit → List Asked → Type 0
-AreToldEarly w h visits asked = (j : ℕ) (a : Asked) (visit : Visit) → slice_get asked j ≡ Some a
-    → slice_get visits a.traffic ≡ Some visit
-    → suc (finished_at w (past_of w h) first_worker (length asked) j) < length asked → a.request < length visit.texts
+abbrev pub AreToldEarly : Setting → List Entry → List RunConnection → List Asked → Type 0
+AreToldEarly w h connections asked = (j : ℕ) (a : Asked) (connection : RunConnection) → slice_get asked j ≡ Some a
+    → slice_get connections a.traffic ≡ Some connection
+    → suc (finished_at w (past_of w h) first_worker (length asked) j) < length asked → a.request < length connection.texts
 
 -- a text was told to each request that was taken from a connection
-abbrev pub is_told : Visit → Bool
-is_told visit = nat_eq (length visit.texts) (length visit.bodies)
+abbrev pub is_told : RunConnection → Bool
+is_told connection = nat_eq (length connection.texts) (length connection.bodies)
 
 -- The requests that were taken from the connections of this traffic were posted to the services of their doors, each
 -- once and those of one connection in their order, by the worker that has the connections; and, whether the front
@@ -63,15 +63,15 @@ is_told visit = nat_eq (length visit.texts) (length visit.bodies)
 -- response to each posting was told that was finished before the last one came; and unless the front halted, to each.
 -- Whether a connection has failed its wire tells, when it comes back.
 pub record IsServed (w : Setting) (h : List Entry) (halted : Bool) (traffic : List Traffic) : Type 0 where
-  pub visits : List Visit
+  pub connections : List RunConnection
   pub all : Requests
-  pub doors : list_all (λ (visit : Visit). has_door w.parts visit.service) visits ≡ true
-  pub passed : AllZip HasPassed visits traffic
-  pub taken : AreTaken visits all.asked
-  pub came : map (came_at visits) all.asked ≡ map Some all.came
+  pub doors : list_all (λ (connection : RunConnection). has_door w.parts connection.service) connections ≡ true
+  pub passed : AllZip HasPassed connections traffic
+  pub taken : AreTaken connections all.asked
+  pub came : map (came_at connections) all.asked ≡ map Some all.came
   pub posted : posts_by first_worker h ≡ posts_of 0 (map posting_of all.came)
   pub one_by_one : AreOneByOne w h all.asked
-  pub in_turn : AreInTurn w h visits all.asked
-  pub responses : AreResponses w h visits all
-  pub told_early : AreToldEarly w h visits all.asked
-  pub told : halted ≡ false → list_all is_told visits ≡ true
+  pub in_turn : AreInTurn w h connections all.asked
+  pub responses : AreResponses w h connections all
+  pub told_early : AreToldEarly w h connections all.asked
+  pub told : halted ≡ false → list_all is_told connections ≡ true

@@ -34,5 +34,5 @@ abbrev pub is_blank : List ℕ → Bool
 is_blank line = list_all (λ b. b == 32 || b == 9 || b == 13) line
 
 -- the lines that are not blank
-abbrev pub said_lines : List (List ℕ) → List (List ℕ)
-said_lines lines = filter (λ line. not (is_blank line)) lines
+abbrev pub sent_lines : List (List ℕ) → List (List ℕ)
+sent_lines lines = filter (λ line. not (is_blank line)) lines

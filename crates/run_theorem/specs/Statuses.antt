@@ -2,8 +2,8 @@
 use Rattle.std.specs.Prelude.{◌≡◌, ℕ, Bool, ◌||◌, if◌then◌else◌, MatchBool}
 use Rattle.outside_traits.specs.Causes.{Rose}
 
--- what may have come in a run: its source, its output, its notes or one of its doors failed, or a session used its whole
--- budget of events and could act all the same
+-- what may have come in a run: its source, its output, its notes or one of its doors failed, or a session used its
+-- whole budget of events and could act all the same
 pub record Causes : Type 0 where
   pub source : Bool
   pub output : Bool

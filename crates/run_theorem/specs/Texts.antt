@@ -42,7 +42,7 @@ call_in service c = elim c.what [
 abbrev pub posting_of : Came → Posting
 posting_of came = record { calls = map (call_in came.service) came.read.calls }
 
--- ---- what is said
+-- ---- what is sent
 
 -- the operation that a call asks for, where its service has it
 abbrev pub operation_of : ProgramParts → ℕ → List ℕ → Option OperationPart
@@ -58,9 +58,9 @@ abbrev pub has_id : Id → Bool
 has_id id.None = false
 has_id i = true
 
--- what is said of a call of a service: of what is no call its refusal, of another its outcome, once it has one
-abbrev pub said_by : ProgramParts → ℕ → ReadCall → Option Outcome → List (List ℕ)
-said_by parts service c o = elim c.what [
+-- what is sent of a call of a service: of what is no call its refusal, of another its outcome, once it has one
+abbrev pub sent_by : ProgramParts → ℕ → ReadCall → Option Outcome → List (List ℕ)
+sent_by parts service c o = elim c.what [
   | Err early ↦ early_answer c.id early ∷ []
   | Ok what ↦ elim o [
     | None ↦ []
@@ -68,15 +68,15 @@ said_by parts service c o = elim c.what [
   ]
 ]
 
--- what is said of a call of a service, where it asks for a response
-abbrev pub said_to : ProgramParts → ℕ → ReadCall → Option Outcome → List (List ℕ)
-said_to parts service c o = if has_id c.id then said_by parts service c o else []
+-- what is sent of a call of a service, where it asks for a response
+abbrev pub sent_to : ProgramParts → ℕ → ReadCall → Option Outcome → List (List ℕ)
+sent_to parts service c o = if has_id c.id then sent_by parts service c o else []
 
 -- the texts of calls of posting j of an actor, the first of which has the number i
 abbrev pub texts_from : Setting → Past → ℕ → ℕ × ℕ → ℕ × List ReadCall → List (List ℕ)
 texts_from w past actor ji (service, []) = []
 texts_from w past actor ji (service, c ∷ cs) =
-    said_to w.parts service c (outcome_of w past actor ji (call_in service c))
+    sent_to w.parts service c (outcome_of w past actor ji (call_in service c))
     ++ texts_from w past actor (ji.0, suc ji.1) (service, cs)
 
 -- the response that texts make: an array of a batch, none where there are none
@@ -84,7 +84,7 @@ abbrev pub response_of : Bool → List (List ℕ) → Option (List ℕ)
 response_of is_batch [] = None
 response_of is_batch (t ∷ ts) = Some (if is_batch then batch (t ∷ ts) else t)
 
--- the response to posting j of an actor, none where nothing is said
+-- the response to posting j of an actor, none where nothing is sent
 abbrev pub response : Setting → Past → ℕ → ℕ → Came → Option (List ℕ)
 response w past actor j came =
     response_of came.read.batch (texts_from w past actor (j, 0) (came.service, came.read.calls))

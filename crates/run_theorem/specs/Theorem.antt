@@ -22,7 +22,7 @@ use Rattle.run_theorem.specs.Picks.{Rules, TookPicks}
 use Rattle.outside_links.specs.Trips.{LinkTold}
 use Rattle.run_theorem.specs.Trips.{AreVoid, Travelled}
 use Rattle.run_theorem.specs.Ports.{doors_of}
-use Rattle.run_theorem.specs.Visits.{Visit}
+use Rattle.run_theorem.specs.RunConnections.{RunConnection}
 use Rattle.run_theorem.specs.Served.{IsServed}
 use Rattle.outside_doors.specs.Returns.{DoorsTold}
 use Rattle.run_theorem.specs.Used.{Used, leads_by, came_at_door, leads_to, wires_to, IsUsed, AreWires}
@@ -83,8 +83,8 @@ pub record AreNoted (w : Setting) (h : List Entry) (failed : Bool) (before now :
 pub record RanProgram (t : Task) (a : Around) (ended : Ended) : Type 0 where
   -- its status has its causes
   pub status : HasStatus a (IsSpent (run_of t.parts) t.budget ended.report) ended.status
-  -- its record is that of a run of one worker: a legal history, the sessions that agree with it, and one answer for each
-  -- message
+  -- its record is that of a run of one worker: a legal history, the sessions that agree with it, and one answer for
+  -- each message
   pub run : IsRun (run_of t.parts) t.budget alone status.causes.notes ended.report
   -- it is of the text
   pub program : ended.report.program ≡ t.text
@@ -125,17 +125,17 @@ pub record IsLined (t : Task) (a : Around) (ended : Ended) : Type 0 where
 
 -- ---- over connections
 
--- Doors were opened where the program has them, and all that was opened and accepted came back. Each connection leads to
--- the service of the door at which its wire tells that it came, to each service as many as its doors gave; and its wire,
--- which was made so, tells its bytes.
-pub record HasDoors (IsMade : WireTold → Type 0) (parts : ProgramParts) (a : Around) (visits : List Visit)
+-- Doors were opened where the program has them, and all that was opened and accepted came back. Each connection leads
+-- to the service of the door at which its wire tells that it came, to each service as many as its doors gave; and its
+-- wire, which was made so, tells its bytes.
+pub record HasDoors (IsMade : WireTold → Type 0) (parts : ProgramParts) (a : Around) (connections : List RunConnection)
     (traffic : List Traffic) : Type 0 where
   pub used : Used
   pub uses : IsUsed (doors_of parts) a.before.doors a.now.doors used
-  pub came : list_all (came_at_door (leads_by (items_where_true used.opened (doors_of parts)) used.doors)) visits ≡ true
+  pub came : list_all (came_at_door (leads_by (items_where_true used.opened (doors_of parts)) used.doors)) connections ≡ true
   pub led : (n : ℕ)
-      → wires_to n (items_where_true used.opened (doors_of parts)) used.doors ≡ count_by (leads_to n) visits
-  pub wires : AreWires IsMade visits traffic used.wires
+      → wires_to n (items_where_true used.opened (doors_of parts)) used.doors ≡ count_by (leads_to n) connections
+  pub wires : AreWires IsMade connections traffic used.wires
 
 -- What a run over connections adds, of which it accepts so many at most.
 pub record IsDoored (IsMade : WireTold → Type 0) (most : ℕ) (t : Task) (a : Around) (ended : Ended) : Type 0 where
@@ -147,9 +147,9 @@ pub record IsDoored (IsMade : WireTold → Type 0) (most : ℕ) (t : Task) (a : 
   -- its traffic is that of the connections that were accepted: their requests came in and were answered
   pub served : IsServed (run_of t.parts) (history_of ended) ran.status.causes.notes ended.report.traffic
   pub same : served.all.came ≡ ran.came
-  pub accepted : length served.visits ≤ most
+  pub accepted : length served.connections ≤ most
   -- they came at the doors of the program
-  pub doors : HasDoors IsMade t.parts a served.visits ended.report.traffic
+  pub doors : HasDoors IsMade t.parts a served.connections ended.report.traffic
   -- unless a note failed or there were the most postings it went on until no more could come, or none came for too long
   pub through : ran.status.causes.notes ≡ false → length ran.came < most_postings
-      → IsThrough (HadNoAnswer (run_of t.parts) (history_of ended) served.all.asked) most served.visits doors.used.doors
+      → IsThrough (HadNoAnswer (run_of t.parts) (history_of ended) served.all.asked) most served.connections doors.used.doors

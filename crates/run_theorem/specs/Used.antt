@@ -8,7 +8,7 @@ use Rattle.outside_traits.specs.Told.{Lists, WireTold}
 use Rattle.outside_doors.specs.Returns.{TryTold, try_told, DoorsTold}
 use Rattle.run_record.specs.declared.record.Traffic.{Traffic}
 use Rattle.run_theorem.specs.Ports.{DoorAt, Lead, is_led}
-use Rattle.run_theorem.specs.Visits.{Visit}
+use Rattle.run_theorem.specs.RunConnections.{RunConnection}
 use Rattle.http_connection.specs.declared.stage.Stage.TheVariants as Stages
 
 -- What a run did with doors: for each location whether a door was opened there, what each of these doors told when it
@@ -25,19 +25,19 @@ abbrev pub tries_at : List DoorAt → List Bool → List TryTold
 tries_at (p ∷ ps) (b ∷ bs) = try_told p.location b ∷ tries_at ps bs
 tries_at ps bs = []
 
--- the doors that were opened there and told this when they came back: by how many doors had been opened before each, and
--- the service to which it leads
+-- the doors that were opened there and told this when they came back: by how many doors had been opened before each,
+-- and the service to which it leads
 abbrev pub leads_by : List DoorAt → List DoorTold → List Lead
 leads_by (p ∷ ps) (d ∷ ds) = record { place = d.place; service = p.service } ∷ leads_by ps ds
 leads_by ps ds = []
 
 -- a connection came at one of these doors, by what its wire told, and leads to the service to which that door leads
-abbrev pub came_at_door : List Lead → Visit → Bool
-came_at_door leads visit = list_any (is_led visit.door visit.service) leads
+abbrev pub came_at_door : List Lead → RunConnection → Bool
+came_at_door leads connection = list_any (is_led connection.door connection.service) leads
 
 -- a connection leads to service n
-abbrev pub leads_to : ℕ → Visit → Bool
-leads_to n visit = nat_eq n visit.service
+abbrev pub leads_to : ℕ → RunConnection → Bool
+leads_to n connection = nat_eq n connection.service
 
 -- how many wires the doors gave that were opened there and lead to service n, by what they told
 abbrev pub wires_to : ℕ → List DoorAt → List DoorTold → ℕ
@@ -76,7 +76,7 @@ failures_in used = count_by not used.opened + count_by has_failed used.doors
 -- is as it was.
 pub record RoseBy (failures before now : ℕ) : Type 0 where
   pub counted : added before failures ≤ now
-  pub calm : failures ≡ 0 → now ≡ before
+  pub unfailed : failures ≡ 0 → now ≡ before
 
 -- One try was made to open each of the wanted doors, in order. All that were opened came back in that order, and
 -- as many wires as they gave; and the doors count and tell just this, with a fault for each that was not opened or came
@@ -104,22 +104,22 @@ pub record IsNewLine (line : WireTold) : Type 0 where
   pub is_open : line.closed ≡ false
 
 -- A wire that came back from a connection which has these bytes: it was made so, and nothing was read or written on it
--- then; it tells the door of its connection; what it told since is these bytes; a read of it has failed exactly where its
--- connection stands as failed in a read, and a write exactly where that stands as failed in a write; and its connection
--- stands as ended only where a read told the end of what comes in.
-pub record IsWireOf (IsMade : WireTold → Type 0) (visit : Visit) (traffic : Traffic) (wire : WireTold) : Type 0 where
+-- then; it tells the door of its connection; what it told since is these bytes; a read of it has failed exactly where
+-- its connection stands as failed in a read, and a write exactly where that stands as failed in a write; and its
+-- connection stands as ended only where a read told the end of what comes in.
+pub record IsWireOf (IsMade : WireTold → Type 0) (connection : RunConnection) (traffic : Traffic) (wire : WireTold) : Type 0 where
   pub first : WireTold
   pub came : IsMade first
   pub fresh : IsNewLine first
-  pub door : wire.door ≡ visit.door
+  pub door : wire.door ≡ connection.door
   pub read : Appends first.read wire.read traffic.read
   pub written : Appends first.written wire.written traffic.written
-  pub lost : (visit.stage ≡ Stages.ReadFailed) ↔ (wire.read_failed ≡ true)
-  pub cut : (visit.stage ≡ Stages.WriteFailed) ↔ (wire.write_failed ≡ true)
-  pub ended : (visit.stage ≡ Stages.Ended) → (wire.ended ≡ true)
+  pub lost : (connection.stage ≡ Stages.ReadFailed) ↔ (wire.read_failed ≡ true)
+  pub cut : (connection.stage ≡ Stages.WriteFailed) ↔ (wire.write_failed ≡ true)
+  pub ended : (connection.stage ≡ Stages.Ended) → (wire.ended ≡ true)
 
 -- the wires are those of the connections, in order
-abbrev pub AreWires : (WireTold → Type 0) → List Visit → List Traffic → List WireTold → Type 0
+abbrev pub AreWires : (WireTold → Type 0) → List RunConnection → List Traffic → List WireTold → Type 0
 AreWires IsMade [] [] [] = Unit {0}
 AreWires IsMade (v ∷ vs) (t ∷ ts) (w ∷ ws) = IsWireOf IsMade v t w × AreWires IsMade vs ts ws
 AreWires IsMade vs ts ws = ⊥

@@ -1,4 +1,4 @@
--- The oldest call of a kind that waits is fetched, and its outcome is brought: what waits then.
+-- The oldest call of a kind that waits is fetched, and its outcome is received: what waits then.
 use Rattle.std.proofs.Common.{◌≡◌, ℕ, ◌+◌, Bool, true, false, not, ◌&&◌, ◌||◌, List, [], ◌∷◌, ◌++◌}
 use Rattle.std.proofs.Common.{drop, refl, sym, ap, subst, ◌∙◌, Option, None, Some, option_map, true≢false, zero-add}
 use Rattle.std.proofs.Common.{slice_get, filter, filter_map, is_some, nat_eq, option_and_then, if◌then◌else◌}
@@ -34,7 +34,7 @@ use Rattle.office_plain.proofs.Stays.{calls_stay}
 use Rattle.office_plain.proofs.Bringing.{nothing_given}
 use Rattle.office_plain.proofs.Fetching.{First, waits_out, waiting_first, no_first, queue_left, queue_stays}
 use Rattle.run_record.specs.Outside.{console_calls}
-use Rattle.run_trip_laws.specs.Going.{goes_to, AllBrought, BroughtVoid}
+use Rattle.run_trip_laws.specs.Going.{goes_to, AllReceived, ReceivedVoid}
 use Rattle.run_trip_laws.proofs.Places.{filter_same, at_front, by_places}
 
 -- ---- the oldest call
@@ -192,9 +192,9 @@ fetched_others w past actor k l c numbered leads differs =
     e = fetching actor f.found
 
 -- while its outcome is not there, it is fetched
-pub is_fetched_now : (w : Setting) (past : Past) (actor : ℕ) (k : OutKind) (c : Call) → AllBrought past
+pub is_fetched_now : (w : Setting) (past : Past) (actor : ℕ) (k : OutKind) (c : Call) → AllReceived past
     → IsOldest w past k c → is_fetched (then_one w past (fetching actor c)) actor c.session c.number ≡ true
-is_fetched_now w past actor k c brought old =
+is_fetched_now w past actor k c received old =
     ap
     (λ o. elim o [
       | None ↦ false
@@ -214,9 +214,9 @@ is_fetched_now w past actor k c brought old =
 
     outstanding : some_entry next (brings c) ≡ false
     outstanding =
-        some_same w past (fetching actor c) (brings c) refl ∙ sym (brought c) ∙ old.unfetched
+        some_same w past (fetching actor c) (brings c) refl ∙ sym (received c) ∙ old.unfetched
 
--- ---- and its outcome is brought
+-- ---- and its outcome is received
 
 -- what happened once both entries stand
 abbrev pub out_and_back : Setting → Past → ℕ → Call → Outcome → Past
@@ -228,10 +228,10 @@ calls_back w past actor c o =
     calls_stay w (then_one w past (fetching actor c)) (bringing actor c o) refl
     ∙ calls_stay w past (fetching actor c) refl
 
--- the outcome that is brought lets the calls wait as they wait
-brought_stays : (w : Setting) (past : Past) (actor : ℕ) (c : Call) (o : Outcome) (k : OutKind)
+-- the outcome that is received lets the calls wait as they wait
+received_stays : (w : Setting) (past : Past) (actor : ℕ) (c : Call) (o : Outcome) (k : OutKind)
     → outgoing w (then_one w past (bringing actor c o)) k ≡ outgoing w past k
-brought_stays w past actor c o k =
+received_stays w past actor c o k =
     ap (filter (waits_out w (then_one w past e) k)) (calls_stay w past e refl)
     ∙ filter_same (waits_out w past k) (waits_out w (then_one w past e) k) (calls past)
     (λ i d there. λ j. (goes_out d && not (some_same w past e (fetches d) refl j)) && same_kind k (kind_of w past d))
@@ -245,7 +245,7 @@ pub back_left : (w : Setting) (past : Past) (actor : ℕ) (k : OutKind) (c : Cal
     → first (outgoing w past k) ≡ Some c → outgoing w past k ≡ c ∷ outgoing w (out_and_back w past actor c o) k
 back_left w past actor k c o numbered leads =
     fetched_left w past actor k c numbered leads
-    ∙ ap (λ cs. c ∷ cs) (sym (brought_stays w (then_one w past (fetching actor c)) actor c o k))
+    ∙ ap (λ cs. c ∷ cs) (sym (received_stays w (then_one w past (fetching actor c)) actor c o k))
 
 -- and those of another kind as before
 pub back_others : (w : Setting) (past : Past) (actor : ℕ) (k l : OutKind) (c : Call) (o : Outcome)
@@ -253,7 +253,7 @@ pub back_others : (w : Setting) (past : Past) (actor : ℕ) (k l : OutKind) (c :
     → first (outgoing w past k) ≡ Some c → same_kind l k ≡ false
     → outgoing w (out_and_back w past actor c o) l ≡ outgoing w past l
 back_others w past actor k l c o numbered leads differs =
-    brought_stays w (then_one w past (fetching actor c)) actor c o l
+    received_stays w (then_one w past (fetching actor c)) actor c o l
     ∙ fetched_others w past actor k l c numbered leads differs
 
 -- the calls to the console are those that were
@@ -262,9 +262,9 @@ pub back_consoles : (w : Setting) (past : Past) (actor : ℕ) (c : Call) (o : Ou
 back_consoles w past actor c o = ap (filter (goes_to w past kind.Console)) (calls_back w past actor c o)
 
 -- each call that was fetched has its outcome again
-pub back_brought : (w : Setting) (past : Past) (actor : ℕ) (c : Call) (o : Outcome) → AllBrought past
-    → AllBrought (out_and_back w past actor c o)
-back_brought w past actor c o brought d = fetched ∙ by (is_call c.session c.number d) ∙ sym bringed
+pub back_received : (w : Setting) (past : Past) (actor : ℕ) (c : Call) (o : Outcome) → AllReceived past
+    → AllReceived (out_and_back w past actor c o)
+back_received w past actor c o received d = fetched ∙ by (is_call c.session c.number d) ∙ sym bringed
   where
     one : Past
     one = then_one w past (fetching actor c)
@@ -282,22 +282,22 @@ back_brought w past actor c o brought d = fetched ∙ by (is_call c.session c.nu
 
     by : (b : Bool)
         → (some_entry past (fetches d) || b) ≡ (some_entry past (brings d) || is_some (if b then Some o else None))
-    by true = ap (λ x. x || true) (brought d)
-    by false = ap (λ x. x || false) (brought d)
+    by true = ap (λ x. x || true) (received d)
+    by false = ap (λ x. x || false) (received d)
 
--- what was brought for the call
-pub outcome_back : (w : Setting) (past : Past) (actor : ℕ) (k : OutKind) (c : Call) (o : Outcome) → AllBrought past
+-- what was received for the call
+pub outcome_back : (w : Setting) (past : Past) (actor : ℕ) (k : OutKind) (c : Call) (o : Outcome) → AllReceived past
     → IsOldest w past k c → filter_map (brought_in c) (out_and_back w past actor c o).entries ≡ o ∷ []
-outcome_back w past actor k c o brought old =
+outcome_back w past actor k c o received old =
     given_more w (then_one w past (fetching actor c)) (bringing actor c o) (brought_in c) o mine
     ∙ ap (λ os. os ++ o ∷ [])
     (given_same w past (fetching actor c) (brought_in c) refl
-    ∙ nothing_given past.entries (brought_in c) (sym (brought c) ∙ old.unfetched))
+    ∙ nothing_given past.entries (brought_in c) (sym (received c) ∙ old.unfetched))
   where
     mine : brought_in c (bringing actor c o) ≡ Some o
     mine = λ i. if itself c.session i && itself c.number i then Some o else None
 
--- what was brought for another call
+-- what was received for another call
 outcome_else : (w : Setting) (past : Past) (actor : ℕ) (c d : Call) (o : Outcome) → is_call c.session c.number d ≡ false
     → filter_map (brought_in d) (out_and_back w past actor c o).entries ≡ filter_map (brought_in d) past.entries
 outcome_else w past actor c d o other =
@@ -305,12 +305,12 @@ outcome_else w past actor c d o other =
     (ap (λ b. if b then Some o else None) other)
     ∙ given_same w past (fetching actor c) (brought_in d) refl
 
--- what was brought for calls to the console is void, where that which is brought now is
+-- what was received for calls to the console is void, where that which is received now is
 pub back_void : (w : Setting) (past : Past) (actor : ℕ) (k : OutKind) (c : Call) (o : Outcome)
     → ((s : ℕ) → Numbered past s)
-    → AllBrought past → IsOldest w past k c → (same_kind kind.Console k ≡ true → o ≡ outcome.Value void_tree)
-    → BroughtVoid w past → BroughtVoid w (out_and_back w past actor c o)
-back_void w past actor k c o numbered brought old is_void void i d x there goes has =
+    → AllReceived past → IsOldest w past k c → (same_kind kind.Console k ≡ true → o ≡ outcome.Value void_tree)
+    → ReceivedVoid w past → ReceivedVoid w (out_and_back w past actor c o)
+back_void w past actor k c o numbered received old is_void void i d x there goes has =
     by (is_call c.session c.number d) refl
   where
     at_i : slice_get (calls past) i ≡ Some d
@@ -336,7 +336,7 @@ back_void w past actor k c o numbered brought old is_void void i d x there goes 
         let q : d ≡ c = same is_it in
         sym (same_of o x
         (sym (ap first (ap (λ z. filter_map (brought_in z) (out_and_back w past actor c o).entries) q
-        ∙ outcome_back w past actor k c o brought old))
+        ∙ outcome_back w past actor k c o received old))
         ∙ has))
         ∙ is_void (to_console q)
     by false other = void i d x at_i goes (sym (ap first (outcome_else w past actor c d o other)) ∙ has)

@@ -94,7 +94,7 @@ pub calls_stay : (w : Setting) (h : List Entry) (e : Entry) → sent_in e ≡ No
     → calls (past_of w (h ++ e ∷ [])) ≡ calls (past_of w h)
 calls_stay w h e none = ap calls (past_on w h e) ∙ given_same w (past_of w h) e sent_in none
 
--- A call that is new: its session was born, and nobody fetched it or brought its outcome.
+-- A call that is new: its session was born, and nobody fetched it or received its outcome.
 pub record IsNewCall (w : Setting) (past : Past) (c : Call) : Type 0 where
   pub service : ℕ
   pub born : service_of w past c.session ≡ Some service

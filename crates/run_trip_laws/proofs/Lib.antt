@@ -2,4 +2,4 @@ pub mod Places
 pub mod Growing
 pub mod Fetched
 pub mod Settling
-pub mod Touring
+pub mod Completing

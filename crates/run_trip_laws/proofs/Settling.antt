@@ -38,12 +38,12 @@ use Rattle.run_record.specs.Outside.{note_of, notes, console_calls}
 use Rattle.run_record.specs.Quiet.{outstanding}
 use Rattle.jsonrpc_calls.specs.Console.{console_line}
 use Rattle.run_trip_laws.specs.Going.{is_inward, is_silent, is_of_session, fetch_of, went_out, goes_to}
-use Rattle.run_trip_laws.specs.Going.{AllBrought, BroughtVoid, AreSettled, NotedSoFar}
+use Rattle.run_trip_laws.specs.Going.{AllReceived, ReceivedVoid, AreSettled, NotedSoFar}
 use Rattle.run_trip_laws.proofs.Places.{none_kept, each_off, no_front}
 use Rattle.run_trip_laws.proofs.Growing.{legal_parts, some_stays, caller, calls_on, sent_by, sends_new, fetches_not}
 use Rattle.run_trip_laws.proofs.Growing.{brings_not, new_to, outgoing_on, goes_same, consoles_on}
 use Rattle.run_trip_laws.proofs.Fetched.{IsNext, next_is, IsOldest, oldest_is, fetching, bringing, is_fetched_now}
-use Rattle.run_trip_laws.proofs.Fetched.{out_and_back, back_left, back_others, back_consoles, back_brought, back_void}
+use Rattle.run_trip_laws.proofs.Fetched.{out_and_back, back_left, back_others, back_consoles, back_received, back_void}
 
 -- ---- many entries
 
@@ -116,10 +116,10 @@ brings_on w h e c off =
     ap (λ (p : Past). filter_map (brought_in c) p.entries) (past_on w h e)
     ∙ given_same w (past_of w h) e (brought_in c) (brings_not c e off)
 
-brought_on : (w : Setting) (h : List Entry) (e : Entry) → is_inward e ≡ true → AllBrought (past_of w h)
-    → AllBrought (past_of w (h ++ e ∷ []))
-brought_on w h e off brought c =
-    some_stays w h e (fetches c) (fetches_not c e off) ∙ brought c
+received_on : (w : Setting) (h : List Entry) (e : Entry) → is_inward e ≡ true → AllReceived (past_of w h)
+    → AllReceived (past_of w (h ++ e ∷ []))
+received_on w h e off received c =
+    some_stays w h e (fetches c) (fetches_not c e off) ∙ received c
     ∙ sym (some_stays w h e (brings c) (ap is_some (brings_not c e off)))
 
 -- an element of a list with some more stands in the one or in the other
@@ -135,7 +135,7 @@ the_one (Some d) zero c there = there
 the_one (Some d) (suc i) c there = absurd (none_not_some c there)
 
 void_on : (w : Setting) (h : List Entry) (e : Entry) → is_inward e ≡ true → IsLegal w (h ++ e ∷ [])
-    → BroughtVoid w (past_of w h) → BroughtVoid w (past_of w (h ++ e ∷ []))
+    → ReceivedVoid w (past_of w h) → ReceivedVoid w (past_of w (h ++ e ∷ []))
 void_on w h e off legal void i c o there goes has =
     in_either (calls (past_of w h)) (sent_by e) i c (o ≡ outcome.Value void_tree)
     (ap (λ cs. slice_get cs i) (sym (calls_on w h e)) ∙ there)
@@ -150,7 +150,7 @@ void_on w h e off legal void i c o there goes has =
 pub settled_on : (w : Setting) (h : List Entry) (e : Entry) → is_inward e ≡ true → IsLegal w (h ++ e ∷ [])
     → AreSettled w h → AreSettled w (h ++ e ∷ [])
 settled_on w h e off legal s =
-    record { brought = brought_on w h e off s.brought; void = void_on w h e off legal s.void }
+    record { received = received_on w h e off s.received; void = void_on w h e off legal s.void }
 
 -- and what was noted
 pub noted_on : (w : Setting) (noted : List ℕ) (h : List Entry) (e : Entry) → is_inward e ≡ true
@@ -172,7 +172,7 @@ noted_on w noted h e off legal so =
 -- ---- at the start
 
 pub settled_first : (w : Setting) → AreSettled w []
-settled_first w = record { brought = λ c. refl; void = λ i c o there goes has. absurd (none_not_some c there) }
+settled_first w = record { received = λ c. refl; void = λ i c o there goes has. absurd (none_not_some c there) }
 
 pub noted_first : (w : Setting) → NotedSoFar w [] []
 noted_first w = refl
@@ -219,7 +219,7 @@ fetched_is w h actor k out legal s next =
     (λ x. is_fetched (past_of w (h ++ fetch_of actor x ∷ [])) actor x.session x.call ≡ true)
     legal next
     (λ c d old born. ap (λ p. is_fetched p actor c.session c.number) (past_on w h (fetching actor c))
-    ∙ is_fetched_now w (past_of w h) actor k c s.brought old)
+    ∙ is_fetched_now w (past_of w h) actor k c s.received old)
 
 -- then all is settled again
 pub settled_back : (w : Setting) (h : List Entry) (actor : ℕ) (k : OutKind) (out : Outgoing) (o : Outcome) → IsLegal w h
@@ -228,9 +228,9 @@ pub settled_back : (w : Setting) (h : List Entry) (actor : ℕ) (k : OutKind) (o
 settled_back w h actor k out o legal next void s =
     of_next w h k out (λ x. AreSettled w (went_out h actor x o)) legal next
     (λ c d old born. record {
-      brought = subst AllBrought (sym (past_went w h actor c d o)) (back_brought w (past_of w h) actor c o s.brought);
-      void = subst (BroughtVoid w) (sym (past_went w h actor c d o))
-          (back_void w (past_of w h) actor k c o (λ t. calls_rise w h t legal) s.brought old void s.void);
+      received = subst AllReceived (sym (past_went w h actor c d o)) (back_received w (past_of w h) actor c o s.received);
+      void = subst (ReceivedVoid w) (sym (past_went w h actor c d o))
+          (back_void w (past_of w h) actor k c o (λ t. calls_rise w h t legal) s.received old void s.void);
     })
 
 -- one call less of the kind waits
@@ -322,16 +322,16 @@ pub all_noted : (w : Setting) (h : List Entry) (noted : List ℕ) → outgoing w
 all_noted w h noted none so =
     sym (so ∙ ap (λ cs. noted ++ flat_map note_of cs) none ∙ append-nil noted)
 
-waits_as : (past : Past) (c : Call) → AllBrought past
+waits_as : (past : Past) (c : Call) → AllReceived past
     → (goes_out c && not (some_entry past (brings c))) ≡ is_waiting past c
-waits_as past c brought = ap (λ b. goes_out c && not b) (sym (brought c))
+waits_as past c received = ap (λ b. goes_out c && not b) (sym (received c))
 
 -- where no call waits, each has its outcome
 pub none_outstanding : (w : Setting) (h : List Entry) → AreSettled w h → outgoing w (past_of w h) kind.Console ≡ []
     → outgoing w (past_of w h) kind.Remote ≡ [] → outstanding (past_of w h) ≡ []
 none_outstanding w h s no_console no_remote =
     none_kept (λ c. goes_out c && not (some_entry past (brings c))) (calls past)
-    (λ i c there. waits_as past c s.brought
+    (λ i c there. waits_as past c s.received
     ∙ neither (is_waiting past c) (kind_of w past c)
     (each_off (waits_out w past kind.Console) (calls past) i c no_console there)
     (each_off (waits_out w past kind.Remote) (calls past) i c no_remote there))
@@ -355,7 +355,7 @@ pub quiet_none : (w : Setting) (h : List Entry) (k : OutKind) → AreSettled w h
 quiet_none w h k s none =
     none_kept (waits_out w past k) (calls past)
     (λ i c there. ap (λ b. b && same_kind k (kind_of w past c))
-    (sym (waits_as past c s.brought)
+    (sym (waits_as past c s.received)
     ∙ each_off (λ d. goes_out d && not (some_entry past (brings d))) (calls past) i c none there))
   where
     past : Past
@@ -388,9 +388,9 @@ none_over w k h more silent legal none =
     (λ g e s l n. waits_on w g e k s l ∙ n) h more silent legal none
 
 -- and each call has its outcome where each had it
-pub brought_over : (w : Setting) (h more : List Entry) → list_all is_silent more ≡ true → IsLegal w (h ++ more)
+pub received_over : (w : Setting) (h more : List Entry) → list_all is_silent more ≡ true → IsLegal w (h ++ more)
     → AreSettled w h → outstanding (past_of w h) ≡ [] → outstanding (past_of w (h ++ more)) ≡ []
-brought_over w h more silent legal settled none =
+received_over w h more silent legal settled none =
     none_outstanding w (h ++ more)
     (over_all w is_silent (AreSettled w)
     (λ g e s l x. settled_on w g e (silent_by e.actor e.act s).0 l x) h more silent legal settled)

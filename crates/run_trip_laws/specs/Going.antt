@@ -35,7 +35,7 @@ use Rattle.run_theorem.specs.Trips.{outgoing as out_of, HasCounted}
 abbrev pub is_inward : Entry → Bool
 is_inward e = elim e.act [ act.Fetch s k ↦ false | act.Answered s k o ↦ false | _ ↦ true ]
 
--- an entry that has nothing to do with calls: none is sent or fetched, and no outcome is brought
+-- an entry that has nothing to do with calls: none is sent or fetched, and no outcome is received
 abbrev pub is_silent : Entry → Bool
 is_silent e = elim e.act [
   | act.Send k port op v wants r ↦ false
@@ -67,19 +67,19 @@ abbrev pub goes_to : Setting → Past → OutKind → Call → Bool
 goes_to w past k c = goes_out c && same_kind k (kind_of w past c)
 
 -- the outcome of a call is there exactly where it was fetched
-abbrev pub AllBrought : Past → Type 0
-AllBrought past = (c : Call) → some_entry past (fetches c) ≡ some_entry past (brings c)
+abbrev pub AllReceived : Past → Type 0
+AllReceived past = (c : Call) → some_entry past (fetches c) ≡ some_entry past (brings c)
 
--- what was brought for calls to the console is void
-abbrev pub BroughtVoid : Setting → Past → Type 0
-BroughtVoid w past =
+-- what was received for calls to the console is void
+abbrev pub ReceivedVoid : Setting → Past → Type 0
+ReceivedVoid w past =
     (i : ℕ) (c : Call) (o : Outcome) → slice_get (calls past) i ≡ Some c → goes_to w past kind.Console c ≡ true
     → first (filter_map (brought_in c) past.entries) ≡ Some o → o ≡ outcome.Value void_tree
 
 -- Of the calls that went out, those that were fetched have their outcomes, and that of a call to the console is void.
 pub record AreSettled (w : Setting) (h : List Entry) : Type 0 where
-  pub brought : AllBrought (past_of w h)
-  pub void : BroughtVoid w (past_of w h)
+  pub received : AllReceived (past_of w h)
+  pub void : ReceivedVoid w (past_of w h)
 
 -- ---- notes
 
@@ -91,8 +91,8 @@ NotedSoFar w h noted =
 
 -- ---- trips
 
--- A trip of a call that went out was made, and its outcome was brought.
-pub record IsTour (w : Setting) (past : Past) (t : Trip) (m : Made) : Type 0 where
+-- A trip of a call that went out was made, and its outcome was received.
+pub record IsCompletedCall (w : Setting) (past : Past) (t : Trip) (m : Made) : Type 0 where
   pub service : ℕ
   pub born : service_of w past t.made.session ≡ Some service
   pub location : m.location ≡ t.location
@@ -102,15 +102,15 @@ pub record IsTour (w : Setting) (past : Past) (t : Trip) (m : Made) : Type 0 whe
   pub outcome : first (filter_map (brought_in t.made) past.entries) ≡ Some (heard (out_of service t.made) m.came)
 
 -- trips and what was made of them, one for one
-abbrev pub AreTours : Setting → Past → List Trip → List Made → Type 0
-AreTours w past [] [] = Unit {0}
-AreTours w past (t ∷ ts) (m ∷ ms) = IsTour w past t m × AreTours w past ts ms
-AreTours w past ts ms = ⊥
+abbrev pub AreCompletedCalls : Setting → Past → List Trip → List Made → Type 0
+AreCompletedCalls w past [] [] = Unit {0}
+AreCompletedCalls w past (t ∷ ts) (m ∷ ms) = IsCompletedCall w past t m × AreCompletedCalls w past ts ms
+AreCompletedCalls w past ts ms = ⊥
 
 -- The link made the trips of the calls that were fetched, each once, and counted those that failed.
-pub record Toured (w : Setting) (h : List Entry) (before now : LinkTold) : Type 0 where
+pub record Completed (w : Setting) (h : List Entry) (before now : LinkTold) : Type 0 where
   pub made : List Made
-  pub are : AreTours w (past_of w h) (trips w h first_worker) made
+  pub are : AreCompletedCalls w (past_of w h) (trips w h first_worker) made
   pub told : Lists before.trips now.trips made
   pub counts : HasCounted before.faults now.faults made
 

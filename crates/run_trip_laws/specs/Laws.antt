@@ -17,7 +17,7 @@ use Rattle.outside_traits.specs.Told.{Lists}
 use Rattle.outside_links.specs.Trips.{Made}
 use Rattle.jsonrpc_calls.specs.Console.{console_line}
 use Rattle.run_theorem.specs.Trips.{HasCounted, Travelled, AreVoid}
-use Rattle.run_trip_laws.specs.Going.{went_out, AreSettled, NotedSoFar, IsHeard, Toured}
+use Rattle.run_trip_laws.specs.Going.{went_out, AreSettled, NotedSoFar, IsHeard, Completed}
 
 -- Once a call that was next has its outcome, the calls that were fetched have theirs again.
 abbrev pub SettlesAgain : Type 0
@@ -41,12 +41,12 @@ MakesTrip =
     → IsLegal w (went_out h first_worker out o) → AreSettled w h
     → next_outgoing w (past_of w h) kind.Remote ≡ Some out → IsHeard w.parts out m o
     → Lists now.trips later.trips (m ∷ []) → HasCounted now.faults later.faults (m ∷ [])
-    → Toured w h before now → Toured w (went_out h first_worker out o) before later
+    → Completed w h before now → Completed w (went_out h first_worker out o) before later
 
 -- So the trips that were made are those that the calls ask for.
 abbrev pub TravelsSo : Type 0
 TravelsSo =
-    (w : Setting) (h : List Entry) (before now : LinkTold) → Toured w h before now → Travelled w h before now
+    (w : Setting) (h : List Entry) (before now : LinkTold) → Completed w h before now → Travelled w h before now
 
 -- And the calls to the console came to void.
 abbrev pub ComesToVoid : Type 0

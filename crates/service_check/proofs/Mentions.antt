@@ -9,7 +9,7 @@ use Rattle.jolie_ast.specs.declared.expression.Path.{Path}
 use Rattle.jolie_ast.specs.declared.process.Assignment.{Assignment}
 use Rattle.jolie_ast.specs.declared.process.ForStep.{ForStep}
 use Rattle.jolie_ast.specs.declared.process.Otherwise.TheOpen.{Otherwise-F, Process-F}
-use Rattle.jolie_ast.specs.declared.process.Otherwise.TheFolds.{map-Process, fold-roll-Answer, fold-roll-Block, fold-roll-Branch, fold-roll-Handler, fold-roll-If, fold-roll-Input, fold-roll-Otherwise, fold-roll-Process, fold-roll-Reply}
+use Rattle.jolie_ast.specs.declared.process.Otherwise.TheFolds.{map-Process}
 use Rattle.jolie_ast.specs.declared.process.Otherwise.{Otherwise}
 use Rattle.jolie_ast.specs.declared.process.Otherwise.TheVariants as otherwise
 use Rattle.jolie_ast.specs.declared.process.Process.TheVariants as process
@@ -28,9 +28,10 @@ use Rattle.jolie_ast.specs.declared.tree.Definition.{Definition}
 use Rattle.check_base.specs.Files.{answering, silent, group_operations}
 use Rattle.check_base.proofs.Firsts.{with_none}
 use Rattle.check_base.specs.Repeated.{Texts, with_text, with_texts}
-use Rattle.service_check.specs.Mentioned.{all, key_texts, otherwise_level, process_level, answer_level, block_level, branch_level, handler_level, if_level, input_level, reply_level, process_texts, conditional_texts, otherwise_texts, input_texts, reply_texts, branch_texts, answer_texts, handler_texts, block_texts, thrown_by, definition_texts, standard, names_of}
+use Rattle.service_check.specs.Mentioned.{all, key_texts, process_level, process_texts, conditional_texts, otherwise_texts, input_texts, reply_texts, branch_texts, answer_texts, handler_texts, block_texts, thrown_by, definition_texts, standard, names_of, mentioned}
 use Rattle.service_check.specs.MentionedParts.{maybe, fault_text}
 use Rattle.check_base.proofs.Loops.{each_of_each}
+use Rattle.jolie_ast.proofs.Folds.{process_rolls, block_rolls, conditional_rolls, otherwise_rolls, input_rolls, reply_rolls, branch_rolls, answer_rolls, handler_rolls}
 
 -- ---- lists
 
@@ -74,7 +75,7 @@ all_mapped f (x ∷ xs) = ap (λ ts. f x ++ ts) (all_mapped f xs)
 process_made : (x : Process-F Otherwise Process Answer Block Branch Handler If Input Reply) {p : Process} → roll-Process x ≡ p
     → process_texts p ≡ process_level (map-Process Otherwise Process Answer Block Branch Handler If Input Reply Texts Texts Texts Texts Texts Texts Texts Texts Texts otherwise_texts process_texts answer_texts block_texts branch_texts handler_texts conditional_texts input_texts reply_texts x)
 unfolding process_texts conditional_texts otherwise_texts input_texts reply_texts branch_texts answer_texts handler_texts block_texts
-process_made x made = ap process_texts (sym made) ∙ fold-roll-Process Texts Texts Texts Texts Texts Texts Texts Texts Texts otherwise_level process_level answer_level block_level branch_level handler_level if_level input_level reply_level x
+process_made x made = ap process_texts (sym made) ∙ process_rolls mentioned x
 
 pub nothing_mentions : (at : ℕ) → process_texts (process.Nothing at) ≡ []
 nothing_mentions at = process_made (Process-F.«Process::Nothing» at) (process.rolls-Nothing at)
@@ -136,36 +137,36 @@ pub ruleset of_processes = (nothing_mentions, assign_mentions, undef_mentions, c
 
 pub no_else_texts : otherwise_texts otherwise.Nothing ≡ []
 unfolding process_texts conditional_texts otherwise_texts input_texts reply_texts branch_texts answer_texts handler_texts block_texts
-no_else_texts = ap otherwise_texts (sym otherwise.rolls-Nothing) ∙ fold-roll-Otherwise Texts Texts Texts Texts Texts Texts Texts Texts Texts otherwise_level process_level answer_level block_level branch_level handler_level if_level input_level reply_level Otherwise-F.«Otherwise::Nothing»
+no_else_texts = ap otherwise_texts (sym otherwise.rolls-Nothing) ∙ otherwise_rolls mentioned Otherwise-F.«Otherwise::Nothing»
 
 pub else_if_texts : (i : If) → otherwise_texts (otherwise.ElseIf i) ≡ conditional_texts i
 unfolding process_texts conditional_texts otherwise_texts input_texts reply_texts branch_texts answer_texts handler_texts block_texts
-else_if_texts i = ap otherwise_texts (sym (otherwise.rolls-ElseIf i)) ∙ fold-roll-Otherwise Texts Texts Texts Texts Texts Texts Texts Texts Texts otherwise_level process_level answer_level block_level branch_level handler_level if_level input_level reply_level (Otherwise-F.ElseIf i)
+else_if_texts i = ap otherwise_texts (sym (otherwise.rolls-ElseIf i)) ∙ otherwise_rolls mentioned (Otherwise-F.ElseIf i)
 
 pub else_texts : (b : Block) → otherwise_texts (otherwise.Else b) ≡ block_texts b
 unfolding process_texts conditional_texts otherwise_texts input_texts reply_texts branch_texts answer_texts handler_texts block_texts
-else_texts b = ap otherwise_texts (sym (otherwise.rolls-Else b)) ∙ fold-roll-Otherwise Texts Texts Texts Texts Texts Texts Texts Texts Texts otherwise_level process_level answer_level block_level branch_level handler_level if_level input_level reply_level (Otherwise-F.Else b)
+else_texts b = ap otherwise_texts (sym (otherwise.rolls-Else b)) ∙ otherwise_rolls mentioned (Otherwise-F.Else b)
 
 pub if_is : (i : If) → conditional_texts i ≡ block_texts (out-If i).body ++ otherwise_texts (out-If i).otherwise
 unfolding process_texts conditional_texts otherwise_texts input_texts reply_texts branch_texts answer_texts handler_texts block_texts
-if_is i = ap conditional_texts (sym (roll-out-If i)) ∙ fold-roll-If Texts Texts Texts Texts Texts Texts Texts Texts Texts otherwise_level process_level answer_level block_level branch_level handler_level if_level input_level reply_level (out-If i)
+if_is i = ap conditional_texts (sym (roll-out-If i)) ∙ conditional_rolls mentioned (out-If i)
 
 pub branch_is : (b : Branch) → branch_texts b ≡ input_texts (out-Branch b).input ++ block_texts (out-Branch b).after
 unfolding process_texts conditional_texts otherwise_texts input_texts reply_texts branch_texts answer_texts handler_texts block_texts
-branch_is b = ap branch_texts (sym (roll-out-Branch b)) ∙ fold-roll-Branch Texts Texts Texts Texts Texts Texts Texts Texts Texts otherwise_level process_level answer_level block_level branch_level handler_level if_level input_level reply_level (out-Branch b)
+branch_is b = ap branch_texts (sym (roll-out-Branch b)) ∙ branch_rolls mentioned (out-Branch b)
 
 pub reply_is : (r : Reply) → reply_texts r ≡ block_texts (out-Reply r).body
 unfolding process_texts conditional_texts otherwise_texts input_texts reply_texts branch_texts answer_texts handler_texts block_texts
-reply_is r = ap reply_texts (sym (roll-out-Reply r)) ∙ fold-roll-Reply Texts Texts Texts Texts Texts Texts Texts Texts Texts otherwise_level process_level answer_level block_level branch_level handler_level if_level input_level reply_level (out-Reply r)
+reply_is r = ap reply_texts (sym (roll-out-Reply r)) ∙ reply_rolls mentioned (out-Reply r)
 
 pub handler_is : (h : Handler) → handler_texts h ≡ key_texts (out-Handler h).key ++ process_texts (out-Handler h).body
 unfolding process_texts conditional_texts otherwise_texts input_texts reply_texts branch_texts answer_texts handler_texts block_texts
-handler_is h = ap handler_texts (sym (roll-out-Handler h)) ∙ fold-roll-Handler Texts Texts Texts Texts Texts Texts Texts Texts Texts otherwise_level process_level answer_level block_level branch_level handler_level if_level input_level reply_level (out-Handler h)
+handler_is h = ap handler_texts (sym (roll-out-Handler h)) ∙ handler_rolls mentioned (out-Handler h)
 
 pub block_made : (at : ℕ) (body : Option Process) → block_texts (roll-Block (record { at = at; body = body })) ≡ maybe (option_map process_texts body)
 unfolding process_texts conditional_texts otherwise_texts input_texts reply_texts branch_texts answer_texts handler_texts block_texts
-block_made at None = fold-roll-Block Texts Texts Texts Texts Texts Texts Texts Texts Texts otherwise_level process_level answer_level block_level branch_level handler_level if_level input_level reply_level (record { at = at; body = None })
-block_made at (Some it) = fold-roll-Block Texts Texts Texts Texts Texts Texts Texts Texts Texts otherwise_level process_level answer_level block_level branch_level handler_level if_level input_level reply_level (record { at = at; body = Some it })
+block_made at None = block_rolls mentioned (record { at = at; body = None })
+block_made at (Some it) = block_rolls mentioned (record { at = at; body = Some it })
 
 pub block_is : (b : Block) → block_texts b ≡ maybe (option_map process_texts (out-Block b).body)
 block_is b = ap block_texts (sym (roll-out-Block b)) ∙ block_made (out-Block b).at (out-Block b).body
@@ -178,8 +179,8 @@ full_block b p some = block_is b ∙ ap (λ p. maybe (option_map process_texts p
 
 pub input_made : (operation : Name) (request : Option Path) (reply : Option Reply) → input_texts (roll-Input (record { operation = operation; request = request; reply = reply })) ≡ maybe (option_map reply_texts reply)
 unfolding process_texts conditional_texts otherwise_texts input_texts reply_texts branch_texts answer_texts handler_texts block_texts
-input_made operation request None = fold-roll-Input Texts Texts Texts Texts Texts Texts Texts Texts Texts otherwise_level process_level answer_level block_level branch_level handler_level if_level input_level reply_level (record { operation = operation; request = request; reply = None })
-input_made operation request (Some it) = fold-roll-Input Texts Texts Texts Texts Texts Texts Texts Texts Texts otherwise_level process_level answer_level block_level branch_level handler_level if_level input_level reply_level (record { operation = operation; request = request; reply = Some it })
+input_made operation request None = input_rolls mentioned (record { operation = operation; request = request; reply = None })
+input_made operation request (Some it) = input_rolls mentioned (record { operation = operation; request = request; reply = Some it })
 
 pub input_is : (i : Input) → input_texts i ≡ maybe (option_map reply_texts (out-Input i).reply)
 input_is i = ap input_texts (sym (roll-out-Input i)) ∙ input_made (out-Input i).operation (out-Input i).request (out-Input i).reply
@@ -197,8 +198,8 @@ handlers_texts (Some handlers) = flat_map handler_texts handlers
 
 pub answer_made : (path : Option Path) (handlers : Option (List Handler)) → answer_texts (roll-Answer (record { path = path; handlers = handlers })) ≡ handlers_texts handlers
 unfolding process_texts conditional_texts otherwise_texts input_texts reply_texts branch_texts answer_texts handler_texts block_texts
-answer_made path None = fold-roll-Answer Texts Texts Texts Texts Texts Texts Texts Texts Texts otherwise_level process_level answer_level block_level branch_level handler_level if_level input_level reply_level (record { path = path; handlers = None })
-answer_made path (Some it) = fold-roll-Answer Texts Texts Texts Texts Texts Texts Texts Texts Texts otherwise_level process_level answer_level block_level branch_level handler_level if_level input_level reply_level (record { path = path; handlers = Some it }) ∙ all_mapped handler_texts it
+answer_made path None = answer_rolls mentioned (record { path = path; handlers = None })
+answer_made path (Some it) = answer_rolls mentioned (record { path = path; handlers = Some it }) ∙ all_mapped handler_texts it
 
 pub answer_is : (a : Answer) → answer_texts a ≡ handlers_texts (out-Answer a).handlers
 answer_is a = ap answer_texts (sym (roll-out-Answer a)) ∙ answer_made (out-Answer a).path (out-Answer a).handlers

@@ -6,7 +6,7 @@ use Rattle.jolie_ast.specs.declared.expression.Expr.{Expr}
 use Rattle.jolie_ast.specs.declared.expression.Path.{Path}
 use Rattle.jolie_ast.specs.declared.process.HandlerKey.{HandlerKey}
 use Rattle.jolie_ast.specs.declared.process.Otherwise.TheOpen.{Process-F}
-use Rattle.jolie_ast.specs.declared.process.Otherwise.TheFolds.{map-Process, fold-roll-Answer, fold-roll-Branch, fold-roll-Handler, fold-roll-If, fold-roll-Process, fold-roll-Reply}
+use Rattle.jolie_ast.specs.declared.process.Otherwise.TheFolds.{map-Process}
 use Rattle.jolie_ast.specs.declared.process.Otherwise.{Otherwise}
 use Rattle.jolie_ast.specs.declared.process.Process.{Process, roll-Process}
 use Rattle.jolie_ast.specs.declared.process.Answer.{Answer, roll-Answer}
@@ -19,19 +19,17 @@ use Rattle.jolie_ast.specs.declared.process.Reply.{Reply, roll-Reply}
 use Rattle.jolie_ast.specs.Formed as tree
 use Rattle.jolie_ast.specs.Formed.{each, option_all, path_formed, process_formed, block_formed, if_formed, otherwise_formed, input_formed, reply_formed, branch_formed, answer_formed, handler_formed}
 use Rattle.behaviour_tree.specs.Data as plain
-use Rattle.behaviour_tree.specs.Data.{Proc}
-use Rattle.behaviour_tree.specs.View.{HandlerView, BranchView, ReplyView}
 use Rattle.lower_processes.specs.Behaviours as means
-use Rattle.lower_processes.specs.Behaviours.{Numbering, AnswerView, InputView, branch_after, key_of, lowered_process, lowered_conditional, lowered_otherwise, lowered_input, lowered_reply, lowered_branch, lowered_answer, lowered_handler, lowered_block}
+use Rattle.lower_processes.specs.Behaviours.{Numbering, branch_after, key_of, lowered_process, lowered_conditional, lowered_otherwise, lowered_input, lowered_reply, lowered_branch, lowered_answer, lowered_handler, lowered_block}
 use Rattle.lower_processes.specs.Expressions.{lowered_expr, lowered_path}
 use Rattle.service_check.specs.Mentioned as named
-use Rattle.check_base.specs.Repeated.{Texts}
 use Rattle.service_check.specs.Mentioned.{key_texts, process_texts, conditional_texts, otherwise_texts, input_texts, reply_texts, branch_texts, answer_texts, handler_texts, block_texts}
 use Rattle.check_processes.specs.ProcessRules as rules
 use Rattle.check_processes.specs.Surroundings.{Surroundings}
 use Rattle.check_processes.specs.ProcessRules.{Found, InputFound, HandlerFound, used, wrong_if_written, process_refused, block_refused}
 use Rattle.check_processes.specs.ProcessParts.{answer_handlers_refused, answer_refused, branch_refused, conditional_refused, handler_refused, input_refused, otherwise_refused, reply_if_written, reply_refused}
 use Rattle.check_processes.proofs.ProcessForms as forms
+use Rattle.jolie_ast.proofs.Folds.{process_rolls, answer_rolls, conditional_rolls, reply_rolls, branch_rolls, handler_rolls}
 
 -- ---- what is refused
 
@@ -44,60 +42,60 @@ answer_rolled e path fs = sym (forms.answer_is e (roll-Answer (record { path = p
 pub reply_rolled : (e : Surroundings) (path : Option Path) (body : Block) (h : Bool) → reply_refused e (roll-Reply (record { path = path; body = body })) h ≡ wrong_if_written path ++ block_refused e body h
 unfolding process_refused block_refused conditional_refused otherwise_refused
 reply_rolled e path body h =
-    sym (forms.reply_is e (roll-Reply (record { path = path; body = body })) h) ∙ ap (λ (f : Found). f h) (fold-roll-Reply Found Found Found Found InputFound HandlerFound Found InputFound Found rules.otherwise_level (rules.process_level e) rules.answer_level rules.block_level rules.branch_level rules.handler_level rules.if_level (rules.input_level e) rules.reply_level (record { path = path; body = body }))
+    sym (forms.reply_is e (roll-Reply (record { path = path; body = body })) h) ∙ ap (λ (f : Found). f h) (reply_rolls (rules.parts_refused e) (record { path = path; body = body }))
 
 pub branch_rolled : (e : Surroundings) (at : ℕ) (input : Input) (after : Block) (h : Bool) → branch_refused e (roll-Branch (record { at = at; input = input; after = after })) h ≡ input_refused e input h ++ block_refused e after h
 unfolding process_refused block_refused conditional_refused otherwise_refused
 branch_rolled e at input after h =
     sym (forms.branch_is e (roll-Branch (record { at = at; input = input; after = after })) h)
-    ∙ ap (λ (f : InputFound). f.found h) (fold-roll-Branch Found Found Found Found InputFound HandlerFound Found InputFound Found rules.otherwise_level (rules.process_level e) rules.answer_level rules.block_level rules.branch_level rules.handler_level rules.if_level (rules.input_level e) rules.reply_level (record { at = at; input = input; after = after }))
+    ∙ ap (λ (f : InputFound). f.found h) (branch_rolls (rules.parts_refused e) (record { at = at; input = input; after = after }))
     ∙ ap (λ rs. rs ++ block_refused e after h) (forms.input_is e input h)
 
 pub handler_rolled : (e : Surroundings) (key : HandlerKey) (body : Process) → handler_refused e (roll-Handler (record { key = key; body = body })) ≡ process_refused e body true
 unfolding process_refused block_refused conditional_refused otherwise_refused
 handler_rolled e key body =
     sym (ap (λ (f : HandlerFound). f.found true) (forms.handler_is e (roll-Handler (record { key = key; body = body }))))
-    ∙ ap (λ (f : HandlerFound). f.found true) (fold-roll-Handler Found Found Found Found InputFound HandlerFound Found InputFound Found rules.otherwise_level (rules.process_level e) rules.answer_level rules.block_level rules.branch_level rules.handler_level rules.if_level (rules.input_level e) rules.reply_level (record { key = key; body = body }))
+    ∙ ap (λ (f : HandlerFound). f.found true) (handler_rolls (rules.parts_refused e) (record { key = key; body = body }))
 
 pub if_rolled : (e : Surroundings) (at : ℕ) (test : Expr) (body : Block) (rest : Otherwise) (h : Bool) → conditional_refused e (roll-If (record { at = at; test = test; body = body; otherwise = rest })) h ≡ block_refused e body h ++ otherwise_refused e rest h
 unfolding process_refused block_refused conditional_refused otherwise_refused
-if_rolled e at test body rest h = ap (λ (f : Found). f h) (fold-roll-If Found Found Found Found InputFound HandlerFound Found InputFound Found rules.otherwise_level (rules.process_level e) rules.answer_level rules.block_level rules.branch_level rules.handler_level rules.if_level (rules.input_level e) rules.reply_level (record { at = at; test = test; body = body; otherwise = rest }))
+if_rolled e at test body rest h = ap (λ (f : Found). f h) (conditional_rolls (rules.parts_refused e) (record { at = at; test = test; body = body; otherwise = rest }))
 
 -- ---- what is meant
 
 pub reply_lowered : (m : Numbering) (path : Option Path) (body : Block) → lowered_reply m (roll-Reply (record { path = path; body = body })) ≡ record { path = option_map lowered_path path; body = lowered_block m body }
 unfolding lowered_process lowered_conditional lowered_otherwise lowered_input lowered_reply lowered_branch lowered_answer lowered_handler lowered_block
-reply_lowered m path body = fold-roll-Reply Proc Proc AnswerView Proc BranchView HandlerView Proc InputView ReplyView means.otherwise_level (means.process_level m) means.answer_level means.block_level means.branch_level (means.handler_level m) means.if_level (means.input_level m) means.reply_level (record { path = path; body = body })
+reply_lowered m path body = reply_rolls (means.lowering m) (record { path = path; body = body })
 
 pub branch_lowered : (m : Numbering) (at : ℕ) (input : Input) (after : Block) → lowered_branch m (roll-Branch (record { at = at; input = input; after = after })) ≡ branch_after (lowered_input m input) (lowered_block m after)
 unfolding lowered_process lowered_conditional lowered_otherwise lowered_input lowered_reply lowered_branch lowered_answer lowered_handler lowered_block
-branch_lowered m at input after = fold-roll-Branch Proc Proc AnswerView Proc BranchView HandlerView Proc InputView ReplyView means.otherwise_level (means.process_level m) means.answer_level means.block_level means.branch_level (means.handler_level m) means.if_level (means.input_level m) means.reply_level (record { at = at; input = input; after = after })
+branch_lowered m at input after = branch_rolls (means.lowering m) (record { at = at; input = input; after = after })
 
 pub handler_lowered : (m : Numbering) (key : HandlerKey) (body : Process) → lowered_handler m (roll-Handler (record { key = key; body = body })) ≡ record { key = key_of m.names key; body = lowered_process m body }
 unfolding lowered_process lowered_conditional lowered_otherwise lowered_input lowered_reply lowered_branch lowered_answer lowered_handler lowered_block
-handler_lowered m key body = fold-roll-Handler Proc Proc AnswerView Proc BranchView HandlerView Proc InputView ReplyView means.otherwise_level (means.process_level m) means.answer_level means.block_level means.branch_level (means.handler_level m) means.if_level (means.input_level m) means.reply_level (record { key = key; body = body })
+handler_lowered m key body = handler_rolls (means.lowering m) (record { key = key; body = body })
 
 pub if_lowered : (m : Numbering) (at : ℕ) (test : Expr) (body : Block) (rest : Otherwise) → lowered_conditional m (roll-If (record { at = at; test = test; body = body; otherwise = rest })) ≡ plain.choose (lowered_expr test) (lowered_block m body) (lowered_otherwise m rest)
 unfolding lowered_process lowered_conditional lowered_otherwise lowered_input lowered_reply lowered_branch lowered_answer lowered_handler lowered_block
-if_lowered m at test body rest = fold-roll-If Proc Proc AnswerView Proc BranchView HandlerView Proc InputView ReplyView means.otherwise_level (means.process_level m) means.answer_level means.block_level means.branch_level (means.handler_level m) means.if_level (means.input_level m) means.reply_level (record { at = at; test = test; body = body; otherwise = rest })
+if_lowered m at test body rest = conditional_rolls (means.lowering m) (record { at = at; test = test; body = body; otherwise = rest })
 
 -- ---- what is named
 
 pub reply_names : (path : Option Path) (body : Block) → reply_texts (roll-Reply (record { path = path; body = body })) ≡ block_texts body
 unfolding process_texts conditional_texts otherwise_texts input_texts reply_texts branch_texts answer_texts handler_texts block_texts
-reply_names path body = fold-roll-Reply Texts Texts Texts Texts Texts Texts Texts Texts Texts named.otherwise_level named.process_level named.answer_level named.block_level named.branch_level named.handler_level named.if_level named.input_level named.reply_level (record { path = path; body = body })
+reply_names path body = reply_rolls named.mentioned (record { path = path; body = body })
 
 pub branch_names : (at : ℕ) (input : Input) (after : Block) → branch_texts (roll-Branch (record { at = at; input = input; after = after })) ≡ input_texts input ++ block_texts after
 unfolding process_texts conditional_texts otherwise_texts input_texts reply_texts branch_texts answer_texts handler_texts block_texts
-branch_names at input after = fold-roll-Branch Texts Texts Texts Texts Texts Texts Texts Texts Texts named.otherwise_level named.process_level named.answer_level named.block_level named.branch_level named.handler_level named.if_level named.input_level named.reply_level (record { at = at; input = input; after = after })
+branch_names at input after = branch_rolls named.mentioned (record { at = at; input = input; after = after })
 
 pub handler_names : (key : HandlerKey) (body : Process) → handler_texts (roll-Handler (record { key = key; body = body })) ≡ key_texts key ++ process_texts body
 unfolding process_texts conditional_texts otherwise_texts input_texts reply_texts branch_texts answer_texts handler_texts block_texts
-handler_names key body = fold-roll-Handler Texts Texts Texts Texts Texts Texts Texts Texts Texts named.otherwise_level named.process_level named.answer_level named.block_level named.branch_level named.handler_level named.if_level named.input_level named.reply_level (record { key = key; body = body })
+handler_names key body = handler_rolls named.mentioned (record { key = key; body = body })
 
 pub if_names : (at : ℕ) (test : Expr) (body : Block) (rest : Otherwise) → conditional_texts (roll-If (record { at = at; test = test; body = body; otherwise = rest })) ≡ block_texts body ++ otherwise_texts rest
 unfolding process_texts conditional_texts otherwise_texts input_texts reply_texts branch_texts answer_texts handler_texts block_texts
-if_names at test body rest = fold-roll-If Texts Texts Texts Texts Texts Texts Texts Texts Texts named.otherwise_level named.process_level named.answer_level named.block_level named.branch_level named.handler_level named.if_level named.input_level named.reply_level (record { at = at; test = test; body = body; otherwise = rest })
+if_names at test body rest = conditional_rolls named.mentioned (record { at = at; test = test; body = body; otherwise = rest })
 
 -- ---- what is formed
 
@@ -107,9 +105,9 @@ shape_of f = tree.process_level (map-Process Otherwise Process Answer Block Bran
 
 pub process_forms : (f : Process-F Otherwise Process Answer Block Branch Handler If Input Reply) → process_formed (roll-Process f) ≡ shape_of f
 unfolding process_formed block_formed if_formed otherwise_formed input_formed reply_formed branch_formed answer_formed handler_formed
-process_forms f = fold-roll-Process Bool Bool Bool Bool Bool Bool Bool Bool Bool tree.otherwise_level tree.process_level tree.answer_level tree.block_level tree.branch_level tree.handler_level tree.if_level tree.input_level tree.reply_level f
+process_forms f = process_rolls tree.processes_formed f
 
 pub answer_forms : (path : Option Path) (fs : Option (List Handler)) → answer_formed (roll-Answer (record { path = path; handlers = fs })) ≡ (option_all path_formed path && option_all (λ hs. each (map handler_formed hs)) fs)
 unfolding process_formed block_formed if_formed otherwise_formed input_formed reply_formed branch_formed answer_formed handler_formed
-answer_forms path None = fold-roll-Answer Bool Bool Bool Bool Bool Bool Bool Bool Bool tree.otherwise_level tree.process_level tree.answer_level tree.block_level tree.branch_level tree.handler_level tree.if_level tree.input_level tree.reply_level (record { path = path; handlers = None })
-answer_forms path (Some fs) = fold-roll-Answer Bool Bool Bool Bool Bool Bool Bool Bool Bool tree.otherwise_level tree.process_level tree.answer_level tree.block_level tree.branch_level tree.handler_level tree.if_level tree.input_level tree.reply_level (record { path = path; handlers = Some fs })
+answer_forms path None = answer_rolls tree.processes_formed (record { path = path; handlers = None })
+answer_forms path (Some fs) = answer_rolls tree.processes_formed (record { path = path; handlers = Some fs })

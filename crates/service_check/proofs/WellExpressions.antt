@@ -6,7 +6,7 @@ use Rattle.jolie_ast.specs.declared.name.Name.{Name}
 use Rattle.jolie_ast.specs.declared.expression.Additive.{Additive}
 use Rattle.jolie_ast.specs.declared.expression.Multiplicative.{Multiplicative}
 use Rattle.jolie_ast.specs.declared.expression.ExprForm.TheOpen.{ExprForm-F}
-use Rattle.jolie_ast.specs.declared.expression.ExprForm.TheFolds.{map-ExprForm, map-Step, ind-Expr, ind-Path, fold-roll-Expr, fold-roll-ExprForm, fold-roll-Factor, fold-roll-Member, fold-roll-Path, fold-roll-Step, fold-roll-Term}
+use Rattle.jolie_ast.specs.declared.expression.ExprForm.TheFolds.{map-ExprForm, map-Step, ind-Expr, ind-Path}
 use Rattle.jolie_ast.specs.declared.expression.Expr.{Expr, roll-Expr}
 use Rattle.jolie_ast.specs.declared.expression.ExprForm.{ExprForm, roll-ExprForm}
 use Rattle.jolie_ast.specs.declared.expression.Factor.{Factor, roll-Factor}
@@ -22,6 +22,7 @@ use Rattle.behaviour_tree.specs.View.{StepView, SumPartView, MulPartView, Member
 use Rattle.behaviour_tree.specs.FormedExpressions.{is_exp, is_path, are_exps, are_two_exps, are_sum_parts, are_mul_parts, are_members}
 use Rattle.lower_processes.specs.Expressions as means
 use Rattle.lower_processes.specs.Expressions.{lowered_expr, lowered_path, lowered_form, lowered_factor, lowered_member, lowered_place, lowered_term, lowered_if_written}
+use Rattle.jolie_ast.proofs.Folds.{form_rolls, path_rolls, step_rolls, expr_rolls, factor_rolls, term_rolls, member_rolls}
 
 -- ---- one level of each
 
@@ -29,40 +30,40 @@ use Rattle.lower_processes.specs.Expressions.{lowered_expr, lowered_path, lowere
 form_means : (x : ExprForm-F ExprForm Expr Factor Member Path Step Term) → lowered_form (roll-ExprForm x)
     ≡ means.form_level (map-ExprForm ExprForm Expr Factor Member Path Step Term Exp Exp MulPartView MemberView PathTree StepView SumPartView lowered_form lowered_expr lowered_factor lowered_member lowered_path lowered_place lowered_term x)
 unfolding lowered_form lowered_expr lowered_factor lowered_member lowered_path lowered_place lowered_term
-form_means x = fold-roll-ExprForm Exp Exp MulPartView MemberView PathTree StepView SumPartView means.form_level means.expr_level means.factor_level means.member_level means.path_level means.step_level means.term_level x
+form_means x = form_rolls means.expression_lowering x
 
 -- whether it is formed
 form_is : (x : ExprForm-F ExprForm Expr Factor Member Path Step Term) → form_formed (roll-ExprForm x)
     ≡ tree.form_level (map-ExprForm ExprForm Expr Factor Member Path Step Term Bool Bool Bool Bool Bool Bool Bool form_formed expr_formed factor_formed member_formed path_formed step_formed term_formed x)
 unfolding form_formed expr_formed factor_formed member_formed path_formed step_formed term_formed
-form_is x = fold-roll-ExprForm Bool Bool Bool Bool Bool Bool Bool tree.form_level tree.expr_level tree.factor_level tree.member_level tree.path_level tree.step_level tree.term_level x
+form_is x = form_rolls tree.expressions_formed x
 
 expr_means : (at : ℕ) (form : ExprForm) → lowered_expr (roll-Expr (record { at = at; form = form })) ≡ lowered_form form
 unfolding lowered_form lowered_expr lowered_factor lowered_member lowered_path lowered_place lowered_term
-expr_means at form = fold-roll-Expr Exp Exp MulPartView MemberView PathTree StepView SumPartView means.form_level means.expr_level means.factor_level means.member_level means.path_level means.step_level means.term_level (record { at = at; form = form })
+expr_means at form = expr_rolls means.expression_lowering (record { at = at; form = form })
 
 factor_means : (operator : Multiplicative) (operand : Expr) → (lowered_factor (roll-Factor (record { operator = operator; operand = operand }))).value ≡ lowered_expr operand
 unfolding lowered_form lowered_expr lowered_factor lowered_member lowered_path lowered_place lowered_term
 factor_means operator operand =
-    ap (λ (v : MulPartView). v.value) (fold-roll-Factor Exp Exp MulPartView MemberView PathTree StepView SumPartView means.form_level means.expr_level means.factor_level means.member_level means.path_level means.step_level means.term_level (record { operator = operator; operand = operand }))
+    ap (λ (v : MulPartView). v.value) (factor_rolls means.expression_lowering (record { operator = operator; operand = operand }))
 
 term_means : (operator : Additive) (operand : Expr) → (lowered_term (roll-Term (record { operator = operator; operand = operand }))).value ≡ lowered_expr operand
 unfolding lowered_form lowered_expr lowered_factor lowered_member lowered_path lowered_place lowered_term
 term_means operator operand =
-    ap (λ (v : SumPartView). v.value) (fold-roll-Term Exp Exp MulPartView MemberView PathTree StepView SumPartView means.form_level means.expr_level means.factor_level means.member_level means.path_level means.step_level means.term_level (record { operator = operator; operand = operand }))
+    ap (λ (v : SumPartView). v.value) (term_rolls means.expression_lowering (record { operator = operator; operand = operand }))
 
 member_means : (name : Name) (value : Expr) → (lowered_member (roll-Member (record { name = name; value = value }))).value ≡ lowered_expr value
 unfolding lowered_form lowered_expr lowered_factor lowered_member lowered_path lowered_place lowered_term
 member_means name value =
-    ap (λ (v : MemberView). v.value) (fold-roll-Member Exp Exp MulPartView MemberView PathTree StepView SumPartView means.form_level means.expr_level means.factor_level means.member_level means.path_level means.step_level means.term_level (record { name = name; value = value }))
+    ap (λ (v : MemberView). v.value) (member_rolls means.expression_lowering (record { name = name; value = value }))
 
 path_means : (first : Step) (rest : List Step) → lowered_path (roll-Path (record { first = first; rest = rest })) ≡ path_of (lowered_place first ∷ map lowered_place rest)
 unfolding lowered_form lowered_expr lowered_factor lowered_member lowered_path lowered_place lowered_term
-path_means first rest = fold-roll-Path Exp Exp MulPartView MemberView PathTree StepView SumPartView means.form_level means.expr_level means.factor_level means.member_level means.path_level means.step_level means.term_level (record { first = first; rest = rest })
+path_means first rest = path_rolls means.expression_lowering (record { first = first; rest = rest })
 
 path_is : (first : Step) (rest : List Step) → path_formed (roll-Path (record { first = first; rest = rest })) ≡ (step_formed first && each (map step_formed rest))
 unfolding form_formed expr_formed factor_formed member_formed path_formed step_formed term_formed
-path_is first rest = fold-roll-Path Bool Bool Bool Bool Bool Bool Bool tree.form_level tree.expr_level tree.factor_level tree.member_level tree.path_level tree.step_level tree.term_level (record { first = first; rest = rest })
+path_is first rest = path_rolls tree.expressions_formed (record { first = first; rest = rest })
 
 -- an index that may be written
 abbrev index_formed : Option Exp → Bool
@@ -213,10 +214,10 @@ step_by name index = roll-Step (map-Step KnownForm KnownExpr KnownFactor KnownMe
 step_known : (name : Name) (index : Option KnownExpr) → StepWell (step_by name index)
 unfolding lowered_form lowered_expr lowered_factor lowered_member lowered_path lowered_place lowered_term form_formed expr_formed factor_formed member_formed path_formed step_formed term_formed
 step_known name None h =
-    ap (λ (v : StepView). index_formed v.index) (fold-roll-Step Exp Exp MulPartView MemberView PathTree StepView SumPartView means.form_level means.expr_level means.factor_level means.member_level means.path_level means.step_level means.term_level (record { name = name; index = None }))
+    ap (λ (v : StepView). index_formed v.index) (step_rolls means.expression_lowering (record { name = name; index = None }))
 step_known name (Some (e, k)) h =
-    ap (λ (v : StepView). index_formed v.index) (fold-roll-Step Exp Exp MulPartView MemberView PathTree StepView SumPartView means.form_level means.expr_level means.factor_level means.member_level means.path_level means.step_level means.term_level (record { name = name; index = Some e }))
-    ∙ k (sym (fold-roll-Step Bool Bool Bool Bool Bool Bool Bool tree.form_level tree.expr_level tree.factor_level tree.member_level tree.path_level tree.step_level tree.term_level (record { name = name; index = Some e })) ∙ h)
+    ap (λ (v : StepView). index_formed v.index) (step_rolls means.expression_lowering (record { name = name; index = Some e }))
+    ∙ k (sym (step_rolls tree.expressions_formed (record { name = name; index = Some e })) ∙ h)
 
 -- ---- by induction
 

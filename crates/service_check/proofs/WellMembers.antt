@@ -10,7 +10,7 @@ use Rattle.jolie_ast.specs.declared.process.ForStep.{ForStep}
 use Rattle.jolie_ast.specs.declared.process.ForStep.TheVariants as for_step
 use Rattle.jolie_ast.specs.declared.process.HandlerKey.{HandlerKey}
 use Rattle.jolie_ast.specs.declared.process.Otherwise.TheOpen.{Otherwise-F, Process-F}
-use Rattle.jolie_ast.specs.declared.process.Otherwise.TheFolds.{ind-Block, map-Answer, map-Block, map-Input, map-Otherwise, map-Process, fold-roll-Answer, fold-roll-Block, fold-roll-Branch, fold-roll-Handler, fold-roll-If, fold-roll-Input, fold-roll-Otherwise, fold-roll-Process, fold-roll-Reply}
+use Rattle.jolie_ast.specs.declared.process.Otherwise.TheFolds.{ind-Block, map-Answer, map-Block, map-Input, map-Otherwise, map-Process}
 use Rattle.jolie_ast.specs.declared.process.Otherwise.{Otherwise, roll-Otherwise}
 use Rattle.jolie_ast.specs.declared.process.Otherwise.TheVariants as otherwise
 use Rattle.jolie_ast.specs.declared.process.Process.{Process, roll-Process}
@@ -24,6 +24,7 @@ use Rattle.jolie_ast.specs.declared.process.Input.{Input, roll-Input}
 use Rattle.jolie_ast.specs.declared.process.Reply.{Reply, roll-Reply}
 use Rattle.jolie_ast.specs.Members as count
 use Rattle.jolie_ast.specs.Members.{answer_members, block_members, branch_members, handler_members, if_members, input_members, otherwise_members, process_members, reply_members}
+use Rattle.jolie_ast.proofs.Folds.{process_rolls, block_rolls, conditional_rolls, otherwise_rolls, input_rolls, reply_rolls, branch_rolls, answer_rolls, handler_rolls}
 use Rattle.behaviour_tree.specs.Data as plain
 use Rattle.behaviour_tree.specs.Data.{PathTree, Proc, Branches}
 use Rattle.behaviour_tree.specs.View.{BranchView, HandlerView, ReplyView, branch_of, branches_of, handlers_of, procs_of}
@@ -115,7 +116,7 @@ count_in f = count.process_level (map-Process Otherwise Process Answer Block Bra
 
 process_counts : (f : Process-F Otherwise Process Answer Block Branch Handler If Input Reply) → process_members (roll-Process f) ≡ count_in f
 unfolding process_members block_members if_members otherwise_members input_members reply_members branch_members answer_members handler_members
-process_counts f = fold-roll-Process ℕ ℕ ℕ ℕ ℕ ℕ ℕ ℕ ℕ count.otherwise_level count.process_level count.answer_level count.block_level count.branch_level count.handler_level count.if_level count.input_level count.reply_level f
+process_counts f = process_rolls count.members f
 
 by_form : (m : Numbering) (f : Process-F Otherwise Process Answer Block Branch Handler If Input Reply) (x : Process) (p : Proc) → roll-Process f ≡ x → lowered_process m x ≡ p → parallel_members p ≡ count_in f → ProcessCounts m (roll-Process f)
 by_form m f x p rolls lowered counts = ap (λ z. parallel_members (lowered_process m z)) rolls ∙ ap parallel_members lowered ∙ counts ∙ sym (process_counts f)
@@ -172,34 +173,34 @@ process_known m (Process-F.Parallel members) =
 otherwise_known : (m : Numbering) (y : Otherwise-F (Known Otherwise (OtherwiseCounts m)) (Known Process (ProcessCounts m)) (Known Answer (AnswerCounts m)) (Known Block (BlockCounts m)) (Known Branch (BranchCounts m)) (Known Handler (HandlerCounts m)) (Known If (IfCounts m)) (Known Input (InputCounts m)) (Known Reply (ReplyCounts m))) → OtherwiseCounts m (roll-Otherwise (map-Otherwise (Known Otherwise (OtherwiseCounts m)) (Known Process (ProcessCounts m)) (Known Answer (AnswerCounts m)) (Known Block (BlockCounts m)) (Known Branch (BranchCounts m)) (Known Handler (HandlerCounts m)) (Known If (IfCounts m)) (Known Input (InputCounts m)) (Known Reply (ReplyCounts m)) Otherwise Process Answer Block Branch Handler If Input Reply (λ x. x.0) (λ x. x.0) (λ x. x.0) (λ x. x.0) (λ x. x.0) (λ x. x.0) (λ x. x.0) (λ x. x.0) (λ x. x.0) y))
 unfolding process_members block_members if_members otherwise_members input_members reply_members branch_members answer_members handler_members
 otherwise_known m Otherwise-F.«Otherwise::Nothing» =
-    ap (λ z. parallel_members (lowered_otherwise m z)) otherwise.rolls-Nothing ∙ ap parallel_members (means.no_else_lowered m) ∙ sym (fold-roll-Otherwise ℕ ℕ ℕ ℕ ℕ ℕ ℕ ℕ ℕ count.otherwise_level count.process_level count.answer_level count.block_level count.branch_level count.handler_level count.if_level count.input_level count.reply_level Otherwise-F.«Otherwise::Nothing»)
+    ap (λ z. parallel_members (lowered_otherwise m z)) otherwise.rolls-Nothing ∙ ap parallel_members (means.no_else_lowered m) ∙ sym (otherwise_rolls count.members Otherwise-F.«Otherwise::Nothing»)
 otherwise_known m (Otherwise-F.ElseIf (i, k)) =
-    ap (λ z. parallel_members (lowered_otherwise m z)) (otherwise.rolls-ElseIf i) ∙ ap parallel_members (means.else_if_lowered m i) ∙ k ∙ sym (fold-roll-Otherwise ℕ ℕ ℕ ℕ ℕ ℕ ℕ ℕ ℕ count.otherwise_level count.process_level count.answer_level count.block_level count.branch_level count.handler_level count.if_level count.input_level count.reply_level (Otherwise-F.ElseIf i))
+    ap (λ z. parallel_members (lowered_otherwise m z)) (otherwise.rolls-ElseIf i) ∙ ap parallel_members (means.else_if_lowered m i) ∙ k ∙ sym (otherwise_rolls count.members (Otherwise-F.ElseIf i))
 otherwise_known m (Otherwise-F.Else (b, k)) =
-    ap (λ z. parallel_members (lowered_otherwise m z)) (otherwise.rolls-Else b) ∙ ap parallel_members (means.else_lowered m b) ∙ k ∙ sym (fold-roll-Otherwise ℕ ℕ ℕ ℕ ℕ ℕ ℕ ℕ ℕ count.otherwise_level count.process_level count.answer_level count.block_level count.branch_level count.handler_level count.if_level count.input_level count.reply_level (Otherwise-F.Else b))
+    ap (λ z. parallel_members (lowered_otherwise m z)) (otherwise.rolls-Else b) ∙ ap parallel_members (means.else_lowered m b) ∙ k ∙ sym (otherwise_rolls count.members (Otherwise-F.Else b))
 
 abbrev block_by : (m : Numbering) → ℕ → Option (Known Process (ProcessCounts m)) → Block
 block_by m at body = roll-Block (map-Block (Known Otherwise (OtherwiseCounts m)) (Known Process (ProcessCounts m)) (Known Answer (AnswerCounts m)) (Known Block (BlockCounts m)) (Known Branch (BranchCounts m)) (Known Handler (HandlerCounts m)) (Known If (IfCounts m)) (Known Input (InputCounts m)) (Known Reply (ReplyCounts m)) Otherwise Process Answer Block Branch Handler If Input Reply (λ x. x.0) (λ x. x.0) (λ x. x.0) (λ x. x.0) (λ x. x.0) (λ x. x.0) (λ x. x.0) (λ x. x.0) (λ x. x.0) (record { at = at; body = body }))
 
 block_known : (m : Numbering) (at : ℕ) (body : Option (Known Process (ProcessCounts m))) → BlockCounts m (block_by m at body)
 unfolding process_members block_members if_members otherwise_members input_members reply_members branch_members answer_members handler_members
-block_known m at None = ap parallel_members (means.block_made m at None) ∙ sym (fold-roll-Block ℕ ℕ ℕ ℕ ℕ ℕ ℕ ℕ ℕ count.otherwise_level count.process_level count.answer_level count.block_level count.branch_level count.handler_level count.if_level count.input_level count.reply_level (record { at = at; body = None }))
-block_known m at (Some (p, k)) = ap parallel_members (means.block_made m at (Some p)) ∙ k ∙ sym (fold-roll-Block ℕ ℕ ℕ ℕ ℕ ℕ ℕ ℕ ℕ count.otherwise_level count.process_level count.answer_level count.block_level count.branch_level count.handler_level count.if_level count.input_level count.reply_level (record { at = at; body = Some p }))
+block_known m at None = ap parallel_members (means.block_made m at None) ∙ sym (block_rolls count.members (record { at = at; body = None }))
+block_known m at (Some (p, k)) = ap parallel_members (means.block_made m at (Some p)) ∙ k ∙ sym (block_rolls count.members (record { at = at; body = Some p }))
 
 if_known : (m : Numbering) (at : ℕ) (test : Expr) (body : Known Block (BlockCounts m)) (rest : Known Otherwise (OtherwiseCounts m)) → IfCounts m (roll-If (record { at = at; test = test; body = body.0; otherwise = rest.0 }))
 unfolding process_members block_members if_members otherwise_members input_members reply_members branch_members answer_members handler_members
 if_known m at test (body, j) (rest, k) =
     ap parallel_members (rolled.if_lowered m at test body rest) ∙ ap (λ n. n + parallel_members (lowered_otherwise m rest)) j ∙ ap (λ n. block_members body + n) k
-    ∙ sym (fold-roll-If ℕ ℕ ℕ ℕ ℕ ℕ ℕ ℕ ℕ count.otherwise_level count.process_level count.answer_level count.block_level count.branch_level count.handler_level count.if_level count.input_level count.reply_level (record { at = at; test = test; body = body; otherwise = rest }))
+    ∙ sym (conditional_rolls count.members (record { at = at; test = test; body = body; otherwise = rest }))
 
 abbrev answer_by : (m : Numbering) → Option Path → Option (List (Known Handler (HandlerCounts m))) → Answer
 answer_by m path fs = roll-Answer (map-Answer (Known Otherwise (OtherwiseCounts m)) (Known Process (ProcessCounts m)) (Known Answer (AnswerCounts m)) (Known Block (BlockCounts m)) (Known Branch (BranchCounts m)) (Known Handler (HandlerCounts m)) (Known If (IfCounts m)) (Known Input (InputCounts m)) (Known Reply (ReplyCounts m)) Otherwise Process Answer Block Branch Handler If Input Reply (λ x. x.0) (λ x. x.0) (λ x. x.0) (λ x. x.0) (λ x. x.0) (λ x. x.0) (λ x. x.0) (λ x. x.0) (λ x. x.0) (record { path = path; handlers = fs }))
 
 answer_known : (m : Numbering) (path : Option Path) (fs : Option (List (Known Handler (HandlerCounts m)))) → AnswerCounts m (answer_by m path fs)
 unfolding process_members block_members if_members otherwise_members input_members reply_members branch_members answer_members handler_members
-answer_known m path None = ap (λ (v : AnswerView). members_of_handlers v.handlers) (means.answer_made m path None) ∙ sym (fold-roll-Answer ℕ ℕ ℕ ℕ ℕ ℕ ℕ ℕ ℕ count.otherwise_level count.process_level count.answer_level count.block_level count.branch_level count.handler_level count.if_level count.input_level count.reply_level (record { path = path; handlers = None }))
+answer_known m path None = ap (λ (v : AnswerView). members_of_handlers v.handlers) (means.answer_made m path None) ∙ sym (answer_rolls count.members (record { path = path; handlers = None }))
 answer_known m path (Some fs) =
-    ap (λ (v : AnswerView). members_of_handlers v.handlers) (means.answer_made m path (Some (bare fs))) ∙ handlers_known m fs ∙ sym (fold-roll-Answer ℕ ℕ ℕ ℕ ℕ ℕ ℕ ℕ ℕ count.otherwise_level count.process_level count.answer_level count.block_level count.branch_level count.handler_level count.if_level count.input_level count.reply_level (record { path = path; handlers = Some (bare fs) }))
+    ap (λ (v : AnswerView). members_of_handlers v.handlers) (means.answer_made m path (Some (bare fs))) ∙ handlers_known m fs ∙ sym (answer_rolls count.members (record { path = path; handlers = Some (bare fs) }))
 
 abbrev input_by : (m : Numbering) → Name → Option Path → Option (Known Reply (ReplyCounts m)) → Input
 input_by m operation request reply = roll-Input (map-Input (Known Otherwise (OtherwiseCounts m)) (Known Process (ProcessCounts m)) (Known Answer (AnswerCounts m)) (Known Block (BlockCounts m)) (Known Branch (BranchCounts m)) (Known Handler (HandlerCounts m)) (Known If (IfCounts m)) (Known Input (InputCounts m)) (Known Reply (ReplyCounts m)) Otherwise Process Answer Block Branch Handler If Input Reply (λ x. x.0) (λ x. x.0) (λ x. x.0) (λ x. x.0) (λ x. x.0) (λ x. x.0) (λ x. x.0) (λ x. x.0) (λ x. x.0) (record { operation = operation; request = request; reply = reply }))
@@ -212,15 +213,15 @@ unfolding process_members block_members if_members otherwise_members input_membe
 input_known m operation request None after rest =
     ap (λ (v : InputView). members_of_branches (branch_of v.op v.target v.reply after rest)) (means.input_made m operation request None)
     ∙ none_before (parallel_members after) (members_of_branches rest)
-    ∙ ap (λ n. n + parallel_members after + members_of_branches rest) (sym (fold-roll-Input ℕ ℕ ℕ ℕ ℕ ℕ ℕ ℕ ℕ count.otherwise_level count.process_level count.answer_level count.block_level count.branch_level count.handler_level count.if_level count.input_level count.reply_level (record { operation = operation; request = request; reply = None })))
+    ∙ ap (λ n. n + parallel_members after + members_of_branches rest) (sym (input_rolls count.members (record { operation = operation; request = request; reply = None })))
 input_known m operation request (Some (y, k)) after rest =
     ap (λ (v : InputView). members_of_branches (branch_of v.op v.target v.reply after rest)) (means.input_made m operation request (Some y))
     ∙ ap (λ n. n + parallel_members after + members_of_branches rest) k
-    ∙ ap (λ n. n + parallel_members after + members_of_branches rest) (sym (fold-roll-Input ℕ ℕ ℕ ℕ ℕ ℕ ℕ ℕ ℕ count.otherwise_level count.process_level count.answer_level count.block_level count.branch_level count.handler_level count.if_level count.input_level count.reply_level (record { operation = operation; request = request; reply = Some y })))
+    ∙ ap (λ n. n + parallel_members after + members_of_branches rest) (sym (input_rolls count.members (record { operation = operation; request = request; reply = Some y })))
 
 reply_known : (m : Numbering) (path : Option Path) (body : Known Block (BlockCounts m)) → ReplyCounts m (roll-Reply (record { path = path; body = body.0 }))
 unfolding process_members block_members if_members otherwise_members input_members reply_members branch_members answer_members handler_members
-reply_known m path (body, k) = ap (λ (v : ReplyView). parallel_members v.body) (rolled.reply_lowered m path body) ∙ k ∙ sym (fold-roll-Reply ℕ ℕ ℕ ℕ ℕ ℕ ℕ ℕ ℕ count.otherwise_level count.process_level count.answer_level count.block_level count.branch_level count.handler_level count.if_level count.input_level count.reply_level (record { path = path; body = body }))
+reply_known m path (body, k) = ap (λ (v : ReplyView). parallel_members v.body) (rolled.reply_lowered m path body) ∙ k ∙ sym (reply_rolls count.members (record { path = path; body = body }))
 
 branch_known : (m : Numbering) (at : ℕ) (input : Known Input (InputCounts m)) (after : Known Block (BlockCounts m)) → BranchCounts m (roll-Branch (record { at = at; input = input.0; after = after.0 }))
 unfolding process_members block_members if_members otherwise_members input_members reply_members branch_members answer_members handler_members
@@ -228,11 +229,11 @@ branch_known m at (input, j) (after, k) rest =
     ap (λ (v : BranchView). members_of_branches (branch_of v.op v.target v.reply v.after rest)) (rolled.branch_lowered m at input after)
     ∙ j (lowered_block m after) rest
     ∙ ap (λ n. input_members input + n + members_of_branches rest) k
-    ∙ ap (λ n. n + members_of_branches rest) (sym (fold-roll-Branch ℕ ℕ ℕ ℕ ℕ ℕ ℕ ℕ ℕ count.otherwise_level count.process_level count.answer_level count.block_level count.branch_level count.handler_level count.if_level count.input_level count.reply_level (record { at = at; input = input; after = after })))
+    ∙ ap (λ n. n + members_of_branches rest) (sym (branch_rolls count.members (record { at = at; input = input; after = after })))
 
 handler_known : (m : Numbering) (under : HandlerKey) (body : Known Process (ProcessCounts m)) → HandlerCounts m (roll-Handler (record { key = under; body = body.0 }))
 unfolding process_members block_members if_members otherwise_members input_members reply_members branch_members answer_members handler_members
-handler_known m under (p, k) = ap (λ (v : HandlerView). parallel_members v.body) (rolled.handler_lowered m under p) ∙ k ∙ sym (fold-roll-Handler ℕ ℕ ℕ ℕ ℕ ℕ ℕ ℕ ℕ count.otherwise_level count.process_level count.answer_level count.block_level count.branch_level count.handler_level count.if_level count.input_level count.reply_level (record { key = under; body = p }))
+handler_known m under (p, k) = ap (λ (v : HandlerView). parallel_members v.body) (rolled.handler_lowered m under p) ∙ k ∙ sym (handler_rolls count.members (record { key = under; body = p }))
 
 -- ---- by induction
 

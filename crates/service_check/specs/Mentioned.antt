@@ -8,11 +8,7 @@ use Rattle.jolie_ast.specs.declared.tree.Definition.{Definition}
 use Rattle.jolie_ast.specs.declared.tree.Definition.TheVariants as definition
 use Rattle.jolie_ast.specs.declared.process.HandlerKey.{HandlerKey}
 use Rattle.jolie_ast.specs.declared.process.HandlerKey.TheVariants as key
-use Rattle.jolie_ast.specs.declared.process.Otherwise.TheOpen.{Answer-F, Block-F, Branch-F, Handler-F, If-F, Input-F}
-use Rattle.jolie_ast.specs.declared.process.Otherwise.TheOpen.{Otherwise-F, Process-F, Reply-F}
-use Rattle.jolie_ast.specs.declared.process.Otherwise.TheFolds.{fold-Answer, fold-Block, fold-Branch, fold-Handler}
-use Rattle.jolie_ast.specs.declared.process.Otherwise.TheFolds.{fold-If, fold-Input, fold-Otherwise, fold-Process}
-use Rattle.jolie_ast.specs.declared.process.Otherwise.TheFolds.{fold-Reply}
+use Rattle.jolie_ast.specs.declared.process.Otherwise.TheOpen.{Otherwise-F, Process-F}
 use Rattle.jolie_ast.specs.declared.process.Answer.{Answer}
 use Rattle.jolie_ast.specs.declared.process.Block.{Block}
 use Rattle.jolie_ast.specs.declared.process.Branch.{Branch}
@@ -22,6 +18,8 @@ use Rattle.jolie_ast.specs.declared.process.Input.{Input}
 use Rattle.jolie_ast.specs.declared.process.Otherwise.{Otherwise}
 use Rattle.jolie_ast.specs.declared.process.Process.{Process}
 use Rattle.jolie_ast.specs.declared.process.Reply.{Reply}
+use Rattle.jolie_ast.specs.Folds.{ProcessFold, all_are, fold_process, fold_block, fold_conditional, fold_otherwise}
+use Rattle.jolie_ast.specs.Folds.{fold_input, fold_reply, fold_branch, fold_answer, fold_handler}
 use Rattle.behaviour_tree.specs.WellFormed.{standard_names}
 use Rattle.check_base.specs.Repeated.{firsts, Texts}
 use Rattle.check_base.specs.Files.{Operation, operations_in}
@@ -58,78 +56,55 @@ otherwise_level Otherwise-F.«Otherwise::Nothing» = []
 otherwise_level (Otherwise-F.ElseIf conditional) = conditional
 otherwise_level (Otherwise-F.Else block) = block
 
--- one level of what an output awaits: its handlers, if they are written
-abbrev pub answer_level : Answer-F Texts Texts Texts Texts Texts Texts Texts Texts Texts → Texts
-answer_level a = option_map_or all a.handlers []
-
--- one level of a handler: its key and then what stands in it
-abbrev pub handler_level : Handler-F Texts Texts Texts Texts Texts Texts Texts Texts Texts → Texts
-handler_level h = key_texts h.key ++ h.body
-
--- one level of a block
-abbrev pub block_level : Block-F Texts Texts Texts Texts Texts Texts Texts Texts Texts → Texts
-block_level b = unwrap_or b.body []
-
--- one level of a branch
-abbrev pub branch_level : Branch-F Texts Texts Texts Texts Texts Texts Texts Texts Texts → Texts
-branch_level b = b.input ++ b.after
-
--- one level of an `if`
-abbrev pub if_level : If-F Texts Texts Texts Texts Texts Texts Texts Texts Texts → Texts
-if_level i = i.body ++ i.otherwise
-
--- one level of an input
-abbrev pub input_level : Input-F Texts Texts Texts Texts Texts Texts Texts Texts Texts → Texts
-input_level i = unwrap_or i.reply []
-
--- one level of a reply part
-abbrev pub reply_level : Reply-F Texts Texts Texts Texts Texts Texts Texts Texts Texts → Texts
-reply_level r = r.body
+-- what a part names, from what the parts in it name: a handler its key first
+abbrev pub mentioned : ProcessFold (all_are Texts)
+mentioned = record {
+  process = process_level;
+  block = λ b. unwrap_or b.body [];
+  conditional = λ i. i.body ++ i.otherwise;
+  otherwise = otherwise_level;
+  input = λ i. unwrap_or i.reply [];
+  reply = λ r. r.body;
+  branch = λ b. b.input ++ b.after;
+  answer = λ a. option_map_or all a.handlers [];
+  handler = λ h. key_texts h.key ++ h.body;
+}
 
 -- what a block names
 unfoldable pub block_texts : Block → Texts
-block_texts = fold-Block Texts Texts Texts Texts Texts Texts Texts Texts Texts
-    otherwise_level process_level answer_level block_level branch_level handler_level if_level input_level reply_level
+block_texts = fold_block mentioned
 
 -- what a process names
 unfoldable pub process_texts : Process → Texts
-process_texts = fold-Process Texts Texts Texts Texts Texts Texts Texts Texts Texts
-    otherwise_level process_level answer_level block_level branch_level handler_level if_level input_level reply_level
+process_texts = fold_process mentioned
 
 -- what an `if` names
 unfoldable pub conditional_texts : If → Texts
-conditional_texts = fold-If Texts Texts Texts Texts Texts Texts Texts Texts Texts
-    otherwise_level process_level answer_level block_level branch_level handler_level if_level input_level reply_level
+conditional_texts = fold_conditional mentioned
 
 -- what stands in what follows an `if` names
 unfoldable pub otherwise_texts : Otherwise → Texts
-otherwise_texts = fold-Otherwise Texts Texts Texts Texts Texts Texts Texts Texts Texts
-    otherwise_level process_level answer_level block_level branch_level handler_level if_level input_level reply_level
+otherwise_texts = fold_otherwise mentioned
 
 -- what an input names
 unfoldable pub input_texts : Input → Texts
-input_texts = fold-Input Texts Texts Texts Texts Texts Texts Texts Texts Texts
-    otherwise_level process_level answer_level block_level branch_level handler_level if_level input_level reply_level
+input_texts = fold_input mentioned
 
 -- what a reply part names
 unfoldable pub reply_texts : Reply → Texts
-reply_texts = fold-Reply Texts Texts Texts Texts Texts Texts Texts Texts Texts
-    otherwise_level process_level answer_level block_level branch_level handler_level if_level input_level reply_level
+reply_texts = fold_reply mentioned
 
 -- what a branch names
 unfoldable pub branch_texts : Branch → Texts
-branch_texts = fold-Branch Texts Texts Texts Texts Texts Texts Texts Texts Texts
-    otherwise_level process_level answer_level block_level branch_level handler_level if_level input_level reply_level
+branch_texts = fold_branch mentioned
 
 -- what an answer to an output names
 unfoldable pub answer_texts : Answer → Texts
-answer_texts = fold-Answer Texts Texts Texts Texts Texts Texts Texts Texts Texts
-    otherwise_level process_level answer_level block_level branch_level handler_level if_level input_level reply_level
+answer_texts = fold_answer mentioned
 
 -- what a handler names
 unfoldable pub handler_texts : Handler → Texts
-handler_texts = fold-Handler Texts Texts Texts Texts Texts Texts Texts Texts Texts
-    otherwise_level process_level answer_level block_level branch_level handler_level if_level input_level reply_level
+handler_texts = fold_handler mentioned
 
 -- what a clause names
 abbrev pub clause_texts : Clause → Texts

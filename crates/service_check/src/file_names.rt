@@ -52,7 +52,8 @@ pub fn names_refused(
 }
 
 fn types_repeated(alloc: Global, file: &[Definition], least: &mut Least) -> Result<(), AllocError>
-    ensures { OnOk result (least.new ≡ joined least.old (refused DuplicateName (repeated (map (λ (t : TypeDefinition). t.name) (types_of file.now))))) }
+    ensures { OnOk result (least.new ≡ joined least.old
+        (refused DuplicateName (repeated (map (λ (t : TypeDefinition). t.name) (types_of file.now))))) }
 {
     let names = type_names(alloc, file)?;
     repeated_refused(alloc, names.as_slice(), least)
@@ -63,7 +64,8 @@ fn interfaces_repeated(
     file: &[Definition],
     least: &mut Least,
 ) -> Result<(), AllocError>
-    ensures { OnOk result (least.new ≡ joined least.old (refused DuplicateName (repeated (map (λ (i : Interface). i.name) (interfaces_of file.now))))) }
+    ensures { OnOk result (least.new ≡ joined least.old
+        (refused DuplicateName (repeated (map (λ (i : Interface). i.name) (interfaces_of file.now))))) }
 {
     let names = interface_names(alloc, file)?;
     repeated_refused(alloc, names.as_slice(), least)
@@ -74,7 +76,8 @@ fn services_repeated(
     file: &[Definition],
     least: &mut Least,
 ) -> Result<(), AllocError>
-    ensures { OnOk result (least.new ≡ joined least.old (refused DuplicateName (repeated (map (λ (s : Service). s.name) (services_of file.now))))) }
+    ensures { OnOk result (least.new ≡ joined least.old
+        (refused DuplicateName (repeated (map (λ (s : Service). s.name) (services_of file.now))))) }
 {
     let names = service_names(alloc, file)?;
     repeated_refused(alloc, names.as_slice(), least)
@@ -85,7 +88,8 @@ fn locations_repeated(
     file: &[Definition],
     least: &mut Least,
 ) -> Result<(), AllocError>
-    ensures { OnOk result (least.new ≡ joined least.old (refused DuplicateName (repeated (flat_map locations_in (services_of file.now))))) }
+    ensures { OnOk result (least.new ≡ joined least.old
+        (refused DuplicateName (repeated (flat_map locations_in (services_of file.now))))) }
 {
     let locations = locations(alloc, file)?;
     repeated_refused(alloc, locations.as_slice(), least)

@@ -53,7 +53,9 @@ fn services_by_names(
     types: &Names<'_>,
     names: &Names<'_>,
 ) -> Result<Vec<Service>, AllocError>
-    ensures { IfOk result (λ v. map service_view v.items ≡ map (lowered_service (interfaces_of file.now) types.now names.now) (services_of file.now)) }
+    ensures { IfOk result
+        (λ v. map service_view v.items ≡ map (lowered_service (interfaces_of file.now) types.now names.now)
+        (services_of file.now)) }
 {
     let interfaces = interfaces_of(alloc, file)?;
     lowered_services(alloc, file, &interfaces, types, names)

@@ -27,7 +27,9 @@ pub fn lowered_services<'a>(
     types: &Names<'_>,
     names: &Names<'_>,
 ) -> Result<Vec<Service>, AllocError>
-    ensures { IfOk result (λ v. map service_view v.items ≡ map (lowered_service interfaces.now types.now names.now) (services_of file.now)) }
+    ensures { IfOk result
+        (λ v. map service_view v.items ≡ map (lowered_service interfaces.now types.now names.now)
+        (services_of file.now)) }
 {
     let mut lowered = Vec::new(alloc);
     for definition in file {
@@ -45,7 +47,8 @@ fn add_service<'a>(
     names: &Names<'_>,
     lowered: &mut Vec<Service>,
 ) -> Result<(), AllocError>
-    ensures { OnOk result (map service_view lowered.new.items ≡ map service_view lowered.old.items ++ map (lowered_service interfaces.now types.now names.now) (option_to_list (service_in definition.now))) }
+    ensures { OnOk result (map service_view lowered.new.items ≡ map service_view lowered.old.items
+        ++ map (lowered_service interfaces.now types.now names.now) (option_to_list (service_in definition.now))) }
 {
     match service_in(definition) {
         Some(service) => {
@@ -93,8 +96,14 @@ fn behaviours_of<'a>(
     interfaces: &Interfaces<'a>,
     names: &Names<'_>,
 ) -> Result<Behaviours, AllocError>
-    ensures init { IfOk result (λ b. behaviour_view b.init.value ≡ lowered_if_there (numbering interfaces.now names.now service.now) (first_there (filter_map init_in service.now.clauses))) }
-    ensures main { IfOk result (λ b. behaviour_view b.main.value ≡ lowered_if_there (numbering interfaces.now names.now service.now) (first_there (filter_map main_in service.now.clauses))) }
+    ensures init { IfOk result
+        (λ b. behaviour_view b.init.value
+        ≡ lowered_if_there (numbering interfaces.now names.now service.now)
+        (first_there (filter_map init_in service.now.clauses))) }
+    ensures main { IfOk result
+        (λ b. behaviour_view b.main.value
+        ≡ lowered_if_there (numbering interfaces.now names.now service.now)
+        (first_there (filter_map main_in service.now.clauses))) }
 {
     let clauses = service.clauses.as_slice();
     let sides = ports_of(alloc, clauses)?;
@@ -109,8 +118,12 @@ fn numbered_behaviours(
     numbers: &Numbers<'_>,
     names: &Names<'_>,
 ) -> Result<Behaviours, AllocError>
-    ensures init { IfOk result (λ b. behaviour_view b.init.value ≡ lowered_if_there (numbering_of numbers.now names.now) (first_there (filter_map init_in clauses.now))) }
-    ensures main { IfOk result (λ b. behaviour_view b.main.value ≡ lowered_if_there (numbering_of numbers.now names.now) (first_there (filter_map main_in clauses.now))) }
+    ensures init { IfOk result
+        (λ b. behaviour_view b.init.value
+        ≡ lowered_if_there (numbering_of numbers.now names.now) (first_there (filter_map init_in clauses.now))) }
+    ensures main { IfOk result
+        (λ b. behaviour_view b.main.value
+        ≡ lowered_if_there (numbering_of numbers.now names.now) (first_there (filter_map main_in clauses.now))) }
 {
     let init = boxed_if_there(alloc, init_of(clauses), numbers, names)?;
     Ok(Behaviours {
@@ -126,7 +139,9 @@ fn boxed_if_there(
     numbers: &Numbers<'_>,
     names: &Names<'_>,
 ) -> Result<Box<Behaviour>, AllocError>
-    ensures { IfOk result (λ b. behaviour_view b.value ≡ lowered_if_there (numbering_of numbers.now names.now) (option_copied block.entry)) }
+    ensures { IfOk result
+        (λ b. behaviour_view b.value ≡ lowered_if_there (numbering_of numbers.now names.now)
+        (option_copied block.entry)) }
 {
     let behaviour = lowered_if_there(alloc, block, numbers, names)?;
     Ok(Box::new(alloc, behaviour)?)
@@ -161,7 +176,8 @@ fn ports_among(
     clauses: &[Clause],
     interfaces: &Names<'_>,
 ) -> Result<Vec<Port>, AllocError>
-    ensures { IfOk result (λ v. map port_view v.items ≡ map (lowered_port_part interfaces.now) (filter_map port_in clauses.now)) }
+    ensures { IfOk result
+        (λ v. map port_view v.items ≡ map (lowered_port_part interfaces.now) (filter_map port_in clauses.now)) }
 {
     let sides = ports_of(alloc, clauses)?;
     lowered_ports(alloc, sides.as_slice(), interfaces)
@@ -174,7 +190,8 @@ fn lowered_ports(
     sides: &[SidedPort<'_>],
     interfaces: &Names<'_>,
 ) -> Result<Vec<Port>, AllocError>
-    ensures { IfOk result (λ v. map port_view v.items ≡ map (lowered_port_part interfaces.now) (map sided sides.now)) }
+    ensures { IfOk result
+        (λ v. map port_view v.items ≡ map (lowered_port_part interfaces.now) (map sided sides.now)) }
 {
     let mut lowered = Vec::new(alloc);
     for side in sides {
@@ -237,7 +254,8 @@ fn add_set(
     types: &Names<'_>,
     lowered: &mut Vec<CorrelationSet>,
 ) -> Result<(), AllocError>
-    ensures { OnOk result (map set_view lowered.new.items ≡ map set_view lowered.old.items ++ map (lowered_set types.now) (option_to_list (set_in clause.now))) }
+    ensures { OnOk result (map set_view lowered.new.items ≡ map set_view lowered.old.items
+        ++ map (lowered_set types.now) (option_to_list (set_in clause.now))) }
 {
     match set_in(clause) {
         Some(set) => {

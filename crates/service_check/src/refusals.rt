@@ -35,7 +35,9 @@ fn file_services_refused(
     file: &[Definition],
     least: &mut Least,
 ) -> Result<(), AllocError>
-    ensures { OnOk result (least.new ≡ joined least.old (flat_map (service_refused types.now (interfaces_of file.now) (input_locations (services_of file.now))) (services_of file.now))) }
+    ensures { OnOk result (least.new ≡ joined least.old
+        (flat_map (service_refused types.now (interfaces_of file.now) (input_locations (services_of file.now)))
+        (services_of file.now))) }
 {
     let interfaces = interfaces_of(alloc, file)?;
     let locations = input_locations(alloc, file)?;
@@ -51,7 +53,8 @@ fn services_refused<'a>(
     file: &'a [Definition],
     least: &mut Least,
 ) -> Result<(), AllocError>
-    ensures { OnOk result (least.new ≡ joined least.old (flat_map (service_refused types.now interfaces.now locations.now) (services_of file.now))) }
+    ensures { OnOk result (least.new ≡ joined least.old
+        (flat_map (service_refused types.now interfaces.now locations.now) (services_of file.now))) }
 {
     for definition in file {
         definition_refused(alloc, types, interfaces, locations, definition, least)?;
@@ -68,7 +71,8 @@ fn definition_refused<'a>(
     definition: &'a Definition,
     least: &mut Least,
 ) -> Result<(), AllocError>
-    ensures { OnOk result (least.new ≡ joined least.old (definition_refused types.now interfaces.now locations.now definition.now)) }
+    ensures { OnOk result (least.new ≡ joined least.old
+        (definition_refused types.now interfaces.now locations.now definition.now)) }
 {
     match service_in(definition) {
         Some(service) => service_refused(alloc, types, interfaces, locations, service, least),

@@ -22,7 +22,8 @@ pub fn numbers_of<'a>(
     interfaces: &Interfaces<'a>,
 ) -> Result<Numbers<'a>, AllocError>
     requires { map sided sides.now ≡ filter_map port_in service.now.clauses }
-    ensures { IfOk result (λ n. (names : List (List ℕ)) → numbering_of n names ≡ numbering interfaces.now names service.now) }
+    ensures { IfOk result
+        (λ n. (names : List (List ℕ)) → numbering_of n names ≡ numbering interfaces.now names service.now) }
 {
     let clauses = service.clauses.as_slice();
     let inputs = input_texts(alloc, clauses, interfaces)?;
@@ -82,7 +83,8 @@ fn operation_texts<'a>(
     interfaces_named: &'a [Name],
     interfaces: &Interfaces<'a>,
 ) -> Result<Names<'a>, AllocError>
-    ensures { IfOk result (λ texts. texts ≡ texts_of (each_once (operations_among interfaces.now interfaces_named.now))) }
+    ensures { IfOk result
+        (λ texts. texts ≡ texts_of (each_once (operations_among interfaces.now interfaces_named.now))) }
 {
     let mut texts = Names::new(alloc);
     include_interfaces(interfaces_named, interfaces, &mut texts)?;
@@ -95,7 +97,8 @@ fn input_texts<'a>(
     clauses: &'a [Clause],
     interfaces: &Interfaces<'a>,
 ) -> Result<Names<'a>, AllocError>
-    ensures { IfOk result (λ texts. texts ≡ texts_of (each_once (input_operations_among interfaces.now clauses.now))) }
+    ensures { IfOk result
+        (λ texts. texts ≡ texts_of (each_once (input_operations_among interfaces.now clauses.now))) }
 {
     let mut texts = Names::new(alloc);
     for clause in clauses {
@@ -110,7 +113,8 @@ fn include_clause<'a>(
     interfaces: &Interfaces<'a>,
     texts: &mut Names<'a>,
 ) -> Result<(), AllocError>
-    ensures { OnOk result (texts.new ≡ with_texts texts.old (flat_map (port_texts interfaces.now) (option_to_list (input_port_in clause.now)))) }
+    ensures { OnOk result (texts.new ≡ with_texts texts.old
+        (flat_map (port_texts interfaces.now) (option_to_list (input_port_in clause.now)))) }
 {
     match input_port_in(clause) {
         Some(port) => include_interfaces(port.interfaces.as_slice(), interfaces, texts),
@@ -137,7 +141,8 @@ fn include_named<'a>(
     interfaces: &Interfaces<'a>,
     texts: &mut Names<'a>,
 ) -> Result<(), AllocError>
-    ensures { OnOk result (texts.new ≡ with_texts texts.old (texts_of (operations_named interfaces.now name.now.text))) }
+    ensures { OnOk result (texts.new ≡ with_texts texts.old
+        (texts_of (operations_named interfaces.now name.now.text))) }
 {
     match interfaces.get(name.text.as_str()) {
         Some(interface) => include_operations(interface, texts),

@@ -23,7 +23,8 @@ pub fn service_refused<'a>(
     service: &'a Service,
     least: &mut Least,
 ) -> Result<(), AllocError>
-    ensures { OnOk result (least.new ≡ joined least.old (service_refused types.now interfaces.now locations.now service.now)) }
+    ensures { OnOk result (least.new ≡ joined least.old
+        (service_refused types.now interfaces.now locations.now service.now)) }
 {
     seconds_refused(service.clauses.as_slice(), least);
     ports_refused(alloc, interfaces, locations, service, least)?;
@@ -40,7 +41,9 @@ fn sessions_refused<'a>(
     service: &'a Service,
     least: &mut Least,
 ) -> Result<(), AllocError>
-    ensures { OnOk result (least.new ≡ joined least.old (flat_map (clause_refused (surroundings interfaces.now service.now)) service.now.clauses ++ uncorrelated interfaces.now service.now)) }
+    ensures { OnOk result (least.new ≡ joined least.old
+        (flat_map (clause_refused (surroundings interfaces.now service.now)) service.now.clauses
+        ++ uncorrelated interfaces.now service.now)) }
 {
     let surroundings = Surroundings::of_service(alloc, interfaces, service)?;
     clauses_refused(alloc, &surroundings, service.clauses.as_slice(), least)?;

@@ -28,7 +28,8 @@ pub fn ports_of(alloc: Global, clauses: &[Clause]) -> Result<Vec<SidedPort<'_>>,
 
 /// Adds the port that a clause is, if it is one.
 fn add_port<'a>(clause: &'a Clause, ports: &mut Vec<SidedPort<'a>>) -> Result<(), AllocError>
-    ensures { OnOk result (map sided ports.new.items ≡ map sided ports.old.items ++ option_to_list (port_in clause.now)) }
+    ensures { OnOk result (map sided ports.new.items ≡ map sided ports.old.items
+        ++ option_to_list (port_in clause.now)) }
 {
     match clause {
         Clause::InputPort(port) => {

@@ -11,7 +11,8 @@ use std::sync::Arc;
 /// Leaves what is left of a form that a fault beside it ends.
 #[cycle(kill)]
 pub fn kill(alloc: Global, form: &mut Box<Term>, fault: &Arc<Fault>) -> Result<(), AllocError>
-    ensures { IfOk result (λ _. term_view form.new.value ≡ spec.kill (fault_view (arc_value fault.now)) (term_view form.old.value)) }
+    ensures { IfOk result
+        (λ _. term_view form.new.value ≡ spec.kill (fault_view (arc_value fault.now)) (term_view form.old.value)) }
 {
     match &mut **form {
         Term::Seq { head, .. } => {
@@ -54,7 +55,9 @@ fn kill_strands(
     strands: &mut Vec<Strand>,
     fault: &Arc<Fault>,
 ) -> Result<(), AllocError>
-    ensures { IfOk result (λ _. members_view strands.new.items ≡ spec.kill_members (fault_view (arc_value fault.now)) (members_view strands.old.items)) }
+    ensures { IfOk result
+        (λ _. members_view strands.new.items
+        ≡ spec.kill_members (fault_view (arc_value fault.now)) (members_view strands.old.items)) }
 {
     kill_members(alloc, strands.as_mut_slice(), fault)
 }
@@ -66,7 +69,9 @@ pub fn kill_members(
     strands: &mut [Strand],
     fault: &Arc<Fault>,
 ) -> Result<(), AllocError>
-    ensures { IfOk result (λ _. members_view strands.new ≡ spec.kill_members (fault_view (arc_value fault.now)) (members_view strands.old)) }
+    ensures { IfOk result
+        (λ _. members_view strands.new ≡ spec.kill_members (fault_view (arc_value fault.now))
+        (members_view strands.old)) }
 {
     for strand in strands.iter_mut() {
         kill(alloc, &mut strand.form, fault)?;

@@ -14,7 +14,8 @@ use session_forms::{Installed, Strand, Term};
 /// runs in the strand `own`.
 #[cycle(ready)]
 pub fn least_ready(term: &Term, own: u64, installed: &Installed) -> Option<u64>
-    ensures { result ≡ first (spec.ready installed.now.scope (table_view installed.now.table) own (term_view term.now)) }
+    ensures { result ≡ first (spec.ready installed.now.scope (table_view installed.now.table) own
+        (term_view term.now)) }
 {
     match term {
         Term::Place(place) => ready_place(place, own, installed),
@@ -35,7 +36,8 @@ pub fn least_ready(term: &Term, own: u64, installed: &Installed) -> Option<u64>
 
 /// The strand of a place that is to install handlers which fit.
 fn ready_place(place: &Behaviour, own: u64, installed: &Installed) -> Option<u64>
-    ensures { result ≡ first (spec.ready installed.now.scope (table_view installed.now.table) own (terms.place (behaviour_view place.now))) }
+    ensures { result ≡ first (spec.ready installed.now.scope (table_view installed.now.table) own
+        (terms.place (behaviour_view place.now))) }
 {
     match place {
         Behaviour::Install(handlers) => {
@@ -57,7 +59,8 @@ fn ready_place(place: &Behaviour, own: u64, installed: &Installed) -> Option<u64
 /// The least of those strands in members.
 #[cycle(ready)]
 fn least_among(strands: &[Strand], installed: &Installed) -> Option<u64>
-    ensures { result ≡ first (spec.rising (spec.ready_among installed.now.scope (table_view installed.now.table) (members_view strands.now))) }
+    ensures { result ≡ first (spec.rising
+        (spec.ready_among installed.now.scope (table_view installed.now.table) (members_view strands.now))) }
 {
     let mut least = None;
     for member in strands {

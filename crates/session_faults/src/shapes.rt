@@ -54,7 +54,8 @@ pub fn fade(state: &mut ScopeState)
 
 /// The body of a request becomes a failed request.
 pub fn fail(form: &mut Box<Term>, fault: &Arc<Fault>) -> Result<(), AllocError>
-    ensures { IfOk result (λ _. term_view form.new.value ≡ spec.failed (fault_view (arc_value fault.now)) (term_view form.old.value)) }
+    ensures { IfOk result
+        (λ _. term_view form.new.value ≡ spec.failed (fault_view (arc_value fault.now)) (term_view form.old.value)) }
 {
     let fault = Arc::try_clone(fault)?;
     match taken(form) {

@@ -41,7 +41,9 @@ fn at_place(strand: u64, own: u64) -> Decision
 
 /// A fault comes to a scope from its body, in which no strand is ready.
 fn arrive(alloc: Global, form: &mut Box<Term>, fault: &Arc<Fault>) -> Result<Decision, AllocError>
-    ensures { IfOk result (λ d. carried_by d (term_view form.new.value) ≡ arrived (fault_view (arc_value fault.now)) (term_view form.old.value)) }
+    ensures { IfOk result
+        (λ d. carried_by d (term_view form.new.value)
+        ≡ arrived (fault_view (arc_value fault.now)) (term_view form.old.value)) }
 {
     match &mut **form {
         Term::Scope {
@@ -77,7 +79,8 @@ fn arrive(alloc: Global, form: &mut Box<Term>, fault: &Arc<Fault>) -> Result<Dec
 /// Where the fault of a strand goes from a form, which runs in the strand `own`.
 #[cycle(decided)]
 pub fn decided(term: &Term, strand: u64, fault: u32, own: u64) -> Decision
-    ensures { (value : Tree) → decision_view result ≡ decided_by (spec.throw strand (record { name = fault; value = value }) own (term_view term.now)) }
+    ensures { (value : Tree) → decision_view result
+        ≡ decided_by (spec.throw strand (record { name = fault; value = value }) own (term_view term.now)) }
 {
     match term {
         Term::Place(_) => at_place(strand, own),
@@ -107,7 +110,8 @@ pub fn decided(term: &Term, strand: u64, fault: u32, own: u64) -> Decision
 /// Where the fault goes from the members of a parallel.
 #[cycle(decided)]
 fn decided_among(strands: &[Strand], strand: u64, fault: u32) -> Decision
-    ensures { (value : Tree) → decision_view result ≡ decided_by (spec.throw_among strand (record { name = fault; value = value }) (members_view strands.now)) }
+    ensures { (value : Tree) → decision_view result
+        ≡ decided_by (spec.throw_among strand (record { name = fault; value = value }) (members_view strands.now)) }
 {
     match place_of(strands, strand) {
         None => Decision::Absent,
@@ -120,7 +124,10 @@ fn decided_among(strands: &[Strand], strand: u64, fault: u32) -> Decision
 
 /// Where a fault goes that comes to a scope from its body, in which no strand is ready.
 fn at_scope(installed: &Installed, state: &ScopeState, fault: u32) -> Decision
-    ensures { (value : Tree) (left : Plain) → decision_view result ≡ decided_by (spec.at_scope installed.now.scope (table_view installed.now.table) (state_view state.now) (record { name = fault; value = value }) left) }
+    ensures { (value : Tree) (left : Plain)
+        → decision_view result ≡ decided_by
+        (spec.at_scope installed.now.scope (table_view installed.now.table) (state_view state.now)
+        (record { name = fault; value = value }) left) }
 {
     match state {
         ScopeState::Live => {
@@ -145,7 +152,9 @@ pub fn carry(
     fault: &Arc<Fault>,
     own: u64,
 ) -> Result<Decision, AllocError>
-    ensures { IfOk result (λ d. carried_by d (term_view form.new.value) ≡ spec.throw strand (fault_view (arc_value fault.now)) own (term_view form.old.value)) }
+    ensures { IfOk result
+        (λ d. carried_by d (term_view form.new.value)
+        ≡ spec.throw strand (fault_view (arc_value fault.now)) own (term_view form.old.value)) }
 {
     match &mut **form {
         Term::Place(_) | Term::Thrown(_) => {
@@ -201,7 +210,9 @@ fn carry_strands(
     strand: u64,
     fault: &Arc<Fault>,
 ) -> Result<Decision, AllocError>
-    ensures { IfOk result (λ d. carried_by d (members_view strands.new.items) ≡ spec.throw_among strand (fault_view (arc_value fault.now)) (members_view strands.old.items)) }
+    ensures { IfOk result
+        (λ d. carried_by d (members_view strands.new.items)
+        ≡ spec.throw_among strand (fault_view (arc_value fault.now)) (members_view strands.old.items)) }
 {
     carry_among(alloc, strands.as_mut_slice(), strand, fault)
 }
@@ -214,7 +225,9 @@ fn carry_among(
     strand: u64,
     fault: &Arc<Fault>,
 ) -> Result<Decision, AllocError>
-    ensures { IfOk result (λ d. carried_by d (members_view strands.new) ≡ spec.throw_among strand (fault_view (arc_value fault.now)) (members_view strands.old)) }
+    ensures { IfOk result
+        (λ d. carried_by d (members_view strands.new)
+        ≡ spec.throw_among strand (fault_view (arc_value fault.now)) (members_view strands.old)) }
 {
     let Some(place) = place_of(strands, strand) else {
         return Ok(Decision::Absent);
@@ -236,7 +249,10 @@ fn kill_others(
     fault: &Arc<Fault>,
 ) -> Result<(), AllocError>
     requires { place < length strands.old }
-    ensures { let f = fault_view (arc_value fault.now) in IfOk result (λ _. (x : Member) → x ≡ slice_index_or strands.old place x → members_view strands.new ≡ joined (killed_members f (members_view (take place strands.old))) (member x.number (term_view x.form.value) (killed_members f (members_view (drop (place + 1) strands.old))))) }
+    ensures { let f = fault_view (arc_value fault.now) in IfOk result
+        (λ _. (x : Member) → x ≡ slice_index_or strands.old place x
+        → members_view strands.new ≡ joined (killed_members f (members_view (take place strands.old)))
+        (member x.number (term_view x.form.value) (killed_members f (members_view (drop (place + 1) strands.old))))) }
 {
     kill_members(alloc, &mut strands[..place], fault)?;
     kill_members(alloc, &mut strands[place + 1..], fault)?;

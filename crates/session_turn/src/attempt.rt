@@ -29,13 +29,19 @@ pub fn attempt<D: Desk, S: Session>(
 ) -> Result<Option<Event>, AllocError>
     requires pass { D.is_pass desk.now pass.old player.number }
     requires run { (D.office desk.now).setting ≡ run_of (parts_of player.program.now) }
-    requires kept { ∥ ((es : List Row) × Kept (seat (D.office desk.now) player.number) es (moment (S.service_of session.old) (S.config_of session.old) (D.seen pass.old))) ∥₁ }
-    requires enabled { IfSome (S.config_of session.old) (λ c. HasEvent (D.office desk.now).setting.parts (S.service_of session.old) c strand) }
+    requires kept { ∥ ((es : List Row) × Kept (seat (D.office desk.now) player.number) es
+        (moment (S.service_of session.old) (S.config_of session.old) (D.seen pass.old))) ∥₁ }
+    requires enabled { IfSome (S.config_of session.old)
+        (λ c. HasEvent (D.office desk.now).setting.parts (S.service_of session.old) c strand) }
     ensures pass { OnOk result (D.is_pass desk.now pass.new player.entry.number) }
     ensures service { S.service_of session.new ≡ S.service_of session.old }
     ensures attempted { IfOk result (λ o. MatchOption o
-        (StoodStill (seat (D.office desk.now) player.entry.number) strand (moment (S.service_of session.old) (S.config_of session.old) (D.seen pass.old)) (moment (S.service_of session.new) (S.config_of session.new) (D.seen pass.new)))
-        (Happened (seat (D.office desk.now) player.entry.number) strand (moment (S.service_of session.old) (S.config_of session.old) (D.seen pass.old)) (moment (S.service_of session.new) (S.config_of session.new) (D.seen pass.new)))) }
+        (StoodStill (seat (D.office desk.now) player.entry.number) strand
+        (moment (S.service_of session.old) (S.config_of session.old) (D.seen pass.old))
+        (moment (S.service_of session.new) (S.config_of session.new) (D.seen pass.new)))
+        (Happened (seat (D.office desk.now) player.entry.number) strand
+        (moment (S.service_of session.old) (S.config_of session.old) (D.seen pass.old))
+        (moment (S.service_of session.new) (S.config_of session.new) (D.seen pass.new)))) }
 {
     let need = need_of(player.program, session, strand)?;
     sessions_may_ask();
@@ -50,8 +56,10 @@ pub fn attempt<D: Desk, S: Session>(
 
 /// What the event of a strand asks for.
 pub fn need_of<S: Session>(program: &Program, session: &S, strand: u64) -> Result<Need, AllocError>
-    requires enabled { IfSome (S.config_of session.now) (λ c. HasEvent (parts_of program.now) (S.service_of session.now) c strand) }
-    ensures asks { IfOk result (Asks (standing (parts_of program.now) (S.service_of session.now) (S.config_of session.now)) strand) }
+    requires enabled { IfSome (S.config_of session.now)
+        (λ c. HasEvent (parts_of program.now) (S.service_of session.now) c strand) }
+    ensures asks { IfOk result (Asks (standing (parts_of program.now) (S.service_of session.now)
+        (S.config_of session.now)) strand) }
 {
     match session.need(program, strand)? {
         Some(need) => Ok(need),
@@ -147,8 +155,11 @@ fn go_on<S: Session>(
     strand: u64,
     given: Given,
 ) -> Result<Event, AllocError>
-    requires { IfSome (S.config_of session.old) (λ c. IsSome (after_of (parts_of program.now) (S.service_of session.old) c strand given)) }
-    ensures done { IfOk result (WentOn (standing (parts_of program.now) (S.service_of session.old) (S.config_of session.old)) (standing (parts_of program.now) (S.service_of session.new) (S.config_of session.new)) strand given) }
+    requires { IfSome (S.config_of session.old)
+        (λ c. IsSome (after_of (parts_of program.now) (S.service_of session.old) c strand given)) }
+    ensures done { IfOk result (WentOn (standing (parts_of program.now) (S.service_of session.old)
+        (S.config_of session.old)) (standing (parts_of program.now) (S.service_of session.new)
+        (S.config_of session.new)) strand given) }
     ensures service { S.service_of session.new ≡ S.service_of session.old }
 {
     match session.step(program, strand, given)? {

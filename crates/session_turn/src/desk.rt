@@ -56,7 +56,8 @@ pub trait Desk {
         ensures pass { OnOk result (is_pass self.now pass.new session) }
         ensures taken { IfOk result (λ o. MatchOption o
             (HasNone (seat (office self.now) session) call (seen pass.old) (seen pass.new))
-            (λ outcome. Called (seat (office self.now) session) (seen pass.old) (seen pass.new) (act.Answer call outcome))) }
+            (λ outcome. Called (seat (office self.now) session) (seen pass.old) (seen pass.new)
+            (act.Answer call outcome))) }
         ensures err { OnErr result (Grew (seat (office self.now) session) (seen pass.old) (seen pass.new)) };
 
     /// Binds a correlation variable of the session.
@@ -70,7 +71,9 @@ pub trait Desk {
         requires pass { is_pass self.now pass.old session }
         requires may { may (seat (office self.now) session) (seen pass.old) (need.Bind variable value) ≡ true }
         ensures pass { OnOk result (is_pass self.now pass.new session) }
-        ensures bound { IfOk result (λ reply. Called (seat (office self.now) session) (seen pass.old) (seen pass.new) (act.Bind variable value reply)) }
+        ensures bound { IfOk result
+            (λ reply. Called (seat (office self.now) session) (seen pass.old) (seen pass.new)
+            (act.Bind variable value reply)) }
         ensures err { OnErr result (Grew (seat (office self.now) session) (seen pass.old) (seen pass.new)) };
 
     /// Answers a message that the session took.
@@ -84,7 +87,8 @@ pub trait Desk {
         requires pass { is_pass self.now pass.old session }
         requires may { may (seat (office self.now) session) (seen pass.old) (need.Reply message outcome) ≡ true }
         ensures pass { OnOk result (is_pass self.now pass.new session) }
-        ensures replied { OnOk result (Called (seat (office self.now) session) (seen pass.old) (seen pass.new) (act.Reply message outcome)) }
+        ensures replied { OnOk result (Called (seat (office self.now) session) (seen pass.old) (seen pass.new)
+            (act.Reply message outcome)) }
         ensures err { OnErr result (Grew (seat (office self.now) session) (seen pass.old) (seen pass.new)) };
 
     /// Sends a message to an operation of a port of the session's service.
@@ -99,9 +103,12 @@ pub trait Desk {
         wants: bool,
     ) -> Result<(), AllocError>
         requires pass { is_pass self.now pass.old session }
-        requires may { may (seat (office self.now) session) (seen pass.old) (need.Send call port op value wants) ≡ true }
+        requires may { may (seat (office self.now) session) (seen pass.old) (need.Send call port op value wants)
+            ≡ true }
         ensures pass { OnOk result (is_pass self.now pass.new session) }
-        ensures sent { OnOk result ((placed : Place) × Called (seat (office self.now) session) (seen pass.old) (seen pass.new) (act.Send call port op value wants placed)) }
+        ensures sent { OnOk result ((placed : Place)
+            × Called (seat (office self.now) session) (seen pass.old) (seen pass.new)
+            (act.Send call port op value wants placed)) }
         ensures err { OnErr result (Grew (seat (office self.now) session) (seen pass.old) (seen pass.new)) };
 
     /// Ends the session.
@@ -109,7 +116,8 @@ pub trait Desk {
         requires pass { is_pass self.now pass.old session }
         requires may { may (seat (office self.now) session) (seen pass.old) need.Finish ≡ true }
         ensures pass { OnOk result (is_pass self.now pass.new session) }
-        ensures ended { OnOk result (Called (seat (office self.now) session) (seen pass.old) (seen pass.new) act.End) }
+        ensures ended { OnOk result (Called (seat (office self.now) session) (seen pass.old) (seen pass.new)
+            act.End) }
         ensures err { OnErr result (Grew (seat (office self.now) session) (seen pass.old) (seen pass.new)) };
 
     /// Whether a message of these operations waits for the session.
@@ -118,7 +126,8 @@ pub trait Desk {
         requires may { may (seat (office self.now) session) (seen pass.old) (need.Take ops.now) ≡ true }
         ensures pass { is_pass self.now pass.new session }
         ensures grew { Grew (seat (office self.now) session) (seen pass.old) (seen pass.new) }
-        ensures exact { result ≡ is_some (first (queue (past_at (seat (office self.now) session) (seen pass.new)) session ops.now)) };
+        ensures exact { result ≡ is_some (first
+            (queue (past_at (seat (office self.now) session) (seen pass.new)) session ops.now)) };
 
     /// Whether a call of the session has an outcome.
     fn has_answer(&self, pass: &mut Self::Pass, session: u32, call: u32) -> bool
@@ -126,5 +135,6 @@ pub trait Desk {
         requires may { may (seat (office self.now) session) (seen pass.old) (need.Answer call) ≡ true }
         ensures pass { is_pass self.now pass.new session }
         ensures grew { Grew (seat (office self.now) session) (seen pass.old) (seen pass.new) }
-        ensures exact { result ≡ is_some (outcome_in (office self.now).setting (past_at (seat (office self.now) session) (seen pass.new)) session call) };
+        ensures exact { result ≡ is_some (outcome_in (office self.now).setting
+            (past_at (seat (office self.now) session) (seen pass.new)) session call) };
 }

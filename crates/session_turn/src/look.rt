@@ -28,10 +28,13 @@ pub fn may_act<D: Desk, S: Session>(
 ) -> Result<bool, AllocError>
     requires pass { D.is_pass desk.now pass.old player.number }
     requires run { (D.office desk.now).setting ≡ run_of (parts_of player.program.now) }
-    requires kept { ∥ ((es : List Row) × Kept (seat (D.office desk.now) player.number) es (moment (S.service_of session.now) (S.config_of session.now) (D.seen pass.old))) ∥₁ }
+    requires kept { ∥ ((es : List Row) × Kept (seat (D.office desk.now) player.number) es
+        (moment (S.service_of session.now) (S.config_of session.now) (D.seen pass.old))) ∥₁ }
     ensures pass { D.is_pass desk.now pass.new player.entry.number }
     ensures grew { Grew (seat (D.office desk.now) player.entry.number) (D.seen pass.old) (D.seen pass.new) }
-    ensures exact { IfOk result (MayAct (seat (D.office desk.now) player.entry.number) (moment (S.service_of session.now) (S.config_of session.now) (D.seen pass.old)) (moment (S.service_of session.now) (S.config_of session.now) (D.seen pass.new))) }
+    ensures exact { IfOk result (MayAct (seat (D.office desk.now) player.entry.number)
+        (moment (S.service_of session.now) (S.config_of session.now) (D.seen pass.old))
+        (moment (S.service_of session.now) (S.config_of session.now) (D.seen pass.new))) }
 {
     if session.ended() {
         return Ok(false);
@@ -51,11 +54,15 @@ fn some_allowed<D: Desk, S: Session>(
 ) -> Result<bool, AllocError>
     requires pass { D.is_pass desk.now pass.old player.number }
     requires run { (D.office desk.now).setting ≡ run_of (parts_of player.program.now) }
-    requires kept { ∥ ((es : List Row) × Kept (seat (D.office desk.now) player.number) es (moment (S.service_of session.now) (S.config_of session.now) (D.seen pass.old))) ∥₁ }
-    requires enabled { AreEnabled (seat (D.office desk.now) player.number) (moment (S.service_of session.now) (S.config_of session.now) (D.seen pass.old)) strands.now }
+    requires kept { ∥ ((es : List Row) × Kept (seat (D.office desk.now) player.number) es
+        (moment (S.service_of session.now) (S.config_of session.now) (D.seen pass.old))) ∥₁ }
+    requires enabled { AreEnabled (seat (D.office desk.now) player.number)
+        (moment (S.service_of session.now) (S.config_of session.now) (D.seen pass.old)) strands.now }
     ensures pass { D.is_pass desk.now pass.new player.entry.number }
     ensures grew { Grew (seat (D.office desk.now) player.entry.number) (D.seen pass.old) (D.seen pass.new) }
-    ensures exact { IfOk result (LookedAtAll (seat (D.office desk.now) player.entry.number) strands.now (moment (S.service_of session.now) (S.config_of session.now) (D.seen pass.old)) (moment (S.service_of session.now) (S.config_of session.now) (D.seen pass.new))) }
+    ensures exact { IfOk result (LookedAtAll (seat (D.office desk.now) player.entry.number) strands.now
+        (moment (S.service_of session.now) (S.config_of session.now) (D.seen pass.old))
+        (moment (S.service_of session.now) (S.config_of session.now) (D.seen pass.new))) }
 {
     for k in 0..strands.len() {
         let allowed = is_allowed(desk, pass, player, session, strands[k])?;
@@ -77,11 +84,15 @@ fn is_allowed<D: Desk, S: Session>(
 ) -> Result<bool, AllocError>
     requires pass { D.is_pass desk.now pass.old player.number }
     requires run { (D.office desk.now).setting ≡ run_of (parts_of player.program.now) }
-    requires kept { ∥ ((es : List Row) × Kept (seat (D.office desk.now) player.number) es (moment (S.service_of session.now) (S.config_of session.now) (D.seen pass.old))) ∥₁ }
-    requires enabled { IfSome (S.config_of session.now) (λ c. HasEvent (D.office desk.now).setting.parts (S.service_of session.now) c strand) }
+    requires kept { ∥ ((es : List Row) × Kept (seat (D.office desk.now) player.number) es
+        (moment (S.service_of session.now) (S.config_of session.now) (D.seen pass.old))) ∥₁ }
+    requires enabled { IfSome (S.config_of session.now)
+        (λ c. HasEvent (D.office desk.now).setting.parts (S.service_of session.now) c strand) }
     ensures pass { D.is_pass desk.now pass.new player.entry.number }
     ensures grew { Grew (seat (D.office desk.now) player.entry.number) (D.seen pass.old) (D.seen pass.new) }
-    ensures looked { IfOk result (LookedAt (seat (D.office desk.now) player.entry.number) strand (moment (S.service_of session.now) (S.config_of session.now) (D.seen pass.old)) (moment (S.service_of session.now) (S.config_of session.now) (D.seen pass.new))) }
+    ensures looked { IfOk result (LookedAt (seat (D.office desk.now) player.entry.number) strand
+        (moment (S.service_of session.now) (S.config_of session.now) (D.seen pass.old))
+        (moment (S.service_of session.now) (S.config_of session.now) (D.seen pass.new))) }
 {
     let need = need_of(player.program, session, strand)?;
     sessions_may_ask();

@@ -40,21 +40,34 @@ pub fn turn_of<D: Desk, S: Session>(
 ) -> Result<Turn, AllocError>
     requires pass { D.is_pass desk.now pass.old player.number }
     requires run { (D.office desk.now).setting ≡ run_of (parts_of player.program.now) }
-    requires kept { Kept (seat (D.office desk.now) player.number) events.old (moment (S.service_of session.old) (S.config_of session.old) (D.seen pass.old)) }
+    requires kept { Kept (seat (D.office desk.now) player.number) events.old
+        (moment (S.service_of session.old) (S.config_of session.old) (D.seen pass.old)) }
     ensures pass { OnOk result (D.is_pass desk.now pass.new player.entry.number) }
     ensures did { (event : Row) → result ≡ Ok (Turn.Did event) → (strands : List ℕ)
-        × AreEnabled (seat (D.office desk.now) player.entry.number) (moment (S.service_of session.old) (S.config_of session.old) (D.seen pass.old)) strands
-        × FirstDone (seat (D.office desk.now) player.entry.number) (from_pick strands pick) (moment (S.service_of session.old) (S.config_of session.old) (D.seen pass.old)) (moment (S.service_of session.new) (S.config_of session.new) (D.seen pass.new)) event
+        × AreEnabled (seat (D.office desk.now) player.entry.number)
+        (moment (S.service_of session.old) (S.config_of session.old) (D.seen pass.old)) strands
+        × FirstDone (seat (D.office desk.now) player.entry.number) (from_pick strands pick)
+        (moment (S.service_of session.old) (S.config_of session.old) (D.seen pass.old))
+        (moment (S.service_of session.new) (S.config_of session.new) (D.seen pass.new)) event
         × (events.new ≡ events.old ++ event ∷ []) }
     ensures idle { result ≡ Ok Turn.Idle → (strands : List ℕ)
-        × AreEnabled (seat (D.office desk.now) player.entry.number) (moment (S.service_of session.old) (S.config_of session.old) (D.seen pass.old)) strands
-        × NoneAllowed (seat (D.office desk.now) player.entry.number) (from_pick strands pick) (moment (S.service_of session.old) (S.config_of session.old) (D.seen pass.old)) (moment (S.service_of session.new) (S.config_of session.new) (D.seen pass.new))
+        × AreEnabled (seat (D.office desk.now) player.entry.number)
+        (moment (S.service_of session.old) (S.config_of session.old) (D.seen pass.old)) strands
+        × NoneAllowed (seat (D.office desk.now) player.entry.number) (from_pick strands pick)
+        (moment (S.service_of session.old) (S.config_of session.old) (D.seen pass.old))
+        (moment (S.service_of session.new) (S.config_of session.new) (D.seen pass.new))
         × (events.new ≡ events.old) }
     ensures ended { IfSome (S.config_of session.old) (λ c. (result ≡ Ok Turn.Ended) ↔ (c.ended ≡ true)) }
-    ensures spent { IfSome (S.config_of session.old) (λ c. (result ≡ Ok Turn.Spent) ↔ ((budget ≤ length events.old) × (c.ended ≡ false))) }
-    ensures at_end { result ≡ Ok Turn.Ended → (moment (S.service_of session.new) (S.config_of session.new) (D.seen pass.new) ≡ moment (S.service_of session.old) (S.config_of session.old) (D.seen pass.old)) × (events.new ≡ events.old) }
-    ensures at_rest { result ≡ Ok Turn.Spent → (moment (S.service_of session.new) (S.config_of session.new) (D.seen pass.new) ≡ moment (S.service_of session.old) (S.config_of session.old) (D.seen pass.old)) × (events.new ≡ events.old) }
-    ensures kept { OnOk result (Kept (seat (D.office desk.now) player.entry.number) events.new (moment (S.service_of session.new) (S.config_of session.new) (D.seen pass.new))) }
+    ensures spent { IfSome (S.config_of session.old)
+        (λ c. (result ≡ Ok Turn.Spent) ↔ ((budget ≤ length events.old) × (c.ended ≡ false))) }
+    ensures at_end { result ≡ Ok Turn.Ended
+        → (moment (S.service_of session.new) (S.config_of session.new) (D.seen pass.new)
+        ≡ moment (S.service_of session.old) (S.config_of session.old) (D.seen pass.old)) × (events.new ≡ events.old) }
+    ensures at_rest { result ≡ Ok Turn.Spent
+        → (moment (S.service_of session.new) (S.config_of session.new) (D.seen pass.new)
+        ≡ moment (S.service_of session.old) (S.config_of session.old) (D.seen pass.old)) × (events.new ≡ events.old) }
+    ensures kept { OnOk result (Kept (seat (D.office desk.now) player.entry.number) events.new
+        (moment (S.service_of session.new) (S.config_of session.new) (D.seen pass.new))) }
     ensures service { S.service_of session.new ≡ S.service_of session.old }
     ensures err { OnErr result (events.new ≡ events.old) }
 {
@@ -85,12 +98,18 @@ fn first_allowed<D: Desk, S: Session>(
 ) -> Result<Option<Event>, AllocError>
     requires pass { D.is_pass desk.now pass.old player.number }
     requires run { (D.office desk.now).setting ≡ run_of (parts_of player.program.now) }
-    requires kept { ∥ ((es : List Row) × Kept (seat (D.office desk.now) player.number) es (moment (S.service_of session.old) (S.config_of session.old) (D.seen pass.old))) ∥₁ }
-    requires enabled { AreEnabled (seat (D.office desk.now) player.number) (moment (S.service_of session.old) (S.config_of session.old) (D.seen pass.old)) strands.now }
+    requires kept { ∥ ((es : List Row) × Kept (seat (D.office desk.now) player.number) es
+        (moment (S.service_of session.old) (S.config_of session.old) (D.seen pass.old))) ∥₁ }
+    requires enabled { AreEnabled (seat (D.office desk.now) player.number)
+        (moment (S.service_of session.old) (S.config_of session.old) (D.seen pass.old)) strands.now }
     ensures pass { OnOk result (D.is_pass desk.now pass.new player.entry.number) }
     ensures first { IfOk result (λ o. MatchOption o
-        (NoneAllowed (seat (D.office desk.now) player.entry.number) (from_pick strands.now pick) (moment (S.service_of session.old) (S.config_of session.old) (D.seen pass.old)) (moment (S.service_of session.new) (S.config_of session.new) (D.seen pass.new)))
-        (FirstDone (seat (D.office desk.now) player.entry.number) (from_pick strands.now pick) (moment (S.service_of session.old) (S.config_of session.old) (D.seen pass.old)) (moment (S.service_of session.new) (S.config_of session.new) (D.seen pass.new)))) }
+        (NoneAllowed (seat (D.office desk.now) player.entry.number) (from_pick strands.now pick)
+        (moment (S.service_of session.old) (S.config_of session.old) (D.seen pass.old))
+        (moment (S.service_of session.new) (S.config_of session.new) (D.seen pass.new)))
+        (FirstDone (seat (D.office desk.now) player.entry.number) (from_pick strands.now pick)
+        (moment (S.service_of session.old) (S.config_of session.old) (D.seen pass.old))
+        (moment (S.service_of session.new) (S.config_of session.new) (D.seen pass.new)))) }
     ensures service { S.service_of session.new ≡ S.service_of session.old }
 {
     let count = strands.len();

@@ -21,7 +21,9 @@ pub fn act(
     installed: &mut Installed,
     memory: &mut Memory,
 ) -> Result<Walked, AllocError>
-    ensures event { IfOk result (λ r. walked_view turn.entry r (term_view form.new.value) installed.new memory.new ≡ spec.acted_in (seen_at turn.entry installed.old memory.old) own (term_view form.old.value)) }
+    ensures event { IfOk result
+        (λ r. walked_view turn.entry r (term_view form.new.value) installed.new memory.new
+        ≡ spec.acted_in (seen_at turn.entry installed.old memory.old) own (term_view form.old.value)) }
     ensures name { installed.new.scope ≡ installed.old.scope }
 {
     match &mut **form {
@@ -69,7 +71,9 @@ fn act_strands(
     installed: &mut Installed,
     memory: &mut Memory,
 ) -> Result<Walked, AllocError>
-    ensures event { IfOk result (λ r. walked_view turn.entry r (members_view strands.new.items) installed.new memory.new ≡ spec.acted_among (seen_at turn.entry installed.old memory.old) (members_view strands.old.items)) }
+    ensures event { IfOk result
+        (λ r. walked_view turn.entry r (members_view strands.new.items) installed.new memory.new
+        ≡ spec.acted_among (seen_at turn.entry installed.old memory.old) (members_view strands.old.items)) }
     ensures name { installed.new.scope ≡ installed.old.scope }
 {
     act_among(alloc, strands.as_mut_slice(), turn, installed, memory)
@@ -85,7 +89,9 @@ fn act_among(
     installed: &mut Installed,
     memory: &mut Memory,
 ) -> Result<Walked, AllocError>
-    ensures event { IfOk result (λ r. walked_view turn.entry r (members_view strands.new) installed.new memory.new ≡ spec.acted_among (seen_at turn.entry installed.old memory.old) (members_view strands.old)) }
+    ensures event { IfOk result
+        (λ r. walked_view turn.entry r (members_view strands.new) installed.new memory.new
+        ≡ spec.acted_among (seen_at turn.entry installed.old memory.old) (members_view strands.old)) }
     ensures name { installed.new.scope ≡ installed.old.scope }
 {
     let Some(place) = place_of(strands, turn.actor.strand) else {
@@ -111,7 +117,9 @@ fn act_alone(
     installed: &mut Installed,
     memory: &mut Memory,
 ) -> Result<Walked, AllocError>
-    ensures event { IfOk result (λ r. walked_view turn.entry r (term_view form.new.value) installed.new memory.new ≡ spec.acts_alone (seen_at turn.entry installed.old memory.old) own (term_view form.old.value)) }
+    ensures event { IfOk result
+        (λ r. walked_view turn.entry r (term_view form.new.value) installed.new memory.new
+        ≡ spec.acts_alone (seen_at turn.entry installed.old memory.old) own (term_view form.old.value)) }
     ensures name { installed.new.scope ≡ installed.old.scope }
 {
     if turn.actor.strand != own {

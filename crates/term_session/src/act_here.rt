@@ -29,7 +29,9 @@ pub fn act_here(
     installed: &mut Installed,
     memory: &mut Memory,
 ) -> Result<Walked, AllocError>
-    ensures event { IfOk result (λ r. walked_view turn.entry r (term_view form.new.value) installed.new memory.new ≡ spec.acts_here (seen_at turn.entry installed.old memory.old) (term_view form.old.value)) }
+    ensures event { IfOk result
+        (λ r. walked_view turn.entry r (term_view form.new.value) installed.new memory.new
+        ≡ spec.acts_here (seen_at turn.entry installed.old memory.old) (term_view form.old.value)) }
     ensures name { installed.new.scope ≡ installed.old.scope }
 {
     match &mut **form {
@@ -91,7 +93,10 @@ fn scope_event(
     around: &mut Installed,
     memory: &mut Memory,
 ) -> Result<Option<Moved>, AllocError>
-    ensures event { IfOk result (λ m. option_map (λ m. moved_at m around.new memory.new) m ≡ spec.scope_event (seen_at turn.entry around.old memory.old) own.old.scope (table_view own.old.table) (state_view state.now)) }
+    ensures event { IfOk result
+        (λ m. option_map (λ m. moved_at m around.new memory.new) m
+        ≡ spec.scope_event (seen_at turn.entry around.old memory.old) own.old.scope (table_view own.old.table)
+        (state_view state.now)) }
     ensures name { around.new.scope ≡ around.old.scope }
     ensures own { IfOk result (λ m. IfNone m (own.new ≡ own.old)) }
     ensures around { IfOk result (λ m. IfNone m (around.new ≡ around.old)) }
@@ -114,7 +119,9 @@ fn reply(
     installed: &Installed,
     memory: &Memory,
 ) -> Result<Option<Moved>, AllocError>
-    ensures { let s = seen_at turn.entry installed.now memory.now in IfOk result (λ m. option_map (λ m. moved_at m installed.now memory.now) m ≡ ungiven s (replies.replies s message (replies.reply_of s op (option_map path_view path.now)) done)) }
+    ensures { let s = seen_at turn.entry installed.now memory.now in IfOk result
+        (λ m. option_map (λ m. moved_at m installed.now memory.now) m
+        ≡ ungiven s (replies.replies s message (replies.reply_of s op (option_map path_view path.now)) done)) }
 {
     if !turn.gives_nothing() {
         return Ok(None);
@@ -134,7 +141,10 @@ fn failure(
     turn: Turn<'_>,
     installed: &Installed,
 ) -> Result<Option<Moved>, AllocError>
-    ensures event { (k : Held) → let s = seen_at turn.entry installed.now k in IfOk result (λ m. option_map (λ m. moved_at m installed.now k) m ≡ ungiven s (replies.replies s message (replies.outcome_of_fault s.parts (fault_view fault.now)) (term_view body.old.value))) }
+    ensures event { (k : Held) → let s = seen_at turn.entry installed.now k in IfOk result
+        (λ m. option_map (λ m. moved_at m installed.now k) m
+        ≡ ungiven s (replies.replies s message (replies.outcome_of_fault s.parts (fault_view fault.now))
+        (term_view body.old.value))) }
     ensures body { IfOk result (λ m. IfNone m (body.new.value ≡ body.old.value)) }
 {
     if !turn.gives_nothing() {
@@ -154,7 +164,13 @@ fn answer(
     installed: &mut Installed,
     memory: &mut Memory,
 ) -> Result<Option<Moved>, AllocError>
-    ensures event { IfOk result (λ m. option_map (λ m. moved_at m installed.new memory.new) m ≡ answers.with_answer (seen_at turn.entry installed.old memory.old) (answers.call_of call.now.number call.now.port call.now.op) (answers.answers (seen_at turn.entry installed.old memory.old) (answers.call_of call.now.number call.now.port call.now.op) (option_map path_view call.now.target) (handlers_view call.now.handlers))) }
+    ensures event { IfOk result
+        (λ m. option_map (λ m. moved_at m installed.new memory.new) m
+        ≡ answers.with_answer (seen_at turn.entry installed.old memory.old)
+        (answers.call_of call.now.number call.now.port call.now.op)
+        (answers.answers (seen_at turn.entry installed.old memory.old)
+        (answers.call_of call.now.number call.now.port call.now.op) (option_map path_view call.now.target)
+        (handlers_view call.now.handlers))) }
     ensures name { installed.new.scope ≡ installed.old.scope }
     ensures installed { IfOk result (λ m. IfNone m (installed.new ≡ installed.old)) }
     ensures memory { IfOk result (λ m. IfNone m (memory.new ≡ memory.old)) }
@@ -175,7 +191,12 @@ fn killed_answer(
     turn: Turn<'_>,
     installed: &mut Installed,
 ) -> Result<Option<Moved>, AllocError>
-    ensures event { (k : Held) → IfOk result (λ m. option_map (λ m. moved_at m installed.new k) m ≡ answers.with_answer (seen_at turn.entry installed.old k) (answers.call_of call.now.number call.now.port call.now.op) (answers.dead_answers (seen_at turn.entry installed.old k) (answers.call_of call.now.number call.now.port call.now.op) (handlers_view call.now.handlers))) }
+    ensures event { (k : Held) → IfOk result
+        (λ m. option_map (λ m. moved_at m installed.new k) m
+        ≡ answers.with_answer (seen_at turn.entry installed.old k)
+        (answers.call_of call.now.number call.now.port call.now.op)
+        (answers.dead_answers (seen_at turn.entry installed.old k)
+        (answers.call_of call.now.number call.now.port call.now.op) (handlers_view call.now.handlers))) }
     ensures name { installed.new.scope ≡ installed.old.scope }
     ensures installed { IfOk result (λ m. IfNone m (installed.new ≡ installed.old)) }
 {

@@ -99,7 +99,9 @@ impl Config {
 
     /// Brings the form to normal form.
     pub fn settle(&mut self, alloc: Global) -> Result<(), AllocError>
-        ensures { IfOk result (λ _. config_view self.new ≡ spec.with_form (config_view self.old) (config_view self.old).form (config_view self.old).next) }
+        ensures { IfOk result
+            (λ _. config_view self.new ≡ spec.with_form (config_view self.old) (config_view self.old).form
+            (config_view self.old).next) }
     {
         self.memory.next = normalize(alloc, &mut self.form, self.memory.next)?;
         Ok(())

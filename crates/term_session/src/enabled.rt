@@ -25,7 +25,9 @@ pub fn enabled(
     program: &Program,
     service: u32,
 ) -> Result<Strands, AllocError>
-    ensures exact { IfOk result (λ strands. (n : ℕ) → Contains strands n ↔ HasEvent (parts_of program.now) service (config_view config.now) n) }
+    ensures exact { IfOk result
+        (λ strands. (n : ℕ) → Contains strands n ↔ HasEvent (parts_of program.now) service (config_view config.now)
+        n) }
     ensures rising { IfOk result IsStrictlyIncreasing }
 {
     let standing = standing_in(alloc, config)?;
@@ -36,7 +38,8 @@ pub fn enabled(
 /// The strands that stand in the form of a session, each once and in rising order.
 fn standing_in(alloc: Global, config: &Config) -> Result<Vec<u64>, AllocError>
     ensures rising { IfOk result (λ v. IsStrictlyIncreasing v.items) }
-    ensures all { IfOk result (λ v. (n : ℕ) → Contains (strands_in 0 (config_view config.now).form) n → Contains v.items n) }
+    ensures all { IfOk result
+        (λ v. (n : ℕ) → Contains (strands_in 0 (config_view config.now).form) n → Contains v.items n) }
 {
     let strands = strands_of(alloc, &config.form, 0)?;
     let mut standing = Vec::from_slice(alloc, strands.as_slice())?;
@@ -53,7 +56,9 @@ fn needing(
     program: &Program,
     service: u32,
 ) -> Result<Strands, AllocError>
-    ensures { IfOk result (λ needing. needing ≡ filter (λ n. is_some (spec.needed (parts_of program.now) service (config_view config.now) n)) strands.now) }
+    ensures { IfOk result
+        (λ needing. needing ≡ filter
+        (λ n. is_some (spec.needed (parts_of program.now) service (config_view config.now) n)) strands.now) }
 {
     let mut needing = Items::new(alloc);
     for strand in strands {
@@ -73,7 +78,8 @@ fn needs(
     program: &Program,
     service: u32,
 ) -> Result<bool, AllocError>
-    ensures { IfOk result (λ b. b ≡ is_some (spec.needed (parts_of program.now) service (config_view config.now) strand)) }
+    ensures { IfOk result
+        (λ b. b ≡ is_some (spec.needed (parts_of program.now) service (config_view config.now) strand)) }
 {
     match foretold(config, strand) {
         Glance::Asks => Ok(true),

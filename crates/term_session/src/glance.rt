@@ -26,8 +26,8 @@ pub enum Glance {
     Stores,
 }
 
-/// What is told of the event of a strand of a session. A change of the store may have a fault instead, which asks nothing
-/// either where it is raised.
+/// What is told of the event of a strand of a session. A change of the store may have a fault instead, which asks
+/// nothing either where it is raised.
 #[tactic(auto, using(crate::proofs::Foretelling::untold))]
 pub fn foretold(config: &Config, strand: u64) -> Glance
     ensures { Foretells result (config_view config.now) strand }
@@ -79,7 +79,8 @@ fn glance_in(term: &Term, own: u64, strand: u64) -> Glance
 /// Glances at a place.
 #[tactic(auto, using(crate::proofs::Foretelling::assigns, crate::proofs::Foretelling::copies, crate::proofs::Foretelling::takes_away))]
 fn glance_at(place: &Behaviour) -> Glance
-    ensures { (s : Seen) → is_so result (looked (faults.fault_of s (behaviour_view place.now)) (asked.asked s (behaviour_view place.now))) ≡ true }
+    ensures { (s : Seen) → is_so result (looked (faults.fault_of s (behaviour_view place.now))
+        (asked.asked s (behaviour_view place.now))) ≡ true }
 {
     match place {
         Behaviour::Assign { .. } | Behaviour::Undef { .. } | Behaviour::Copy { .. } =>

@@ -34,7 +34,9 @@ pub fn look(
     scene: Scene<'_>,
     memory: &Memory,
 ) -> Result<Looked, AllocError>
-    ensures { IfOk result (λ l. looked_view l ≡ spec.looked_in (seen_in scene.entry given.Nothing memory.now) own (term_view term.now)) }
+    ensures { IfOk result
+        (λ l. looked_view l ≡ spec.looked_in (seen_in scene.entry given.Nothing memory.now) own
+        (term_view term.now)) }
 {
     match term {
         Term::Done => Ok(Looked::Idle),
@@ -76,7 +78,9 @@ fn look_among(
     scene: Scene<'_>,
     memory: &Memory,
 ) -> Result<Looked, AllocError>
-    ensures { IfOk result (λ l. looked_view l ≡ spec.looked_among (seen_in scene.entry given.Nothing memory.now) (members_view strands.now)) }
+    ensures { IfOk result
+        (λ l. looked_view l ≡ spec.looked_among (seen_in scene.entry given.Nothing memory.now)
+        (members_view strands.now)) }
 {
     let Some(place) = place_of(strands, scene.actor.strand) else {
         return Ok(Looked::Idle);
@@ -94,7 +98,9 @@ fn look_alone(
     scene: Scene<'_>,
     memory: &Memory,
 ) -> Result<Looked, AllocError>
-    ensures { IfOk result (λ l. looked_view l ≡ spec.looks_alone (seen_in scene.entry given.Nothing memory.now) own (term_view term.now)) }
+    ensures { IfOk result
+        (λ l. looked_view l ≡ spec.looks_alone (seen_in scene.entry given.Nothing memory.now) own
+        (term_view term.now)) }
 {
     if scene.actor.strand != own {
         return Ok(Looked::Idle);
@@ -109,7 +115,8 @@ fn look_here(
     scene: Scene<'_>,
     memory: &Memory,
 ) -> Result<Looked, AllocError>
-    ensures { IfOk result (λ l. looked_view l ≡ spec.looks_here (seen_in scene.entry given.Nothing memory.now) (term_view term.now)) }
+    ensures { IfOk result
+        (λ l. looked_view l ≡ spec.looks_here (seen_in scene.entry given.Nothing memory.now) (term_view term.now)) }
 {
     match term {
         Term::Place(place) => look_place(alloc, place, scene, memory),
@@ -150,7 +157,10 @@ fn look_place(
     scene: Scene<'_>,
     memory: &Memory,
 ) -> Result<Looked, AllocError>
-    ensures { IfOk result (λ l. looked_view l ≡ spec.looked (faults.fault_of (seen_in scene.entry given.Nothing memory.now) (behaviour_view place.now)) (asked.asked (seen_in scene.entry given.Nothing memory.now) (behaviour_view place.now))) }
+    ensures { IfOk result
+        (λ l. looked_view l ≡ spec.looked
+        (faults.fault_of (seen_in scene.entry given.Nothing memory.now) (behaviour_view place.now))
+        (asked.asked (seen_in scene.entry given.Nothing memory.now) (behaviour_view place.now))) }
 {
     if let Some(fault) = fault_of(alloc, place, scene.actor, scene.installed, memory)? {
         return Ok(Looked::Failing(fault.name));

@@ -22,7 +22,10 @@ pub fn needed(
     config: &Config,
     actor: Actor<'_>,
 ) -> Result<Option<Box<Need>>, AllocError>
-    ensures { IfOk result (λ n. option_map (λ b. b.value) n ≡ spec.needed (parts_of actor.entry.program.now) actor.entry.service (config_view config.now) actor.entry.strand) }
+    ensures { IfOk result
+        (λ n. option_map (λ b. b.value) n
+        ≡ spec.needed (parts_of actor.entry.program.now) actor.entry.service (config_view config.now)
+        actor.entry.strand) }
 {
     if config.ended {
         return Ok(None);
@@ -49,8 +52,13 @@ pub fn needed(
 
 /// What the event of a strand asks of the office, whatever that gives, or none where the strand has no event.
 pub fn need_of(alloc: Global, config: &Config, actor: Actor<'_>) -> Result<Option<Need>, AllocError>
-    ensures { IfOk result (λ o. MatchOption o (¬ HasEvent (parts_of actor.entry.program.now) actor.entry.service (config_view config.now) actor.entry.strand)
-        (λ need. HasEvent (parts_of actor.entry.program.now) actor.entry.service (config_view config.now) actor.entry.strand × ((g : Given) (d : DoneEvent) → after (parts_of actor.entry.program.now) actor.entry.service (config_view config.now) actor.entry.strand g ≡ Some d → d.need ≡ need))) }
+    ensures { IfOk result
+        (λ o. MatchOption o (¬ HasEvent (parts_of actor.entry.program.now) actor.entry.service
+        (config_view config.now) actor.entry.strand)
+        (λ need. HasEvent (parts_of actor.entry.program.now) actor.entry.service (config_view config.now)
+        actor.entry.strand × ((g : Given) (d : DoneEvent)
+        → after (parts_of actor.entry.program.now) actor.entry.service (config_view config.now) actor.entry.strand g
+        ≡ Some d → d.need ≡ need))) }
 {
     match foretold(config, actor.strand) {
         Glance::Stores => Ok(Some(Need::Nothing)),
@@ -64,8 +72,13 @@ fn evaluated_need(
     config: &Config,
     actor: Actor<'_>,
 ) -> Result<Option<Need>, AllocError>
-    ensures { IfOk result (λ o. MatchOption o (¬ HasEvent (parts_of actor.entry.program.now) actor.entry.service (config_view config.now) actor.entry.strand)
-        (λ need. HasEvent (parts_of actor.entry.program.now) actor.entry.service (config_view config.now) actor.entry.strand × ((g : Given) (d : DoneEvent) → after (parts_of actor.entry.program.now) actor.entry.service (config_view config.now) actor.entry.strand g ≡ Some d → d.need ≡ need))) }
+    ensures { IfOk result
+        (λ o. MatchOption o (¬ HasEvent (parts_of actor.entry.program.now) actor.entry.service
+        (config_view config.now) actor.entry.strand)
+        (λ need. HasEvent (parts_of actor.entry.program.now) actor.entry.service (config_view config.now)
+        actor.entry.strand × ((g : Given) (d : DoneEvent)
+        → after (parts_of actor.entry.program.now) actor.entry.service (config_view config.now) actor.entry.strand g
+        ≡ Some d → d.need ≡ need))) }
 {
     let need = needed(alloc, config, actor)?;
     Ok(unboxed(need))

@@ -48,7 +48,8 @@ pub struct TermSession {
 impl TermSession {
     pub fn start(alloc: Global, program: &Program, service: u32) -> Result<TermSession, AllocError>
         requires known { service < length (parts_of program.now).services }
-        ensures { IfOk result (λ s. (service_of s ≡ service) × (config_of s ≡ start_of (parts_of program.now) service)) }
+        ensures { IfOk result
+            (λ s. (service_of s ≡ service) × (config_of s ≡ start_of (parts_of program.now) service)) }
     {
         let config = first_config(alloc, &program.parts().services[service as usize])?;
         Ok(TermSession {
@@ -60,7 +61,9 @@ impl TermSession {
 
     /// The strands that have an event for some gift.
     pub fn enabled(&self, program: &Program) -> Result<Strands, AllocError>
-        ensures exact { IfOk result (λ strands. IfSome (config_of self.now) (λ c. (n : ℕ) → Contains strands n ↔ HasEvent (parts_of program.now) (service_of self.now) c n)) }
+        ensures exact { IfOk result
+            (λ strands. IfSome (config_of self.now)
+            (λ c. (n : ℕ) → Contains strands n ↔ HasEvent (parts_of program.now) (service_of self.now) c n)) }
         ensures rising { IfOk result IsStrictlyIncreasing }
         ensures spent { config_of self.now ≡ None → IsErr result }
     {
@@ -72,8 +75,12 @@ impl TermSession {
 
     /// What the event of a strand asks for, or none where the strand has no event.
     pub fn need(&self, program: &Program, strand: u64) -> Result<Option<Need>, AllocError>
-        ensures exact { IfOk result (λ o. IfSome (config_of self.now) (λ c. MatchOption o (¬ HasEvent (parts_of program.now) (service_of self.now) c strand)
-            (λ need. HasEvent (parts_of program.now) (service_of self.now) c strand × ((g : Gift) (d : DoneEvent) → after_of (parts_of program.now) (service_of self.now) c strand g ≡ Some d → d.need ≡ need)))) }
+        ensures exact { IfOk result
+            (λ o. IfSome (config_of self.now)
+            (λ c. MatchOption o (¬ HasEvent (parts_of program.now) (service_of self.now) c strand)
+            (λ need. HasEvent (parts_of program.now) (service_of self.now) c strand
+            × ((g : Gift) (d : DoneEvent) → after_of (parts_of program.now) (service_of self.now) c strand g ≡ Some d
+            → d.need ≡ need)))) }
         ensures spent { config_of self.now ≡ None → IsErr result }
     {
         let Some(config) = &self.config else {
@@ -90,9 +97,16 @@ impl TermSession {
     /// Does the event of a strand for a gift. A session that has ended has none, and wants no memory to say so.
     #[tactic(auto, using(crate::proofs::Stepping::stepped_some, crate::proofs::Stepping::stepped_none))]
     pub fn step(&mut self, program: &Program, strand: u64, given: Given) -> Result<Event, StepError>
-        ensures done { IfOk result (λ event. IfSome (config_of self.old) (λ c. (d : DoneEvent) × (after_of (parts_of program.now) (service_of self.old) c strand given ≡ Some d) × (event ≡ d.event) × (config_of self.new ≡ Some d.config))) }
-        ensures refused { (k : ℕ) → result ≡ Err (StepError.NotEnabled k) → (k ≡ strand) × (config_of self.new ≡ config_of self.old) × IfSome (config_of self.old) (λ c. after_of (parts_of program.now) (service_of self.old) c strand given ≡ None) }
-        ensures memory { (a : AllocError) → result ≡ Err (StepError.Memory a) → (config_of self.new ≡ None) × IfSome (config_of self.old) (λ c. c.ended ≡ false) }
+        ensures done { IfOk result
+            (λ event. IfSome (config_of self.old)
+            (λ c. (d : DoneEvent) × (after_of (parts_of program.now) (service_of self.old) c strand given ≡ Some d)
+            × (event ≡ d.event) × (config_of self.new ≡ Some d.config))) }
+        ensures refused { (k : ℕ) → result ≡ Err (StepError.NotEnabled k) → (k ≡ strand)
+            × (config_of self.new ≡ config_of self.old)
+            × IfSome (config_of self.old)
+            (λ c. after_of (parts_of program.now) (service_of self.old) c strand given ≡ None) }
+        ensures memory { (a : AllocError) → result ≡ Err (StepError.Memory a) → (config_of self.new ≡ None)
+            × IfSome (config_of self.old) (λ c. c.ended ≡ false) }
         ensures spent { config_of self.old ≡ None → (a : AllocError) × (result ≡ Err (StepError.Memory a)) }
         ensures service { service_of self.new ≡ service_of self.old }
     {
@@ -133,7 +147,8 @@ impl TermSession {
 
     /// The messages of the requests that are still to be answered, in rising order.
     pub fn open_calls(&self) -> Result<Numbers, AllocError>
-        ensures exact { IfOk result (λ messages. IfSome (config_of self.now) (λ c. messages ≡ rising (held.open_requests c.form))) }
+        ensures exact { IfOk result
+            (λ messages. IfSome (config_of self.now) (λ c. messages ≡ rising (held.open_requests c.form))) }
         ensures spent { config_of self.now ≡ None → IsErr result }
     {
         let Some(config) = &self.config else {
@@ -145,7 +160,8 @@ impl TermSession {
 
     /// The calls whose answers the session waits for, in rising order.
     pub fn waiting(&self) -> Result<Numbers, AllocError>
-        ensures exact { IfOk result (λ calls. IfSome (config_of self.now) (λ c. calls ≡ rising (held.waiting c.form))) }
+        ensures exact { IfOk result
+            (λ calls. IfSome (config_of self.now) (λ c. calls ≡ rising (held.waiting c.form))) }
         ensures spent { config_of self.now ≡ None → IsErr result }
     {
         let Some(config) = &self.config else {

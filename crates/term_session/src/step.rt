@@ -18,11 +18,15 @@ use session_forms::Fault;
 use std::alloc::{AllocError, Global};
 use std::sync::Arc;
 
-/// Does the event of a strand, and gives it; none where the strand has none for what the office gave, and then all stays.
-/// Nothing is taken of a session that has ended.
+/// Does the event of a strand, and gives it; none where the strand has none for what the office gave, and then all
+/// stays. Nothing is taken of a session that has ended.
 #[tactic(auto, using(crate::proofs::Going::after_ended, crate::proofs::Going::after_finished, crate::proofs::Going::after_going))]
 pub fn step(alloc: Global, config: &mut Config, turn: Turn<'_>) -> Result<Option<Event>, AllocError>
-    ensures event { IfOk result (λ e. stepped (config_view config.new) e ≡ stepped_by (config_view config.old) (spec.after (parts_of turn.entry.actor.program.now) turn.entry.actor.service (config_view config.old) turn.entry.actor.strand turn.entry.given.now)) }
+    ensures event { IfOk result
+        (λ e. stepped (config_view config.new) e
+        ≡ stepped_by (config_view config.old)
+        (spec.after (parts_of turn.entry.actor.program.now) turn.entry.actor.service (config_view config.old)
+        turn.entry.actor.strand turn.entry.given.now)) }
     ensures memory { OnErr result (config.old.ended ≡ false) }
 {
     if config.ended {
@@ -38,7 +42,9 @@ pub fn step(alloc: Global, config: &mut Config, turn: Turn<'_>) -> Result<Option
 /// Strand 0 finishes a session that has nothing left to do.
 #[tactic(auto, using(crate::proofs::Gifts::finishes_none, crate::proofs::Gifts::finishes_now))]
 fn finish(config: &mut Config, turn: Turn<'_>) -> Option<Event>
-    ensures { stepped (config_view config.new) result ≡ stepped_by (config_view config.old) (spec.finishes (config_view config.old) turn.entry.actor.strand turn.entry.given.now) }
+    ensures { stepped (config_view config.new) result
+        ≡ stepped_by (config_view config.old)
+        (spec.finishes (config_view config.old) turn.entry.actor.strand turn.entry.given.now) }
 {
     if turn.actor.strand != 0 || !turn.gives_nothing() {
         return None;
@@ -55,7 +61,12 @@ fn finish(config: &mut Config, turn: Turn<'_>) -> Option<Event>
 
 /// Does the event of a strand of a session that has something left to do.
 fn go_on(alloc: Global, config: &mut Config, turn: Turn<'_>) -> Result<Option<Event>, AllocError>
-    ensures { IfOk result (λ e. stepped (config_view config.new) e ≡ stepped_by (config_view config.old) (spec.acts (config_view config.old) (spec.seen_by (parts_of turn.entry.actor.program.now) turn.entry.actor.service (config_view config.old) turn.entry.actor.strand turn.entry.given.now))) }
+    ensures { IfOk result
+        (λ e. stepped (config_view config.new) e
+        ≡ stepped_by (config_view config.old)
+        (spec.acts (config_view config.old)
+        (spec.seen_by (parts_of turn.entry.actor.program.now) turn.entry.actor.service (config_view config.old)
+        turn.entry.actor.strand turn.entry.given.now))) }
 {
     let mut around = outermost(alloc);
     let walked = act(
@@ -87,7 +98,11 @@ fn raise(
     turn: Turn<'_>,
     fault: &Arc<Fault>,
 ) -> Result<Option<Event>, AllocError>
-    ensures { IfOk result (λ e. stepped (config_view config.new) e ≡ stepped_by (config_view config.old) (spec.raises (config_view config.old) turn.entry.actor.strand turn.entry.given.now (fault_view (arc_value fault.now)))) }
+    ensures { IfOk result
+        (λ e. stepped (config_view config.new) e
+        ≡ stepped_by (config_view config.old)
+        (spec.raises (config_view config.old) turn.entry.actor.strand turn.entry.given.now
+        (fault_view (arc_value fault.now)))) }
 {
     if !turn.gives_nothing() {
         return Ok(None);

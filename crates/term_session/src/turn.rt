@@ -45,7 +45,8 @@ impl Turn<'_> {
 
 /// The event of a form, if it came, leaves what stands there then.
 pub fn went(form: &mut Box<Term>, moved: Option<Moved>) -> Walked
-    ensures { (t : Acting) (h : Around) (k : Held) → walked_view t result (term_view form.new.value) h k ≡ event_at t moved (term_view form.old.value) h k }
+    ensures { (t : Acting) (h : Around) (k : Held)
+        → walked_view t result (term_view form.new.value) h k ≡ event_at t moved (term_view form.old.value) h k }
 {
     match moved {
         None => Walked::Stuck,
@@ -64,7 +65,8 @@ pub fn went(form: &mut Box<Term>, moved: Option<Moved>) -> Walked
 
 /// The same of what acting at a place came to.
 pub fn came(form: &mut Box<Term>, acted: Acted) -> Walked
-    ensures { (t : Acting) (h : Around) (k : Held) → walked_view t result (term_view form.new.value) h k ≡ came_to t acted (term_view form.old.value) h k }
+    ensures { (t : Acting) (h : Around) (k : Held)
+        → walked_view t result (term_view form.new.value) h k ≡ came_to t acted (term_view form.old.value) h k }
 {
     match acted {
         Acted::Stuck => Walked::Stuck,

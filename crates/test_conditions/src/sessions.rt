@@ -41,7 +41,8 @@ pub fn acts(office: &Office, session: u32) -> Result<bool, AllocError>
 
 /// Whether the service of a session has a variable.
 pub fn has_variable(office: &Office, session: u32, variable: u32) -> Result<bool, AllocError>
-    ensures { IfOk result (λ b. b ≡ legal.has_variable (setting_of office.now) (past_in office.now) session variable) }
+    ensures { IfOk result
+        (λ b. b ≡ legal.has_variable (setting_of office.now) (past_in office.now) session variable) }
 {
     office.ready()?;
     match office.kept().sessions.get(session as usize) {

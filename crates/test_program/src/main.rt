@@ -1,7 +1,7 @@
 //! Runs of the program over a file, streams, doors and links in memory, what its words ask for, and what runs record.
 #![tactic(auto)]
 
-mod guests;
+mod clients;
 mod objects;
 mod peers;
 mod runs;

@@ -4,7 +4,7 @@ ghost use Rattle.std.specs.Prelude.{◌<◌, IfOk, length};
 
 use jolie_main::World;
 use outside_links::ScriptedLink;
-use outside_memory_doors::CalmDoors;
+use outside_memory_doors::UnfailingDoors;
 use outside_traits::{Script, ScriptedFiles, ScriptedSink, ScriptedSource};
 use std::alloc::Global;
 use test_rows::{Row, TableError};
@@ -21,7 +21,7 @@ pub type Memory = World<
     ScriptedSource,
     ScriptedSink,
     ScriptedSink,
-    CalmDoors,
+    UnfailingDoors,
     ScriptedLink,
 >;
 
@@ -34,7 +34,7 @@ pub fn world(alloc: Global, row: &Row<'_>) -> anyhow::Result<Box<Memory>>
     let output = sink(alloc, row, "write_fails_at")?;
     let notes = sink(alloc, row, "note_fails_at")?;
     let links = links(alloc, row)?;
-    let doors = CalmDoors::new(alloc);
+    let doors = UnfailingDoors::new(alloc);
     let world = World {
         files,
         input,

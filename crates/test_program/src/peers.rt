@@ -3,7 +3,7 @@
 ghost use Rattle.std.specs.Prelude.{IfOk, IfSome, ◌<◌, length};
 ghost use Rattle.outside_dials.specs.Dials.{IsFreshScripted};
 
-use crate::guests::{NEVER, ROOM, number};
+use crate::clients::{NEVER, ROOM, number};
 use http_link::HttpLink;
 use outside_dials::ScriptedDial;
 use outside_traits::{Script, ScriptedWire};

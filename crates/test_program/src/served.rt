@@ -2,7 +2,7 @@
 
 ghost use Rattle.std.specs.Prelude.{◌<◌, IfOk, length};
 
-use crate::guests::{ROOM, doors};
+use crate::clients::{ROOM, doors};
 use crate::peers::{Calling, links};
 use crate::told::told;
 use jolie_main::{World, run};
@@ -11,7 +11,7 @@ use outside_traits::{Script, ScriptedFiles, ScriptedSink, ScriptedSource};
 use std::alloc::Global;
 use test_rows::Row;
 
-/// Files and streams in memory, doors at which guests come in, and a link to peers.
+/// Files and streams in memory, doors at which clients come in, and a link to peers.
 pub type Meeting = World<
     ScriptedFiles,
     ScriptedSource,
@@ -21,8 +21,8 @@ pub type Meeting = World<
     Calling,
 >;
 
-/// The end of the run of a row: its status and its notes, what the doors count, and what was written on each connection;
-/// then its lines and what its last peer was asked, where there is any.
+/// The end of the run of a row: its status and its notes, what the doors count, and what was written on each
+/// connection; then its lines and what its last peer was asked, where there is any.
 pub fn served(alloc: Global, row: &Row<'_>) -> anyhow::Result<String> {
     let words = words(alloc, row)?;
     let mut world = world(alloc, row)?;

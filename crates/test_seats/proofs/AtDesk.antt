@@ -18,11 +18,11 @@ use Rattle.office_plain.specs.Replies.{birth_of}
 use Rattle.office_plain.specs.declared.office.Office.{Office}
 use Rattle.office_plain.specs.View.{Adds, entries_of, past_in as past_at, setting_of}
 use Rattle.reqresp_book.specs.declared.origin.Origin.TheVariants as origin
-use Rattle.run_cells.specs.Crews.{AtWork, Stand, State, past_in, state_of}
-use Rattle.run_cells.specs.Turns.{Adopts, IsAdoption, IsTurn, Turned, fresh, none, one, play, spot}
+use Rattle.run_cells.specs.RunStates.{AtWork, Stand, State, past_in, state_of}
+use Rattle.run_cells.specs.Turns.{Adopts, IsAdoption, IsTurn, Turned, fresh, none, one, play, position}
 use Rattle.run_cells.proofs.Offices.{Seated as Adopted, nobody_born, post_goes, post_own, somebody_born, somebody_works, works_begun, works_ok}
-use Rattle.test_seats.specs.Opening.{IsOpened, crew_before, first_entries, state_before}
-use Rattle.test_seats.specs.Seats.{IsSeated, crew_in, stand_in, state_in, state_with}
+use Rattle.test_seats.specs.Opening.{IsOpened, run_state_before, first_entries, state_before}
+use Rattle.test_seats.specs.Seats.{IsSeated, run_state_in, stand_in, state_in, state_with}
 use Rattle.test_seats.specs.declared.seat.Seat.{Seat}
 use Rattle.session_turn.specs.declared.turn.Turn.{Turn}
 use Rattle.session_term_turns.specs.declared.seated.Seated.{Seated}
@@ -43,7 +43,7 @@ pub opened_on : (program : Program) (old new : Office) {E : Type 0} (r : Result 
     → OnOk r (new.spent ≡ false)
     → OnOk r (IsOpened program new)
 opened_on program old new r q opened added ready =
-    works_ok (crew_before program old 0) new r (post_entry first_worker (origin.Port 0 0) q) opened added ready
+    works_ok (run_state_before program old 0) new r (post_entry first_worker (origin.Port 0 0) q) opened added ready
     (post_own (origin.Port 0 0) q) (post_goes (origin.Port 0 0) q)
 
 -- it is the first of all calls
@@ -63,7 +63,7 @@ not_some : {A : Type 0} (x : A) → None ≡ Some x → ⊥
 not_some x e = true≢false (ap (λ o. elim o [ None ↦ true | Some y ↦ false ]) e)
 
 -- the same office under any budget
-pub budgeted : {program : Program} {o : Office} (budget : ℕ) → IsOpened program o → AtWork (crew_before program o budget)
+pub budgeted : {program : Program} {o : Office} (budget : ℕ) → IsOpened program o → AtWork (run_state_before program o budget)
 budgeted budget w = record {
   desk = w.desk;
   team = record {
@@ -74,7 +74,7 @@ budgeted budget w = record {
     each = w.team.each;
     within = λ n st h. absurd (not_some st h);
   };
-  awake = w.awake;
+  unended = w.unended;
 }
 
 -- ---- the session is seated
@@ -91,8 +91,8 @@ pub nobody : (program : Program) (old new : Office) (budget : ℕ) (first : Opti
     → service_of (run_of (parts_of program)) (past_in (state_before program budget first)) 0 ≡ None
 nobody program old new budget first opened entries added is =
     subst (λ (h : List Entry). service_of (run_of (parts_of program)) (past_of (run_of (parts_of program)) h) 0 ≡ None) entries
-    (unborn_of (state_of (crew_before program old 0)) (state_of (crew_before program new 0)) false
-    (nobody_born {c = crew_before program old 0} new 0 opened added refl is) refl)
+    (unborn_of (state_of (run_state_before program old 0)) (state_of (run_state_before program new 0)) false
+    (nobody_born {c = run_state_before program old 0} new 0 opened added refl is) refl)
 
 -- The session was born, adopted and seated.
 pub record IsBegun (run : Program) (old : Office) (birth : Birth) (s : Seat) : Type 0 where
@@ -105,19 +105,19 @@ pub record IsBegun (run : Program) (old : Office) (birth : Birth) (s : Seat) : T
   pub stand : stand_in s ≡ fresh (run_of (parts_of run)) birth.service
 
 adopted_by : (program : Program) (old : Office) (birth : Birth) (s : Seat) → IsBegun program old birth s
-    → Adopted (crew_before program old s.budget) (crew_in s []) birth
+    → Adopted (run_state_before program old s.budget) (run_state_in s []) birth
 adopted_by program old birth s b = record {
   program = b.program;
   budget = refl;
   picks = refl;
   stands = ap (λ (st : Stand). st ∷ []) b.stand;
-  awake = refl;
+  unended = refl;
 }
 
 adoption_of : (program : Program) (old : Office) (birth : Birth) (s : Seat) → IsOpened program old
-    → IsBegun program old birth s → IsAdoption (state_of (crew_before program old s.budget)) (state_in s)
+    → IsBegun program old birth s → IsAdoption (state_of (run_state_before program old s.budget)) (state_in s)
 adoption_of program old birth s opened b =
-    somebody_born {old = crew_before program old s.budget} (crew_in s []) birth 0 b.adopter (budgeted s.budget opened)
+    somebody_born {old = run_state_before program old s.budget} (run_state_in s []) birth 0 b.adopter (budgeted s.budget opened)
     (adopted_by program old birth s b) refl b.office b.added b.is
 
 pub somebody : (program : Program) (old : Office) (budget : ℕ) (first : Option Posted) (birth : Birth) (s : Seat)
@@ -132,7 +132,7 @@ somebody program old budget first birth s opened entries b same =
 pub somebody_seated : (program : Program) (old : Office) (birth : Birth) (s : Seat) → IsOpened program old
     → IsBegun program old birth s → IsSeated s
 somebody_seated program old birth s opened b =
-    somebody_works {old = crew_before program old s.budget} (crew_in s []) birth 0 b.adopter (budgeted s.budget opened)
+    somebody_works {old = run_state_before program old s.budget} (run_state_in s []) birth 0 b.adopter (budgeted s.budget opened)
     (adopted_by program old birth s b) b.office b.added b.ready (adoption_of program old birth s opened b)
 
 -- ---- a turn
@@ -142,7 +142,7 @@ abbrev pub later : Seat → Office → Seated → List Event → Seat
 later s o x es = record s { office = o; session = x; events = es }
 
 -- it is at work with any picks
-pub picked : (s : Seat) (picks : List ℕ) → IsSeated s → AtWork (crew_in s picks)
+pub picked : (s : Seat) (picks : List ℕ) → IsSeated s → AtWork (run_state_in s picks)
 picked s picks w = record {
   desk = w.desk;
   team = record {
@@ -153,12 +153,12 @@ picked s picks w = record {
     each = w.team.each;
     within = w.team.within;
   };
-  awake = w.awake;
+  unended = w.unended;
 }
 
 -- what a turn came to is a turn of the run
 pub taken : (s : Seat) (o : Office) (x : Seated) (es : List Event) (pick : ℕ) {E : Type 0} (r : Result Turn E)
-    → IfOk r (Turned (play (state_with s pick) 0) (spot (stand_in s) (entries_of s.office)) (spot (stand_in (later s o x es)) (entries_of o)))
+    → IfOk r (Turned (play (state_with s pick) 0) (position (stand_in s) (entries_of s.office)) (position (stand_in (later s o x es)) (entries_of o)))
     → IfOk r (IsTurn 0 (state_with s pick) (state_in (later s o x es)))
 taken s o x es pick (Ok t) h = record {
   was = stand_in s;

@@ -10,7 +10,7 @@ use Rattle.office_core.specs.Limits.{Setting, first_worker, run_of}
 use Rattle.office_core.specs.Route.{post_reply, route}
 use Rattle.office_plain.specs.Entries.{post_entry}
 use Rattle.office_plain.specs.declared.office.Office.{Office}
-use Rattle.run_cells.specs.Crews.{AtWork, Crew, State, crew_by, list_of}
+use Rattle.run_cells.specs.RunStates.{AtWork, RunState, State, run_state_by, list_of}
 
 -- the post of a message before all others, with its reply
 abbrev pub first_entries : Setting → Option Posted → List Entry
@@ -29,9 +29,9 @@ state_before program budget first = record {
 }
 
 -- the office of a program, of which no session is at hand
-abbrev pub crew_before : Program → Office → ℕ → Crew
-crew_before program office budget = crew_by program office budget [] []
+abbrev pub run_state_before : Program → Office → ℕ → RunState
+run_state_before program office budget = run_state_by program office budget [] []
 
 -- the office is at work, and no session was adopted
 abbrev pub IsOpened : Program → Office → Type 0
-IsOpened program office = AtWork (crew_before program office 0)
+IsOpened program office = AtWork (run_state_before program office 0)

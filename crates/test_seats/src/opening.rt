@@ -52,7 +52,8 @@ fn post_first(
     requires opened { IsOpened program.now office.old }
     requires nothing_yet { entries_of office.old ≡ [] }
     ensures opened { OnOk result (IsOpened program.now office.new) }
-    ensures entries { OnOk result (entries_of office.new ≡ first_entries (run_of (parts_of program.now)) (Some posted)) }
+    ensures entries { OnOk result (entries_of office.new
+        ≡ first_entries (run_of (parts_of program.now)) (Some posted)) }
 {
     let origin = Origin::Port {
         posting: 0,

@@ -54,7 +54,9 @@ impl Seat<'_> {
     pub fn may_act(&mut self) -> Result<bool, AllocError>
         requires { IsSeated self.old }
         ensures same { OnOk result (state_in self.new ≡ state_in self.old) }
-        ensures exact { IfOk result (λ may. (may ≡ true) ↔ CanAct (run_of (parts_of self.old.program.now)) (entries_of self.old.office) 0 self.old.events) }
+        ensures exact { IfOk result
+            (λ may. (may ≡ true) ↔ CanAct (run_of (parts_of self.old.program.now)) (entries_of self.old.office) 0
+            self.old.events) }
         ensures seated { OnOk result (IsSeated self.new) }
     {
         let desk = PlainDesk {

@@ -4,7 +4,7 @@ ghost use Rattle.std.specs.Prelude.{◌≡◌, ◌<◌, None, IfOk, IfSome, Matc
 ghost use Rattle.behaviour_tree.specs.PartsView.{parts_of};
 ghost use Rattle.office_core.specs.Limits.{run_of};
 ghost use Rattle.office_core.specs.Sessions.{service_of};
-ghost use Rattle.run_cells.specs.Crews.{past_in};
+ghost use Rattle.run_cells.specs.RunStates.{past_in};
 ghost use Rattle.run_cells.specs.Turns.{IsAdoption, fresh};
 ghost use Rattle.test_seats.specs.Opening.{state_before};
 ghost use Rattle.test_seats.specs.Seats.{IsSeated, stand_in, state_in};

@@ -12,7 +12,7 @@ ghost use Rattle.office_plain.specs.Entries.{collect_entry, entry, fetch_entry, 
 ghost use Rattle.office_plain.specs.Replies.{next_outgoing};
 ghost use Rattle.office_plain.specs.View.{past_in, setting_of};
 ghost use Rattle.reqresp_book.specs.declared.origin.Origin.TheVariants as origins;
-ghost use Rattle.run_cells.specs.Crews.{Stays, list_of};
+ghost use Rattle.run_cells.specs.RunStates.{Stays, list_of};
 ghost use Rattle.test_seats.specs.Seats.{IsSeated, state_in};
 
 use crate::opening::WORKER;
@@ -26,8 +26,12 @@ impl Seat<'_> {
     /// Posts a message that comes in at a port, as call 0 of posting 0, or says why it is refused.
     pub fn post(&mut self, posted: Posted) -> Result<PostReply, AllocError>
         requires { IsSeated self.old }
-        ensures reply { IfOk result (λ r. r ≡ post_reply (past_in self.old.office) (route (setting_of self.old.office) (past_in self.old.office) posted)) }
-        ensures added { IfOk result (λ r. Stays (state_in self.old) (state_in self.new) (list_of (post_entry first_worker (origins.Port 0 0) posted r))) }
+        ensures reply { IfOk result
+            (λ r. r ≡ post_reply (past_in self.old.office)
+            (route (setting_of self.old.office) (past_in self.old.office) posted)) }
+        ensures added { IfOk result
+            (λ r. Stays (state_in self.old) (state_in self.new)
+            (list_of (post_entry first_worker (origins.Port 0 0) posted r))) }
         ensures seated { OnOk result (IsSeated self.new) }
     {
         let origin = Origin::Port {
@@ -41,8 +45,10 @@ impl Seat<'_> {
     pub fn collect(&mut self, message: u32) -> Result<Option<Outcome>, AllocError>
         requires seated { IsSeated self.old }
         requires collectable { is_collectable (past_in self.old.office) first_worker message ≡ true }
-        ensures answer { IfOk result (λ o. o ≡ first (answers (setting_of self.old.office) (past_in self.old.office) message)) }
-        ensures added { IfOk result (λ o. Stays (state_in self.old) (state_in self.new) (list_of (collect_entry first_worker message o))) }
+        ensures answer { IfOk result
+            (λ o. o ≡ first (answers (setting_of self.old.office) (past_in self.old.office) message)) }
+        ensures added { IfOk result
+            (λ o. Stays (state_in self.old) (state_in self.new) (list_of (collect_entry first_worker message o))) }
         ensures seated { OnOk result (IsSeated self.new) }
     {
         self.office.collect(WORKER, message)
@@ -51,8 +57,10 @@ impl Seat<'_> {
     /// The oldest call that goes out to a service elsewhere and was not fetched yet; none where none is.
     pub fn fetch(&mut self) -> Result<Option<Outgoing>, AllocError>
         requires { IsSeated self.old }
-        ensures call { IfOk result (λ c. c ≡ next_outgoing (setting_of self.old.office) (past_in self.old.office) outs.Remote) }
-        ensures added { IfOk result (λ c. Stays (state_in self.old) (state_in self.new) (list_of (fetch_entry first_worker c))) }
+        ensures call { IfOk result
+            (λ c. c ≡ next_outgoing (setting_of self.old.office) (past_in self.old.office) outs.Remote) }
+        ensures added { IfOk result
+            (λ c. Stays (state_in self.old) (state_in self.new) (list_of (fetch_entry first_worker c))) }
         ensures seated { OnOk result (IsSeated self.new) }
     {
         self.office.fetch(WORKER, OutKind::Remote)
@@ -62,7 +70,8 @@ impl Seat<'_> {
     pub fn bring(&mut self, call: u32, outcome: Outcome) -> Result<(), AllocError>
         requires seated { IsSeated self.old }
         requires fetched { is_fetched (past_in self.old.office) first_worker 0 call ≡ true }
-        ensures added { OnOk result (Stays (state_in self.old) (state_in self.new) (entry first_worker (act.Answered 0 call outcome) ∷ [])) }
+        ensures added { OnOk result (Stays (state_in self.old) (state_in self.new)
+            (entry first_worker (act.Answered 0 call outcome) ∷ [])) }
         ensures seated { OnOk result (IsSeated self.new) }
     {
         self.office.answered(WORKER, 0, call, outcome)

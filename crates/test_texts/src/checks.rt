@@ -1,9 +1,9 @@
-//! Tables of texts with what is refused of them, and of programs with what they consist of, found by hand from the rules of
-//! the language.
+//! Tables of texts with what is refused of them, and of programs with what they consist of, found by hand from the
+//! rules of the language.
 //!
-//! A row's text stands between the `before` and the `behind` of its group. Where it is to be `refused`, it has the sign `^`,
-//! which stands in no text, in front of the token at whose place it is. Else its `verdict` is given whole, or what a `part`
-//! of its program `means`.
+//! A row's text stands between the `before` and the `behind` of its group. Where it is to be `refused`, it has the sign
+//! `^`, which stands in no text, in front of the token at whose place it is. Else its `verdict` is given whole, or what
+//! a `part` of its program `means`.
 mod outline;
 
 use crate::checks::outline::Outline;

@@ -1,7 +1,7 @@
 //! Tables of texts with what may stand at a place of each, found by hand from the grammar.
 //!
-//! A row's text is its `text`, or its `front`, and a `part` so many `times` behind it. The place is `at`, and without it the
-//! end of the text. The hints are told in their order, with commas between.
+//! A row's text is its `text`, or its `front`, and a `part` so many `times` behind it. The place is `at`, and without
+//! it the end of the text. The hints are told in their order, with commas between.
 use explain_hints::{Hint, hints_at};
 use std::alloc::{AllocError, Global};
 use test_rows::{Row, TableError};

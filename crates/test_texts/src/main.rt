@@ -1,5 +1,5 @@
-//! Tables over texts: of trees with their expressions and types, of Jolie with what is said of it by the checks and to a
-//! person, and of JSON-RPC.
+//! Tables over texts: of trees with their expressions and types, of Jolie with what is said of it by the checks and to
+//! a person, and of JSON-RPC.
 //!
 //! What a row is of says which module reads it.
 #![tactic(auto)]

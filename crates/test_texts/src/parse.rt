@@ -1,9 +1,10 @@
-//! Tables of texts with what the parser says of them and what is printed of their trees, found by hand from the grammar.
+//! Tables of texts with what the parser says of them and what is printed of their trees, found by hand from the
+//! grammar.
 //!
-//! A row's text is its `text`, between a `before` and a `behind` where it has these, or its `front`, its `part` so many `times`
-//! and its `back`. Of the text it gives the `verdict`, what is `printed` without what was put around it, what is printed
-//! `again` of that, what is said of its `fronts`, the texts that it goes beyond, how many `definitions` its tree has, or the
-//! place of the first operand of a `sum` and how many follow.
+//! A row's text is its `text`, between a `before` and a `behind` where it has these, or its `front`, its `part` so many
+//! `times` and its `back`. Of the text it gives the `verdict`, what is `printed` without what was put around it, what
+//! is printed `again` of that, what is said of its `fronts`, the texts that it goes beyond, how many `definitions` its
+//! tree has, or the place of the first operand of a `sum` and how many follow.
 mod answer;
 mod tree;
 

@@ -1,5 +1,5 @@
-//! Tables of texts with the tokens that they fall into, found by hand from the rules of the language, and of words that are
-//! reserved or free.
+//! Tables of texts with the tokens that they fall into, found by hand from the rules of the language, and of words that
+//! are reserved or free.
 use jolie_tokens::{Token, TokenKind, is_reserved, lex};
 use std::alloc::{AllocError, Global};
 use test_rows::{Row, TableError};

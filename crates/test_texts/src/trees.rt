@@ -1,7 +1,7 @@
 //! Scripts over a tree, with what each of their lines gives.
 //!
-//! A row begins with a tree without children, which is true where it says so and void otherwise, and does its lines in turn.
-//! A path is `a.b[2]`, a name again and again as `a*64`, or `-`, which is no step.
+//! A row begins with a tree without children, which is true where it says so and void otherwise, and does its lines in
+//! turn. A path is `a.b[2]`, a name again and again as `a*64`, or `-`, which is no step.
 mod paths;
 mod script;
 

@@ -226,12 +226,12 @@ pub finds_acting : (w : Setting) (h : List Entry) (s : ℕ) (events : List Event
     → can_act w h s events ≡ true
 finds_acting w h s events x =
     let past = past_of w h in
-    let runs = not_true (has_ended past s) (both_right (is_some (service_of w past s)) (not (has_ended past s)) x.live) in
+    let runs = not_true (has_ended past s) (both_right (is_some (service_of w past s)) (not (has_ended past s)) x.acts.live) in
     (λ i. can_act_by w h s (runs i) (leads_there w h s events x.last x.agrees i))
-    ∙ strand_acts w past s x.agrees.service x.last x.strand x.gift x.done x.agrees.born
+    ∙ strand_acts w past s x.agrees.service x.last x.acts.strand x.acts.gift x.acts.done x.agrees.born
     (both_right (numbers_differ (0 ∷ strands_of x.last.form)) (list_all (λ m. nat_lt m x.last.next) (0 ∷ strands_of x.last.form))
     (strands_differ_in_runs w.parts x.agrees.service (steps_of events (calls_of w h s)) x.last x.agrees.run))
-    x.event x.given
+    x.acts.event x.acts.given
 
 -- a session that is found to can act, where its events agree with the history
 pub acting_is_found : (w : Setting) (h : List Entry) (s : ℕ) (events : List Event) (last : Config)
@@ -252,14 +252,16 @@ acting_is_found w h s events last a found_so = by (has_ended past s) refl found_
         let k = acts_so_by (after w.parts a.service last n.0 g.0)
         (sym (ap (λ o. elim o [ None ↦ false | Some e ↦ acts_by w past s (after w.parts e last n.0 g.0) ]) a.born) ∙ g.1) in
         record {
-          live = λ i. is_some (a.born i) && not (runs i);
           last = last;
           agrees = a;
-          strand = n.0;
-          gift = g.0;
-          done = k.0;
-          event = k.1;
-          given = k.2;
+          acts = record {
+            live = λ i. is_some (a.born i) && not (runs i);
+            strand = n.0;
+            gift = g.0;
+            done = k.0;
+            event = k.1;
+            given = k.2;
+          };
         }
 
     by : (ended : Bool) → has_ended past s ≡ ended → can_act_by w h s ended (leads_to w h s events) ≡ true → CanAct w h s events

@@ -25,7 +25,7 @@ use Rattle.http_port.proofs.TalkLemmas.{spoken}
 use Rattle.http_connection.specs.declared.stage.Stage.{Stage}
 use Rattle.http_connection.specs.declared.stage.Stage.TheVariants as Stages
 use Rattle.http_connection.proofs.Words.{same_early}
-use Rattle.run_theorem.specs.Visits.{Visit, HasPassed}
+use Rattle.run_theorem.specs.RunConnections.{RunConnection, HasPassed}
 use Rattle.run_theorem.specs.Served.{IsServed}
 use Rattle.test_trials.proofs.Requests.{bodies_by, talk_by, cons_nil}
 use Rattle.test_trials.proofs.Sent.{go, read_go, reading_go, gives_go}
@@ -86,14 +86,14 @@ spoilt_answered_twice =
     (other twice (λ e. cons_nil _ _ e) (differ (take (length twice) (answer_bytes (Some text) false)) twice refl refl), tt)
 
 -- nothing to say
-abbrev nothing_said : List ℕ
-nothing_said = codes "HTTP/1.1 204 No Content\r\n\r\n"
+abbrev nothing_sent : List ℕ
+nothing_sent = codes "HTTP/1.1 204 No Content\r\n\r\n"
 
-pub spoilt_nothing_said : IsServed setting history false (wrote nothing_said ∷ []) → ⊥
+pub spoilt_nothing_sent : IsServed setting history false (wrote nothing_sent ∷ []) → ⊥
 unfolding digits
-spoilt_nothing_said =
-    refused setting history false (wrote nothing_said ∷ []) some_posted one_door
-    (other nothing_said (λ e. cons_nil _ _ e) (differ (take (length nothing_said) (answer_bytes (Some text) false)) nothing_said refl refl), tt)
+spoilt_nothing_sent =
+    refused setting history false (wrote nothing_sent ∷ []) some_posted one_door
+    (other nothing_sent (λ e. cons_nil _ _ e) (differ (take (length nothing_sent) (answer_bytes (Some text) false)) nothing_sent refl refl), tt)
 
 -- ---- posted otherwise
 
@@ -134,7 +134,7 @@ abbrev cut : List ℕ
 cut = take 100 written
 
 not_whole : (bytes : List ℕ) → (answer_bytes (Some text) false ≡ bytes → ⊥) → (s : IsServed setting history false (wrote bytes ∷ []))
-    → ((v : Visit) → slice_get s.visits 0 ≡ Some v → v.stage ≢ Stages.WriteFailed) → ⊥
+    → ((v : RunConnection) → slice_get s.connections 0 ≡ Some v → v.stage ≢ Stages.WriteFailed) → ⊥
 unfolding digits
 not_whole bytes apart =
     refused_cut setting history false (wrote bytes) reading_go go [] (gives_go reading_go) refl some_posted one_door (Some text)
@@ -142,25 +142,25 @@ not_whole bytes apart =
 
 -- It is refused where no write failed and nothing halted,
 pub spoilt_cut : (s : IsServed setting history false (wrote cut ∷ []))
-    → ((v : Visit) → slice_get s.visits 0 ≡ Some v → v.stage ≢ Stages.WriteFailed) → ⊥
+    → ((v : RunConnection) → slice_get s.connections 0 ≡ Some v → v.stage ≢ Stages.WriteFailed) → ⊥
 unfolding digits
 spoilt_cut = not_whole cut (differ (answer_bytes (Some text) false) cut refl refl)
 
 -- and so is none.
 pub spoilt_unwritten : (s : IsServed setting history false (wrote [] ∷ []))
-    → ((v : Visit) → slice_get s.visits 0 ≡ Some v → v.stage ≢ Stages.WriteFailed) → ⊥
+    → ((v : RunConnection) → slice_get s.connections 0 ≡ Some v → v.stage ≢ Stages.WriteFailed) → ⊥
 unfolding digits
 spoilt_unwritten = not_whole [] (differ (answer_bytes (Some text) false) [] refl refl)
 
 -- Each front of it that is not all is served where a write may have failed, and all of it where a read behind it may;
--- whether a call of its wire has failed is not said here.
-abbrev at_stage : Stage → Visit
+-- whether a call of its wire has failed is not sent here.
+abbrev at_stage : Stage → RunConnection
 at_stage stage = record { door = Some 0; service = 0; stage = stage; bodies = go ∷ []; texts = Some text ∷ [] }
 
 served_at : (stage : Stage) (bytes : List ℕ) → HasPassed (at_stage stage) (wrote bytes) → IsServed setting history false (wrote bytes ∷ [])
 unfolding encode
 served_at stage bytes passed = record {
-  visits = at_stage stage ∷ [];
+  connections = at_stage stage ∷ [];
   all = record { asked = asked ∷ []; came = came ∷ [] };
   doors = refl;
   passed = (passed, tt);
@@ -204,7 +204,7 @@ served_where_a_read_failed =
     served_at Stages.ReadFailed written (passed_to_the_end (wrote written) gives (Some text ∷ []) gives_go refl refl all_written)
 
 -- Or the front halted, and nothing was told any more.
-abbrev owing : Visit
+abbrev owing : RunConnection
 owing = record { door = Some 0; service = 0; stage = Stages.Owes; bodies = go ∷ []; texts = [] }
 
 owing_passed : HasPassed owing (wrote [])
@@ -217,12 +217,12 @@ owing_passed = record {
 }
 
 owing_told : IsTextAt (owing ∷ []) asked (response setting (past_of setting history) first_worker 0 came)
-owing_told v t e f = absurd (none-some t (ap (λ (u : Visit). slice_get u.texts 0) (same_Some owing v e) ∙ f))
+owing_told v t e f = absurd (none-some t (ap (λ (u : RunConnection). slice_get u.texts 0) (same_Some owing v e) ∙ f))
 
 pub served_where_it_halted : IsServed setting history true (wrote [] ∷ [])
 unfolding encode
 served_where_it_halted = record {
-  visits = owing ∷ [];
+  connections = owing ∷ [];
   all = record { asked = asked ∷ []; came = came ∷ [] };
   doors = refl;
   passed = (owing_passed, tt);
@@ -236,18 +236,18 @@ served_where_it_halted = record {
   told = λ e. absurd (true≢false e);
 }
 
--- A request that was not taken is not posted, also where nothing halted: whether it waits is not said here.
-abbrev untaken : Visit
+-- A request that was not taken is not posted, also where nothing halted: whether it waits is not sent here.
+abbrev untaken : RunConnection
 untaken = record { door = Some 0; service = 0; stage = Stages.Reads; bodies = []; texts = [] }
 
-none_asked : (k : ℕ) (v : Visit) → slice_get (untaken ∷ []) k ≡ Some v → count_by (is_of k) [] ≡ length v.bodies
-none_asked zero v e = subst (λ (v : Visit). 0 ≡ length v.bodies) (same_Some untaken v e) refl
+none_asked : (k : ℕ) (v : RunConnection) → slice_get (untaken ∷ []) k ≡ Some v → count_by (is_of k) [] ≡ length v.bodies
+none_asked zero v e = subst (λ (v : RunConnection). 0 ≡ length v.bodies) (same_Some untaken v e) refl
 none_asked (suc k) v e = absurd (none-some v e)
 
 pub served_before_it_is_taken : IsServed setting [] false (wrote [] ∷ [])
 unfolding encode
 served_before_it_is_taken = record {
-  visits = untaken ∷ [];
+  connections = untaken ∷ [];
   all = record { asked = []; came = [] };
   doors = refl;
   passed = (

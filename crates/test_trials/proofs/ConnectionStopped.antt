@@ -28,13 +28,13 @@ use Rattle.office_core.specs.declared.history.Act.TheVariants as act
 use Rattle.office_core.specs.declared.history.Entry.{Entry}
 use Rattle.office_core.specs.Limits.{Setting, run_of, first_worker}
 use Rattle.office_core.specs.Accepted.{past_of}
-use Rattle.run_theorem.specs.Dealings.{Asked}
+use Rattle.run_theorem.specs.Exchange.{Asked}
 use Rattle.run_theorem.specs.Calls.{is_of}
 use Rattle.run_record.specs.Postings.{posts_by, posts_of}
 use Rattle.run_theorem.specs.Texts.{Came, posting_of, response}
 use Rattle.http_port.specs.declared.head_reader.Fed.{Fed}
 use Rattle.http_port.specs.declared.head_reader.Fed.TheVariants.{Request}
-use Rattle.run_theorem.specs.Visits.{Visit, came_with, AreTaken, HasPassed}
+use Rattle.run_theorem.specs.RunConnections.{RunConnection, came_with, AreTaken, HasPassed}
 use Rattle.run_theorem.specs.Served.{AreResponses, IsServed}
 use Rattle.test_trials.proofs.Sent.{go, read_go, gives_go}
 use Rattle.test_trials.proofs.Parts.{read_on, passed_on, IsTextAt, text_at, told_responses, one_alone, in_turn_alone, early_alone}
@@ -74,10 +74,10 @@ written = codes "HTTP/1.1 200 OK\r\nContent-Type: application/json\r\nContent-Le
 abbrev pub gives : List Fed
 gives = Request go false ∷ []
 
-abbrev visit : Visit
-visit = read_on gives (Some text ∷ [])
+abbrev connection : RunConnection
+connection = read_on gives (Some text ∷ [])
 
-passed : HasPassed visit (record { read = read_go; written = written })
+passed : HasPassed connection (record { read = read_go; written = written })
 unfolding digits
 passed = passed_on (record { read = read_go; written = written }) gives (Some text ∷ []) gives_go refl refl
 
@@ -93,11 +93,11 @@ in_order zero a e = subst (λ (a : Asked). a.request ≡ count_by (is_of a.traff
 in_order (suc j) a e = absurd (none-some a e)
 
 -- where one request was taken from the only connection it was asked
-pub one_taken : (visit : Visit) → length visit.bodies ≡ 1 → AreTaken (visit ∷ []) (asked ∷ [])
-one_taken visit one = record { in_order = in_order; all = all }
+pub one_taken : (connection : RunConnection) → length connection.bodies ≡ 1 → AreTaken (connection ∷ []) (asked ∷ [])
+one_taken connection one = record { in_order = in_order; all = all }
   where
-    all : (k : ℕ) (v : Visit) → slice_get (visit ∷ []) k ≡ Some v → count_by (is_of k) (asked ∷ []) ≡ length v.bodies
-    all zero v e = subst (λ (v : Visit). 1 ≡ length v.bodies) (same_Some visit v e) (sym one)
+    all : (k : ℕ) (v : RunConnection) → slice_get (connection ∷ []) k ≡ Some v → count_by (is_of k) (asked ∷ []) ≡ length v.bodies
+    all zero v e = subst (λ (v : RunConnection). 1 ≡ length v.bodies) (same_Some connection v e) (sym one)
     all (suc k) v e = absurd (none-some v e)
 
 -- the response by the history
@@ -105,11 +105,11 @@ pub is_response : Some text ≡ response setting (past_of setting history) first
 unfolding digits escape_byte is_utf8 chars encode scan_numeral value punctuate lex content word after_number number_of root_name posted answer batch early_answer
 is_response = refl
 
-pub responses : (visit : Visit) → slice_get visit.texts 0 ≡ Some (Some text)
-    → AreResponses setting history (visit ∷ []) (record { asked = asked ∷ []; came = came ∷ [] })
-responses visit told =
-    told_responses setting history (visit ∷ []) (asked ∷ []) (came ∷ [])
-    (subst (IsTextAt (visit ∷ []) asked) is_response (text_at (visit ∷ []) asked visit (Some text) refl told), tt)
+pub responses : (connection : RunConnection) → slice_get connection.texts 0 ≡ Some (Some text)
+    → AreResponses setting history (connection ∷ []) (record { asked = asked ∷ []; came = came ∷ [] })
+responses connection told =
+    told_responses setting history (connection ∷ []) (asked ∷ []) (came ∷ [])
+    (subst (IsTextAt (connection ∷ []) asked) is_response (text_at (connection ∷ []) asked connection (Some text) refl told), tt)
 
 pub is_posted : posts_by first_worker history ≡ posts_of 0 (map posting_of (came ∷ []))
 unfolding digits escape_byte is_utf8 chars encode scan_numeral value punctuate lex content word after_number number_of root_name posted answer batch early_answer
@@ -118,16 +118,16 @@ is_posted = refl
 pub served : IsServed setting history false (record { read = read_go; written = written } ∷ [])
 unfolding encode
 served = record {
-  visits = visit ∷ [];
+  connections = connection ∷ [];
   all = record { asked = asked ∷ []; came = came ∷ [] };
   doors = refl;
   passed = (passed, tt);
-  taken = one_taken visit refl;
+  taken = one_taken connection refl;
   came = refl;
   posted = is_posted;
   one_by_one = one_alone setting history asked;
-  in_turn = in_turn_alone setting history (visit ∷ []) asked refl;
-  responses = responses visit refl;
-  told_early = early_alone setting history (visit ∷ []) asked;
+  in_turn = in_turn_alone setting history (connection ∷ []) asked refl;
+  responses = responses connection refl;
+  told_early = early_alone setting history (connection ∷ []) asked;
   told = λ _. refl;
 }

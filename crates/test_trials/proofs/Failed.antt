@@ -28,7 +28,7 @@ use Rattle.http_port.proofs.TurnLemmas.{starts_with}
 use Rattle.http_connection.specs.declared.stage.Stage.TheVariants as Stages
 use Rattle.http_connection.specs.Stages.{IsFailed}
 use Rattle.http_connection.proofs.Words.{same_early, shorter_behind}
-use Rattle.run_theorem.specs.Visits.{Visit, HasPassed}
+use Rattle.run_theorem.specs.RunConnections.{RunConnection, HasPassed}
 use Rattle.run_theorem.specs.Served.{IsServed}
 use Rattle.test_trials.proofs.Requests.{cons_nil}
 use Rattle.test_trials.proofs.Sent.{go, more}
@@ -95,7 +95,7 @@ unfolding digits escape_byte is_utf8 chars encode scan_numeral value punctuate l
 not_both others e = differ [] call_more.op refl refl (ap (λ (ps : List Post). first_op (behind_first ps)) e)
 
 pub spoilt_second_not_posted : (s : IsServed setting go_alone false (wrote written_go ∷ []))
-    → ((v : Visit) → slice_get s.visits 0 ≡ Some v → IsFailed v.stage) → ⊥
+    → ((v : RunConnection) → slice_get s.connections 0 ≡ Some v → IsFailed v.stage) → ⊥
 unfolding digits
 spoilt_second_not_posted =
     refused_untaken setting go_alone false (wrote written_go) reading go (Request more false ∷ []) (gives_read reading) refl one_posted one_door
@@ -103,7 +103,7 @@ spoilt_second_not_posted =
 
 -- Where it halted the first request was told its answer all the same: it had that before the second was posted.
 pub spoilt_untold_where_it_halted : (s : IsServed setting history true (wrote [] ∷ []))
-    → ((v : Visit) → slice_get s.visits 0 ≡ Some v → v.stage ≢ Stages.WriteFailed) → ⊥
+    → ((v : RunConnection) → slice_get s.connections 0 ≡ Some v → v.stage ≢ Stages.WriteFailed) → ⊥
 unfolding digits
 spoilt_untold_where_it_halted =
     refused_untold setting history true (wrote []) reading go (Request more false ∷ []) (gives_read reading) go_early some_posted one_door

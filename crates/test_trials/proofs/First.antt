@@ -1,7 +1,7 @@
 -- What a run posted first, on which connection it came, and what is written there.
-use Rattle.std.proofs.Common.{◌≡◌, ◌<◌, append-nil, ℕ, zero, suc, Bool, true, false, ◌||◌, List, [], ◌∷◌, ◌++◌, length, take, map, Option, Some, None, sym, refl, ap, ◌∙◌, subst, true≢false, arith, ◌≤◌, ◌⊎◌, ◌+◌, inl, inr, length-append}
-use Rattle.std.specs.Prelude.{◌≢◌, ◌-◌, ◌≤◌, if◌then◌else◌, bytes_eq, slice_get, option_map, option_and_then, nat_eq, count_by}
-use Rattle.std.specs.List.{list_all, AllZip}
+use Rattle.std.proofs.Common.{◌≡◌, ◌<◌, append-nil, ℕ, zero, suc, Bool, true, false, ◌||◌, List, [], ◌∷◌, ◌++◌, length, take, map, Option, Some, None, sym, refl, ap, ◌∙◌, subst, true≢false, arith, ◌≤◌, ◌⊎◌, ◌+◌, inl, inr, length-append, cond}
+use Rattle.std.specs.Prelude.{◌≢◌, ◌-◌, ◌≤◌, bytes_eq, slice_get, option_map, option_and_then, nat_eq, count_by, unwrap_or}
+use Rattle.std.specs.List.{list_all, filter, AllZip}
 use Rattle.std.specs.Io.{StartsWith}
 use Rattle.std.proofs.Math.Logic.{∥∥₁_elim}
 use Rattle.std.proofs.Math.Seq.{take-length}
@@ -11,12 +11,13 @@ use Rattle.office_core.specs.declared.front.CallIn.{CallIn}
 use Rattle.office_core.specs.declared.front.CallIn.TheVariants as call
 use Rattle.office_core.specs.declared.history.Entry.{Entry}
 use Rattle.office_core.specs.Limits.{Setting, first_worker}
+use Rattle.office_core.specs.Keys.{first as first_in}
 use Rattle.office_core.specs.Accepted.{past_of}
-use Rattle.run_theorem.specs.Dealings.{Asked}
+use Rattle.run_theorem.specs.Exchange.{Asked}
 use Rattle.run_theorem.specs.Calls.{is_of}
 use Rattle.run_record.specs.declared.record.Traffic.{Traffic}
 use Rattle.run_record.specs.Postings.{Post, posts_by, posts_from, posts_of}
-use Rattle.run_record.specs.Order.{least_from, is_finished, finished_at}
+use Rattle.run_record.specs.Order.{numbers_from, is_finished, finished_at}
 use Rattle.run_theorem.specs.Texts.{Came, posting_of, response}
 use Rattle.http_port.specs.declared.head_reader.Fed.{Fed}
 use Rattle.http_port.specs.declared.head_reader.Fed.TheVariants.{Request}
@@ -31,7 +32,7 @@ use Rattle.http_connection.specs.Talking.{log}
 use Rattle.http_connection.specs.Law.{holding, bodies_of, talk_of, IsCutOff, Keeps}
 use Rattle.http_connection.proofs.Words.{begins_from}
 use Rattle.run_theorem.specs.Ports.{has_door}
-use Rattle.run_theorem.specs.Visits.{Visit, came_with, came_of, came_at, AreTaken, HasPassed}
+use Rattle.run_theorem.specs.RunConnections.{RunConnection, came_with, came_of, came_at, AreTaken, HasPassed}
 use Rattle.run_theorem.specs.Served.{Requests, AreOneByOne, HadToWait, AreResponses, AreToldEarly, is_told, IsServed}
 use Rattle.test_trials.proofs.Requests.{bodies_by, talk_by, cons_nil, head_same}
 use Rattle.test_trials.proofs.Parts.{IsCut}
@@ -115,76 +116,76 @@ holds_alone false e = e
 -- ---- what was posted first
 
 -- A request that came in is one that was taken from its connection.
-record IsTaken (visits : List Visit) (a : Asked) (c : Came) : Type 0 where
-  visit : Visit
-  there : slice_get visits a.traffic ≡ Some visit
+record IsTaken (connections : List RunConnection) (a : Asked) (c : Came) : Type 0 where
+  connection : RunConnection
+  there : slice_get connections a.traffic ≡ Some connection
   body : List ℕ
-  asked : slice_get visit.bodies a.request ≡ Some body
-  brings : c ≡ came_with visit.service body
+  asked : slice_get connection.bodies a.request ≡ Some body
+  brings : c ≡ came_with connection.service body
 
-is_taken : (visits : List Visit) (a : Asked) (c : Came) → came_at visits a ≡ Some c → IsTaken visits a c
-is_taken visits a c = by_visit (slice_get visits a.traffic) refl
+is_taken : (connections : List RunConnection) (a : Asked) (c : Came) → came_at connections a ≡ Some c → IsTaken connections a c
+is_taken connections a c = by_connection (slice_get connections a.traffic) refl
   where
-    by_body : (v : Visit) (o : Option (List ℕ)) → slice_get visits a.traffic ≡ Some v → slice_get v.bodies a.request ≡ o
-        → option_map (came_with v.service) o ≡ Some c → IsTaken visits a c
+    by_body : (v : RunConnection) (o : Option (List ℕ)) → slice_get connections a.traffic ≡ Some v → slice_get v.bodies a.request ≡ o
+        → option_map (came_with v.service) o ≡ Some c → IsTaken connections a c
     by_body v None there e f = absurd (none-some c f)
     by_body v (Some b) there e f =
-        record { visit = v; there = there; body = b; asked = e; brings = sym (same_Some (came_with v.service b) c f) }
+        record { connection = v; there = there; body = b; asked = e; brings = sym (same_Some (came_with v.service b) c f) }
 
-    by_visit : (o : Option Visit) → slice_get visits a.traffic ≡ o → option_and_then (came_of a.request) o ≡ Some c
-        → IsTaken visits a c
-    by_visit None e f = absurd (none-some c f)
-    by_visit (Some v) e f = by_body v (slice_get v.bodies a.request) e refl f
+    by_connection : (o : Option RunConnection) → slice_get connections a.traffic ≡ o → option_and_then (came_of a.request) o ≡ Some c
+        → IsTaken connections a c
+    by_connection None e f = absurd (none-some c f)
+    by_connection (Some v) e f = by_body v (slice_get v.bodies a.request) e refl f
 
 -- The first posting: the connection whose first request it is, and what that is answered.
-pub record IsFirst (w : Setting) (h : List Entry) (visits : List Visit) (all : List Asked) (came : List Came) : Type 0 where
+pub record IsFirst (w : Setting) (h : List Entry) (connections : List RunConnection) (all : List Asked) (came : List Came) : Type 0 where
   pub whose : Asked
   pub is_whose : slice_get all 0 ≡ Some whose
-  pub visit : Visit
-  pub there : slice_get visits whose.traffic ≡ Some visit
+  pub connection : RunConnection
+  pub there : slice_get connections whose.traffic ≡ Some connection
   pub body : List ℕ
-  pub asked : slice_get visit.bodies 0 ≡ Some body
+  pub asked : slice_get connection.bodies 0 ≡ Some body
   pub others : List Came
-  pub first : came ≡ came_with visit.service body ∷ others
-  pub answered : (text : Option (List ℕ)) → slice_get visit.texts 0 ≡ Some text
-      → text ≡ response w (past_of w h) first_worker 0 (came_with visit.service body)
+  pub first : came ≡ came_with connection.service body ∷ others
+  pub answered : (text : Option (List ℕ)) → slice_get connection.texts 0 ≡ Some text
+      → text ≡ response w (past_of w h) first_worker 0 (came_with connection.service body)
 
-module _ (w : Setting) (h : List Entry) (visits : List Visit) where
-  first_asked : (a : Asked) (asked : List Asked) (c : Came) (came : List Came) → AreTaken visits (a ∷ asked)
-      → AreResponses w h visits (record { asked = a ∷ asked; came = c ∷ came }) → came_at visits a ≡ Some c
-      → IsFirst w h visits (a ∷ asked) (c ∷ came)
+module _ (w : Setting) (h : List Entry) (connections : List RunConnection) where
+  first_asked : (a : Asked) (asked : List Asked) (c : Came) (came : List Came) → AreTaken connections (a ∷ asked)
+      → AreResponses w h connections (record { asked = a ∷ asked; came = c ∷ came }) → came_at connections a ≡ Some c
+      → IsFirst w h connections (a ∷ asked) (c ∷ came)
   first_asked a asked c came taken responses is =
-      let t = is_taken visits a c is in
+      let t = is_taken connections a c is in
       let request : a.request ≡ 0 = taken.in_order 0 a refl in
       record {
         whose = a;
         is_whose = refl;
-        visit = t.visit;
+        connection = t.connection;
         there = t.there;
         body = t.body;
-        asked = subst (λ (n : ℕ). slice_get t.visit.bodies n ≡ Some t.body) request t.asked;
+        asked = subst (λ (n : ℕ). slice_get t.connection.bodies n ≡ Some t.body) request t.asked;
         others = came;
         first = ap (λ (d : Came). d ∷ came) t.brings;
         answered = λ text e.
-            responses 0 a c t.visit text refl refl t.there (subst (λ (n : ℕ). slice_get t.visit.texts n ≡ Some text) (sym request) e)
+            responses 0 a c t.connection text refl refl t.there (subst (λ (n : ℕ). slice_get t.connection.texts n ≡ Some text) (sym request) e)
             ∙ ap (response w (past_of w h) first_worker 0) t.brings;
       }
 
-  first_of : (asked : List Asked) (came : List Came) → AreTaken visits asked → map (came_at visits) asked ≡ map Some came
-      → AreResponses w h visits (record { asked = asked; came = came }) → posts_of 0 (map posting_of came) ≢ []
-      → IsFirst w h visits asked came
+  first_of : (asked : List Asked) (came : List Came) → AreTaken connections asked → map (came_at connections) asked ≡ map Some came
+      → AreResponses w h connections (record { asked = asked; came = came }) → posts_of 0 (map posting_of came) ≢ []
+      → IsFirst w h connections asked came
   first_of [] [] taken is responses some = absurd (some refl)
   first_of [] (c ∷ came) taken is responses some = absurd (cons_nil (Some c) (map Some came) (sym is))
-  first_of (a ∷ asked) [] taken is responses some = absurd (cons_nil (came_at visits a) (map (came_at visits) asked) is)
+  first_of (a ∷ asked) [] taken is responses some = absurd (cons_nil (came_at connections a) (map (came_at connections) asked) is)
   first_of (a ∷ asked) (c ∷ came) taken is responses some =
       first_asked a asked c came taken responses
-      (head_same (came_at visits a) (Some c) (map (came_at visits) asked) (map Some came) is)
+      (head_same (came_at connections a) (Some c) (map (came_at connections) asked) (map Some came) is)
 
 -- a run that posted something posted something first
 pub is_first : (w : Setting) (h : List Entry) (halted : Bool) (traffic : List Traffic) (s : IsServed w h halted traffic)
-    → posts_by first_worker h ≢ [] → IsFirst w h s.visits s.all.asked s.all.came
+    → posts_by first_worker h ≢ [] → IsFirst w h s.connections s.all.asked s.all.came
 is_first w h halted traffic s some =
-    first_of w h s.visits s.all.asked s.all.came (record { in_order = s.taken.in_order; all = s.taken.all }) s.came
+    first_of w h s.connections s.all.asked s.all.came (record { in_order = s.taken.in_order; all = s.taken.all }) s.came
     s.responses (λ e. some (s.posted ∙ e))
 
 -- ---- how a connection stands
@@ -192,7 +193,7 @@ is_first w h halted traffic s some =
 -- The reader of a connection gives this of its bytes: the bodies that were taken are the first of it, no more texts were
 -- told, and what was written is a front of what is to be written. It is all of that, or it was cut; and all where no
 -- write failed. From a connection that is over all was taken, or it was cut.
-pub record Stands (fs : List Fed) (v : Visit) (written : List ℕ) : Type 0 where
+pub record Stands (fs : List Fed) (v : RunConnection) (written : List ℕ) : Type 0 where
   pub bodies : v.bodies ≡ take (length v.bodies) (bodies_in fs)
   pub told : length v.texts ≤ length v.bodies
   pub front : StartsWith (spoken fs v.texts) written
@@ -209,7 +210,7 @@ module _ (t : Traffic) (r : Reading t.read) (fs : List Fed) (gives : given t.rea
       → bodies ≡ take (length bodies) (bodies_in fs)
   all_bodies bodies e = sym (take-length bodies) ∙ ap (take (length bodies)) (e ∙ bodies_by t.read r fs gives)
 
-  well : (v : Visit) → v.bodies ≡ take (length v.bodies) (bodies_in fs) → length v.texts ≤ length v.bodies
+  well : (v : RunConnection) → v.bodies ≡ take (length v.bodies) (bodies_in fs) → length v.texts ≤ length v.bodies
       → t.written ≡ talk_of (holding t.read r) v.texts → (IsOver v.stage → v.bodies ≡ bodies_in fs) → Stands fs v t.written
   well v bodies few e all =
       let whole : t.written ≡ spoken fs v.texts = e ∙ talk_by t.read r fs v.texts gives in
@@ -222,14 +223,14 @@ module _ (t : Traffic) (r : Reading t.read) (fs : List Fed) (gives : given t.rea
         over = λ over. inl (all over);
       }
 
-  cut_at : (v : Visit) → IsCutOff (holding t.read r) (log t.read t.written v.bodies v.texts) → IsCut fs v.texts t.written
+  cut_at : (v : RunConnection) → IsCutOff (holding t.read r) (log t.read t.written v.bodies v.texts) → IsCut fs v.texts t.written
   cut_at v k = record {
     front = subst (λ (l : List ℕ). StartsWith l t.written) (talk_by t.read r fs v.texts gives) k.front;
     part = subst (λ (l : List ℕ). length t.written < length l) (talk_by t.read r fs v.texts gives) k.part;
     before = λ early last e. subst (StartsWith t.written) (talk_by t.read r fs early gives) (k.before early last e);
   }
 
-  write_failed_at : (v : Visit) → v.stage ≡ Stages.WriteFailed
+  write_failed_at : (v : RunConnection) → v.stage ≡ Stages.WriteFailed
       → IsCutOff (holding t.read r) (log t.read t.written v.bodies v.texts) → Stands fs v t.written
   write_failed_at v failed k =
       let cut = cut_at v k in
@@ -277,16 +278,16 @@ module _ (t : Traffic) (r : Reading t.read) (fs : List Fed) (gives : given t.rea
   stands_at door service Stages.Spent bodies texts memory k = absurd (memory refl)
 
   -- what is false of a connection however it stands
-  stands_so : (v : Visit) → HasPassed v t → (Stands fs v t.written → ⊥) → ⊥
+  stands_so : (v : RunConnection) → HasPassed v t → (Stands fs v t.written → ⊥) → ⊥
   stands_so v passed wrong =
       ∥∥₁_elim (passed.keeps r) (λ x y. absurd x) (λ k. wrong (stands_at v.door v.service v.stage v.bodies v.texts passed.stage k))
 
--- each visit has its bytes
-passed_at : (vs : List Visit) (ts : List Traffic) → AllZip HasPassed vs ts → (k : ℕ) (v : Visit) → slice_get vs k ≡ Some v
+-- each connection has its bytes
+passed_at : (vs : List RunConnection) (ts : List Traffic) → AllZip HasPassed vs ts → (k : ℕ) (v : RunConnection) → slice_get vs k ≡ Some v
     → (t : Traffic) × (slice_get ts k ≡ Some t) × HasPassed v t
 passed_at [] ts passed k v there = absurd (none-some v there)
 passed_at (u ∷ vs) [] passed k v there = absurd passed
-passed_at (u ∷ vs) (t ∷ ts) passed zero v there = (t, refl, subst (λ (x : Visit). HasPassed x t) (same_Some u v there) passed.0)
+passed_at (u ∷ vs) (t ∷ ts) passed zero v there = (t, refl, subst (λ (x : RunConnection). HasPassed x t) (same_Some u v there) passed.0)
 passed_at (u ∷ vs) (t ∷ ts) passed (suc k) v there = passed_at vs ts passed.1 k v there
 
 -- ---- another answer
@@ -330,25 +331,25 @@ module _ (w : Setting) (h : List Entry) where
       → IsServed w h halted traffic → ⊥
   refused halted traffic some one others s =
       let f = is_first w h halted traffic s some in
-      let at = passed_at s.visits traffic s.passed f.whose.traffic f.visit f.there in
+      let at = passed_at s.connections traffic s.passed f.whose.traffic f.connection f.there in
       let o = other_at traffic others f.whose.traffic at.0 at.1 in
-      let service : f.visit.service ≡ 0 =
-      one f.visit.service (all_at (λ (v : Visit). has_door w.parts v.service) s.visits f.whose.traffic f.visit s.doors f.there) in
-      stands_so at.0 o.reading (Request o.body false ∷ o.later) o.gives f.visit at.2
-      (λ k. not_answered at.0 o f.visit.texts k.front
+      let service : f.connection.service ≡ 0 =
+      one f.connection.service (all_at (λ (v : RunConnection). has_door w.parts v.service) s.connections f.whose.traffic f.connection s.doors f.there) in
+      stands_so at.0 o.reading (Request o.body false ∷ o.later) o.gives f.connection at.2
+      (λ k. not_answered at.0 o f.connection.texts k.front
       (λ text e.
       f.answered text e
       ∙ ap (λ (n : ℕ). response w (past_of w h) first_worker 0 (came_with n f.body)) service
       ∙ ap (λ (b : List ℕ). response w (past_of w h) first_worker 0 (came_with 0 b))
-      (first_same (length f.visit.bodies) o.body f.body (bodies_in o.later) f.visit.bodies k.bodies f.asked)
+      (first_same (length f.connection.bodies) o.body f.body (bodies_in o.later) f.connection.bodies k.bodies f.asked)
       ∙ o.is_text))
 
 -- ---- one connection
 
-alone : (visits : List Visit) (t : Traffic) → AllZip HasPassed visits (t ∷ []) → (v : Visit) × (visits ≡ v ∷ [])
+alone : (connections : List RunConnection) (t : Traffic) → AllZip HasPassed connections (t ∷ []) → (v : RunConnection) × (connections ≡ v ∷ [])
 alone [] t passed = absurd passed
 alone (v ∷ []) t passed = (v, refl)
-alone (u ∷ v ∷ visits) t passed = absurd passed.1
+alone (u ∷ v ∷ connections) t passed = absurd passed.1
 
 count_one : (m n r : ℕ) → m ≡ 0 → n ≡ 0 → count_by (is_of m) (record { traffic = n; request = r } ∷ []) ≡ 1
 count_one m n r e f =
@@ -356,19 +357,19 @@ count_one m n r e f =
     ∙ ap (λ (k : ℕ). count_by (is_of 0) (record { traffic = k; request = r } ∷ [])) f
 
 -- what came in second was taken second from the only connection
-second_taken : (v : Visit) (a b : Asked) (asked : List Asked) (c d : Came) → AreTaken (v ∷ []) (a ∷ b ∷ asked)
+second_taken : (v : RunConnection) (a b : Asked) (asked : List Asked) (c d : Came) → AreTaken (v ∷ []) (a ∷ b ∷ asked)
     → came_at (v ∷ []) a ≡ Some c → came_at (v ∷ []) b ≡ Some d
     → (body : List ℕ) × (slice_get v.bodies 1 ≡ Some body) × (d ≡ came_with v.service body)
 second_taken v a b asked c d taken is also =
     let s = is_taken (v ∷ []) a c is in
     let t = is_taken (v ∷ []) b d also in
-    let first : a.traffic ≡ 0 = (alone_at v s.visit a.traffic s.there).0 in
-    let second = alone_at v t.visit b.traffic t.there in
+    let first : a.traffic ≡ 0 = (alone_at v s.connection a.traffic s.there).0 in
+    let second = alone_at v t.connection b.traffic t.there in
     let request : b.request ≡ 1 = taken.in_order 1 b refl ∙ count_one b.traffic a.traffic a.request second.0 first in (
       t.body,
-      subst (λ (u : Visit). slice_get u.bodies 1 ≡ Some t.body) (sym second.1)
-          (subst (λ (n : ℕ). slice_get t.visit.bodies n ≡ Some t.body) request t.asked),
-      subst (λ (u : Visit). d ≡ came_with u.service t.body) (sym second.1) t.brings,
+      subst (λ (u : RunConnection). slice_get u.bodies 1 ≡ Some t.body) (sym second.1)
+          (subst (λ (n : ℕ). slice_get t.connection.bodies n ≡ Some t.body) request t.asked),
+      subst (λ (u : RunConnection). d ≡ came_with u.service t.body) (sym second.1) t.brings,
     )
 
 -- the operation that is posted first
@@ -381,7 +382,7 @@ behind_first [] = []
 behind_first (x ∷ xs) = xs
 
 -- where one request was taken, no more came in
-no_others : (v : Visit) (n : ℕ) (body : List ℕ) → v.bodies ≡ take n (body ∷ []) → (asked : List Asked) (c : Came) (others : List Came)
+no_others : (v : RunConnection) (n : ℕ) (body : List ℕ) → v.bodies ≡ take n (body ∷ []) → (asked : List Asked) (c : Came) (others : List Came)
     → AreTaken (v ∷ []) asked → map (came_at (v ∷ [])) asked ≡ map Some (c ∷ others) → others ≡ []
 no_others v n body one asked c [] taken is = refl
 no_others v n body one [] c (d ∷ others) taken is = absurd (cons_nil (Some c) (map Some (d ∷ others)) (sym is))
@@ -394,7 +395,7 @@ no_others v n body one (a ∷ b ∷ asked) c (d ∷ others) taken is =
     absurd (no_second n body second.0 v.bodies one second.1)
 
 -- where more than one came in, more than one was taken
-two_taken : (v : Visit) (asked : List Asked) (c d : Came) (others : List Came) → AreTaken (v ∷ []) asked
+two_taken : (v : RunConnection) (asked : List Asked) (c d : Came) (others : List Came) → AreTaken (v ∷ []) asked
     → map (came_at (v ∷ [])) asked ≡ map Some (c ∷ d ∷ others) → 1 < length v.bodies
 two_taken v [] c d others taken is = absurd (cons_nil (Some c) (map Some (d ∷ others)) (sym is))
 two_taken v (a ∷ []) c d others taken is = absurd (cons_nil (Some d) (map Some others) (sym (ap behind_first is)))
@@ -405,19 +406,19 @@ two_taken v (a ∷ b ∷ asked) c d others taken is =
     slice_get_within v.bodies 1 second.0 second.1
 
 -- What came in second: the body that was taken second.
-record IsSecond (v : Visit) (others : List Came) : Type 0 where
+record IsSecond (v : RunConnection) (others : List Came) : Type 0 where
   body : List ℕ
   taken : slice_get v.bodies 1 ≡ Some body
   more : List Came
   came : others ≡ came_with v.service body ∷ more
 
 -- where more than one was taken, more than one came in
-second_came : (v : Visit) (asked : List Asked) (c : Came) (others : List Came) → AreTaken (v ∷ []) asked
+second_came : (v : RunConnection) (asked : List Asked) (c : Came) (others : List Came) → AreTaken (v ∷ []) asked
     → map (came_at (v ∷ [])) asked ≡ map Some (c ∷ others) → 1 < length v.bodies → IsSecond v others
 second_came v [] c others taken is many = absurd (cons_nil (Some c) (map Some others) (sym is))
 second_came v (a ∷ []) c others taken is many =
     let t = is_taken (v ∷ []) a c (head_same (came_at (v ∷ []) a) (Some c) [] (map Some others) is) in
-    let first : a.traffic ≡ 0 = (alone_at v t.visit a.traffic t.there).0 in
+    let first : a.traffic ≡ 0 = (alone_at v t.connection a.traffic t.there).0 in
     let one : length v.bodies ≡ 1 = sym (taken.all 0 v refl) ∙ count_one 0 a.traffic a.request refl first in
     absurd (few_at_most (length v.bodies) (omega (arith, one)) many)
 second_came v (a ∷ b ∷ asked) c [] taken is many =
@@ -431,10 +432,15 @@ second_came v (a ∷ b ∷ asked) c (d ∷ others) taken is many =
 none_told : 0 < 0 → ⊥
 none_told some = omega (arith, some)
 
--- where the first of some numbers is of a kind, it is the least of the kind
-least_first : (p : ℕ → Bool) (n : ℕ) → p 0 ≡ true → 0 < n → least_from p 0 n ≡ 0
-least_first p zero is some = absurd (none_told some)
-least_first p (suc n) is some = ap (λ (b : Bool). if b then 0 else least_from p 1 n) is
+-- the first of some numbers that is of a kind, or another where none is
+abbrev first_by : (ℕ → Bool) → List ℕ → ℕ → ℕ
+first_by p xs other = unwrap_or (first_in (filter p xs)) other
+
+-- where the first of some numbers is of a kind, it is the first of the kind
+first_is : (p : ℕ → Bool) (n other : ℕ) → p 0 ≡ true → 0 < n → first_by p (numbers_from 0 n) other ≡ 0
+first_is p zero other is some = absurd (none_told some)
+first_is p (suc n) other is some =
+    ap (λ (b : Bool). unwrap_or (first_in (cond b (0 ∷ filter p (numbers_from 1 n)) (filter p (numbers_from 1 n)))) other) is
 
 some_behind : (n : ℕ) → 0 < suc n - 0
 some_behind n = omega arith
@@ -444,7 +450,7 @@ before_two k n e = omega (arith, e)
 
 -- where more than one came in, and the first posting was finished at itself, its request was told
 early_told : (w : Setting) (h : List Entry) → is_finished w (past_of w h) first_worker 0 0 ≡ true
-    → (v : Visit) (asked : List Asked) (c d : Came) (others : List Came) → AreTaken (v ∷ []) asked
+    → (v : RunConnection) (asked : List Asked) (c d : Came) (others : List Came) → AreTaken (v ∷ []) asked
     → map (came_at (v ∷ [])) asked ≡ map Some (c ∷ d ∷ others) → AreToldEarly w h (v ∷ []) asked → 0 < length v.texts
 early_told w h first v [] c d others taken is told = absurd (cons_nil (Some c) (map Some (d ∷ others)) (sym is))
 early_told w h first v (a ∷ []) c d others taken is told =
@@ -452,17 +458,18 @@ early_told w h first v (a ∷ []) c d others taken is told =
 early_told w h first v (a ∷ b ∷ asked) c d others taken is told =
     let s = is_taken (v ∷ []) a c
     (head_same (came_at (v ∷ []) a) (Some c) (map (came_at (v ∷ [])) (b ∷ asked)) (map Some (d ∷ others)) is) in
-    let one : a.traffic ≡ 0 = (alone_at v s.visit a.traffic s.there).0 in
+    let one : a.traffic ≡ 0 = (alone_at v s.connection a.traffic s.there).0 in
     let request : a.request ≡ 0 = taken.in_order 0 a refl in
     let least : finished_at w (past_of w h) first_worker (length (a ∷ b ∷ asked)) 0 ≡ 0 =
-    least_first (is_finished w (past_of w h) first_worker 0) (length (a ∷ b ∷ asked) - 0) first (some_behind (length (b ∷ asked))) in
+    first_is (is_finished w (past_of w h) first_worker 0) (length (a ∷ b ∷ asked) - 0) (length (a ∷ b ∷ asked)) first
+    (some_behind (length (b ∷ asked))) in
     subst (λ (n : ℕ). n < length v.texts) request
     (told 0 a v refl (ap (slice_get (v ∷ [])) one)
     (before_two (finished_at w (past_of w h) first_worker (length (a ∷ b ∷ asked)) 0) (length asked) least))
 
 -- ---- the first posting
 
-first_there : (vs : List Visit) (n : ℕ) (v : Visit) → slice_get vs n ≡ Some v → (u : Visit) × (slice_get vs 0 ≡ Some u)
+first_there : (vs : List RunConnection) (n : ℕ) (v : RunConnection) → slice_get vs n ≡ Some v → (u : RunConnection) × (slice_get vs 0 ≡ Some u)
 first_there [] n v there = absurd (none-some v there)
 first_there (u ∷ vs) n v there = (u, refl)
 
@@ -478,19 +485,19 @@ some_above n m e = omega (arith, e)
 
 module _ {w : Setting} {h : List Entry} {halted : Bool} {t : Traffic} {ts : List Traffic} {body : List ℕ} {later : List Fed}
     (s : IsServed w h halted (t ∷ ts)) where
-  first_came : LeadToOne w → (f : IsFirst w h s.visits s.all.asked s.all.came) → Stands (Request body false ∷ later) f.visit t.written
-      → came_with f.visit.service f.body ≡ came_with 0 body
+  first_came : LeadToOne w → (f : IsFirst w h s.connections s.all.asked s.all.came) → Stands (Request body false ∷ later) f.connection t.written
+      → came_with f.connection.service f.body ≡ came_with 0 body
   first_came one f k =
       ap (λ (n : ℕ). came_with n f.body)
-      (one f.visit.service (all_at (λ (v : Visit). has_door w.parts v.service) s.visits f.whose.traffic f.visit s.doors f.there))
-      ∙ ap (came_with 0) (first_same (length f.visit.bodies) body f.body (bodies_in later) f.visit.bodies k.bodies f.asked)
+      (one f.connection.service (all_at (λ (v : RunConnection). has_door w.parts v.service) s.connections f.whose.traffic f.connection s.doors f.there))
+      ∙ ap (came_with 0) (first_same (length f.connection.bodies) body f.body (bodies_in later) f.connection.bodies k.bodies f.asked)
 
-  first_response : LeadToOne w → (f : IsFirst w h s.visits s.all.asked s.all.came) → Stands (Request body false ∷ later) f.visit t.written
-      → response w (past_of w h) first_worker 0 (came_with f.visit.service f.body)
+  first_response : LeadToOne w → (f : IsFirst w h s.connections s.all.asked s.all.came) → Stands (Request body false ∷ later) f.connection t.written
+      → response w (past_of w h) first_worker 0 (came_with f.connection.service f.body)
       ≡ response w (past_of w h) first_worker 0 (came_with 0 body)
   first_response one f k = ap (response w (past_of w h) first_worker 0) (first_came one f k)
 
-  first_posted : LeadToOne w → (f : IsFirst w h s.visits s.all.asked s.all.came) → Stands (Request body false ∷ later) f.visit t.written
+  first_posted : LeadToOne w → (f : IsFirst w h s.connections s.all.asked s.all.came) → Stands (Request body false ∷ later) f.connection t.written
       → posts_by first_worker h ≡ posts_of 0 (map posting_of (came_with 0 body ∷ f.others))
   first_posted one f k =
       s.posted
@@ -498,14 +505,14 @@ module _ {w : Setting} {h : List Entry} {halted : Bool} {t : Traffic} {ts : List
       (f.first ∙ ap (λ (c : Came). c ∷ f.others) (first_came one f k))
 
   -- how the first connection stands
-  stands_first : (reading : Reading t.read) → given t.read reading ≡ Request body false ∷ later → (v : Visit) → slice_get s.visits 0 ≡ Some v
+  stands_first : (reading : Reading t.read) → given t.read reading ≡ Request body false ∷ later → (v : RunConnection) → slice_get s.connections 0 ≡ Some v
       → (Stands (Request body false ∷ later) v t.written → ⊥) → ⊥
   stands_first reading gives v there wrong =
-      let at = passed_at s.visits (t ∷ ts) s.passed 0 v there in
+      let at = passed_at s.connections (t ∷ ts) s.passed 0 v there in
       stands_so t reading (Request body false ∷ later) gives v (subst (λ (u : Traffic). HasPassed v u) (sym (same_Some t at.0 at.1)) at.2) wrong
 
   -- before the first posting it did not wait, and was not over, since it had sent a request
-  not_over_yet : (v : Visit) → Stands (Request body false ∷ later) v t.written → (asked : List Asked)
+  not_over_yet : (v : RunConnection) → Stands (Request body false ∷ later) v t.written → (asked : List Asked)
       → HadToWait w h asked 0 0 ⊎ (IsOver v.stage × (count_by (is_of 0) (take 0 asked) ≡ length v.bodies)) → ⊥
   not_over_yet v k asked (inl wait) = below_none wait.0 wait.4
   not_over_yet v k asked (inr over) = by_stand (k.over over.0)
@@ -519,14 +526,14 @@ module _ {w : Setting} {h : List Entry} {halted : Bool} {t : Traffic} {ts : List
 
   -- so the first posting is its own
   with_first : (reading : Reading t.read) → given t.read reading ≡ Request body false ∷ later → posts_by first_worker h ≢ []
-      → ((f : IsFirst w h s.visits s.all.asked s.all.came) → f.whose.traffic ≡ 0 → Stands (Request body false ∷ later) f.visit t.written → ⊥) → ⊥
+      → ((f : IsFirst w h s.connections s.all.asked s.all.came) → f.whose.traffic ≡ 0 → Stands (Request body false ∷ later) f.connection t.written → ⊥) → ⊥
   with_first reading gives some wrong =
       let f = is_first w h halted (t ∷ ts) s some in by_number f f.whose.traffic refl
     where
-      by_number : (f : IsFirst w h s.visits s.all.asked s.all.came) (n : ℕ) → f.whose.traffic ≡ n → ⊥
-      by_number f zero is = stands_first reading gives f.visit (ap (slice_get s.visits) (sym is) ∙ f.there) (wrong f is)
+      by_number : (f : IsFirst w h s.connections s.all.asked s.all.came) (n : ℕ) → f.whose.traffic ≡ n → ⊥
+      by_number f zero is = stands_first reading gives f.connection (ap (slice_get s.connections) (sym is) ∙ f.there) (wrong f is)
       by_number f (suc n) is =
-          let v = first_there s.visits f.whose.traffic f.visit f.there in
+          let v = first_there s.connections f.whose.traffic f.connection f.there in
           stands_first reading gives v.0 v.1
           (λ k. not_over_yet v.0 k s.all.asked (s.in_turn 0 0 f.whose v.0 f.is_whose v.1 (some_above f.whose.traffic n is)))
 
@@ -535,58 +542,58 @@ module _ {w : Setting} {h : List Entry} {halted : Bool} {t : Traffic} {ts : List
 module _ (w : Setting) (h : List Entry) (halted : Bool) (t : Traffic) (reading : Reading t.read) (body : List ℕ)
     (later : List Fed) (gives : given t.read reading ≡ Request body false ∷ later) where
   module _ (s : IsServed w h halted (t ∷ [])) where
-    one_alone : later ≡ [] → (f : IsFirst w h s.visits s.all.asked s.all.came) → Stands (Request body false ∷ later) f.visit t.written → f.others ≡ []
+    one_alone : later ≡ [] → (f : IsFirst w h s.connections s.all.asked s.all.came) → Stands (Request body false ∷ later) f.connection t.written → f.others ≡ []
     one_alone last f k =
-        let v = alone s.visits t s.passed in
-        let same : v.0 ≡ f.visit = (alone_at v.0 f.visit f.whose.traffic (ap (λ (l : List Visit). slice_get l f.whose.traffic) (sym v.1) ∙ f.there)).1 in
-        no_others v.0 (length f.visit.bodies) body
-        (ap (λ (u : Visit). u.bodies) same ∙ k.bodies ∙ ap (λ (l : List Fed). take (length f.visit.bodies) (body ∷ bodies_in l)) last)
-        s.all.asked (came_with f.visit.service f.body) f.others
-        (subst (λ (l : List Visit). AreTaken l s.all.asked) v.1 (record { in_order = s.taken.in_order; all = s.taken.all }))
-        (subst (λ (l : List Visit). map (came_at l) s.all.asked ≡ map Some (came_with f.visit.service f.body ∷ f.others)) v.1
+        let v = alone s.connections t s.passed in
+        let same : v.0 ≡ f.connection = (alone_at v.0 f.connection f.whose.traffic (ap (λ (l : List RunConnection). slice_get l f.whose.traffic) (sym v.1) ∙ f.there)).1 in
+        no_others v.0 (length f.connection.bodies) body
+        (ap (λ (u : RunConnection). u.bodies) same ∙ k.bodies ∙ ap (λ (l : List Fed). take (length f.connection.bodies) (body ∷ bodies_in l)) last)
+        s.all.asked (came_with f.connection.service f.body) f.others
+        (subst (λ (l : List RunConnection). AreTaken l s.all.asked) v.1 (record { in_order = s.taken.in_order; all = s.taken.all }))
+        (subst (λ (l : List RunConnection). map (came_at l) s.all.asked ≡ map Some (came_with f.connection.service f.body ∷ f.others)) v.1
         (s.came ∙ ap (map Some) f.first))
 
     -- the only connection
-    only : (f : IsFirst w h s.visits s.all.asked s.all.came) → (v : Visit) × (s.visits ≡ v ∷ []) × (v ≡ f.visit)
+    only : (f : IsFirst w h s.connections s.all.asked s.all.came) → (v : RunConnection) × (s.connections ≡ v ∷ []) × (v ≡ f.connection)
     only f =
-        let v = alone s.visits t s.passed in
-        (v.0, v.1, (alone_at v.0 f.visit f.whose.traffic (ap (λ (l : List Visit). slice_get l f.whose.traffic) (sym v.1) ∙ f.there)).1)
+        let v = alone s.connections t s.passed in
+        (v.0, v.1, (alone_at v.0 f.connection f.whose.traffic (ap (λ (l : List RunConnection). slice_get l f.whose.traffic) (sym v.1) ∙ f.there)).1)
 
-    only_taken : (v : Visit) → s.visits ≡ v ∷ [] → AreTaken (v ∷ []) s.all.asked
+    only_taken : (v : RunConnection) → s.connections ≡ v ∷ [] → AreTaken (v ∷ []) s.all.asked
     only_taken v e =
-        subst (λ (l : List Visit). AreTaken l s.all.asked) e (record { in_order = s.taken.in_order; all = s.taken.all })
+        subst (λ (l : List RunConnection). AreTaken l s.all.asked) e (record { in_order = s.taken.in_order; all = s.taken.all })
 
-    only_came : (f : IsFirst w h s.visits s.all.asked s.all.came) (v : Visit) → s.visits ≡ v ∷ []
-        → map (came_at (v ∷ [])) s.all.asked ≡ map Some (came_with f.visit.service f.body ∷ f.others)
+    only_came : (f : IsFirst w h s.connections s.all.asked s.all.came) (v : RunConnection) → s.connections ≡ v ∷ []
+        → map (came_at (v ∷ [])) s.all.asked ≡ map Some (came_with f.connection.service f.body ∷ f.others)
     only_came f v e =
-        subst (λ (l : List Visit). map (came_at l) s.all.asked ≡ map Some (came_with f.visit.service f.body ∷ f.others)) e
+        subst (λ (l : List RunConnection). map (came_at l) s.all.asked ≡ map Some (came_with f.connection.service f.body ∷ f.others)) e
         (s.came ∙ ap (map Some) f.first)
 
     -- where others came in, more than one was taken
-    more_taken : (f : IsFirst w h s.visits s.all.asked s.all.came) (others : List Came) → f.others ≡ others → others ≢ []
-        → 1 < length f.visit.bodies
+    more_taken : (f : IsFirst w h s.connections s.all.asked s.all.came) (others : List Came) → f.others ≡ others → others ≢ []
+        → 1 < length f.connection.bodies
     more_taken f [] e some = absurd (some refl)
     more_taken f (d ∷ others) e some =
         let v = only f in
-        subst (λ (u : Visit). 1 < length u.bodies) v.2
-        (two_taken v.0 s.all.asked (came_with f.visit.service f.body) d others (only_taken v.0 v.1)
-        (only_came f v.0 v.1 ∙ ap (λ (l : List Came). map Some (came_with f.visit.service f.body ∷ l)) e))
+        subst (λ (u : RunConnection). 1 < length u.bodies) v.2
+        (two_taken v.0 s.all.asked (came_with f.connection.service f.body) d others (only_taken v.0 v.1)
+        (only_came f v.0 v.1 ∙ ap (λ (l : List Came). map Some (came_with f.connection.service f.body ∷ l)) e))
 
     -- where more than one was taken, the second was posted
-    second_posted : LeadToOne w → (f : IsFirst w h s.visits s.all.asked s.all.came) → Stands (Request body false ∷ later) f.visit t.written
-        → (other : List ℕ) (rest : List Fed) → later ≡ Request other false ∷ rest → 1 < length f.visit.bodies
+    second_posted : LeadToOne w → (f : IsFirst w h s.connections s.all.asked s.all.came) → Stands (Request body false ∷ later) f.connection t.written
+        → (other : List ℕ) (rest : List Fed) → later ≡ Request other false ∷ rest → 1 < length f.connection.bodies
         → (others : List Came) × (posts_by first_worker h ≡ posts_of 0 (map posting_of (came_with 0 body ∷ came_with 0 other ∷ others)))
     second_posted one f k other rest is many =
         let v = only f in
-        let z = second_came v.0 s.all.asked (came_with f.visit.service f.body) f.others (only_taken v.0 v.1) (only_came f v.0 v.1)
-        (subst (λ (u : Visit). 1 < length u.bodies) (sym v.2) many) in
+        let z = second_came v.0 s.all.asked (came_with f.connection.service f.body) f.others (only_taken v.0 v.1) (only_came f v.0 v.1)
+        (subst (λ (u : RunConnection). 1 < length u.bodies) (sym v.2) many) in
         let service : v.0.service ≡ 0 =
-        ap (λ (u : Visit). u.service) v.2
-        ∙ one f.visit.service (all_at (λ (u : Visit). has_door w.parts u.service) s.visits f.whose.traffic f.visit s.doors f.there) in
+        ap (λ (u : RunConnection). u.service) v.2
+        ∙ one f.connection.service (all_at (λ (u : RunConnection). has_door w.parts u.service) s.connections f.whose.traffic f.connection s.doors f.there) in
         let second : z.body ≡ other =
-        second_same (length f.visit.bodies) body other z.body (bodies_in rest) f.visit.bodies
-        (k.bodies ∙ ap (λ (l : List Fed). take (length f.visit.bodies) (body ∷ bodies_in l)) is)
-        (ap (λ (u : Visit). slice_get u.bodies 1) (sym v.2) ∙ z.taken) in (
+        second_same (length f.connection.bodies) body other z.body (bodies_in rest) f.connection.bodies
+        (k.bodies ∙ ap (λ (l : List Fed). take (length f.connection.bodies) (body ∷ bodies_in l)) is)
+        (ap (λ (u : RunConnection). slice_get u.bodies 1) (sym v.2) ∙ z.taken) in (
           z.more,
           first_posted s one f k
               ∙ ap (λ (l : List Came). posts_of 0 (map posting_of (came_with 0 body ∷ l)))
@@ -620,28 +627,28 @@ module _ (w : Setting) (h : List Entry) (halted : Bool) (t : Traffic) (reading :
   pub refused_cut : halted ≡ false → posts_by first_worker h ≢ [] → LeadToOne w → (text : Option (List ℕ))
       → response w (past_of w h) first_worker 0 (came_with 0 body) ≡ text
       → ((texts : List (Option (List ℕ))) → t.written ≡ answer text false ++ spoken later texts → ⊥)
-      → (s : IsServed w h halted (t ∷ [])) → ((v : Visit) → slice_get s.visits 0 ≡ Some v → v.stage ≢ Stages.WriteFailed) → ⊥
-  refused_cut goes some one text is_text apart s calm =
+      → (s : IsServed w h halted (t ∷ [])) → ((v : RunConnection) → slice_get s.connections 0 ≡ Some v → v.stage ≢ Stages.WriteFailed) → ⊥
+  refused_cut goes some one text is_text apart s unfailed =
       with_first s reading gives some
       (λ f number k.
-      let whole = k.whole (calm f.visit (subst (λ (n : ℕ). slice_get s.visits n ≡ Some f.visit) number f.there)) in
-      let told : length f.visit.texts ≡ length f.visit.bodies =
-      eqb-true (length f.visit.texts) (length f.visit.bodies) (all_at is_told s.visits f.whose.traffic f.visit (s.told goes) f.there) in
-      let first = answer_first f.visit.texts text
-      (subst (λ (n : ℕ). 0 < n) (sym told) (slice_get_within f.visit.bodies 0 f.body f.asked))
+      let whole = k.whole (unfailed f.connection (subst (λ (n : ℕ). slice_get s.connections n ≡ Some f.connection) number f.there)) in
+      let told : length f.connection.texts ≡ length f.connection.bodies =
+      eqb-true (length f.connection.texts) (length f.connection.bodies) (all_at is_told s.connections f.whose.traffic f.connection (s.told goes) f.there) in
+      let first = answer_first f.connection.texts text
+      (subst (λ (n : ℕ). 0 < n) (sym told) (slice_get_within f.connection.bodies 0 f.body f.asked))
       (λ x e. f.answered x e ∙ first_response s one f k ∙ is_text) whole in
       apart first.0 first.1)
 
   -- the first request was told, whether it halted or not, where others came in and it was answered before them
   first_told : is_finished w (past_of w h) first_worker 0 0 ≡ true → (s : IsServed w h halted (t ∷ []))
-      → (f : IsFirst w h s.visits s.all.asked s.all.came) (others : List Came) → f.others ≡ others → others ≢ [] → 0 < length f.visit.texts
+      → (f : IsFirst w h s.connections s.all.asked s.all.came) (others : List Came) → f.others ≡ others → others ≢ [] → 0 < length f.connection.texts
   first_told first s f [] e some = absurd (some refl)
   first_told first s f (d ∷ others) e some =
       let v = only s f in
-      subst (λ (u : Visit). 0 < length u.texts) v.2
-      (early_told w h first v.0 s.all.asked (came_with f.visit.service f.body) d others (only_taken s v.0 v.1)
-      (only_came s f v.0 v.1 ∙ ap (λ (l : List Came). map Some (came_with f.visit.service f.body ∷ l)) e)
-      (subst (λ (l : List Visit). AreToldEarly w h l s.all.asked) v.1 s.told_early))
+      subst (λ (u : RunConnection). 0 < length u.texts) v.2
+      (early_told w h first v.0 s.all.asked (came_with f.connection.service f.body) d others (only_taken s v.0 v.1)
+      (only_came s f v.0 v.1 ∙ ap (λ (l : List Came). map Some (came_with f.connection.service f.body ∷ l)) e)
+      (subst (λ (l : List RunConnection). AreToldEarly w h l s.all.asked) v.1 s.told_early))
 
   -- It is refused where this is not what was written first, unless a write failed, also where it halted, if the first
   -- request was answered before another was posted.
@@ -649,12 +656,12 @@ module _ (w : Setting) (h : List Entry) (halted : Bool) (t : Traffic) (reading :
       → (text : Option (List ℕ)) → response w (past_of w h) first_worker 0 (came_with 0 body) ≡ text
       → (posts_by first_worker h ≡ posts_of 0 (map posting_of (came_with 0 body ∷ [])) → ⊥)
       → ((texts : List (Option (List ℕ))) → t.written ≡ answer text false ++ spoken later texts → ⊥)
-      → (s : IsServed w h halted (t ∷ [])) → ((v : Visit) → slice_get s.visits 0 ≡ Some v → v.stage ≢ Stages.WriteFailed) → ⊥
-  refused_untold early some one text is_text more apart s calm =
+      → (s : IsServed w h halted (t ∷ [])) → ((v : RunConnection) → slice_get s.connections 0 ≡ Some v → v.stage ≢ Stages.WriteFailed) → ⊥
+  refused_untold early some one text is_text more apart s unfailed =
       with_first s reading gives some
       (λ f number k.
-      let whole = k.whole (calm f.visit (subst (λ (n : ℕ). slice_get s.visits n ≡ Some f.visit) number f.there)) in
-      let first = answer_first f.visit.texts text
+      let whole = k.whole (unfailed f.connection (subst (λ (n : ℕ). slice_get s.connections n ≡ Some f.connection) number f.there)) in
+      let first = answer_first f.connection.texts text
       (first_told early s f f.others refl
       (λ none. more (first_posted s one f k ∙ ap (λ (l : List Came). posts_of 0 (map posting_of (came_with 0 body ∷ l))) none)))
       (λ x e. f.answered x e ∙ first_response s one f k ∙ is_text) whole in
@@ -691,9 +698,9 @@ module _ (w : Setting) (h : List Entry) (halted : Bool) (t : Traffic) (reading :
       (λ f number k.
       let many = more_taken s f f.others refl
       (λ none. apart (first_posted s one f k ∙ ap (λ (l : List Came). posts_of 0 (map posting_of (came_with 0 body ∷ l))) none)) in
-      let told : length f.visit.texts ≡ length f.visit.bodies =
-      eqb-true (length f.visit.texts) (length f.visit.bodies) (all_at is_told s.visits f.whose.traffic f.visit (s.told goes) f.there) in
-      let first = answer_behind f.visit.texts text k.wrote (subst (λ (n : ℕ). 1 < n) (sym told) many)
+      let told : length f.connection.texts ≡ length f.connection.bodies =
+      eqb-true (length f.connection.texts) (length f.connection.bodies) (all_at is_told s.connections f.whose.traffic f.connection (s.told goes) f.there) in
+      let first = answer_behind f.connection.texts text k.wrote (subst (λ (n : ℕ). 1 < n) (sym told) many)
       (λ x e. f.answered x e ∙ first_response s one f k ∙ is_text) in
       none_shorter t.written (answer text false) (spoken later first.0) first.1 short)
 
@@ -717,25 +724,25 @@ module _ (w : Setting) (h : List Entry) (halted : Bool) (t : Traffic) (reading :
       → later ≡ Request other false ∷ rest
       → ((others : List Came) → posts_by first_worker h ≡ posts_of 0 (map posting_of (came_with 0 body ∷ came_with 0 other ∷ others)) → ⊥)
       → t.written ≡ answer text false → (s : IsServed w h halted (t ∷ []))
-      → ((v : Visit) → slice_get s.visits 0 ≡ Some v → IsFailed v.stage) → ⊥
+      → ((v : RunConnection) → slice_get s.connections 0 ≡ Some v → IsFailed v.stage) → ⊥
   refused_untaken goes some one text is_text other rest is apart wrote s failed =
-      with_first s reading gives some (λ f number k. wrong f k (k.over (inr (inr (failed f.visit (subst (λ (n : ℕ). slice_get s.visits n ≡ Some f.visit) number f.there))))))
+      with_first s reading gives some (λ f number k. wrong f k (k.over (inr (inr (failed f.connection (subst (λ (n : ℕ). slice_get s.connections n ≡ Some f.connection) number f.there))))))
     where
-      not_two : (f : IsFirst w h s.visits s.all.asked s.all.came) → Stands (Request body false ∷ later) f.visit t.written
-          → 1 < length f.visit.bodies → ⊥
+      not_two : (f : IsFirst w h s.connections s.all.asked s.all.came) → Stands (Request body false ∷ later) f.connection t.written
+          → 1 < length f.connection.bodies → ⊥
       not_two f k many =
           let z = second_posted s one f k other rest is many in apart z.0 z.1
 
-      wrong : (f : IsFirst w h s.visits s.all.asked s.all.came) → Stands (Request body false ∷ later) f.visit t.written
-          → (f.visit.bodies ≡ bodies_in (Request body false ∷ later)) ⊎ IsCut (Request body false ∷ later) f.visit.texts t.written → ⊥
+      wrong : (f : IsFirst w h s.connections s.all.asked s.all.came) → Stands (Request body false ∷ later) f.connection t.written
+          → (f.connection.bodies ≡ bodies_in (Request body false ∷ later)) ⊎ IsCut (Request body false ∷ later) f.connection.texts t.written → ⊥
       wrong f k (inl all) =
-          let two : length f.visit.bodies ≡ suc (suc (length (bodies_in rest))) =
+          let two : length f.connection.bodies ≡ suc (suc (length (bodies_in rest))) =
           ap length all ∙ ap (λ (l : List Fed). suc (length (bodies_in l))) is in
           not_two f k (subst (λ (n : ℕ). 1 < n) (sym two) (two_at_least (length (bodies_in rest))))
       wrong f k (inr cut) =
-          let told : length f.visit.texts ≡ length f.visit.bodies =
-          eqb-true (length f.visit.texts) (length f.visit.bodies) (all_at is_told s.visits f.whose.traffic f.visit (s.told goes) f.there) in
-          not_cut f.visit.texts text (λ many. not_two f k (subst (λ (n : ℕ). 1 < n) told many))
+          let told : length f.connection.texts ≡ length f.connection.bodies =
+          eqb-true (length f.connection.texts) (length f.connection.bodies) (all_at is_told s.connections f.whose.traffic f.connection (s.told goes) f.there) in
+          not_cut f.connection.texts text (λ many. not_two f k (subst (λ (n : ℕ). 1 < n) told many))
           (λ x e. f.answered x e ∙ first_response s one f k ∙ is_text) other rest is wrote cut.part
 
 -- ---- posted before another is answered
@@ -761,25 +768,49 @@ two_came (c ∷ []) k p there one =
     absurd (zero_one p.posting (of_posting 0 0 (posting_of c).calls k p alone) one)
 two_came (c ∷ d ∷ others) k p there one = (c, d, others, refl)
 
-low_by : (b : Bool) (i r : ℕ) → suc i ≤ r → i ≤ (if b then i else r)
-low_by true i r h = omega arith
-low_by false i r h = omega (arith, h)
+low_by : (b : Bool) (i other : ℕ) (xs : List ℕ) → suc i ≤ unwrap_or (first_in xs) other
+    → i ≤ unwrap_or (first_in (cond b (i ∷ xs) xs)) other
+low_by true i other xs h = itself i
+  where
+    itself : (n : ℕ) → n ≤ n
+    itself n = omega arith
+low_by false i other xs h = lower i (unwrap_or (first_in xs) other) h
+  where
+    lower : (n r : ℕ) → suc n ≤ r → n ≤ r
+    lower n r h = omega (arith, h)
 
-least_low : (p : ℕ → Bool) (i n : ℕ) → i ≤ least_from p i n
-least_low p i zero = omega arith
-least_low p i (suc n) = low_by (p i) i (least_from p (suc i) n) (least_low p (suc i) n)
+first_low : (p : ℕ → Bool) (i n other : ℕ) → i + n ≤ other → i ≤ first_by p (numbers_from i n) other
+first_low p i zero other most = at_end i other most
+  where
+    at_end : (m k : ℕ) → m + 0 ≤ k → m ≤ k
+    at_end m k h = omega (arith, h)
+first_low p i (suc n) other most =
+    low_by (p i) i other (filter p (numbers_from (suc i) n)) (first_low p (suc i) n other (moved i n other most))
+  where
+    moved : (m l k : ℕ) → m + suc l ≤ k → suc m + l ≤ k
+    moved m l k h = omega (arith, h)
 
 above : (n r : ℕ) → n ≡ r → 1 ≤ r → n < 1 → ⊥
 above n r is low less = omega (arith, is, low, less)
 
--- where the first of some numbers is none of a kind, the least of the kind is another
-not_first : (p : ℕ → Bool) (n : ℕ) → p 0 ≡ false → 0 < n → least_from p 0 n < 1 → ⊥
-not_first p zero other some less = absurd (none_told some)
-not_first p (suc n) other some less =
-    above (least_from p 0 (suc n)) (least_from p 1 n) (ap (λ (b : Bool). if b then 0 else least_from p 1 n) other) (least_low p 1 n) less
+-- where the first of some numbers is none of a kind, the first of the kind is another
+not_first : (p : ℕ → Bool) (n count : ℕ) → p 0 ≡ false → 0 < n → n ≤ count → first_by p (numbers_from 0 n) count < 1 → ⊥
+not_first p zero count other some most less = absurd (none_told some)
+not_first p (suc n) count other some most less =
+    above (first_by p (numbers_from 0 (suc n)) count) (first_by p (numbers_from 1 n) count)
+    (ap
+    (λ (b : Bool). unwrap_or (first_in (cond b (0 ∷ filter p (numbers_from 1 n)) (filter p (numbers_from 1 n)))) count)
+    other)
+    (first_low p 1 n count (all n count most)) less
+  where
+    all : (l k : ℕ) → suc l ≤ k → 1 + l ≤ k
+    all l k h = omega (arith, h)
+
+all_of : (n : ℕ) → n - 0 ≤ n
+all_of n = omega arith
 
 module _ (w : Setting) (h : List Entry) (open_yet : is_finished w (past_of w h) first_worker 0 0 ≡ false) where
-  not_one_by_one : (v : Visit) (asked : List Asked) (c d : Came) (others : List Came)
+  not_one_by_one : (v : RunConnection) (asked : List Asked) (c d : Came) (others : List Came)
       → map (came_at (v ∷ [])) asked ≡ map Some (c ∷ d ∷ others) → AreOneByOne w h asked → ⊥
   not_one_by_one v [] c d others is turns = absurd (cons_nil (Some c) (map Some (d ∷ others)) (sym is))
   not_one_by_one v (a ∷ []) c d others is turns =
@@ -789,19 +820,19 @@ module _ (w : Setting) (h : List Entry) (open_yet : is_finished w (past_of w h) 
       (head_same (came_at (v ∷ []) a) (Some c) (map (came_at (v ∷ [])) (b ∷ asked)) (map Some (d ∷ others)) is) in
       let t = is_taken (v ∷ []) b d
       (head_same (came_at (v ∷ []) b) (Some d) (map (came_at (v ∷ [])) asked) (map Some others) (ap behind_first is)) in
-      let one : a.traffic ≡ 0 = (alone_at v s.visit a.traffic s.there).0 in
-      let other : b.traffic ≡ 0 = (alone_at v t.visit b.traffic t.there).0 in
+      let one : a.traffic ≡ 0 = (alone_at v s.connection a.traffic s.there).0 in
+      let other : b.traffic ≡ 0 = (alone_at v t.connection b.traffic t.there).0 in
       let first : 0 < 1 = omega arith in
-      not_first (is_finished w (past_of w h) first_worker 0) (length (a ∷ b ∷ asked) - 0) open_yet
-      (some_behind (length (b ∷ asked))) (turns 0 1 a b refl refl (one ∙ sym other) first)
+      not_first (is_finished w (past_of w h) first_worker 0) (length (a ∷ b ∷ asked) - 0) (length (a ∷ b ∷ asked)) open_yet
+      (some_behind (length (b ∷ asked))) (all_of (length (a ∷ b ∷ asked))) (turns 0 1 a b refl refl (one ∙ sym other) first)
 
   -- A run over one connection is refused where something is posted of the second request before the first is answered.
   pub refused_early : (halted : Bool) (t : Traffic) (p : Post) → slice_get (posts_by first_worker h) 1 ≡ Some p → p.posting ≡ 1
       → IsServed w h halted (t ∷ []) → ⊥
   refused_early halted t p there one s =
-      let v = alone s.visits t s.passed in
+      let v = alone s.connections t s.passed in
       let two = two_came s.all.came 1 p (ap (λ (l : List Post). slice_get l 1) (sym s.posted) ∙ there) one in
       not_one_by_one v.0 s.all.asked two.0 two.1 two.2
-      (subst (λ (l : List Visit). map (came_at l) s.all.asked ≡ map Some (two.0 ∷ two.1 ∷ two.2)) v.1
+      (subst (λ (l : List RunConnection). map (came_at l) s.all.asked ≡ map Some (two.0 ∷ two.1 ∷ two.2)) v.1
       (s.came ∙ ap (map Some) two.3))
       s.one_by_one

@@ -10,7 +10,7 @@ mod Parts
 mod ConnectionStopped
 mod ConnectionSpoilt
 mod TwoCalls
-mod TwoGuests
+mod TwoClients
 mod Pipelined
 mod Failed
 mod Statuses

@@ -45,7 +45,7 @@ use Rattle.jsonrpc_text.specs.FromJson.{root_name}
 use Rattle.jsonrpc_text.specs.Posted.{posted}
 use Rattle.jsonrpc_text.specs.Responses.{answer, batch, early_answer}
 use Rattle.run_record.specs.Run.{alone}
-use Rattle.run_theorem.specs.Split.{split, all_lines, said_lines}
+use Rattle.run_theorem.specs.Split.{split, all_lines, sent_lines}
 use Rattle.run_theorem.specs.Texts.{Came, posting_of}
 use Rattle.run_theorem.specs.Lines.{come_in, finished_before, lines_in, IsPrefix, AreDue, IsWritten, WroteEarly}
 use Rattle.std.specs.Prelude.{◌≢◌, suc, map}
@@ -95,7 +95,7 @@ written = (123 ∷ 34 ∷ 105 ∷ 100 ∷ 34 ∷ 58 ∷ 48 ∷ 44 ∷ 34 ∷ 106
 
 -- what came in with the lines
 abbrev came : List Came
-came = come_in (said_lines (all_lines read))
+came = come_in (sent_lines (all_lines read))
 
 pub posted_all : posts_by first_worker history ≡ posts_of 0 (map posting_of came)
 unfolding digits escape_byte is_utf8 chars encode scan_numeral value punctuate lex content word after_number number_of root_name posted answer batch early_answer split

@@ -7,7 +7,7 @@ use Rattle.std.proofs.lemmas.Option.{none-some, same_Some}
 use Rattle.office_core.specs.declared.history.Entry.{Entry}
 use Rattle.office_core.specs.Limits.{Setting, first_worker}
 use Rattle.office_core.specs.Accepted.{past_of}
-use Rattle.run_theorem.specs.Dealings.{Asked}
+use Rattle.run_theorem.specs.Exchange.{Asked}
 use Rattle.run_theorem.specs.Calls.{is_of}
 use Rattle.run_record.specs.declared.record.Traffic.{Traffic}
 use Rattle.run_record.specs.Order.{finished_at}
@@ -19,12 +19,12 @@ use Rattle.http_port.proofs.TalkLemmas.{spoken}
 use Rattle.http_connection.specs.declared.stage.Stage.TheVariants as Stages
 use Rattle.http_connection.specs.Stages.{IsOver}
 use Rattle.http_connection.proofs.Histories.{closes_in, closing_given, unclosed}
-use Rattle.run_theorem.specs.Visits.{Visit, HasPassed}
+use Rattle.run_theorem.specs.RunConnections.{RunConnection, HasPassed}
 use Rattle.run_theorem.specs.Served.{AreOneByOne, HadToWait, AreInTurn, AreResponses, AreToldEarly}
 use Rattle.test_trials.proofs.Requests.{bodies_by, talk_by}
 
 -- a connection that reads on, whose requests were all taken and told these texts
-abbrev pub read_on : List Fed → List (Option (List ℕ)) → Visit
+abbrev pub read_on : List Fed → List (Option (List ℕ)) → RunConnection
 read_on fs texts = record { door = Some 0; service = 0; stage = Stages.Reads; bodies = bodies_in fs; texts = texts }
 
 -- it has passed, where what is to be written was written
@@ -42,11 +42,11 @@ passed_on t fs texts gives even written = record {
 }
 
 -- a connection of which a read failed, from which these were taken and which was told these texts
-abbrev pub read_failed : List (List ℕ) → List (Option (List ℕ)) → Visit
+abbrev pub read_failed : List (List ℕ) → List (Option (List ℕ)) → RunConnection
 read_failed bodies texts = record { door = Some 0; service = 0; stage = Stages.ReadFailed; bodies = bodies; texts = texts }
 
 -- the same of one of which a write failed
-abbrev pub write_failed : List (List ℕ) → List (Option (List ℕ)) → Visit
+abbrev pub write_failed : List (List ℕ) → List (Option (List ℕ)) → RunConnection
 write_failed bodies texts = record { door = Some 0; service = 0; stage = Stages.WriteFailed; bodies = bodies; texts = texts }
 
 -- one of which a read failed has passed, where all was taken and written, and nothing closes it
@@ -63,7 +63,7 @@ passed_to_the_end t fs texts gives even stays written = record {
 }
 
 -- a connection that ended, whose requests were all taken and told these texts
-abbrev pub read_out : List Fed → List (Option (List ℕ)) → Visit
+abbrev pub read_out : List Fed → List (Option (List ℕ)) → RunConnection
 read_out fs texts = record { door = Some 0; service = 0; stage = Stages.Ended; bodies = bodies_in fs; texts = texts }
 
 -- it has passed as one of which a read failed
@@ -100,41 +100,41 @@ passed_in_part t fs bodies texts gives first even p = record {
 }
 
 -- a text that is told to a request is this
-abbrev pub IsTextAt : List Visit → Asked → Option (List ℕ) → Type 0
-IsTextAt visits a text = (v : Visit) (t : Option (List ℕ)) → slice_get visits a.traffic ≡ Some v
+abbrev pub IsTextAt : List RunConnection → Asked → Option (List ℕ) → Type 0
+IsTextAt connections a text = (v : RunConnection) (t : Option (List ℕ)) → slice_get connections a.traffic ≡ Some v
     → slice_get v.texts a.request ≡ Some t → t ≡ text
 
 -- it is, where this one is told to it
-pub text_at : (visits : List Visit) (a : Asked) (visit : Visit) (text : Option (List ℕ)) → slice_get visits a.traffic ≡ Some visit
-    → slice_get visit.texts a.request ≡ Some text → IsTextAt visits a text
-text_at visits a visit text there told v t e f =
+pub text_at : (connections : List RunConnection) (a : Asked) (connection : RunConnection) (text : Option (List ℕ)) → slice_get connections a.traffic ≡ Some connection
+    → slice_get connection.texts a.request ≡ Some text → IsTextAt connections a text
+text_at connections a connection text there told v t e f =
     sym
     (same_Some text t
-    (sym told ∙ ap (λ (u : Visit). slice_get u.texts a.request) (same_Some visit v (sym there ∙ e)) ∙ f))
+    (sym told ∙ ap (λ (u : RunConnection). slice_get u.texts a.request) (same_Some connection v (sym there ∙ e)) ∙ f))
 
-module _ (w : Setting) (h : List Entry) (visits : List Visit) where
+module _ (w : Setting) (h : List Entry) (connections : List RunConnection) where
   -- what is told to requests is the responses of postings, the first of which has this number
   abbrev pub AreTold : ℕ → List Asked → List Came → Type 0
   AreTold j [] came = Unit {0}
   AreTold j (a ∷ asked) [] = Unit {0}
-  AreTold j (a ∷ asked) (c ∷ came) = IsTextAt visits a (response w (past_of w h) first_worker j c) × AreTold (suc j) asked came
+  AreTold j (a ∷ asked) (c ∷ came) = IsTextAt connections a (response w (past_of w h) first_worker j c) × AreTold (suc j) asked came
 
   told_at : (j : ℕ) (asked : List Asked) (came : List Came) → AreTold j asked came → (i : ℕ) (a : Asked) (c : Came)
-      → slice_get asked i ≡ Some a → slice_get came i ≡ Some c → IsTextAt visits a (response w (past_of w h) first_worker (j + i) c)
+      → slice_get asked i ≡ Some a → slice_get came i ≡ Some c → IsTextAt connections a (response w (past_of w h) first_worker (j + i) c)
   told_at j [] came told i a c e f = absurd (none-some a e)
   told_at j (b ∷ asked) [] told i a c e f = absurd (none-some c f)
   told_at j (b ∷ asked) (d ∷ came) told zero a c e f =
       let same : j ≡ j + 0 = omega arith in
-      subst (λ (x : Asked). IsTextAt visits x (response w (past_of w h) first_worker (j + 0) c)) (same_Some b a e)
-      (subst (λ (y : Came). IsTextAt visits b (response w (past_of w h) first_worker (j + 0) y)) (same_Some d c f)
-      (subst (λ (n : ℕ). IsTextAt visits b (response w (past_of w h) first_worker n d)) same told.0))
+      subst (λ (x : Asked). IsTextAt connections x (response w (past_of w h) first_worker (j + 0) c)) (same_Some b a e)
+      (subst (λ (y : Came). IsTextAt connections b (response w (past_of w h) first_worker (j + 0) y)) (same_Some d c f)
+      (subst (λ (n : ℕ). IsTextAt connections b (response w (past_of w h) first_worker n d)) same told.0))
   told_at j (b ∷ asked) (d ∷ came) told (suc i) a c e f =
       let same : suc j + i ≡ j + suc i = omega arith in
-      subst (λ (n : ℕ). IsTextAt visits a (response w (past_of w h) first_worker n c)) same
+      subst (λ (n : ℕ). IsTextAt connections a (response w (past_of w h) first_worker n c)) same
       (told_at (suc j) asked came told.1 i a c e f)
 
   pub told_responses : (asked : List Asked) (came : List Came) → AreTold 0 asked came
-      → AreResponses w h visits (record { asked = asked; came = came })
+      → AreResponses w h connections (record { asked = asked; came = came })
   told_responses asked came told j a c v t e f there at =
       let same : 0 + j ≡ j = omega arith in
       told_at 0 asked came told j a c e f v t there at
@@ -166,22 +166,22 @@ module _ (w : Setting) (h : List Entry) where
 
 -- ---- in turn
 
-module _ (w : Setting) (h : List Entry) (visits : List Visit) where
+module _ (w : Setting) (h : List Entry) (connections : List RunConnection) where
   -- before the first connection there is no other
   none_before : (x a : Asked) (k : ℕ) → x.traffic ≡ 0 → Some x ≡ Some a → k < a.traffic → ⊥
   none_before x a k first e less =
       none_below k (subst (λ (n : ℕ). k < n) (ap (λ (z : Asked). z.traffic) (sym (same_Some x a e)) ∙ first) less)
 
   -- one request alone came on the first
-  pub in_turn_alone : (x : Asked) → x.traffic ≡ 0 → AreInTurn w h visits (x ∷ [])
+  pub in_turn_alone : (x : Asked) → x.traffic ≡ 0 → AreInTurn w h connections (x ∷ [])
   in_turn_alone x first zero k a v e there less = absurd (none_before x a k first e less)
   in_turn_alone x first (suc j) k a v e there less = absurd (none-some a e)
 
   -- of two the first came on it, and before the second each connection before its own waited or was over
   pub two_in_turn : (x y : Asked) → x.traffic ≡ 0
-      → ((k : ℕ) (v : Visit) → slice_get visits k ≡ Some v → k < y.traffic
+      → ((k : ℕ) (v : RunConnection) → slice_get connections k ≡ Some v → k < y.traffic
       → HadToWait w h (x ∷ y ∷ []) 1 k ⊎ (IsOver v.stage × (count_by (is_of k) (x ∷ []) ≡ length v.bodies)))
-      → AreInTurn w h visits (x ∷ y ∷ [])
+      → AreInTurn w h connections (x ∷ y ∷ [])
   two_in_turn x y first second zero k a v e there less = absurd (none_before x a k first e less)
   two_in_turn x y first second (suc zero) k a v e there less =
       second k v there (subst (λ (z : Asked). k < z.traffic) (sym (same_Some y a e)) less)
@@ -190,21 +190,21 @@ module _ (w : Setting) (h : List Entry) (visits : List Visit) where
 -- ---- told early
 
 -- a text was told to a request
-abbrev pub HasText : List Visit → Asked → Type 0
-HasText visits a = (v : Visit) → slice_get visits a.traffic ≡ Some v → a.request < length v.texts
+abbrev pub HasText : List RunConnection → Asked → Type 0
+HasText connections a = (v : RunConnection) → slice_get connections a.traffic ≡ Some v → a.request < length v.texts
 
-pub has_text : (visits : List Visit) (a : Asked) (visit : Visit) → slice_get visits a.traffic ≡ Some visit
-    → a.request < length visit.texts → HasText visits a
-has_text visits a visit there inside v e =
-    subst (λ (u : Visit). a.request < length u.texts) (same_Some visit v (sym there ∙ e)) inside
+pub has_text : (connections : List RunConnection) (a : Asked) (connection : RunConnection) → slice_get connections a.traffic ≡ Some connection
+    → a.request < length connection.texts → HasText connections a
+has_text connections a connection there inside v e =
+    subst (λ (u : RunConnection). a.request < length u.texts) (same_Some connection v (sym there ∙ e)) inside
 
-module _ (w : Setting) (h : List Entry) (visits : List Visit) where
+module _ (w : Setting) (h : List Entry) (connections : List RunConnection) where
   -- of one posting none was finished before the last
-  pub early_alone : (x : Asked) → AreToldEarly w h visits (x ∷ [])
+  pub early_alone : (x : Asked) → AreToldEarly w h connections (x ∷ [])
   early_alone x j a v e there early = absurd (none_between (finished_at w (past_of w h) first_worker 1 j) early)
 
   -- of two both were told
-  pub two_told : (x y : Asked) → HasText visits x → HasText visits y → AreToldEarly w h visits (x ∷ y ∷ [])
-  two_told x y one two zero a v e there early = subst (HasText visits) (same_Some x a e) one v there
-  two_told x y one two (suc zero) a v e there early = subst (HasText visits) (same_Some y a e) two v there
+  pub two_told : (x y : Asked) → HasText connections x → HasText connections y → AreToldEarly w h connections (x ∷ y ∷ [])
+  two_told x y one two zero a v e there early = subst (HasText connections) (same_Some x a e) one v there
+  two_told x y one two (suc zero) a v e there early = subst (HasText connections) (same_Some y a e) two v there
   two_told x y one two (suc (suc j)) a v e there early = absurd (none-some a e)

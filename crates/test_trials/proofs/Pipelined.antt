@@ -20,7 +20,7 @@ use Rattle.jsonrpc_text.specs.Responses.{answer, batch, early_answer}
 use Rattle.httparse.proofs.OnLiterals.{httparse_on_literals}
 use Rattle.http1.specs.Text.{eq_ignore_case}
 use Rattle.office_core.specs.Limits.{first_worker}
-use Rattle.run_theorem.specs.Dealings.{Asked}
+use Rattle.run_theorem.specs.Exchange.{Asked}
 use Rattle.run_theorem.specs.Calls.{is_of}
 use Rattle.run_record.specs.declared.record.Traffic.{Traffic}
 use Rattle.run_record.specs.Postings.{Post, posts_by, posts_of}
@@ -32,7 +32,7 @@ use Rattle.http_port.specs.Connections.{Reading, goes_on, given}
 use Rattle.http_port.specs.Talk.{answer as answer_bytes}
 use Rattle.http_port.proofs.ReadingLemmas.{tail_of}
 use Rattle.http_port.proofs.TalkLemmas.{spoken}
-use Rattle.run_theorem.specs.Visits.{Visit, HasPassed}
+use Rattle.run_theorem.specs.RunConnections.{RunConnection, HasPassed}
 use Rattle.run_theorem.specs.Served.{AreResponses, IsServed}
 use Rattle.test_trials.proofs.Requests.{judged, more_requests, cons_nil}
 use Rattle.test_trials.proofs.Sent.{go, more, read_go, read_more, head_go, gives_more, reading_more}
@@ -73,10 +73,10 @@ written = written_go ++ written_more
 abbrev pub texts : List (Option (List ℕ))
 texts = Some text_go ∷ Some text_more ∷ []
 
-abbrev visit : Visit
-visit = read_on gives texts
+abbrev connection : RunConnection
+connection = read_on gives texts
 
-passed : HasPassed visit (wrote written)
+passed : HasPassed connection (wrote written)
 unfolding digits
 passed = passed_on (wrote written) gives texts gives_read refl refl
 
@@ -95,15 +95,15 @@ in_order zero a e = subst (λ (a : Asked). a.request ≡ count_by (is_of a.traff
 in_order (suc zero) a e = subst (λ (a : Asked). a.request ≡ count_by (is_of a.traffic) (asked_go ∷ [])) (same_Some asked_more a e) refl
 in_order (suc (suc j)) a e = absurd (none-some a e)
 
-all_taken : (k : ℕ) (v : Visit) → slice_get (visit ∷ []) k ≡ Some v → count_by (is_of k) asked ≡ length v.bodies
-all_taken zero v e = subst (λ (v : Visit). 2 ≡ length v.bodies) (same_Some visit v e) refl
+all_taken : (k : ℕ) (v : RunConnection) → slice_get (connection ∷ []) k ≡ Some v → count_by (is_of k) asked ≡ length v.bodies
+all_taken zero v e = subst (λ (v : RunConnection). 2 ≡ length v.bodies) (same_Some connection v e) refl
 all_taken (suc k) v e = absurd (none-some v e)
 
-responses : AreResponses setting history (visit ∷ []) (record { asked = asked; came = came_go ∷ came_more ∷ [] })
+responses : AreResponses setting history (connection ∷ []) (record { asked = asked; came = came_go ∷ came_more ∷ [] })
 responses =
-    told_responses setting history (visit ∷ []) asked (came_go ∷ came_more ∷ []) (
-      subst (IsTextAt (visit ∷ []) asked_go) response_go (text_at (visit ∷ []) asked_go visit (Some text_go) refl refl),
-      (subst (IsTextAt (visit ∷ []) asked_more) response_more (text_at (visit ∷ []) asked_more visit (Some text_more) refl refl), tt),
+    told_responses setting history (connection ∷ []) asked (came_go ∷ came_more ∷ []) (
+      subst (IsTextAt (connection ∷ []) asked_go) response_go (text_at (connection ∷ []) asked_go connection (Some text_go) refl refl),
+      (subst (IsTextAt (connection ∷ []) asked_more) response_more (text_at (connection ∷ []) asked_more connection (Some text_more) refl refl), tt),
     )
 
 none_one : 0 < 1
@@ -119,7 +119,7 @@ one_two = omega arith
 pub served : IsServed setting history false (wrote written ∷ [])
 unfolding encode
 served = record {
-  visits = visit ∷ [];
+  connections = connection ∷ [];
   all = record { asked = asked; came = came_go ∷ came_more ∷ [] };
   doors = refl;
   passed = (passed, tt);
@@ -127,9 +127,9 @@ served = record {
   came = refl;
   posted = is_posted;
   one_by_one = two_by_one setting history asked_go asked_more (λ _. subst (λ (n : ℕ). n < 1) (sym go_first) none_one);
-  in_turn = two_in_turn setting history (visit ∷ []) asked_go asked_more refl (λ k v there less. absurd (none_below k less));
+  in_turn = two_in_turn setting history (connection ∷ []) asked_go asked_more refl (λ k v there less. absurd (none_below k less));
   responses = responses;
-  told_early = two_told setting history (visit ∷ []) asked_go asked_more (has_text (visit ∷ []) asked_go visit refl none_two) (has_text (visit ∷ []) asked_more visit refl one_two);
+  told_early = two_told setting history (connection ∷ []) asked_go asked_more (has_text (connection ∷ []) asked_go connection refl none_two) (has_text (connection ∷ []) asked_more connection refl one_two);
   told = λ _. refl;
 }
 

@@ -100,15 +100,16 @@ pub quiet_is : (w : Setting) (budget : ℕ) (h : List Entry) (sessions : List (L
 quiet_is w budget h sessions q =
     let past = past_of w h in
     let adopted = list_all (was_adopted past) (below (length (births w past))) in
-    let brought = is_empty (outstanding past) in
+    let received = is_empty (outstanding past) in
     let idle = are_idle w budget h 0 sessions in
-    let first : (adopted && brought) ≡ true = both_left (adopted && brought) idle q in
+    let first : (adopted && received) ≡ true = both_left (adopted && received) idle q in
     record {
-      adopted = λ s service born. all_below (was_adopted past) (length (births w past)) s (both_left adopted brought first)
+      adopted = λ s service born. all_below (was_adopted past) (length (births w past)) s (both_left adopted received first)
           (is_there (births w past) s service born);
-      brought = empty_is (outstanding past) (both_right adopted brought first);
-      idle = λ s events e x. idle_is w budget h 0 sessions (both_right (adopted && brought) idle q) s events e
-          (subst (λ n. CanAct w h n events) (whole s) x);
+      received = empty_is (outstanding past) (both_right adopted received first);
+      idle = λ s events last e agrees acts.
+          idle_is w budget h 0 sessions (both_right (adopted && received) idle q) s events e
+          (subst (λ n. CanAct w h n events) (whole s) (record { last = last; agrees = agrees; acts = acts }));
     }
   where
     whole : (s : ℕ) → s ≡ s + 0
@@ -191,16 +192,21 @@ pub quiet_so : (w : Setting) (budget : ℕ) (h : List Entry) (sessions : List (L
 quiet_so w budget h sessions a q =
     let past = past_of w h in
     let adopted = list_all (was_adopted past) (below (length (births w past))) in
-    let brought = is_empty (outstanding past) in
-    both_so (adopted && brought) (are_idle w budget h 0 sessions)
-    (both_so adopted brought
+    let received = is_empty (outstanding past) in
+    both_so (adopted && received) (are_idle w budget h 0 sessions)
+    (both_so adopted received
     (all_adopted (was_adopted past) (length (births w past))
     (λ s l. let born = there_is (births w past) s l in q.adopted s born.0 born.1))
-    (ap is_empty q.brought))
-    (idle_so w budget h 0 sessions a (λ i events e x. q.idle i events e (subst (λ n. CanAct w h n events) (less i) x)))
+    (ap is_empty q.received))
+    (idle_so w budget h 0 sessions a
+    (λ i events e x. used i events e (subst (λ n. CanAct w h n events) (less i) x)))
   where
     less : (i : ℕ) → i + 0 ≡ i
     less i = omega arith
+
+    used : (s : ℕ) (events : List Event) → slice_get sessions s ≡ Some events → CanAct w h s events
+        → length events ≡ budget
+    used s events e x = q.idle s events x.last e x.agrees x.acts
 
 -- so one that is computed not to be is not quiet
 pub not_quiet : (w : Setting) (budget : ℕ) (h : List Entry) (sessions : List (List Event)) → AreSessions w h 0 sessions

@@ -165,8 +165,8 @@ spoilt_reply_by_another_session = refl
 pub spoilt_fetched_twice : legal_entries setting (with_at 25 (record { actor = 4096; act = act.Fetch 2 1 } ∷ record { actor = 4096; act = act.Fetch 2 1 } ∷ []) history) ≡ 26
 spoilt_fetched_twice = refl
 
-pub spoilt_brought_twice : legal_entries setting (with_at 26 (record { actor = 4096; act = act.Answered 2 1 (outcome.Value (node root.Void no_fields)) } ∷ record { actor = 4096; act = act.Answered 2 1 (outcome.Value (node root.Void no_fields)) } ∷ []) history) ≡ 27
-spoilt_brought_twice = refl
+pub spoilt_received_twice : legal_entries setting (with_at 26 (record { actor = 4096; act = act.Answered 2 1 (outcome.Value (node root.Void no_fields)) } ∷ record { actor = 4096; act = act.Answered 2 1 (outcome.Value (node root.Void no_fields)) } ∷ []) history) ≡ 27
+spoilt_received_twice = refl
 
 -- the events of session 0
 abbrev events_0 : List Event

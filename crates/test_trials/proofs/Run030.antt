@@ -119,8 +119,8 @@ legal = (record { allowed = refl; reply = refl }, (record { allowed = refl; repl
 pub spoilt_call_number_again : legal_entries setting (with_at 3 (record { actor = 0; act = act.Send 0 2 0 (node (root.Text (116 ∷ 51 ∷ 54 ∷ [])) no_fields) true at.Out } ∷ record { actor = 0; act = act.Send 0 2 0 (node (root.Text (116 ∷ 51 ∷ 54 ∷ [])) no_fields) true at.Out } ∷ []) history) ≡ 4
 spoilt_call_number_again = refl
 
-pub spoilt_brought_by_another : legal_entries setting (with_at 6 (record { actor = 4097; act = act.Answered 0 0 (outcome.Value (node root.Void no_fields)) } ∷ []) history) ≡ 6
-spoilt_brought_by_another = refl
+pub spoilt_received_by_another : legal_entries setting (with_at 6 (record { actor = 4097; act = act.Answered 0 0 (outcome.Value (node root.Void no_fields)) } ∷ []) history) ≡ 6
+spoilt_received_by_another = refl
 
 pub spoilt_another_outcome : legal_entries setting (with_at 7 (record { actor = 0; act = act.Answer 0 (outcome.Fault (120 ∷ []) (node root.Void no_fields)) } ∷ []) history) ≡ 7
 spoilt_another_outcome = refl

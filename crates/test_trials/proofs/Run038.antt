@@ -110,8 +110,8 @@ spoilt_bound_otherwise = refl
 pub spoilt_fetched_by_a_session : legal_entries setting (with_at 7 (record { actor = 0; act = act.Fetch 1 0 } ∷ []) history) ≡ 7
 spoilt_fetched_by_a_session = refl
 
-pub spoilt_brought_by_another : legal_entries setting (with_at 8 (record { actor = 4097; act = act.Answered 1 0 (outcome.Value (node root.Void no_fields)) } ∷ []) history) ≡ 8
-spoilt_brought_by_another = refl
+pub spoilt_received_by_another : legal_entries setting (with_at 8 (record { actor = 4097; act = act.Answered 1 0 (outcome.Value (node root.Void no_fields)) } ∷ []) history) ≡ 8
+spoilt_received_by_another = refl
 
 pub spoilt_refused_for_another_reason : legal_entries setting (with_at 12 (record { actor = 4096; act = act.Post 2 0 (record { service = 0; op = (109 ∷ 111 ∷ 114 ∷ 101 ∷ 48 ∷ []); value = (node root.Void (field (110 ∷ 117 ∷ 109 ∷ []) (tree (node (root.Int (pos 0)) no_fields) no_trees) (field (115 ∷ 105 ∷ 100 ∷ []) (tree (node (root.Int (pos 1)) no_fields) no_trees) no_fields))) }) (answer.Refused reason.RunFull) } ∷ []) history) ≡ 12
 spoilt_refused_for_another_reason = refl

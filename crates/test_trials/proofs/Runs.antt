@@ -75,7 +75,7 @@ by_computing w budget run c =
       };
       within = all_have budget run.sessions c.within;
       answered = λ n m there. answers_once w h n m c.legal c.stopped there;
-      quiet = λ calm. quiet_is w budget (before_stop h) run.sessions c.quiet;
+      quiet = λ unfailed. quiet_is w budget (before_stop h) run.sessions c.quiet;
       still = λ one. still_is w budget h run.sessions c.still;
       collected = λ one. collected_are w h c.collected;
     }
@@ -139,7 +139,7 @@ module _ (w : Setting) (budget : ℕ) (notes_failed : Bool) (h : List Entry) (ru
     -- something was left to do at the stop, where no note failed
     pub restless : AreSessions w (before_stop h) 0 sessions → is_quiet w budget (before_stop h) sessions ≡ false
         → notes_failed ≡ false → IsRun w budget alone notes_failed run → ⊥
-    restless a e calm r =
+    restless a e unfailed r =
         not_quiet w budget (before_stop h) sessions a e
         (subst (λ l. IsQuiet w budget (before_stop l) sessions) has
-        (subst (IsQuiet w budget (before_stop run.history.entries.items)) events (r.quiet calm)))
+        (subst (IsQuiet w budget (before_stop run.history.entries.items)) events (r.quiet unfailed)))

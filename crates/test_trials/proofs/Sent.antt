@@ -1,4 +1,4 @@
--- Two requests as guests send them, and what a reader gives of their bytes.
+-- Two requests as clients send them, and what a reader gives of their bytes.
 use Rattle.std.specs.Prelude.{◌≡◌, ℕ, false, List, [], ◌∷◌, codes}
 use Rattle.std.proofs.Common.{refl, arith}
 use lib.Utf8.{encode}

@@ -30,7 +30,7 @@ use Rattle.office_core.specs.Legal.{IsLegal}
 use Rattle.run_record.specs.Postings.{Post, posts_by, posts_of}
 use Rattle.run_record.specs.Order.{finished_at, is_finished}
 use Rattle.run_theorem.specs.Texts.{Came, posting_of, response}
-use Rattle.run_theorem.specs.Visits.{came_with}
+use Rattle.run_theorem.specs.RunConnections.{came_with}
 use Rattle.test_trials.proofs.Sent.{go, more}
 
 -- the program: go is answered 1, and more is answered 2

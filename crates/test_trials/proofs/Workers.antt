@@ -95,7 +95,7 @@ by_computing w budget n run c =
       };
       within = all_have budget run.sessions c.within;
       answered = λ k m there. answers_once w h k m c.legal c.stopped there;
-      quiet = λ calm. quiet_is w budget (before_stop h) run.sessions c.quiet;
+      quiet = λ unfailed. quiet_is w budget (before_stop h) run.sessions c.quiet;
       still = λ one. absurd (not_alone n one);
     }
 

@@ -14,7 +14,8 @@ use std::alloc::{AllocError, Global};
 /// - `.name` is a step of a path without an index, and `@name` one whose index is the last operand. `get`, `count` and
 ///   `defined` are the value at the path of the steps so far, how many trees stand there and whether any does.
 /// - `{}` is a literal, and `:name` makes the last operand a member of the literal before it.
-/// - `int`, `long` and `string` are casts, `neg` is the sign and `!` the negation; an operator of two operands extends the
+/// - `int`, `long` and `string` are casts, `neg` is the sign and `!` the negation; an operator of two operands extends
+/// the
 ///   left one where that is of its own level.
 pub fn read_expression(alloc: Global, words: &str) -> Result<Box<Expr>, WordError> {
     let mut pile = Pile::new(alloc);

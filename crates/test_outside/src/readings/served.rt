@@ -3,7 +3,7 @@
 use crate::readings::answers::Answers;
 use crate::readings::stream::stream_of;
 use http_port::{HeadReader, WireEnd, serve_wire};
-use outside_traits::{CalmWire, Script, ScriptedWire, WireCall};
+use outside_traits::{Script, ScriptedWire, UnfailingWire, WireCall};
 use std::alloc::{AllocError, Global};
 use test_rows::{Row, TableError};
 
@@ -71,7 +71,7 @@ pub(crate) fn given(alloc: Global, row: &Row<'_>) -> Result<String, TableError> 
         return by_script(alloc, row, stream, says);
     }
     if row.has("calls") {
-        let served = calm(alloc, stream, says)?;
+        let served = unfailed(alloc, stream, says)?;
         return Ok(with_calls(alloc, &served)?);
     }
     let mut whole = in_pieces(alloc, &[stream], says)?;
@@ -122,8 +122,8 @@ fn scripted(
 }
 
 /// By a wire that gives and takes all at once.
-fn calm(alloc: Global, stream: &[u8], says: &str) -> Result<Served, AllocError> {
-    let mut wire = CalmWire::new(alloc, stream, ROOM)?;
+fn unfailed(alloc: Global, stream: &[u8], says: &str) -> Result<Served, AllocError> {
+    let mut wire = UnfailingWire::new(alloc, stream, ROOM)?;
     let mut reader = HeadReader::new(alloc);
     let mut answers = Answers::new(alloc, says)?;
     let end = serve_wire(alloc, &mut wire, &mut reader, &mut answers)?;
@@ -155,7 +155,7 @@ fn in_pieces(alloc: Global, pieces: &[&[u8]], says: &str) -> Result<String, Allo
     let mut written = Vec::new(alloc);
     let mut end = WireEnd::Ended;
     for piece in pieces {
-        let mut wire = CalmWire::new(alloc, piece, ROOM)?;
+        let mut wire = UnfailingWire::new(alloc, piece, ROOM)?;
         end = serve_wire(alloc, &mut wire, &mut reader, &mut answers)?;
         written.extend_from_slice(wire.taken())?;
         if end != WireEnd::Ended {

@@ -1,18 +1,21 @@
 //! Links over one wire in memory.
 
 use http_link::HttpLink;
-use outside_dials::{CalmDial, ScriptedDial};
-use outside_traits::{CalmWire, Script, ScriptedWire};
+use outside_dials::{ScriptedDial, UnfailingDial};
+use outside_traits::{Script, ScriptedWire, UnfailingWire};
 use std::alloc::{AllocError, Global};
 
 /// For how many bytes a wire has room.
 const ROOM: usize = 1000;
 
 /// Over a wire that gives these bytes and takes what is written, all at once.
-pub(crate) fn calm_link(alloc: Global, sent: &[u8]) -> Result<HttpLink<CalmDial>, AllocError> {
+pub(crate) fn unfailing_link(
+    alloc: Global,
+    sent: &[u8],
+) -> Result<HttpLink<UnfailingDial>, AllocError> {
     let mut wires = Vec::new(alloc);
-    wires.push(CalmWire::new(alloc, sent, ROOM)?)?;
-    Ok(HttpLink::new(alloc, CalmDial::new(alloc, wires)))
+    wires.push(UnfailingWire::new(alloc, sent, ROOM)?)?;
+    Ok(HttpLink::new(alloc, UnfailingDial::new(alloc, wires)))
 }
 
 /// Over a wire that gives and takes so many bytes a call, and fails at these calls.

@@ -2,8 +2,8 @@
 
 use crate::trips::travels::{back_from, shown};
 use http_link::HttpLink;
-use outside_dials::{CalmDial, Dial, ScriptedDial};
-use outside_traits::{CalmWire, Script, ScriptedWire};
+use outside_dials::{Dial, ScriptedDial, UnfailingDial};
+use outside_traits::{Script, ScriptedWire, UnfailingWire};
 use std::alloc::{AllocError, Global};
 use test_rows::{Row, TableError};
 
@@ -20,17 +20,17 @@ pub(crate) fn given(alloc: Global, row: &Row<'_>) -> Result<String, TableError> 
     if row.has("fails") {
         return Ok(scripted(alloc, first.as_slice(), second.as_slice())?);
     }
-    Ok(calm(alloc, first.as_slice(), second.as_slice())?)
+    Ok(unfailed(alloc, first.as_slice(), second.as_slice())?)
 }
 
 /// Over a dialler that fails behind the second.
-fn calm(alloc: Global, first: &[u8], second: &[u8]) -> Result<String, AllocError> {
+fn unfailed(alloc: Global, first: &[u8], second: &[u8]) -> Result<String, AllocError> {
     let mut wires = Vec::new(alloc);
-    wires.push(CalmWire::new(alloc, first, ROOM)?)?;
-    wires.push(CalmWire::new(alloc, second, ROOM)?)?;
+    wires.push(UnfailingWire::new(alloc, first, ROOM)?)?;
+    wires.push(UnfailingWire::new(alloc, second, ROOM)?)?;
     three_trips(
         alloc,
-        &mut HttpLink::new(alloc, CalmDial::new(alloc, wires)),
+        &mut HttpLink::new(alloc, UnfailingDial::new(alloc, wires)),
     )
 }
 

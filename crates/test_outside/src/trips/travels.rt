@@ -1,9 +1,9 @@
 //! The trips of a row.
 
-use crate::trips::links::{calm_link, scripted_link};
+use crate::trips::links::{scripted_link, unfailing_link};
 use crate::trips::peer::sent_by;
 use http_link::HttpLink;
-use outside_dials::{CalmDial, Dial, ScriptedDial};
+use outside_dials::{Dial, ScriptedDial, UnfailingDial};
 use outside_links::Link;
 use outside_traits::{CallError, WireCall};
 use std::alloc::{AllocError, Global};
@@ -38,7 +38,7 @@ pub(crate) fn given(alloc: Global, row: &Row<'_>) -> Result<String, TableError> 
 }
 
 fn come_to(alloc: Global, sent: &[u8], is_length: bool) -> Result<String, AllocError> {
-    let whole = calm(alloc, sent)?;
+    let whole = unfailed(alloc, sent)?;
     let mut line = shown(alloc, &whole, is_length)?;
     line.push_str(remark(alloc, sent, &whole)?)?;
     Ok(line)
@@ -59,14 +59,14 @@ fn remark(alloc: Global, sent: &[u8], whole: &Option<Vec<u8>>) -> Result<&'stati
 fn written(alloc: Global, row: &Row<'_>) -> Result<String, TableError> {
     let location = row.text(alloc, "location")?;
     let text = row.bytes(alloc, "text")?;
-    let mut link = calm_link(alloc, b"HTTP/1.1 204 No Content\r\n\r\n")?;
+    let mut link = unfailing_link(alloc, b"HTTP/1.1 204 No Content\r\n\r\n")?;
     written_by(alloc, &mut link, location.as_str(), text.as_slice())
 }
 
 /// The locations that a link dials, one a line, and what it writes on its wire.
 fn written_by(
     alloc: Global,
-    link: &mut HttpLink<CalmDial>,
+    link: &mut HttpLink<UnfailingDial>,
     location: &str,
     text: &[u8],
 ) -> Result<String, TableError> {
@@ -78,7 +78,7 @@ fn written_by(
     Ok(dialled(alloc, front, link.dialler())?)
 }
 
-fn dialled(alloc: Global, front: &str, dialler: &CalmDial) -> Result<String, AllocError> {
+fn dialled(alloc: Global, front: &str, dialler: &UnfailingDial) -> Result<String, AllocError> {
     let mut shown = String::from_str(alloc, front)?;
     for location in dialler.dialled() {
         shown.push_str(location.as_str())?;
@@ -111,8 +111,8 @@ pub(crate) fn shown(
 }
 
 /// What comes back on a wire that gives and takes all at once.
-fn calm(alloc: Global, sent: &[u8]) -> Result<Option<Vec<u8>>, AllocError> {
-    let mut link = calm_link(alloc, sent)?;
+fn unfailed(alloc: Global, sent: &[u8]) -> Result<Option<Vec<u8>>, AllocError> {
+    let mut link = unfailing_link(alloc, sent)?;
     back_from(&mut link)
 }
 

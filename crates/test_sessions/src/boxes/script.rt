@@ -8,8 +8,8 @@ use test_values::WordError;
 
 /// What the lines give, a line for each.
 ///
-/// A line is a verb with a session or message: `put S OP M`, `fill S COUNT`, `take S OP ..`, `first S OP ..`, `any S`, `len S`;
-/// `open M POSTING`, `answer M CODE`, `collect M`, `outcome M`, `state M`, `origin M`.
+/// A line is a verb with a session or message: `put S OP M`, `fill S COUNT`, `take S OP ..`, `first S OP ..`, `any S`,
+/// `len S`; `open M POSTING`, `answer M CODE`, `collect M`, `outcome M`, `state M`, `origin M`.
 pub fn told(alloc: Global, lines: &str) -> Result<String, WordError> {
     let mut mail = Mail {
         alloc,

@@ -11,9 +11,9 @@ use test_values::{WordError, read_root};
 
 /// What the lines give, a line for each.
 ///
-/// A line is a verb with numbers and values: `birth SESSION SETS`, `bind SESSION VARIABLE VALUE`, `find SET VALUE ..`, `release
-/// SESSION`. Of many sessions, whose keys are numbers: `fill COUNT` bears and binds them, `found COUNT` looks for each, `thin
-/// COUNT` releases those with even numbers.
+/// A line is a verb with numbers and values: `birth SESSION SETS`, `bind SESSION VARIABLE VALUE`, `find SET VALUE ..`,
+/// `release SESSION`. Of many sessions, whose keys are numbers: `fill COUNT` bears and binds them, `found COUNT` looks
+/// for each, `thin COUNT` releases those with even numbers.
 pub fn told(alloc: Global, lines: &str) -> Result<String, WordError> {
     let mut script = Script {
         alloc,

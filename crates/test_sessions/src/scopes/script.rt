@@ -8,8 +8,8 @@ use test_values::WordError;
 
 /// What the lines give, a line for each.
 ///
-/// A line is `inner` or `outer` with a call of that table, or `end`: the inner scope ends, and what it passes goes over the
-/// outer table.
+/// A line is `inner` or `outer` with a call of that table, or `end`: the inner scope ends, and what it passes goes over
+/// the outer table.
 pub fn told(alloc: Global, lines: &str) -> Result<String, WordError> {
     let mut scopes = Scopes::new(alloc);
     let mut all = String::new(alloc);

@@ -44,7 +44,8 @@ pub fn definitions(alloc: Global, framed: Framed<'_>) -> Result<String, AllocErr
     seen(alloc, framed.text.as_bytes(), Aspect::Definitions, "", "")
 }
 
-/// The place of the first operand of the sum that is assigned behind `before`, and how many follow; or the text's refusal.
+/// The place of the first operand of the sum that is assigned behind `before`, and how many follow; or the text's
+/// refusal.
 pub fn sum(alloc: Global, framed: Framed<'_>) -> Result<String, AllocError> {
     seen(
         alloc,

@@ -53,7 +53,7 @@ returns-in-Err-clause-takes g c =
     record {
       within = omega arith;
       taken = Appends-kept (g.W.Wire.told c.args.wire.now).written (g.W.Wire.told c.loop-done.wire).written (g.W.Wire.told c.write.new.self).written (take done bytes) c.loop-done.invariant.written c.in-Err.ensures.bytes;
-      calm = λ e. absurd (omega arith);
+      unfailed = λ e. absurd (omega arith);
       cause = λ _. (
         c.in-Err.ensures.read_failed ∙ c.loop-done.invariant.lost,
         c.in-Err.ensures.write_failed ∙ ap₂ (λ (cut closed : Bool). cut || not closed) c.loop-done.invariant.cut c.loop-done.invariant.closed,
@@ -78,7 +78,7 @@ returns-clause-takes g c =
     record {
       within = within;
       taken = c.loop-done.invariant.written;
-      calm = λ _ i. record { read_failed = c.loop-done.invariant.lost i; write_failed = c.loop-done.invariant.cut i };
+      unfailed = λ _ i. record { read_failed = c.loop-done.invariant.lost i; write_failed = c.loop-done.invariant.cut i };
       cause = λ lt. absurd (omega arith);
       given = c.loop-done.invariant.given;
       left = c.loop-done.invariant.left;

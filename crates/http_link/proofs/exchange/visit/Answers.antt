@@ -9,4 +9,4 @@ returns-clause-visited g c =
     c.args.request.now c.exchange-found.new.inbox
     (telling g.D.Dial.blank (g.D.Dial.told c.args.dial.now))
     (g.D.Dial.told c.back.new.self).dialled (g.D.Dial.told c.back.new.self).last (g.D.Dial.told c.dial.new.self).faults (g.D.Dial.told c.back.new.self).faults
-    c.in-Ok.ensures.fresh c.in-Ok.ensures.blank c.exchange-found.ensures c.back.ensures.last c.back.ensures.counts c.in-Ok.ensures.cause.calm
+    c.in-Ok.ensures.fresh c.in-Ok.ensures.blank c.exchange-found.ensures c.back.ensures.last c.back.ensures.counts c.in-Ok.ensures.cause.unfailed

@@ -31,7 +31,7 @@ returns-in-Ok-eq0-clause-heard g c =
           c.args.inbox.now c.loop-announced.inbox c.fill.new.self read.0 c.in-Ok-eq0.field-0
           c.loop-announced.invariant.heard
           (unfinished_front c.as_slice.result.now c.loop-announced.inbox c.as_slice.ensures c.in_default.ensures.none.0)
-          (record { given = read.3; taken = c.in-Ok-eq0.ensures.taken; noted = read.4; calm = c.in-Ok-eq0.ensures.told })
+          (record { given = read.3; taken = c.in-Ok-eq0.ensures.taken; noted = read.4; unfailed = c.in-Ok-eq0.ensures.told })
           read.2 read.1 c.in-Ok-eq0.field-0-test c.in-Ok-eq0.ensures.bounded,
     )
 
@@ -54,7 +54,7 @@ loop-announced-preserved g c =
           c.args.inbox.now c.loop-announced.inbox c.fill.new.self read.0 c.in-Ok.field-0
           c.loop-announced.invariant.heard
           (unfinished_front c.as_slice.result.now c.loop-announced.inbox c.as_slice.ensures c.in_default.ensures.none.0)
-          (record { given = read.3; taken = c.in-Ok.ensures.taken; noted = read.4; calm = c.in-Ok.ensures.told })
+          (record { given = read.3; taken = c.in-Ok.ensures.taken; noted = read.4; unfailed = c.in-Ok.ensures.told })
           read.2 read.1 (omega arith) c.in-Ok.ensures.bounded;
       scan = subst (λ l. HoldsScan (take longest_head l) c.announced_in.new.scan) (sym read.2)
           (scan_grows c.loop-announced.inbox read.0 c.announced_in.new.scan scanned);

@@ -14,7 +14,7 @@ returns-in-Ok-eq0-clause-heard g c =
     let open_ = unfinished_on c.args.inbox.now c.loop-inbox.inbox h.piece c.args.end c.requires.unfinished h.grown (omega arith) in
     heard_end (traffic (g.W.Wire.told c.args.wire.now)) (traffic (g.W.Wire.told c.loop-inbox.wire)) (traffic (g.W.Wire.told c.fill.new.wire))
     c.args.inbox.now c.loop-inbox.inbox c.fill.new.self read.0 c.in-Ok-eq0.field-0 h open_
-    (record { given = read.3; taken = c.in-Ok-eq0.ensures.taken; noted = read.4; calm = c.in-Ok-eq0.ensures.told })
+    (record { given = read.3; taken = c.in-Ok-eq0.ensures.taken; noted = read.4; unfailed = c.in-Ok-eq0.ensures.told })
     read.2 read.1 c.in-Ok-eq0.field-0-test c.in-Ok-eq0.ensures.bounded
 
 pub loop-inbox-preserved : goal.loop-inbox-preserved
@@ -26,7 +26,7 @@ loop-inbox-preserved g c =
     record {
       heard = heard_more (traffic (g.W.Wire.told c.args.wire.now)) (traffic (g.W.Wire.told c.loop-inbox.wire)) (traffic (g.W.Wire.told c.fill.new.wire))
           c.args.inbox.now c.loop-inbox.inbox c.fill.new.self read.0 c.in-Ok.field-0 h open_
-          (record { given = read.3; taken = c.in-Ok.ensures.taken; noted = read.4; calm = c.in-Ok.ensures.told })
+          (record { given = read.3; taken = c.in-Ok.ensures.taken; noted = read.4; unfailed = c.in-Ok.ensures.told })
           read.2 read.1 (omega arith) c.in-Ok.ensures.bounded;
       unclosed = c.in-Ok.ensures.open;
     }

@@ -14,7 +14,7 @@ left_over n text lt none =
     omega arith
 
 pub loop-done-init : goal.loop-done-init
-loop-done-init g c = record { within = omega arith; written = Appends-nil (g.K.Sink.told c.args.output.now).written; calm = refl }
+loop-done-init g c = record { within = omega arith; written = Appends-nil (g.K.Sink.told c.args.output.now).written; unfailed = refl }
 
 pub loop-done-preserved : goal.loop-done-preserved
 loop-done-preserved g c =
@@ -28,7 +28,7 @@ loop-done-preserved g c =
       within = omega arith;
       written = subst (Appends (g.K.Sink.told c.args.output.now).written (g.K.Sink.told c.write.new.self).written) (sym (take-add done count bytes))
           (Appends-trans (g.K.Sink.told c.args.output.now).written (g.K.Sink.told c.loop-done.output).written (g.K.Sink.told c.write.new.self).written (take done bytes) (take count (drop done bytes)) c.loop-done.invariant.written more);
-      calm = c.in-Ok.ensures.cause.calm ∙ c.loop-done.invariant.calm;
+      unfailed = c.in-Ok.ensures.cause.unfailed ∙ c.loop-done.invariant.unfailed;
     }
 
 pub returns-in-Err : goal.returns-in-Err
@@ -40,7 +40,7 @@ returns-in-Err g c =
       piece = take done bytes;
       part = (drop done bytes, left_over done bytes lt, take-append-drop done bytes);
       bytes = Appends-kept (g.K.Sink.told c.args.output.now).written (g.K.Sink.told c.loop-done.output).written (g.K.Sink.told c.write.new.self).written (take done bytes) c.loop-done.invariant.written c.in-Err.ensures.bytes;
-      cause = subst (λ n. Rose n (g.K.Sink.told c.write.new.self).faults) c.loop-done.invariant.calm c.in-Err.ensures.cause.failed;
+      cause = subst (λ n. Rose n (g.K.Sink.told c.write.new.self).faults) c.loop-done.invariant.unfailed c.in-Err.ensures.cause.failed;
     }
 
 pub returns : goal.returns
@@ -49,5 +49,5 @@ returns g c =
     let bytes = c.args.text.now in
     record {
       bytes = subst (Appends (g.K.Sink.told c.args.output.now).written (g.K.Sink.told c.loop-done.output).written) (take_all done bytes (omega arith)) c.loop-done.invariant.written;
-      calm = c.loop-done.invariant.calm;
+      unfailed = c.loop-done.invariant.unfailed;
     }

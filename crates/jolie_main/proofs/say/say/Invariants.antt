@@ -6,7 +6,7 @@ abbrev pub invariant-loop-done : goal.invariant-loop-done
 invariant-loop-done g l = record {
   within : l.done ≤ length l.text;
   written : Appends (g.K.Sink.told l.fn.output).written (g.K.Sink.told l.output).written (take l.done l.text);
-  calm : (g.K.Sink.told l.output).faults ≡ (g.K.Sink.told l.fn.output).faults;
+  unfailed : (g.K.Sink.told l.output).faults ≡ (g.K.Sink.told l.fn.output).faults;
 }
 
 abbrev pub decreases-loop-done : goal.decreases-loop-done

@@ -21,7 +21,7 @@ loop-done-preserved g c =
       within = omega arith;
       written = subst (Appends (g.K.Sink.told c.args.sink.now).written (g.K.Sink.told c.write.new.self).written) (sym (take-add done count bytes))
           (Appends-trans (g.K.Sink.told c.args.sink.now).written (g.K.Sink.told c.loop-done.sink).written (g.K.Sink.told c.write.new.self).written (take done bytes) (take count (drop done bytes)) c.loop-done.invariant.written more);
-      faults = c.in-Ok.ensures.cause.calm ∙ c.loop-done.invariant.faults;
+      faults = c.in-Ok.ensures.cause.unfailed ∙ c.loop-done.invariant.faults;
     }
 
 pub returns-in-Err : goal.returns-in-Err
@@ -30,24 +30,24 @@ returns-in-Err g c =
     let bytes = c.args.bytes.now in
     let lt : done < length bytes = omega arith in
     let rose = c.in-Err.ensures.cause.failed in
-    let calm = c.loop-done.invariant.faults in
+    let unfailed = c.loop-done.invariant.faults in
     let later = c.in-Err.ensures.cause.later in
     record {
       within = omega arith;
       taken = Appends-kept (g.K.Sink.told c.args.sink.now).written (g.K.Sink.told c.loop-done.sink).written (g.K.Sink.told c.write.new.self).written (take done bytes) c.loop-done.invariant.written c.in-Err.ensures.bytes;
-      calm = λ e. absurd (omega arith);
-      cause = λ _. subst (λ n. Rose n (g.K.Sink.told c.write.new.self).faults) calm rose;
-      later = subst (λ n. n ≤ (g.K.Sink.told c.write.new.self).faults) calm later;
+      unfailed = λ e. absurd (omega arith);
+      cause = λ _. subst (λ n. Rose n (g.K.Sink.told c.write.new.self).faults) unfailed rose;
+      later = subst (λ n. n ≤ (g.K.Sink.told c.write.new.self).faults) unfailed later;
     }
 
 pub returns : goal.returns
 returns g c =
     let within = c.loop-done.invariant.within in
-    let calm = c.loop-done.invariant.faults in
+    let unfailed = c.loop-done.invariant.faults in
     record {
       within = within;
       taken = c.loop-done.invariant.written;
-      calm = λ _. calm;
+      unfailed = λ _. unfailed;
       cause = λ lt. absurd (omega arith);
-      later = omega (arith, calm);
+      later = omega (arith, unfailed);
     }

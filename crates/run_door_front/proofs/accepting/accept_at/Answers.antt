@@ -10,9 +10,9 @@ pub loop-alloc-preserved : goal.loop-alloc-preserved
 loop-alloc-preserved g c =
     let w = c.in-Some.wire in
     let fits = c.ranges.most in
-    takes-next _ c.args.most c.args.port.now c.loop-alloc.port c.knock.new.self c.args.links.now.items c.loop-alloc.links.items c.push.new.self.items
-    c.new.result c.loop-alloc.invariant c.knock.ensures.goes c.in-Some.ensures.wires
-    (new_link-at _ (g.D.W.Wire.told w) c.new.result (w, refl) c.in-Some.ensures.comes.fresh c.new.ensures.owed c.new.ensures.stage c.new.ensures.talks)
+    takes-next _ c.args.most c.args.port.now c.loop-alloc.port c.accept.new.self c.args.links.now.items c.loop-alloc.links.items c.push.new.self.items
+    c.new.result c.loop-alloc.invariant c.accept.ensures.goes c.in-Some.ensures.wires
+    (new_link-at _ (g.D.W.Wire.told w) c.new.result (w, refl) c.in-Some.ensures.comes.fresh c.new.ensures.pending c.new.ensures.stage c.new.ensures.talks)
     (door-at (g.D.W.Wire.told w) c.loop-alloc.port.door.place c.new.result c.in-Some.ensures.comes c.new.ensures.talks)
     (c.new.ensures.service ∙ c.service.ensures)
     (room-tested c.args.most c.loop-alloc.links.items c.deref.result.now c.has_room.result c.deref.ensures.value c.has_room.ensures c.loop-alloc-test.true)
@@ -20,5 +20,5 @@ loop-alloc-preserved g c =
 
 pub returns-in-None : goal.returns-in-None
 returns-in-None g c =
-    accepts-tried _ c.args.most c.args.port.now c.loop-alloc.port c.knock.new.self c.args.links.now.items c.loop-alloc.links.items c.loop-alloc.invariant
-    c.knock.ensures.goes c.in-None.ensures.wires c.in-None.ensures.nobody
+    accepts-tried _ c.args.most c.args.port.now c.loop-alloc.port c.accept.new.self c.args.links.now.items c.loop-alloc.links.items c.loop-alloc.invariant
+    c.accept.ensures.goes c.in-None.ensures.wires c.in-None.ensures.nobody

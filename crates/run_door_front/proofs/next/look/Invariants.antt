@@ -1,7 +1,11 @@
-use Rattle.std.proofs.Common.{◌≡◌}
-use Rattle.run_door_front.specs.NextSteps.{Goes, going}
+use Rattle.std.proofs.Common.{◌≡◌, ◌-◌, ◌^◌, count_by}
+use Rattle.run_door_front.specs.NextSteps.{Goes, going, is_over}
 use Rattle.run_door_front.proofs.next.look.Given as goal
 
-abbrev pub invariant-loop : goal.invariant-loop
-invariant-loop g l =
+abbrev pub invariant-loop-links : goal.invariant-loop-links
+invariant-loop-links g l =
     Goes (λ line. (wire : g.row.D-W.Denot) × (line ≡ g.D.W.Wire.told wire)) l.most (going l.fn.ports l.fn.links.items l.fn.traffics.items) (going l.ports l.links.items l.traffics.items)
+
+-- Each turn but the last ends a connection.
+abbrev pub decreases-loop-links : goal.decreases-loop-links
+decreases-loop-links g l = 2 ^ 63 - count_by is_over l.links.items

@@ -9,4 +9,4 @@ returns-clause-doors g c =
     (g.D.Doors.told c.args.doors.now)
     (g.D.Doors.told c.door_back.new.self)
     c.into_door.ensures
-    back.tally back.returned back.listed back.tries back.raised back.calm
+    back.tally back.returned back.listed back.tries back.raised back.unfailed

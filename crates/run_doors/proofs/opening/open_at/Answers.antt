@@ -10,7 +10,7 @@ returns-in_ok-push-in-Ok g c =
     (g.D.Doors.told c.args.doors.now)
     (g.D.Doors.told c.open.new.self)
     c.args.opening.now.ports.items c.args.opening.now.failed c.push.new.self.items
-    c.in-Ok.ensures.opened c.in-Ok.ensures.listed c.open.ensures.returned c.open.ensures.returned_doors c.in-Ok.ensures.cause.calm
+    c.in-Ok.ensures.opened c.in-Ok.ensures.listed c.open.ensures.returned c.open.ensures.returned_doors c.in-Ok.ensures.cause.unfailed
     (c.in_ok-push-in-Ok.ensures.items
     ∙ ap (λ p. c.args.opening.now.ports.items ++ p ∷ [])
     (port_opened c.args.number (g.D.Doors.told c.args.doors.now).tally.opened c.args.location.now c.new.result _ c.new.ensures c.in-Ok.ensures.untried))

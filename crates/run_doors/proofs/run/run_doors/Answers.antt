@@ -2,7 +2,7 @@
 use Rattle.std.proofs.Common.{◌≡◌, [], refl, sym, ap, subst, ◌∙◌}
 use Rattle.behaviour_tree.specs.PartsView.{parts_of}
 use Rattle.run_theorem.specs.Ports.{doors_of}
-use Rattle.run_door_front.specs.Dealt.{sides_of}
+use Rattle.run_door_front.specs.Exchanged.{sides_of}
 use Rattle.run_theorem.specs.declared.ended.Ended.{Ended}
 use Rattle.std.specs.List.{items_where_true}
 use Rattle.run_theorem.specs.Theorem.{Task}

@@ -29,7 +29,7 @@ returns g c = λ doors.
     (sym (c.output-1.given.1 (sym (after.1.1 ∙ c.new-front.ensures.same_output))))
     (sym (c.notes-1.given.1 (sym (after.1.2 ∙ c.new-front.ensures.same_notes)))))
     c.status_of-status.ensures (c.failed.ensures ∙ ap (λ k. k.reader.failed) kept)
-    (c.halted.ensures ∙ ap (λ k. k.halted) kept ∙ sym after.1.5.said.halted)
+    (c.halted.ensures ∙ ap (λ k. k.halted) kept ∙ sym after.1.5.sent.halted)
     c.in_ok-report.ensures
     (c.into_traffic.ensures.read ∙ ap (λ k. read_in k.reader.lines) kept)
     (c.into_traffic.ensures.written ∙ ap (λ k. k.written.items) kept)

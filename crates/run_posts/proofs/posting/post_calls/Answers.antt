@@ -1,50 +1,50 @@
 -- Call by call: what the next adds is its post.
 use Rattle.std.proofs.Common.{◌∙◌, ◌+◌, List, refl, sym, ap, subst}
-use Rattle.run_cells.specs.Crews.{state_of}
-use Rattle.run_posts.specs.declared.pending.Fate.{Fate}
-use Rattle.run_posts.proofs.Added.{IsPosting, posting_added, posting_fates, posting_pushed, posting_starts}
+use Rattle.run_cells.specs.RunStates.{state_of}
+use Rattle.run_posts.specs.declared.pending.CallState.{CallState}
+use Rattle.run_posts.proofs.Added.{IsPosting, posting_added, posting_call_states, posting_pushed, posting_starts}
 use Rattle.run_posts.proofs.posting.post_calls.Goals as goal
 
 pub loop-call-init : goal.loop-call-init
 loop-call-init g c =
-    let s = state_of (g.C.Counter.crew c.args.cells.now) in
+    let s = state_of (g.C.Counter.run_state c.args.cells.now) in
     record {
       program = refl;
       work = c.requires.work;
       index = refl;
       posting =
-          subst (λ (l : List Fate). IsPosting s s (c.args.posting, 0) c.args.calls.now l)
-          (sym c.new-fates.ensures.items)
+          subst (λ (l : List CallState). IsPosting s s (c.args.posting, 0) c.args.calls.now l)
+          (sym c.new-call_states.ensures.items)
           (posting_starts s c.args.posting c.args.calls.now);
     }
 
 pub loop-call-preserved : goal.loop-call-preserved
 loop-call-preserved g c =
-    let s = state_of (g.C.Counter.crew c.args.cells.now) in
-    let mid = state_of (g.C.Counter.crew c.loop-call.cells) in
-    let new = state_of (g.C.Counter.crew c.post_call.new.cells) in
+    let s = state_of (g.C.Counter.run_state c.args.cells.now) in
+    let mid = state_of (g.C.Counter.run_state c.loop-call.cells) in
+    let new = state_of (g.C.Counter.run_state c.post_call.new.cells) in
     let at = c.loop-call in
     record {
       program = c.post_call.ensures.program ∙ at.invariant.program;
-      work = c.in_ok-fate.ensures.work;
+      work = c.in_ok-call_state.ensures.work;
       index = ap (λ n. n + 1) at.invariant.index;
       posting =
           posting_pushed s mid new c.args.posting at.call-index c.in_ok-number.number c.args.calls.now c.call-item.result
-          at.fates.items _ c.in_ok-fate.fate (c.in_ok-number.ensures ∙ at.invariant.index) c.loop-call-test.true
-          c.call-item.is c.in_ok-push.ensures.items c.in_ok-fate.ensures.posted c.in_ok-fate.ensures.fate
+          at.call_states.items _ c.in_ok-call_state.call_state (c.in_ok-number.ensures ∙ at.invariant.index) c.loop-call-test.true
+          c.call-item.is c.in_ok-push.ensures.items c.in_ok-call_state.ensures.posted c.in_ok-call_state.ensures.call_state
           at.invariant.posting;
     }
 
 pub returns-clause-posted : goal.returns-clause-posted
 returns-clause-posted g c =
-    let s = state_of (g.C.Counter.crew c.args.cells.now) in
+    let s = state_of (g.C.Counter.run_state c.args.cells.now) in
     let at = c.loop-call in
-    posting_added s (state_of (g.C.Counter.crew at.cells)) c.args.posting at.call-index c.args.calls.now at.fates.items
+    posting_added s (state_of (g.C.Counter.run_state at.cells)) c.args.posting at.call-index c.args.calls.now at.call_states.items
     c.loop-call-test.false at.invariant.posting
 
-pub returns-clause-fates : goal.returns-clause-fates
-returns-clause-fates g c =
-    let s = state_of (g.C.Counter.crew c.args.cells.now) in
+pub returns-clause-call_states : goal.returns-clause-call_states
+returns-clause-call_states g c =
+    let s = state_of (g.C.Counter.run_state c.args.cells.now) in
     let at = c.loop-call in
-    posting_fates s (state_of (g.C.Counter.crew at.cells)) c.args.posting at.call-index c.args.calls.now at.fates.items
+    posting_call_states s (state_of (g.C.Counter.run_state at.cells)) c.args.posting at.call-index c.args.calls.now at.call_states.items
     c.loop-call-test.false at.invariant.posting

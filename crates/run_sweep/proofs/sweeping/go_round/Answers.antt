@@ -1,16 +1,16 @@
 -- A round: the sessions have their turns, then calls go out and come back.
 use Rattle.std.proofs.Common.{◌∙◌, refl, sym, true≢false}
-use Rattle.run_cells.specs.Crews.{state_of}
+use Rattle.run_cells.specs.RunStates.{state_of}
 use Rattle.run_sweep.specs.Swept.{NotesBy, NotesMore}
 use Rattle.run_sweep.proofs.Notes.{failing, notes_none, passed_none, passed_as}
-use Rattle.run_sweep.proofs.Rounds.{settled_one, settled_two, half_swept, half_tours, half_notes, still_half, round_of}
-use Rattle.run_sweep.proofs.Rounds.{round_swept, round_tours, round_notes, round_brought, round_less, round_quiet}
-use Rattle.run_sweep.proofs.Rounds.{round_still, again_by, calm_by, not_halted, halted_only}
+use Rattle.run_sweep.proofs.Rounds.{settled_one, settled_two, half_swept, half_completed_calls, half_notes, still_half, round_of}
+use Rattle.run_sweep.proofs.Rounds.{round_swept, round_completed_calls, round_notes, round_received, round_less, round_quiet}
+use Rattle.run_sweep.proofs.Rounds.{round_still, again_by, unfailed_by, not_halted, halted_only}
 use Rattle.run_sweep.proofs.sweeping.go_round.Goals as goal
 
 pub note_all-requires-clause-settled : goal.note_all-requires-clause-settled
 note_all-requires-clause-settled g c =
-    settled_one c.in_ok-turned.ensures.went c.in_ok-turned.ensures.work.team c.requires.settled c.requires.brought
+    settled_one c.in_ok-turned.ensures.went c.in_ok-turned.ensures.work.team c.requires.settled c.requires.received
 
 pub trip_all-requires-clause-settled : goal.trip_all-requires-clause-settled
 trip_all-requires-clause-settled g c = settled_two c.in_ok-noted.ensures.cleared
@@ -20,24 +20,24 @@ trip_all-requires-clause-settled g c = settled_two c.in_ok-noted.ensures.cleared
 pub returns-then-halted-clause-swept : goal.returns-then-halted-clause-swept
 returns-then-halted-clause-swept g c =
     half_swept c.requires.work.team c.in_ok-turned.ensures.went c.in_ok-turned.ensures.work.team c.requires.settled
-    c.requires.brought c.in_ok-noted.ensures.cleared
+    c.requires.received c.in_ok-noted.ensures.cleared
 
-pub returns-then-halted-clause-toured : goal.returns-then-halted-clause-toured
-returns-then-halted-clause-toured g c =
-    let two = state_of (g.C.Sessions.crew c.note_all.new.cells) in
+pub returns-then-halted-clause-completed : goal.returns-then-halted-clause-completed
+returns-then-halted-clause-completed g c =
+    let two = state_of (g.C.Sessions.run_state c.note_all.new.cells) in
     let now = g.L.Link.told c.args.link.now in
-    half_tours two.history now c.in_ok-turned.ensures.went c.in_ok-turned.ensures.work.team c.requires.settled
-    c.requires.brought (c.in_ok-noted.ensures.toured now)
+    half_completed_calls two.history now c.in_ok-turned.ensures.went c.in_ok-turned.ensures.work.team c.requires.settled
+    c.requires.received (c.in_ok-noted.ensures.completed now)
 
 pub returns-then-halted-clause-noted : goal.returns-then-halted-clause-noted
 returns-then-halted-clause-noted g c =
-    let old = state_of (g.C.Sessions.crew c.args.cells.now) in
-    let one = state_of (g.C.Sessions.crew c.all_turns.new.self) in
-    let two = state_of (g.C.Sessions.crew c.note_all.new.cells) in
-    passed_as g.F.Front.dealt c.args.front.now c.note_all.new.front (NotesBy one.setting one.history two.history)
+    let old = state_of (g.C.Sessions.run_state c.args.cells.now) in
+    let one = state_of (g.C.Sessions.run_state c.all_turns.new.self) in
+    let two = state_of (g.C.Sessions.run_state c.note_all.new.cells) in
+    passed_as g.F.Front.exchanged c.args.front.now c.note_all.new.front (NotesBy one.setting one.history two.history)
     (NotesBy old.setting old.history two.history) c.in_ok-noted.ensures.noted
     (half_notes two.history c.in_ok-turned.ensures.went c.in_ok-turned.ensures.work.team c.requires.settled
-    c.requires.brought)
+    c.requires.received)
 
 pub returns-then-halted-clause-halted : goal.returns-then-halted-clause-halted
 returns-then-halted-clause-halted g c =
@@ -51,7 +51,7 @@ returns-then-halted-clause-still g c =
     λ q. (
       halted_only,
       still_half c.in_ok-turned.ensures.went c.in_ok-turned.ensures.work.team c.requires.settled
-          c.requires.brought c.in_ok-noted.ensures.cleared,
+          c.requires.received c.in_ok-noted.ensures.cleared,
     )
 
 -- ---- the whole round
@@ -59,47 +59,47 @@ returns-then-halted-clause-still g c =
 pub returns-clause-swept : goal.returns-clause-swept
 returns-clause-swept g c =
     round_swept c.requires.work.team
-    (round_of c.in_ok-turned.ensures.went c.in_ok-turned.ensures.work.team c.requires.settled c.requires.brought
+    (round_of c.in_ok-turned.ensures.went c.in_ok-turned.ensures.work.team c.requires.settled c.requires.received
     c.in_ok-noted.ensures.cleared c.in_ok-travelled.ensures.cleared)
 
-pub returns-clause-toured : goal.returns-clause-toured
-returns-clause-toured g c =
-    let two = state_of (g.C.Sessions.crew c.note_all.new.cells) in
+pub returns-clause-completed : goal.returns-clause-completed
+returns-clause-completed g c =
+    let two = state_of (g.C.Sessions.run_state c.note_all.new.cells) in
     let now = g.L.Link.told c.args.link.now in
     let went = c.in_ok-turned.ensures.went in
     let team = c.in_ok-turned.ensures.work.team in
-    round_tours now (g.L.Link.told c.trip_all.new.link)
-    (round_of went team c.requires.settled c.requires.brought c.in_ok-noted.ensures.cleared
+    round_completed_calls now (g.L.Link.told c.trip_all.new.link)
+    (round_of went team c.requires.settled c.requires.received c.in_ok-noted.ensures.cleared
     c.in_ok-travelled.ensures.cleared)
-    (half_tours two.history now went team c.requires.settled c.requires.brought (c.in_ok-noted.ensures.toured now))
-    c.in_ok-travelled.ensures.toured
+    (half_completed_calls two.history now went team c.requires.settled c.requires.received (c.in_ok-noted.ensures.completed now))
+    c.in_ok-travelled.ensures.completed
 
 pub returns-clause-noted : goal.returns-clause-noted
 returns-clause-noted g c =
-    let old = state_of (g.C.Sessions.crew c.args.cells.now) in
-    let one = state_of (g.C.Sessions.crew c.all_turns.new.self) in
-    let two = state_of (g.C.Sessions.crew c.note_all.new.cells) in
-    let three = state_of (g.C.Sessions.crew c.trip_all.new.cells) in
+    let old = state_of (g.C.Sessions.run_state c.args.cells.now) in
+    let one = state_of (g.C.Sessions.run_state c.all_turns.new.self) in
+    let two = state_of (g.C.Sessions.run_state c.note_all.new.cells) in
+    let three = state_of (g.C.Sessions.run_state c.trip_all.new.cells) in
     let went = c.in_ok-turned.ensures.went in
     let team = c.in_ok-turned.ensures.work.team in
-    let r = round_of went team c.requires.settled c.requires.brought c.in_ok-noted.ensures.cleared
+    let r = round_of went team c.requires.settled c.requires.received c.in_ok-noted.ensures.cleared
     c.in_ok-travelled.ensures.cleared in
-    passed_as g.F.Front.dealt c.args.front.now c.note_all.new.front (NotesBy one.setting one.history two.history)
+    passed_as g.F.Front.exchanged c.args.front.now c.note_all.new.front (NotesBy one.setting one.history two.history)
     (NotesBy old.setting old.history three.history) c.in_ok-noted.ensures.noted
     (λ a b n. round_notes r c.in_ok-travelled.ensures.noted a b
-    (half_notes two.history went team c.requires.settled c.requires.brought a b n))
+    (half_notes two.history went team c.requires.settled c.requires.received a b n))
 
 pub returns-clause-again : goal.returns-clause-again
 returns-clause-again g c =
-    let r = round_of c.in_ok-turned.ensures.went c.in_ok-turned.ensures.work.team c.requires.settled c.requires.brought
+    let r = round_of c.in_ok-turned.ensures.went c.in_ok-turned.ensures.work.team c.requires.settled c.requires.received
     c.in_ok-noted.ensures.cleared c.in_ok-travelled.ensures.cleared in
-    λ is. (round_brought r, round_less r (again_by _ _ c.came_to.ensures is))
+    λ is. (round_received r, round_less r (again_by _ _ c.came_to.ensures is))
 
-pub returns-clause-calm : goal.returns-clause-calm
-returns-clause-calm g c =
-    let r = round_of c.in_ok-turned.ensures.went c.in_ok-turned.ensures.work.team c.requires.settled c.requires.brought
+pub returns-clause-unfailed : goal.returns-clause-unfailed
+returns-clause-unfailed g c =
+    let r = round_of c.in_ok-turned.ensures.went c.in_ok-turned.ensures.work.team c.requires.settled c.requires.received
     c.in_ok-noted.ensures.cleared c.in_ok-travelled.ensures.cleared in
-    λ is. round_quiet r (calm_by _ _ c.came_to.ensures is)
+    λ is. round_quiet r (unfailed_by _ _ c.came_to.ensures is)
 
 pub returns-clause-halted : goal.returns-clause-halted
 returns-clause-halted g c = λ is. absurd (not_halted _ _ c.came_to.ensures is)
@@ -112,7 +112,7 @@ returns-clause-stopped g c = λ is. absurd (not_halted _ _ c.came_to.ensures is)
 
 pub returns-clause-still : goal.returns-clause-still
 returns-clause-still g c =
-    let r = round_of c.in_ok-turned.ensures.went c.in_ok-turned.ensures.work.team c.requires.settled c.requires.brought
+    let r = round_of c.in_ok-turned.ensures.went c.in_ok-turned.ensures.work.team c.requires.settled c.requires.received
     c.in_ok-noted.ensures.cleared c.in_ok-travelled.ensures.cleared in
     λ q. (λ is. true≢false (sym (again_by _ _ c.came_to.ensures is) ∙ (round_still r q).0), (round_still r q).1)
 
@@ -121,7 +121,7 @@ returns-clause-still g c =
 pub returns-in_err-turned-clause-noted : goal.returns-in_err-turned-clause-noted
 returns-in_err-turned-clause-noted g c =
     failing _ _ c.from_residual.result c.from_residual.ensures.1
-    (passed_none g.F.Front.dealt c.args.front.now NotesMore notes_none)
+    (passed_none g.F.Front.exchanged c.args.front.now NotesMore notes_none)
 
 pub returns-in_err-noted-clause-program : goal.returns-in_err-noted-clause-program
 returns-in_err-noted-clause-program g c = c.note_all.ensures.program ∙ c.all_turns.ensures.program
@@ -139,10 +139,10 @@ returns-in_err-travelled-clause-program g c =
 
 pub returns-in_err-travelled-clause-noted : goal.returns-in_err-travelled-clause-noted
 returns-in_err-travelled-clause-noted g c =
-    let one = state_of (g.C.Sessions.crew c.all_turns.new.self) in
-    let two = state_of (g.C.Sessions.crew c.note_all.new.cells) in
+    let one = state_of (g.C.Sessions.run_state c.all_turns.new.self) in
+    let two = state_of (g.C.Sessions.run_state c.note_all.new.cells) in
     failing _ _ c.from_residual-in_err-travelled.result c.from_residual-in_err-travelled.ensures.1
-    (passed_as g.F.Front.dealt c.args.front.now c.note_all.new.front
+    (passed_as g.F.Front.exchanged c.args.front.now c.note_all.new.front
     (NotesBy one.setting one.history two.history) NotesMore
     c.in_ok-noted.ensures.noted (λ a b n. n.0))
 

@@ -1,9 +1,11 @@
 //! The doors of a row.
 
-use crate::outside::doors::told::{tell_calm, tell_counts, tell_doors, tell_scripted, tell_tries};
+use crate::outside::doors::told::{
+    tell_counts, tell_doors, tell_scripted, tell_tries, tell_unfailed,
+};
 use crate::outside::doors::visits::visit_all;
 use outside_doors::Doors;
-use outside_memory_doors::{CalmDoor, CalmDoors, ScriptedDoor, ScriptedDoors};
+use outside_memory_doors::{ScriptedDoor, ScriptedDoors, UnfailingDoor, UnfailingDoors};
 use std::alloc::{AllocError, Global};
 use test_rows::{Row, TableError};
 
@@ -15,18 +17,18 @@ pub fn done(alloc: Global, row: &Row<'_>) -> Result<String, TableError> {
     let mut said = String::new(alloc);
     if row.has("quiet") {
         let quiet = u64::from(row.number(alloc, "quiet")?);
-        calm(alloc, row, quiet, &mut said)?;
+        unfailed(alloc, row, quiet, &mut said)?;
     } else {
         scripted(alloc, row, &mut said)?;
     }
     Ok(said)
 }
 
-fn calm(alloc: Global, row: &Row<'_>, quiet: u64, said: &mut String) -> Result<(), TableError> {
-    let mut doors = CalmDoors::new(alloc);
-    expect_calm(alloc, row, quiet, &mut doors)?;
+fn unfailed(alloc: Global, row: &Row<'_>, quiet: u64, said: &mut String) -> Result<(), TableError> {
+    let mut doors = UnfailingDoors::new(alloc);
+    expect_unfailed(alloc, row, quiet, &mut doors)?;
     visit_row(alloc, row, &mut doors, said)?;
-    Ok(told_calm(alloc, &doors, said)?)
+    Ok(told_unfailed(alloc, &doors, said)?)
 }
 
 fn scripted(alloc: Global, row: &Row<'_>, said: &mut String) -> Result<(), TableError> {
@@ -47,11 +49,15 @@ fn visit_row<D: Doors>(
     Ok(visit_all(doors, locations.as_str(), knocks, said)?)
 }
 
-fn told_calm(alloc: Global, doors: &CalmDoors, said: &mut String) -> Result<(), AllocError> {
+fn told_unfailed(
+    alloc: Global,
+    doors: &UnfailingDoors,
+    said: &mut String,
+) -> Result<(), AllocError> {
     tell_counts(alloc, doors.counts(), doors.faults(), said)?;
     tell_tries(doors.tries(), said)?;
     tell_doors(alloc, doors.returned_doors(), said)?;
-    tell_calm(doors.returned(), said)
+    tell_unfailed(doors.returned(), said)
 }
 
 fn told_scripted(
@@ -66,21 +72,21 @@ fn told_scripted(
 }
 
 /// Doors of which each word is a connection with these bytes.
-fn expect_calm(
+fn expect_unfailed(
     alloc: Global,
     row: &Row<'_>,
     quiet: u64,
-    doors: &mut CalmDoors,
+    doors: &mut UnfailingDoors,
 ) -> Result<(), TableError> {
     let lines = row.text(alloc, "doors")?;
     for line in lines.as_str().split('\n') {
-        doors.expect(calm_door(alloc, line, quiet)?)?;
+        doors.expect(unfailing_door(alloc, line, quiet)?)?;
     }
     Ok(())
 }
 
-fn calm_door(alloc: Global, line: &str, quiet: u64) -> Result<CalmDoor, AllocError> {
-    let mut door = CalmDoor::new(alloc, quiet);
+fn unfailing_door(alloc: Global, line: &str, quiet: u64) -> Result<UnfailingDoor, AllocError> {
+    let mut door = UnfailingDoor::new(alloc, quiet);
     for word in line.split(' ') {
         door.expect(word.as_bytes(), ROOM)?;
     }

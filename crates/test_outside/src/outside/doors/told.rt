@@ -2,7 +2,7 @@
 
 use crate::outside::doors::visits::add_bytes;
 use outside_doors::{Counts, DoorCounts, Return, Try};
-use outside_traits::{CalmWire, ScriptedWire};
+use outside_traits::{ScriptedWire, UnfailingWire};
 use std::alloc::{AllocError, Global};
 
 /// The counts, in a line.
@@ -77,7 +77,10 @@ fn tell_close(is_closed: bool, said: &mut String) -> Result<(), AllocError> {
 }
 
 /// The wires that came back, a line each.
-pub fn tell_calm(returned: &[Return<CalmWire>], said: &mut String) -> Result<(), AllocError> {
+pub fn tell_unfailed(
+    returned: &[Return<UnfailingWire>],
+    said: &mut String,
+) -> Result<(), AllocError> {
     for back in returned {
         let wire = back.wire();
         tell_bytes(wire.given(), wire.taken(), said)?;

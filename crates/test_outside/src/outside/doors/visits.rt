@@ -1,6 +1,6 @@
 //! What comes in at doors.
 
-use outside_doors::{Door, Doors, Knock};
+use outside_doors::{Accept, Door, Doors};
 use outside_traits::{Failed, Wire};
 use std::alloc::AllocError;
 
@@ -34,20 +34,20 @@ fn visit<D: Doors>(
 ) -> Result<(), AllocError> {
     let mut door = door;
     for _ in 0..knocks {
-        knock(doors, &mut door, said)?;
+        accept(doors, &mut door, said)?;
     }
     doors.door_back(door);
     Ok(())
 }
 
-fn knock<D: Doors>(doors: &mut D, door: &mut D::D, said: &mut String) -> Result<(), AllocError> {
+fn accept<D: Doors>(doors: &mut D, door: &mut D::D, said: &mut String) -> Result<(), AllocError> {
     match door.try_accept() {
-        Ok(Knock::Came(wire)) => answer(doors, wire, said),
-        Ok(Knock::NotYet) => {
+        Ok(Accept::Came(wire)) => answer(doors, wire, said),
+        Ok(Accept::NotYet) => {
             door.rest();
             said.push('.')
         }
-        Ok(Knock::Closed) => said.push('#'),
+        Ok(Accept::Closed) => said.push('#'),
         Err(Failed) => said.push('!'),
     }
 }

@@ -1,6 +1,6 @@
 //! The trips of a row.
 
-use outside_links::{CalmLink, Link, NoLink, ScriptedLink, Trip};
+use outside_links::{Link, NoLink, ScriptedLink, Trip, UnfailingLink};
 use outside_traits::CallError;
 use std::alloc::{AllocError, Global};
 use test_rows::{Row, TableError};
@@ -15,18 +15,18 @@ pub fn travelled(alloc: Global, row: &Row<'_>) -> Result<String, TableError> {
         return Ok(brought(alloc, &mut NoLink::new(), texts.as_str())?);
     }
     let brings = row.text(alloc, "brings")?;
-    if row.has("calm") {
-        return Ok(calm(alloc, brings.as_str(), texts.as_str())?);
+    if row.has("unfailed") {
+        return Ok(unfailed(alloc, brings.as_str(), texts.as_str())?);
     }
     Ok(scripted(alloc, brings.as_str(), texts.as_str())?)
 }
 
-fn calm(alloc: Global, brings: &str, texts: &str) -> Result<String, AllocError> {
+fn unfailed(alloc: Global, brings: &str, texts: &str) -> Result<String, AllocError> {
     let mut answers = Vec::new(alloc);
     for word in brings.split(' ') {
         answers.push(Vec::from_slice(alloc, word.as_bytes())?)?;
     }
-    let mut link = CalmLink::new(alloc, answers);
+    let mut link = UnfailingLink::new(alloc, answers);
     let mut lines = brought(alloc, &mut link, texts)?;
     tell(&mut lines, link.trips())?;
     Ok(lines)

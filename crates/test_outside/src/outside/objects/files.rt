@@ -1,7 +1,7 @@
 //! Rows of files.
 
 use crate::outside::objects::calls::{Calls, call_count};
-use outside_traits::{CallError, CalmFiles, Files, Script, ScriptedFiles, Storage};
+use outside_traits::{CallError, Files, Script, ScriptedFiles, Storage, UnfailingFiles};
 use std::alloc::{AllocError, Global};
 use test_rows::{Row, TableError};
 
@@ -41,7 +41,7 @@ fn in_memory(
         let failing = u64::from(row.number(alloc, "fails")?);
         return Ok(scripted(alloc, failing, content.as_slice(), reads, calls)?);
     }
-    let mut files = CalmFiles::new(alloc, content.as_slice())?;
+    let mut files = UnfailingFiles::new(alloc, content.as_slice())?;
     read_each(&mut files, reads, true, calls)?;
     Ok(calls.asked(files.asked())?)
 }

@@ -1,7 +1,7 @@
 //! Rows of sinks.
 
 use crate::outside::objects::calls::Calls;
-use outside_traits::{CalmSink, Failed, Outputs, Script, ScriptedSink, Sink};
+use outside_traits::{Failed, Outputs, Script, ScriptedSink, Sink, UnfailingSink};
 use std::alloc::{AllocError, Global};
 use test_rows::{Row, TableError};
 
@@ -13,8 +13,8 @@ pub fn called(alloc: Global, row: &Row<'_>, calls: &mut Calls) -> Result<(), Tab
         return Ok(scripted(alloc, failing, writes.as_str(), calls)?);
     }
     let kind = row.text(alloc, "kind")?;
-    if kind.as_str() == "calm" {
-        calm(alloc, writes.as_str(), calls)?;
+    if kind.as_str() == "unfailed" {
+        unfailed(alloc, writes.as_str(), calls)?;
     } else {
         outputs(alloc, writes.as_str(), calls)?;
     }
@@ -33,8 +33,8 @@ fn scripted(
     calls.moved(sink.bytes())
 }
 
-fn calm(alloc: Global, writes: &str, calls: &mut Calls) -> Result<(), AllocError> {
-    let mut sink = CalmSink::new(alloc, 4)?;
+fn unfailed(alloc: Global, writes: &str, calls: &mut Calls) -> Result<(), AllocError> {
+    let mut sink = UnfailingSink::new(alloc, 4)?;
     write_each(&mut sink, writes, calls)?;
     calls.moved(sink.bytes())
 }

@@ -1,7 +1,7 @@
 //! Rows of sources.
 
 use crate::outside::objects::calls::{Calls, call_count};
-use outside_traits::{CalmSource, Failed, Inputs, Script, ScriptedSource, Source};
+use outside_traits::{Failed, Inputs, Script, ScriptedSource, Source, UnfailingSource};
 use std::alloc::{AllocError, Global};
 use test_rows::{Row, TableError};
 
@@ -13,8 +13,8 @@ pub fn called(alloc: Global, row: &Row<'_>, calls: &mut Calls) -> Result<(), Tab
     }
     let count = call_count(alloc, row)?;
     let kind = row.text(alloc, "kind")?;
-    if kind.as_str() == "calm" {
-        calm(alloc, content.as_slice(), count, calls)?;
+    if kind.as_str() == "unfailed" {
+        unfailed(alloc, content.as_slice(), count, calls)?;
     } else {
         let mut input = Inputs::new(content.as_slice());
         read_small(&mut input, count, calls)?;
@@ -35,8 +35,13 @@ fn scripted(
     Ok(read_large(&mut source, count, calls)?)
 }
 
-fn calm(alloc: Global, content: &[u8], count: u32, calls: &mut Calls) -> Result<(), AllocError> {
-    let mut source = CalmSource::new(alloc, content)?;
+fn unfailed(
+    alloc: Global,
+    content: &[u8],
+    count: u32,
+    calls: &mut Calls,
+) -> Result<(), AllocError> {
+    let mut source = UnfailingSource::new(alloc, content)?;
     read_small(&mut source, count, calls)
 }
 

@@ -1,7 +1,7 @@
 //! Rows of wires.
 
 use crate::outside::objects::calls::Calls;
-use outside_traits::{CalmWire, Failed, Script, ScriptedWire, Wire};
+use outside_traits::{Failed, Script, ScriptedWire, UnfailingWire, Wire};
 use std::alloc::{AllocError, Global};
 use test_rows::{Row, TableError};
 
@@ -17,7 +17,7 @@ pub fn called(alloc: Global, row: &Row<'_>, calls: &mut Calls) -> Result<(), Tab
         let failing = u64::from(row.number(alloc, "fails")?);
         return Ok(scripted(alloc, failing, content, does.as_str(), calls)?);
     }
-    Ok(calm(alloc, content, does.as_str(), calls)?)
+    Ok(unfailed(alloc, content, does.as_str(), calls)?)
 }
 
 fn scripted(
@@ -35,8 +35,13 @@ fn scripted(
     calls.told(wire.calls())
 }
 
-fn calm(alloc: Global, content: &[u8], does: &str, calls: &mut Calls) -> Result<(), AllocError> {
-    let mut wire = CalmWire::new(alloc, content, ROOM)?;
+fn unfailed(
+    alloc: Global,
+    content: &[u8],
+    does: &str,
+    calls: &mut Calls,
+) -> Result<(), AllocError> {
+    let mut wire = UnfailingWire::new(alloc, content, ROOM)?;
     do_each(&mut wire, does, calls)?;
     calls.moved(wire.given())?;
     calls.went(wire.taken())?;

@@ -1,5 +1,5 @@
 -- A session begins at the start of its service.
-use Rattle.run_cells.specs.Crews.{stand_by}
+use Rattle.run_cells.specs.RunStates.{stand_by}
 use Rattle.test_seats.proofs.seating.begun.Goals as goal
 
 pub returns-clause-stand : goal.returns-clause-stand

@@ -3,7 +3,7 @@ use Rattle.std.proofs.Common.{sym, subst, ◌∙◌}
 use Rattle.office_plain.specs.Entries.{adopt_entry}
 use Rattle.office_plain.specs.View.{Adds}
 use Rattle.run_cells.proofs.Offices.{seat_known}
-use Rattle.test_seats.specs.Opening.{crew_before}
+use Rattle.test_seats.specs.Opening.{run_state_before}
 use Rattle.test_seats.proofs.AtDesk.{nobody, somebody, somebody_seated}
 use Rattle.test_seats.proofs.seating.seated.Goals as goal
 
@@ -16,7 +16,7 @@ returns-in_default-clause-adopted c =
 
 pub begun-requires : goal.begun-requires
 begun-requires c =
-    seat_known {c = crew_before c.args.program.now c.in_ok-office.office 0} c.in_ok-office.ensures.opened 0 c.in-Some.birth
+    seat_known {c = run_state_before c.args.program.now c.in_ok-office.office 0} c.in_ok-office.ensures.opened 0 c.in-Some.birth
     (sym c.in-Some.is ∙ c.in_ok-born.ensures.birth)
 
 pub returns-clause-adopted : goal.returns-clause-adopted

@@ -13,7 +13,7 @@ returns-in_ok-report-in-Ok-clause-goes g c =
     let r = c.in_ok-report-in-Ok.ensures in
     c.in-Ok.ensures.goes _ _ (left_by {report = c.in_ok-report-in-Ok.report} r.program r.history r.sessions r.traffic r.legal)
 
-pub returns-in_ok-report-in-Ok-clause-toured : goal.returns-in_ok-report-in-Ok-clause-toured
-returns-in_ok-report-in-Ok-clause-toured g c =
+pub returns-in_ok-report-in-Ok-clause-completed : goal.returns-in_ok-report-in-Ok-clause-completed
+returns-in_ok-report-in-Ok-clause-completed g c =
     let r = c.in_ok-report-in-Ok.ensures in
-    c.in-Ok.ensures.toured _ _ (left_by {report = c.in_ok-report-in-Ok.report} r.program r.history r.sessions r.traffic r.legal)
+    c.in-Ok.ensures.completed _ _ (left_by {report = c.in_ok-report-in-Ok.report} r.program r.history r.sessions r.traffic r.legal)

@@ -1,19 +1,19 @@
 -- What is left to do is done, or nothing.
 use Rattle.std.proofs.Common.{sym, ◌∙◌}
-use Rattle.run_alone.proofs.Rests.{mutes_by, quiet_not, quiet_swept, rested_calm, rested_not, was_calm}
-use Rattle.run_alone.proofs.Taking.{between_brought}
+use Rattle.run_alone.proofs.Rests.{mutes_by, quiet_not, quiet_swept, rested_unfailed, rested_not, was_unfailed}
+use Rattle.run_alone.proofs.Taking.{between_received}
 use Rattle.run_alone.proofs.alone.Alone.rest.Goals as goal
 
-pub sweep-requires-clause-brought : goal.sweep-requires-clause-brought
-sweep-requires-clause-brought g c =
-    between_brought (was_calm c.args.calm c.halted-halted.result (sym c.is_stopped-stopped.ensures ∙ c.if-stopped.false))
+pub sweep-requires-clause-received : goal.sweep-requires-clause-received
+sweep-requires-clause-received g c =
+    between_received (was_unfailed c.args.unfailed c.halted-halted.result (sym c.is_stopped-stopped.ensures ∙ c.if-stopped.false))
     c.requires.between
 
 pub returns-then-stopped-clause-rested : goal.returns-then-stopped-clause-rested
 returns-then-stopped-clause-rested g c = rested_not _ c.requires.between.settled
 
-pub returns-then-stopped-clause-toured : goal.returns-then-stopped-clause-toured
-returns-then-stopped-clause-toured g c = λ first toured. toured
+pub returns-then-stopped-clause-completed : goal.returns-then-stopped-clause-completed
+returns-then-stopped-clause-completed g c = λ first completed. completed
 
 pub returns-then-stopped-clause-noted : goal.returns-then-stopped-clause-noted
 returns-then-stopped-clause-noted g c =
@@ -23,7 +23,7 @@ returns-then-stopped-clause-noted g c =
 
 pub returns-clause-rested : goal.returns-clause-rested
 returns-clause-rested g c =
-    rested_calm (was_calm c.args.calm c.halted-halted.result (sym c.is_stopped-stopped.ensures ∙ c.if-stopped.false))
+    rested_unfailed (was_unfailed c.args.unfailed c.halted-halted.result (sym c.is_stopped-stopped.ensures ∙ c.if-stopped.false))
     c.in_ok-sweep.ensures.swept c.in_ok-sweep.ensures.still
 
 pub returns-clause-noted : goal.returns-clause-noted

@@ -3,9 +3,9 @@ use Rattle.std.proofs.Common.{◌∷◌, ◌++◌, [], ap, map, subst, sym, ◌�
 use Rattle.std.proofs.lemmas.Bool.{false≢true}
 use Rattle.office_plain.specs.Entries.{adopt_entry}
 use Rattle.office_plain.specs.View.{Adds}
-use Rattle.run_cells.specs.Crews.{crew_by, stand_by, with_awake}
+use Rattle.run_cells.specs.RunStates.{run_state_by, stand_by, with_unended}
 use Rattle.run_cells.specs.Turns.{one}
-use Rattle.run_cells.proofs.Looping.{count_is, seated_awake}
+use Rattle.run_cells.proofs.Looping.{count_is, seated_unended}
 use Rattle.run_cells.proofs.Offices.{count_fits, nobody_born, nobody_works, seat_known, somebody_born, somebody_works}
 use Rattle.run_cells.proofs.Teams.{few_stands}
 use Rattle.run_cells.proofs.cells.Cells.adopt_next.Goals as goal
@@ -28,8 +28,8 @@ returns-in_default-clause-work g c =
     (subst (λ b. Adds (adopt_entry count b) c.args.self.now.office c.adopt.new.self) c.in_default.is c.in_ok-born.ensures.added)
     c.in_ok-born.ensures.ready
 
-pub returns-in_default-clause-awake : goal.returns-in_default-clause-awake
-returns-in_default-clause-awake g c = λ e. absurd (false≢true e)
+pub returns-in_default-clause-unended : goal.returns-in_default-clause-unended
+returns-in_default-clause-unended g c = λ e. absurd (false≢true e)
 
 pub seat-requires : goal.seat-requires
 seat-requires g c = record {
@@ -40,30 +40,30 @@ pub returns-clause-adopts : goal.returns-clause-adopts
 returns-clause-adopts g c =
     let count = c.len-count.result in
     one (somebody_born
-    (with_awake c.seat.new.self.awake.items (crew_by c.seat.new.self.program c.seat.new.self.office c.seat.new.self.budget (map (λ d. stand_by (g.S.Session.service_of d.session) (g.S.Session.config_of d.session) d.events) c.seat.new.self.cells.items) c.seat.new.self.picks.now))
+    (with_unended c.seat.new.self.unended.items (run_state_by c.seat.new.self.program c.seat.new.self.office c.seat.new.self.budget (map (λ d. stand_by (g.S.Session.service_of d.session) (g.S.Session.config_of d.session) d.events) c.seat.new.self.cells.items) c.seat.new.self.picks.now))
     c.in-Some.birth count c.adopt.new.self c.requires.work
-    (record { program = c.seat.ensures.program; budget = c.seat.ensures.budget; picks = c.seat.ensures.picks; stands = c.in_ok-seat.ensures.stands; awake = seated_awake _ _ _ _ c.in_ok-seat.ensures.awake (c.len-count.ensures ∙ c.args.self.now.cells.ok.0) })
+    (record { program = c.seat.ensures.program; budget = c.seat.ensures.budget; picks = c.seat.ensures.picks; stands = c.in_ok-seat.ensures.stands; unended = seated_unended _ _ _ _ c.in_ok-seat.ensures.unended (c.len-count.ensures ∙ c.args.self.now.cells.ok.0) })
     (count_is _ c.args.self.now.cells.items count (c.len-count.ensures ∙ c.args.self.now.cells.ok.0)) c.seat.ensures.office
     (subst (λ b. Adds (adopt_entry count b) c.args.self.now.office c.adopt.new.self) c.in-Some.is c.in_ok-born.ensures.added)
     (sym c.in-Some.is ∙ c.in_ok-born.ensures.birth))
 
-pub returns-clause-awake : goal.returns-clause-awake
-returns-clause-awake g c =
-    λ e. c.in_ok-seat.ensures.awake
-    ∙ ap (λ k. c.args.self.now.awake.items ++ k ∷ []) (c.len-count.ensures ∙ c.args.self.now.cells.ok.0)
+pub returns-clause-unended : goal.returns-clause-unended
+returns-clause-unended g c =
+    λ e. c.in_ok-seat.ensures.unended
+    ∙ ap (λ k. c.args.self.now.unended.items ++ k ∷ []) (c.len-count.ensures ∙ c.args.self.now.cells.ok.0)
 
 pub returns-clause-work : goal.returns-clause-work
 returns-clause-work g c =
     let count = c.len-count.result in
     let added = subst (λ b. Adds (adopt_entry count b) c.args.self.now.office c.adopt.new.self) c.in-Some.is c.in_ok-born.ensures.added in
     somebody_works
-    (with_awake c.seat.new.self.awake.items (crew_by c.seat.new.self.program c.seat.new.self.office c.seat.new.self.budget (map (λ d. stand_by (g.S.Session.service_of d.session) (g.S.Session.config_of d.session) d.events) c.seat.new.self.cells.items) c.seat.new.self.picks.now))
+    (with_unended c.seat.new.self.unended.items (run_state_by c.seat.new.self.program c.seat.new.self.office c.seat.new.self.budget (map (λ d. stand_by (g.S.Session.service_of d.session) (g.S.Session.config_of d.session) d.events) c.seat.new.self.cells.items) c.seat.new.self.picks.now))
     c.in-Some.birth count c.adopt.new.self c.requires.work
-    (record { program = c.seat.ensures.program; budget = c.seat.ensures.budget; picks = c.seat.ensures.picks; stands = c.in_ok-seat.ensures.stands; awake = seated_awake _ _ _ _ c.in_ok-seat.ensures.awake (c.len-count.ensures ∙ c.args.self.now.cells.ok.0) })
+    (record { program = c.seat.ensures.program; budget = c.seat.ensures.budget; picks = c.seat.ensures.picks; stands = c.in_ok-seat.ensures.stands; unended = seated_unended _ _ _ _ c.in_ok-seat.ensures.unended (c.len-count.ensures ∙ c.args.self.now.cells.ok.0) })
     c.seat.ensures.office added c.in_ok-born.ensures.ready
     (somebody_born
-    (with_awake c.seat.new.self.awake.items (crew_by c.seat.new.self.program c.seat.new.self.office c.seat.new.self.budget (map (λ d. stand_by (g.S.Session.service_of d.session) (g.S.Session.config_of d.session) d.events) c.seat.new.self.cells.items) c.seat.new.self.picks.now))
+    (with_unended c.seat.new.self.unended.items (run_state_by c.seat.new.self.program c.seat.new.self.office c.seat.new.self.budget (map (λ d. stand_by (g.S.Session.service_of d.session) (g.S.Session.config_of d.session) d.events) c.seat.new.self.cells.items) c.seat.new.self.picks.now))
     c.in-Some.birth count c.adopt.new.self c.requires.work
-    (record { program = c.seat.ensures.program; budget = c.seat.ensures.budget; picks = c.seat.ensures.picks; stands = c.in_ok-seat.ensures.stands; awake = seated_awake _ _ _ _ c.in_ok-seat.ensures.awake (c.len-count.ensures ∙ c.args.self.now.cells.ok.0) })
+    (record { program = c.seat.ensures.program; budget = c.seat.ensures.budget; picks = c.seat.ensures.picks; stands = c.in_ok-seat.ensures.stands; unended = seated_unended _ _ _ _ c.in_ok-seat.ensures.unended (c.len-count.ensures ∙ c.args.self.now.cells.ok.0) })
     (count_is _ c.args.self.now.cells.items count (c.len-count.ensures ∙ c.args.self.now.cells.ok.0)) c.seat.ensures.office added
     (sym c.in-Some.is ∙ c.in_ok-born.ensures.birth))

@@ -2,7 +2,7 @@
 use Rattle.std.proofs.Common.{List, ap, refl, ℕ, ◌∙◌}
 use Rattle.std.specs.Prelude.{slice_get}
 use Rattle.std.proofs.lemmas.Option.{slice_get_within}
-use Rattle.run_cells.proofs.Awake.{passed_start}
+use Rattle.run_cells.proofs.Unended.{passed_start}
 use Rattle.run_cells.proofs.Going.{stands_turns, there_comes}
 use Rattle.run_cells.proofs.Looping.{came_below, came_here, came_less, came_nobody, turned_below}
 use Rattle.run_cells.proofs.Looping.{rounding_at, rounding_next, rounding_over, rounding_skips, rounding_start}
@@ -29,13 +29,13 @@ leave-place-requires-clause-there g c =
 pub leave-place-requires-clause-place : goal.leave-place-requires-clause-place
 leave-place-requires-clause-place g c =
     slice_get_within _ c.round.place c.skip-next.result
-    (ap (λ (ns : List ℕ). slice_get ns c.round.place) c.in_ok-did.ensures.awake
-    ∙ c.in_ok-came.ensures.awake c.if-not-came.false c.round.place c.skip-next.ensures.next)
+    (ap (λ (ns : List ℕ). slice_get ns c.round.place) c.in_ok-did.ensures.unended
+    ∙ c.in_ok-came.ensures.unended c.if-not-came.false c.round.place c.skip-next.ensures.next)
 
 pub leave-place-requires-clause-visited : goal.leave-place-requires-clause-visited
 leave-place-requires-clause-visited g c =
-    ap (λ (ns : List ℕ). slice_get ns c.round.place) c.in_ok-did.ensures.awake
-    ∙ c.in_ok-came.ensures.awake c.if-not-came.false c.round.place c.skip-next.ensures.next
+    ap (λ (ns : List ℕ). slice_get ns c.round.place) c.in_ok-did.ensures.unended
+    ∙ c.in_ok-came.ensures.unended c.if-not-came.false c.round.place c.skip-next.ensures.next
 
 pub round-preserved : goal.round-preserved
 round-preserved g c =

@@ -1,5 +1,5 @@
 -- The events of all are those that the sessions have.
-use Rattle.run_cells.specs.Crews.{stand_by}
+use Rattle.run_cells.specs.RunStates.{stand_by}
 use Rattle.run_cells.proofs.Looping.{parts_all}
 use Rattle.run_cells.proofs.cells.Cells.into_parts.Goals as goal
 

@@ -1,6 +1,6 @@
 -- Session after session is looked at, until one could act.
 use Rattle.std.proofs.Common.{ap, length, ◌∙◌}
-use Rattle.run_cells.specs.Crews.{State}
+use Rattle.run_cells.specs.RunStates.{State}
 use Rattle.run_cells.proofs.Looping.{cells_same, count_above, exact_at, has_spent, none_more, none_spent}
 use Rattle.run_cells.proofs.cells.Cells.is_spent.Goals as goal
 

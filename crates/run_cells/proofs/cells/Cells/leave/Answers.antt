@@ -1,5 +1,5 @@
 -- A session that has ended leaves the list.
-use Rattle.run_cells.proofs.Awake.{passed_on, passed_without, without_work}
+use Rattle.run_cells.proofs.Unended.{passed_on, passed_without, without_work}
 use Rattle.run_cells.proofs.Offices.{stand_at}
 use Rattle.run_cells.proofs.cells.Cells.leave.Goals as goal
 

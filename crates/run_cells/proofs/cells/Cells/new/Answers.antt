@@ -2,7 +2,7 @@
 use Rattle.std.proofs.Common.{map, ◌∙◌}
 use Rattle.behaviour_tree.specs.PartsView.{parts_of}
 use Rattle.office_core.specs.Limits.{run_of}
-use Rattle.run_cells.specs.Crews.{stand_by}
+use Rattle.run_cells.specs.RunStates.{stand_by}
 use Rattle.run_cells.proofs.Offices.{works_begun}
 use Rattle.run_cells.proofs.cells.Cells.new.Goals as goal
 
@@ -19,4 +19,4 @@ pub returns-clause-work : goal.returns-clause-work
 returns-clause-work g c =
     works_begun _ c.args.program c.in_ok-office.office c.args.budget _ c.args.picks.now _
     (c.in_ok-office.ensures.program ∙ c.in_ok-copy.ensures.parts) c.in_ok-office.ensures.entries
-    c.in_ok-office.ensures.ready c.new-cells.ensures.items c.new-awake.ensures.items
+    c.in_ok-office.ensures.ready c.new-cells.ensures.items c.new-unended.ensures.items

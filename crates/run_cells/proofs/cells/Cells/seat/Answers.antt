@@ -1,5 +1,5 @@
 -- A session is seated behind the others.
-use Rattle.run_cells.specs.Crews.{stand_by}
+use Rattle.run_cells.specs.RunStates.{stand_by}
 use Rattle.run_cells.proofs.Looping.{seat_more}
 use Rattle.run_cells.proofs.cells.Cells.seat.Goals as goal
 

@@ -1,4 +1,4 @@
--- The turn of a cell is one of the crew.
+-- The turn of a cell is one of the run state.
 use Rattle.std.proofs.Common.{refl}
 use Rattle.std.proofs.lemmas.Result.{IfOk-weaker}
 use Rattle.run_cells.proofs.Offices.{cell_fits, stand_at, turn_is, works_turn_ok}

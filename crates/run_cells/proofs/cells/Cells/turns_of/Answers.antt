@@ -9,7 +9,7 @@ turns-init g c = record {
   work = c.requires.work;
   there = c.requires.there;
   program = refl;
-  awake = refl;
+  unended = refl;
   turns = turning_start _ _;
 }
 
@@ -21,7 +21,7 @@ turns-preserved g c =
       work = e.work;
       there = cells_there _ _ _ _ (stands_turn e.turn) i.there;
       program = e.program ∙ i.program;
-      awake = e.awake ∙ i.awake;
+      unended = e.unended ∙ i.unended;
       turns = turning_more _ i.turns (sym c.is_did-did.ensures ∙ c.if-not-did.false) e.turn e.work.team;
     }
 

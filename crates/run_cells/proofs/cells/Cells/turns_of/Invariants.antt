@@ -1,20 +1,20 @@
 -- The session had some turns, each of which did something.
 use Rattle.std.proofs.Common.{◌≡◌, ◌<◌, length}
 use Rattle.std.specs.Prelude.{map}
-use Rattle.run_cells.specs.Crews.{AtWork, crew_by, stand_by, state_of, with_awake}
+use Rattle.run_cells.specs.RunStates.{AtWork, run_state_by, stand_by, state_of, with_unended}
 use Rattle.run_cells.specs.Rounds.{left}
 use Rattle.run_cells.proofs.Looping.{Turning}
 use Rattle.run_cells.proofs.cells.Cells.turns_of.Given as goal
 
 abbrev pub invariant-turns : goal.invariant-turns
 invariant-turns g l = record {
-  work : AtWork (with_awake l.self.awake.items (crew_by l.self.program l.self.office l.self.budget (map (λ d. stand_by (g.S.Session.service_of d.session) (g.S.Session.config_of d.session) d.events) l.self.cells.items) l.self.picks.now));
+  work : AtWork (with_unended l.self.unended.items (run_state_by l.self.program l.self.office l.self.budget (map (λ d. stand_by (g.S.Session.service_of d.session) (g.S.Session.config_of d.session) d.events) l.self.cells.items) l.self.picks.now));
   there : l.number < length l.self.cells.items;
   program : l.self.program ≡ l.fn.self.program;
-  awake : l.self.awake.items ≡ l.fn.self.awake.items;
-  turns : Turning l.number (state_of (crew_by l.fn.self.program l.fn.self.office l.fn.self.budget (map (λ d. stand_by (g.S.Session.service_of d.session) (g.S.Session.config_of d.session) d.events) l.fn.self.cells.items) l.fn.self.picks.now))
-      (state_of (crew_by l.self.program l.self.office l.self.budget (map (λ d. stand_by (g.S.Session.service_of d.session) (g.S.Session.config_of d.session) d.events) l.self.cells.items) l.self.picks.now)) l.moved;
+  unended : l.self.unended.items ≡ l.fn.self.unended.items;
+  turns : Turning l.number (state_of (run_state_by l.fn.self.program l.fn.self.office l.fn.self.budget (map (λ d. stand_by (g.S.Session.service_of d.session) (g.S.Session.config_of d.session) d.events) l.fn.self.cells.items) l.fn.self.picks.now))
+      (state_of (run_state_by l.self.program l.self.office l.self.budget (map (λ d. stand_by (g.S.Session.service_of d.session) (g.S.Session.config_of d.session) d.events) l.self.cells.items) l.self.picks.now)) l.moved;
 }
 
 abbrev pub decreases-turns : goal.decreases-turns
-decreases-turns g l = left (state_of (crew_by l.self.program l.self.office l.self.budget (map (λ d. stand_by (g.S.Session.service_of d.session) (g.S.Session.config_of d.session) d.events) l.self.cells.items) l.self.picks.now))
+decreases-turns g l = left (state_of (run_state_by l.self.program l.self.office l.self.budget (map (λ d. stand_by (g.S.Session.service_of d.session) (g.S.Session.config_of d.session) d.events) l.self.cells.items) l.self.picks.now))

@@ -1,8 +1,10 @@
 -- An end that is found behind what was seen is the first; where none is found, all was seen.
-use Rattle.std.proofs.Common.{◌≡◌, ◌+◌, ◌-◌, ◌<◌, ◌==◌, ℕ, List, [], length, take, drop, Option, Some, None, position, sym, ap, subst, ◌∙◌, arith, length-drop, take_all}
+use Rattle.std.proofs.Common.{◌≡◌, ◌+◌, ◌-◌, ◌<◌, ◌^◌, ◌==◌, ℕ, List, [], length, take, drop, Option, Some, None, position, sym, ap, subst, ◌∙◌, arith, length-drop, take_all}
 use Rattle.std.proofs.lemmas.List.{take_rest}
 use Rattle.run_theorem.specs.Split.{IsOpen, split}
 use Rattle.run_lines.specs.Passing.{Passing, IsLine}
+use Rattle.run_lines.specs.FrontSteps.{progress}
+use Rattle.run_lines.proofs.Pieces.{within_memory}
 use Rattle.run_lines.proofs.Splitting.{found_line, found_none, line_inside, line_unended, open_unended}
 use Rattle.run_lines.proofs.lines.Lines.find.Goals as goal
 
@@ -56,3 +58,15 @@ returns-in-None-clause-found c =
     let all : IsOpen (drop passed bytes) =
     found_none bytes passed c.self.inside.seen inv.0 inv.1 (ends_at bytes c.deref.result.now (passed + c.self.inside.seen) c.first_end.result c.first_end.ensures c.deref.ensures.value ∙ c.in-None.is) in
     subst IsOpen (ap (λ (v : Passing). v.rest) c.self.view_is) all
+
+pub returns-in-Some-clause-within : goal.returns-in-Some-clause-within
+returns-in-Some-clause-within c =
+    let bytes = c.self.inside.bytes in
+    let small : length bytes.items < 2 ^ 63 = omega (arith, bytes.ok.0, bytes.ok.1, bytes.small) in
+    subst (λ (v : Passing). progress v < 2 ^ 64) c.self.view_is (within_memory bytes.items c.self.inside.passed (omega (arith, c.self.invariant.0)) small)
+
+pub returns-in-None-clause-within : goal.returns-in-None-clause-within
+returns-in-None-clause-within c =
+    let bytes = c.self.inside.bytes in
+    let small : length bytes.items < 2 ^ 63 = omega (arith, bytes.ok.0, bytes.ok.1, bytes.small) in
+    subst (λ (v : Passing). progress v < 2 ^ 64) c.self.view_is (within_memory bytes.items c.self.inside.passed (omega (arith, c.self.invariant.0)) small)

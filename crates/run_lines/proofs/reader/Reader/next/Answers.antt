@@ -1,18 +1,18 @@
--- What is found is brought, and what came in stays.
+-- What is found is received, and what came in stays.
 use Rattle.std.proofs.Common.{[], sym, ◌∙◌, refl, length, take}
 use Rattle.std.proofs.lemmas.Result.{err_from_is_err_and}
-use Rattle.run_theorem.specs.Dealings.{Brought}
+use Rattle.run_theorem.specs.Exchange.{Received}
 use Rattle.run_theorem.specs.Calls.{Came}
-use Rattle.run_lines.specs.Reading.{input_of, HasBrought}
+use Rattle.run_lines.specs.Reading.{input_of, HasReceived}
 use Rattle.run_lines.specs.declared.next_line.Step.TheVariants as step
 use Rattle.run_lines.specs.FrontSteps.{reading}
-use Rattle.run_lines.proofs.Postings.{all_passed, brought-ended, looked-unfound, looked-line, looked-last, looked-end, looked-cut, no_longer, longer-by}
-use Rattle.run_lines.proofs.Pieces.{at_error, line_there, found_as, fails-calm, fails-cut}
+use Rattle.run_lines.proofs.Postings.{all_passed, received-ended, looked-unfound, looked-line, looked-last, looked-end, looked-cut, no_longer, longer-by}
+use Rattle.run_lines.proofs.Pieces.{at_error, line_there, found_as, fails-unfailed, fails-cut}
 use Rattle.run_lines.proofs.reader.Reader.next.Goals as goal
 
 pub returns-then-has_all-clause-came : goal.returns-then-has_all-clause-came
 returns-then-has_all-clause-came g c = λ parts first before has_one h yet.
-    brought-ended first (input_of c.args.self.now.lines c.args.self.now.reads c.args.self.now.over (g.S.Source.told c.args.source.now).unread (g.S.Source.told c.args.source.now).faults) before
+    received-ended first (input_of c.args.self.now.lines c.args.self.now.reads c.args.self.now.over (g.S.Source.told c.args.source.now).unread (g.S.Source.told c.args.source.now).faults) before
     (all_passed c.args.self.now.over (length c.args.self.now.reads) (sym c.has_all.ensures ∙ c.if-has_all.true)) h yet
 
 pub returns-then-has_all-clause-longer : goal.returns-then-has_all-clause-longer
@@ -25,8 +25,8 @@ pub returns-in_err-step-clause-came : goal.returns-in_err-step-clause-came
 returns-in_err-step-clause-came g c = λ parts first before has_one h yet.
     let wanting = err_from_is_err_and c.from_residual.result c.from_residual.ensures.1 in
     at_error c.from_residual.result
-    (λ w. (x : Brought) × HasBrought first (input_of c.next_line.new.lines c.args.self.now.reads c.args.self.now.over (g.S.Source.told c.next_line.new.source).unread (g.S.Source.told c.next_line.new.source).faults) x × Came parts w before x)
-    (λ _. HasBrought first (input_of c.next_line.new.lines c.args.self.now.reads c.args.self.now.over (g.S.Source.told c.next_line.new.source).unread (g.S.Source.told c.next_line.new.source).faults) before) wanting.0 wanting.1
+    (λ w. (x : Received) × HasReceived first (input_of c.next_line.new.lines c.args.self.now.reads c.args.self.now.over (g.S.Source.told c.next_line.new.source).unread (g.S.Source.told c.next_line.new.source).faults) x × Came parts w before x)
+    (λ _. HasReceived first (input_of c.next_line.new.lines c.args.self.now.reads c.args.self.now.over (g.S.Source.told c.next_line.new.source).unread (g.S.Source.told c.next_line.new.source).faults) before) wanting.0 wanting.1
     (looked-unfound first c.args.self.now.reads c.args.self.now.over (reading c.args.self.now.lines (g.S.Source.told c.args.source.now).unread (g.S.Source.told c.args.source.now).faults)
     (reading c.next_line.new.lines (g.S.Source.told c.next_line.new.source).unread (g.S.Source.told c.next_line.new.source).faults) before (sym c.has_all.ensures ∙ c.if-has_all.false) h yet c.in_err-step.ensures.0 c.in_err-step.ensures.1)
 
@@ -35,7 +35,7 @@ returns-in_err-step-clause-longer g c = no_longer c.args.self.now.reads c.args.s
 
 pub returns-in_err-step-clause-failed : goal.returns-in_err-step-clause-failed
 returns-in_err-step-clause-failed g c = λ count.
-    fails-calm c.args.self.now.failed c.args.self.now.failed count (g.S.Source.told c.args.source.now).faults (g.S.Source.told c.next_line.new.source).faults refl c.in_err-step.ensures.1
+    fails-unfailed c.args.self.now.failed c.args.self.now.failed count (g.S.Source.told c.args.source.now).faults (g.S.Source.told c.next_line.new.source).faults refl c.in_err-step.ensures.1
 
 pub give_line-requires : goal.give_line-requires
 give_line-requires g c = line_there c.in_ok-step.step c.in-Line.length (reading c.args.self.now.lines (g.S.Source.told c.args.source.now).unread (g.S.Source.told c.args.source.now).faults)
@@ -55,7 +55,7 @@ returns-in-Line-clause-longer g c =
 
 pub returns-in-Line-clause-failed : goal.returns-in-Line-clause-failed
 returns-in-Line-clause-failed g c = λ count.
-    fails-calm c.args.self.now.failed c.give_line.new.self.failed count (g.S.Source.told c.args.source.now).faults (g.S.Source.told c.next_line.new.source).faults c.give_line.ensures.failed
+    fails-unfailed c.args.self.now.failed c.give_line.new.self.failed count (g.S.Source.told c.args.source.now).faults (g.S.Source.told c.next_line.new.source).faults c.give_line.ensures.failed
     (found_as c.in_ok-step.step (step.Line c.in-Line.length) (reading c.args.self.now.lines (g.S.Source.told c.args.source.now).unread (g.S.Source.told c.args.source.now).faults)
     (reading c.next_line.new.lines (g.S.Source.told c.next_line.new.source).unread (g.S.Source.told c.next_line.new.source).faults) c.in-Line.is c.in_ok-step.ensures).0
 
@@ -72,7 +72,7 @@ returns-in-Last-clause-longer g c =
 
 pub returns-in-Last-clause-failed : goal.returns-in-Last-clause-failed
 returns-in-Last-clause-failed g c = λ count.
-    fails-calm c.args.self.now.failed c.give_last.new.self.failed count (g.S.Source.told c.args.source.now).faults (g.S.Source.told c.next_line.new.source).faults c.give_last.ensures.failed
+    fails-unfailed c.args.self.now.failed c.give_last.new.self.failed count (g.S.Source.told c.args.source.now).faults (g.S.Source.told c.next_line.new.source).faults c.give_last.ensures.failed
     (found_as c.in_ok-step.step step.Last (reading c.args.self.now.lines (g.S.Source.told c.args.source.now).unread (g.S.Source.told c.args.source.now).faults)
     (reading c.next_line.new.lines (g.S.Source.told c.next_line.new.source).unread (g.S.Source.told c.next_line.new.source).faults) c.in-Last.is c.in_ok-step.ensures).0
 
@@ -88,7 +88,7 @@ returns-in-End-clause-longer g c = no_longer c.args.self.now.reads c.end.new.sel
 
 pub returns-in-End-clause-failed : goal.returns-in-End-clause-failed
 returns-in-End-clause-failed g c = λ count.
-    fails-calm c.args.self.now.failed c.end.new.self.failed count (g.S.Source.told c.args.source.now).faults (g.S.Source.told c.next_line.new.source).faults c.end.ensures.failed
+    fails-unfailed c.args.self.now.failed c.end.new.self.failed count (g.S.Source.told c.args.source.now).faults (g.S.Source.told c.next_line.new.source).faults c.end.ensures.failed
     (found_as c.in_ok-step.step step.End (reading c.args.self.now.lines (g.S.Source.told c.args.source.now).unread (g.S.Source.told c.args.source.now).faults)
     (reading c.next_line.new.lines (g.S.Source.told c.next_line.new.source).unread (g.S.Source.told c.next_line.new.source).faults) c.in-End.is c.in_ok-step.ensures).0
 

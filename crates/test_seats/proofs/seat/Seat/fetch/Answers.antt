@@ -4,7 +4,7 @@ use Rattle.office_core.specs.Limits.{first_worker}
 use Rattle.office_plain.specs.Entries.{fetch_entry}
 use Rattle.office_plain.specs.View.{past_in}
 use Rattle.run_cells.proofs.Offices.{at_work, fetch_goes, fetch_own, stays_work, works_ok}
-use Rattle.test_seats.specs.Seats.{crew_in}
+use Rattle.test_seats.specs.Seats.{run_state_in}
 use Rattle.test_seats.proofs.seat.Seat.fetch.Goals as goal
 
 pub fetch-requires : goal.fetch-requires
@@ -12,10 +12,10 @@ fetch-requires c = at_work (past_in c.args.self.now.office) c.requires.desk.runn
 
 pub returns-clause-added : goal.returns-clause-added
 returns-clause-added c =
-    stays_work {c = crew_in c.args.self.now []} c.fetch.new.self c.fetch.result (fetch_entry first_worker) c.requires
+    stays_work {c = run_state_in c.args.self.now []} c.fetch.new.self c.fetch.result (fetch_entry first_worker) c.requires
     c.fetch.ensures.added
 
 pub returns-clause-seated : goal.returns-clause-seated
 returns-clause-seated c =
-    works_ok (crew_in c.args.self.now []) c.fetch.new.self c.fetch.result (fetch_entry first_worker) c.requires
+    works_ok (run_state_in c.args.self.now []) c.fetch.new.self c.fetch.result (fetch_entry first_worker) c.requires
     c.fetch.ensures.added c.fetch.ensures.ready fetch_own fetch_goes

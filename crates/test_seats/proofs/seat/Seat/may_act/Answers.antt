@@ -3,7 +3,7 @@ use Rattle.std.proofs.Common.{[], refl}
 use Rattle.std.proofs.lemmas.Result.{IfOk-weaker}
 use Rattle.run_cells.proofs.Offices.{look_same, look_works}
 use Rattle.run_cells.proofs.Seeing.{may_exact, on_any}
-use Rattle.test_seats.specs.Seats.{crew_in, stand_in}
+use Rattle.test_seats.specs.Seats.{run_state_in, stand_in}
 use Rattle.session_turn.proofs.Growing.{grew_alone}
 use Rattle.test_seats.proofs.seat.Seat.may_act.Goals as goal
 
@@ -16,7 +16,7 @@ may_act-requires-clause-kept c =
 
 pub returns-clause-same : goal.returns-clause-same
 returns-clause-same c =
-    look_same (crew_in c.args.self.now []) c.may_act.new.pass c.may_act.result
+    look_same (run_state_in c.args.self.now []) c.may_act.new.pass c.may_act.result
     (on_any c.may_act.result (grew_alone refl c.may_act.ensures.grew))
 
 pub returns-clause-exact : goal.returns-clause-exact
@@ -27,6 +27,6 @@ returns-clause-exact c =
 
 pub returns-clause-seated : goal.returns-clause-seated
 returns-clause-seated c =
-    look_works {c = crew_in c.args.self.now []} c.may_act.new.pass c.may_act.result c.requires
+    look_works {c = run_state_in c.args.self.now []} c.may_act.new.pass c.may_act.result c.requires
     (on_any c.may_act.result c.may_act.ensures.pass)
     (on_any c.may_act.result (grew_alone refl c.may_act.ensures.grew))

@@ -3,8 +3,8 @@ use Rattle.std.proofs.Common.{[], ◌∷◌, refl}
 use Rattle.office_plain.specs.View.{entries_of}
 use Rattle.run_cells.proofs.Offices.{works_turn_ok}
 use Rattle.run_cells.proofs.Turning.{turned_by}
-use Rattle.run_cells.specs.Turns.{play, spot}
-use Rattle.test_seats.specs.Seats.{crew_in, stand_in, state_with}
+use Rattle.run_cells.specs.Turns.{play, position}
+use Rattle.test_seats.specs.Seats.{run_state_in, stand_in, state_with}
 use Rattle.test_seats.proofs.AtDesk.{later, picked, taken}
 use Rattle.test_seats.proofs.seat.Seat.turn.Goals as goal
 
@@ -21,13 +21,13 @@ returns-clause-turn c =
     let e = c.turn_of.ensures in
     let k = c.requires.team.each 0 (stand_in s) refl in
     taken s n.pass n.session n.events c.args.pick c.turn_of.result
-    (turned_by (play (state_with s c.args.pick) 0) (spot (stand_in s) (entries_of s.office))
-    (spot (stand_in (later s n.pass n.session n.events)) (entries_of n.pass))
+    (turned_by (play (state_with s c.args.pick) 0) (position (stand_in s) (entries_of s.office))
+    (position (stand_in (later s n.pass n.session n.events)) (entries_of n.pass))
     c.turn_of.result k.here k.at e.did e.idle e.ended e.spent e.at_end e.at_rest)
 
 pub returns-clause-seated : goal.returns-clause-seated
 returns-clause-seated c =
     let s = c.args.self.now in
     let n = c.turn_of.new in
-    works_turn_ok (crew_in (later s n.pass n.session n.events) []) 0 c.turn_of.result (picked s (c.args.pick ∷ []) c.requires)
+    works_turn_ok (run_state_in (later s n.pass n.session n.events) []) 0 c.turn_of.result (picked s (c.args.pick ∷ []) c.requires)
     c.turn_of.ensures.pass refl (returns-clause-turn c)

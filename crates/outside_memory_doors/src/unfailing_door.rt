@@ -1,0 +1,126 @@
+ghost use Rattle.std.specs.Prelude.{◌≡◌, ◌++◌, [], ◌∷◌, Ok, Some, false, IsTrue, OnErr, OnOk, IsOk, IfOk, drop};
+ghost use Rattle.outside_traits.specs.Causes.{HasCause};
+ghost use Rattle.outside_doors.specs.Counts.{rested, untried};
+ghost use Rattle.outside_doors.specs.Attempts.{ComesAt, IfCame, closed_after, waits_after, wires_after};
+ghost use Rattle.outside_memory_doors.specs.Memory.{UnfailinglyAnswers, unfailed_line, quiet_after, told_by_unfailed};
+
+use crate::new_wire::NewWire;
+use crate::queue::Queue;
+use outside_doors::{Accept, CountedWire, Door, DoorCounts};
+use outside_traits::{Failed, UnfailingWire};
+use std::alloc::{AllocError, Global};
+use std::marker::Model;
+
+/// A door in memory that never fails: a connection comes at each try until none is left, then nobody for so many tries, and then nobody any more.
+#[derive(Drop)]
+pub struct UnfailingDoor {
+    alloc: Global,
+    coming: Queue<NewWire<UnfailingWire>>,
+    quiet: u64,
+    counts: DoorCounts,
+}
+
+impl Model for UnfailingDoor {
+    ghost use Rattle.outside_memory_doors.specs.Memory.{UnfailingEntry};
+
+    ghost Value = { UnfailingEntry };
+
+    ghost view = { λ d. record { coming = d.coming; quiet = d.quiet; told = d.counts } };
+}
+
+impl UnfailingDoor {
+    /// A door at which nobody comes for so many tries, and then nobody any more.
+    pub fn new(alloc: Global, quiet: u64) -> UnfailingDoor
+        ensures { result ≡ record { coming = []; quiet = quiet; told = untried 0 } }
+    {
+        UnfailingDoor {
+            alloc,
+            coming: Queue::new(alloc),
+            quiet,
+            counts: DoorCounts::new(0),
+        }
+    }
+
+    /// Has one more connection come, on which these bytes come in, and `room` bytes go out in all.
+    pub fn expect(&mut self, bytes: &[u8], room: usize) -> Result<(), AllocError>
+        ensures more { OnOk result (self.new.coming ≡ self.old.coming ++ unfailed_line bytes.now room ∷ []) }
+        ensures same { OnErr result (self.new.coming ≡ self.old.coming) }
+        ensures quiet { self.new.quiet ≡ self.old.quiet }
+        ensures told { self.new.told ≡ self.old.told }
+    {
+        let wire = new_wire(self.alloc, bytes, room)?;
+        self.coming.push(wire)?;
+        Ok(())
+    }
+
+    /// How many connections are to come.
+    pub(crate) fn expected(&self) -> usize {
+        self.coming.len()
+    }
+
+    /// The same door as it is opened, behind so many others.
+    pub(crate) fn anew(self, place: u64) -> UnfailingDoor
+        ensures { result ≡ record self { told = untried place } }
+    {
+        let mut door = self;
+        door.counts = DoorCounts::new(place);
+        door
+    }
+
+    /// What the door counts.
+    pub fn counts(&self) -> &DoorCounts
+        ensures { result.now ≡ self.now.told }
+    {
+        &self.counts
+    }
+}
+
+impl Door for UnfailingDoor {
+    type W = CountedWire<UnfailingWire>;
+
+    ghost told = { λ d. d.told };
+
+    fn try_accept(&mut self) -> Result<Accept<CountedWire<UnfailingWire>>, Failed>
+        ensures unfailed { IsOk result }
+        ensures answer { self.old.told.closed ≡ false → UnfailinglyAnswers self.old result }
+        ensures coming { self.old.told.closed ≡ false → self.new.coming ≡ drop 1 self.old.coming }
+        ensures quiet { self.old.told.closed ≡ false → self.new.quiet ≡ quiet_after self.old.coming self.old.quiet }
+        ensures comes { IfCame result (λ wire. ComesAt self.old.told.place (told_by_unfailed wire)) }
+        ensures place { self.new.told.place ≡ self.old.told.place }
+        ensures wires { self.new.told.wires ≡ wires_after result self.old.told.wires }
+        ensures waits { self.new.told.waits ≡ waits_after result self.old.told.waits }
+        ensures rests { self.new.told.rests ≡ self.old.told.rests }
+        ensures closed { self.new.told.closed ≡ closed_after result self.old.told.closed }
+        ensures stays { IsTrue self.old.told.closed → result ≡ Ok Accept.Closed }
+        ensures cause { HasCause self.old.told.faults self.new.told.faults result }
+    {
+        if self.counts.is_closed() {
+            return Ok(Accept::Closed);
+        }
+        if let Some(wire) = self.coming.next() {
+            self.counts.add_wire();
+            return Ok(Accept::Came(wire.into_counted(self.counts.place())));
+        }
+        if self.quiet == 0 {
+            self.counts.close();
+            return Ok(Accept::Closed);
+        }
+        self.quiet -= 1;
+        self.counts.add_wait();
+        Ok(Accept::NotYet)
+    }
+
+    fn rest(&mut self)
+        ensures rested { self.new ≡ record self.old { told = rested self.old.told } }
+    {
+        self.counts.add_rest();
+    }
+}
+
+/// A wire that was not used yet.
+fn new_wire(alloc: Global, bytes: &[u8], room: usize) -> Result<NewWire<UnfailingWire>, AllocError>
+    ensures { IfOk result (λ wire. wire ≡ unfailed_line bytes.now room) }
+{
+    let wire = UnfailingWire::new(alloc, bytes, room)?;
+    Ok(NewWire::new(wire))
+}

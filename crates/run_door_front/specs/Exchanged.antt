@@ -1,0 +1,224 @@
+-- What passed between a front over doors and its run.
+use Rattle.std.specs.Prelude.{◌≡◌, ◌≢◌, ◌⊎◌, ℕ, suc, ◌-◌, ◌^◌, ◌<◌, ◌≤◌, min, Bool, true, false, List, [], ◌∷◌}
+use Rattle.std.specs.Prelude.{length, map, take, nat_eq, nat_lt, count_by, Option, None, Some, Contains, slice_get}
+use Rattle.std.specs.List.{list_all, list_any, sum_by}
+use Rattle.std.specs.Io.KnownBytes.{Appends}
+use Rattle.outside_traits.specs.Causes.{Rose}
+use Rattle.outside_doors.specs.Counts.{has_ended}
+use Rattle.outside_traits.specs.Told.{SinkTold}
+use Rattle.behaviour_tree.specs.Data.{ProgramParts}
+use Rattle.run_theorem.specs.Exchange.{Asked, Told, Sent, Exchange}
+use Rattle.run_theorem.specs.Calls.{most_postings, is_of}
+use Rattle.run_theorem.specs.Texts.{Came, posting_of}
+use Rattle.run_theorem.specs.Lines.{IsPrefix, IsProperPrefix}
+use Rattle.jsonrpc_postings.specs.Told.{response_told}
+use Rattle.run_theorem.specs.RunConnections.{RunConnection, came_at, AreTaken}
+use Rattle.run_theorem.specs.Served.{Requests}
+pub use Rattle.run_theorem.specs.Through.{most_open}
+pub use Rattle.run_theorem.specs.Used.{IsNewLine}
+use Rattle.http_connection.specs.declared.stage.Stage.{Stage}
+use Rattle.http_connection.specs.declared.stage.Stage.TheVariants as Stages
+use Rattle.http_connection.specs.Stages.{stage_of, IsOver}
+use Rattle.outside_traits.specs.Told.{WireTold}
+use Rattle.http_connection.specs.Talking.{IsTalking}
+use Rattle.run_door_front.specs.declared.link.PendingReply.{PendingReply}
+use Rattle.run_door_front.specs.Keeping.{ListenerTold, ClientTold, Keeping, services_of, places_of, leads_of, is_led, rests_at, no_more, AreLed}
+
+-- the two sides of a front over doors: what it keeps, and the sink of its notes
+pub record Sides : Type 0 where
+  pub kept : Keeping
+  pub notes : SinkTold
+
+-- the same by its parts
+abbrev pub sides_of : Keeping → SinkTold → Sides
+sides_of kept notes = record { kept = kept; notes = notes }
+
+-- ---- connections
+
+-- a connection owes an answer at this stage exactly where a request of it has none yet
+abbrev pub OwesAt : Option PendingReply → Stage → Type 0
+OwesAt None stage = stage ≢ Stages.Owes
+OwesAt (Some pending) stage = stage ≡ Stages.Owes
+
+-- A connection of a front and what passed on it: it was made with a new wire of its door's, handed out these bodies and
+-- was told these texts; memory did not run out; and where it stands as ended, a read told the end of what comes in.
+pub record IsClient (IsMade : WireTold → Type 0) (link : ClientTold) (connection : RunConnection) : Type 0 where
+  pub service : connection.service ≡ link.service
+  pub door : connection.door ≡ link.seen.line.door
+  pub stage : connection.stage ≡ stage_of link.seen.kept.next
+  pub memory : connection.stage ≢ Stages.Spent
+  pub owes : OwesAt link.pending connection.stage
+  pub first : WireTold
+  pub made : IsMade first
+  pub fresh : IsNewLine first
+  pub talks : IsTalking first link.seen connection.bodies connection.texts
+  pub ended : connection.stage ≡ Stages.Ended → link.seen.line.ended ≡ true
+
+-- what passed on each connection, in order
+abbrev pub AreClients : (WireTold → Type 0) → List ClientTold → List RunConnection → Type 0
+AreClients IsMade [] [] = Unit {0}
+AreClients IsMade [] (v ∷ vs) = ⊥
+AreClients IsMade (l ∷ ls) [] = ⊥
+AreClients IsMade (l ∷ ls) (v ∷ vs) = IsClient IsMade l v × AreClients IsMade ls vs
+
+-- ---- what was told
+
+-- What a request was told: its posting's place was told this, and the text of that was told to it.
+pub record IsHeard (parts : ProgramParts) (heard : List Told) (j : ℕ) (c : Came) (text : Option (Option (List ℕ)))
+    : Type 0 where
+  pub told : Told
+  pub there : Contains heard told
+  pub place : told.place ≡ j
+  pub sent : text ≡ Some (response_told parts c told.outcomes)
+
+-- The request of a posting waits for its answer: it is the one that its connection owes an answer, behind all texts
+-- that were told to it.
+pub record IsPending (links : List ClientTold) (j : ℕ) (a : Asked) (c : Came) (connection : RunConnection) : Type 0 where
+  pub link : ClientTold
+  pub there : slice_get links a.traffic ≡ Some link
+  pub pending : link.pending ≡ Some (record { place = j; read = c.read })
+  pub last : a.request ≡ length connection.texts
+
+-- Each posting's request was told what was told of its place, or waits for its answer.
+abbrev pub AreHeard : ProgramParts → Keeping → List RunConnection → Requests → List Told → Type 0
+AreHeard parts kept connections all heard = (j : ℕ) (a : Asked) (c : Came) (connection : RunConnection)
+    → slice_get all.asked j ≡ Some a → slice_get all.came j ≡ Some c → slice_get connections a.traffic ≡ Some connection
+    → IsHeard parts heard j c (slice_get connection.texts a.request) ⊎
+    (IsPending kept.links j a c connection × (list_any (λ (t : Told). nat_eq j t.place) heard ≡ false))
+
+-- The requests of a connection came one by one: when one was asked for, each before it on its connection had been told
+-- of. There is a count of what had been told by then for each posting.
+pub record CameOneByOne (d : Exchange) : Type 0 where
+  pub counts : length d.received.seens ≡ length d.received.asked
+  pub each : (i j n : ℕ) (a b : Asked) → slice_get d.received.asked i ≡ Some a → slice_get d.received.asked j ≡ Some b
+      → a.traffic ≡ b.traffic → i < j → slice_get d.received.seens j ≡ Some n
+      → list_any (λ (t : Told). nat_eq i t.place) (take n d.sent.told) ≡ true
+
+-- connection k waited for an answer when posting j was asked for: an earlier posting of it had not been told of by then
+abbrev pub HadToWait : List Asked → List Told → ℕ → ℕ → Type 0
+HadToWait asked told j k = (i : ℕ) × (a : Asked) × (slice_get asked i ≡ Some a) × (a.traffic ≡ k) × (i < j)
+    × (list_any (λ (t : Told). nat_eq i t.place) told ≡ false)
+
+-- a connection, which has the number k, is over, and all its requests had come before posting j
+abbrev pub WasOver : List Asked → ClientTold → ℕ → ℕ → Type 0
+WasOver asked link j k =
+    IsOver (stage_of link.seen.kept.next) × (count_by (is_of k) (take j asked) ≡ count_by (is_of k) asked)
+
+-- When a posting was asked for each connection before its own waited for an answer, or it was over.
+abbrev pub CameInTurn : Exchange → List ClientTold → Type 0
+CameInTurn d links = (j k n : ℕ) (a : Asked) (link : ClientTold) → slice_get d.received.asked j ≡ Some a
+    → slice_get d.received.seens j ≡ Some n → slice_get links k ≡ Some link → k < a.traffic
+    → HadToWait d.received.asked (take n d.sent.told) j k ⊎ WasOver d.received.asked link j k
+
+-- What had been told when a posting was asked for was heard, whether the front halted later or not.
+abbrev pub HeardByThen : List ℕ → List Told → Type 0
+HeardByThen seens heard = (j n : ℕ) → slice_get seens j ≡ Some n → n ≤ length heard
+
+-- The notes were written, unless the front halted: then a front of them was, since their sink failed.
+pub data HasNoted (first now : SinkTold) (s : Sent) (notes : List ℕ) : Type 0 where
+  entire : s.halted ≡ false → now.faults ≡ first.faults → notes ≡ s.noted → HasNoted first now s notes
+  in_part : s.halted ≡ true → Rose first.faults now.faults → IsProperPrefix notes s.noted → HasNoted first now s notes
+
+-- What was sent to a front, since its sides were the first; it is its notes alone that halt it.
+pub record HasSent (first now : Sides) (s : Sent) : Type 0 where
+  pub notes : List ℕ
+  pub written : Appends first.notes.written now.notes.written notes
+  pub noted : HasNoted first.notes now.notes s notes
+  pub halted : s.halted ≡ now.kept.halted
+  pub notes_failed : s.notes_failed ≡ s.halted
+  pub faults : s.faults ≡ now.notes.faults
+
+-- ---- when there is no posting
+
+-- when the front was asked last the last request of connection k had no answer yet
+pub record HadNoAnswer (d : Exchange) (k : ℕ) : Type 0 where
+  pub place : ℕ
+  pub asked : Asked
+  pub there : slice_get d.received.asked place ≡ Some asked
+  pub traffic : asked.traffic ≡ k
+  pub last : suc asked.request ≡ count_by (is_of k) d.received.asked
+  pub untold : list_any (λ (t : Told). nat_eq place t.place) (take d.received.seen d.sent.told) ≡ false
+
+-- when the front was asked last, connection k waited for an answer, or it was over
+abbrev pub WasBusy : Exchange → ℕ → Bool → ClientTold → Type 0
+WasBusy d k true link = HadNoAnswer d k
+WasBusy d k false link = IsOver (stage_of link.seen.kept.next)
+
+-- the same of each connection, the first of which has the number k
+abbrev pub WereBusy : Exchange → ℕ → List Bool → List ClientTold → Type 0
+WereBusy d k [] [] = Unit {0}
+WereBusy d k [] (l ∷ ls) = ⊥
+WereBusy d k (b ∷ bs) [] = ⊥
+WereBusy d k (b ∷ bs) (l ∷ ls) = WasBusy d k b l × WereBusy d (suc k) bs ls
+
+-- a door has ended, or it was tried so often, in all, without anybody coming
+abbrev pub has_waited : ℕ → ListenerTold → Type 0
+has_waited n port = (has_ended port.door ≡ true) ⊎ (min n (2 ^ 64 - 1) ≤ port.door.waits)
+
+-- the same of each door
+abbrev pub HaveWaited : ℕ → List ListenerTold → Type 0
+HaveWaited n [] = Unit {0}
+HaveWaited n (p ∷ ps) = has_waited n p × HaveWaited n ps
+
+-- The front had no posting: each connection waited for an answer or was over. No connection can come any more; or at
+-- least as often as there was none in a row was rested, at all doors, and so many as may be open waited for an answer,
+-- or each door has ended or answered as often, in all, that nobody has come yet.
+pub record HadNone (kept : Keeping) (d : Exchange) : Type 0 where
+  pub busy : List Bool
+  pub each : WereBusy d 0 busy kept.links
+  pub over : d.received.ended ≡ true → no_more kept ≡ true
+  pub some : d.received.ended ≡ false → no_more kept ≡ false
+  pub waited : d.received.ended ≡ false
+      → (most_open ≤ count_by (λ (b : Bool). b) busy) ⊎ HaveWaited d.received.waits kept.ports
+  pub rested : d.received.ended ≡ false → min d.received.waits (2 ^ 64 - 1) ≤ rests_at kept.ports
+
+-- the front had no posting when it was asked last
+abbrev pub GaveNone : Exchange → Type 0
+GaveNone d = (d.received.ended ≡ true) ⊎ (0 < d.received.waits)
+
+-- ---- all of it
+
+-- What a front over doors received and what was sent to it, since its sides were the first; its wires were made so. What
+-- had been noted when it was asked last was taken by the sink of its notes. A door that failed counts as one at which
+-- nobody comes any more, and a wire that failed ends its own connection alone, so that no failure of what is read is
+-- counted here.
+pub record HasExchanged (IsMade : WireTold → Type 0) (parts : ProgramParts) (first now : Sides) (d : Exchange) : Type 0 where
+  pub services : services_of now.kept ≡ services_of first.kept
+  pub in_place : places_of now.kept ≡ places_of first.kept
+  pub most : now.kept.most ≡ first.kept.most
+  pub within : list_all (λ n. nat_lt n (length parts.services)) (services_of now.kept) ≡ true
+  pub connections : List RunConnection
+  pub links : AreClients IsMade now.kept.links connections
+  pub came_in : sum_by (λ (p : ListenerTold). p.door.wires) now.kept.ports ≡ length now.kept.links
+  pub led : AreLed now.kept.ports now.kept.links
+  pub doors : list_all (λ (v : RunConnection). list_any (is_led v.door v.service) (leads_of now.kept)) connections ≡ true
+  pub accepted : length now.kept.links ≤ now.kept.most
+  pub all : Requests
+  pub asked : all.asked ≡ d.received.asked
+  pub traffics : map (λ (a : Asked). a.traffic) all.asked ≡ now.kept.traffics
+  pub taken : AreTaken connections all.asked
+  pub came : map (came_at connections) all.asked ≡ map Some all.came
+  pub given : d.received.given ≡ map posting_of all.came
+  pub heard : List Told
+  pub told : IsPrefix heard d.sent.told
+  pub all_told : d.sent.halted ≡ false → heard ≡ d.sent.told
+  pub heard_by : HeardByThen d.received.seens heard
+  pub places : list_all (λ (t : Told). nat_lt t.place (length all.asked)) heard ≡ true
+  pub answers : AreHeard parts now.kept connections all heard
+  pub one_by_one : CameOneByOne d
+  pub in_turn : CameInTurn d now.kept.links
+  pub sent : HasSent first now d.sent
+  pub noted_by_then : IsPrefix d.received.noted sent.notes
+  pub left : d.received.left ≡ None
+  pub faults : d.received.faults ≡ 0
+  pub seen : d.received.seen ≤ length d.sent.told
+  pub none : d.sent.halted ≡ false → GaveNone d → HadNone now.kept d ⊎ (most_postings ≤ length d.received.given)
+
+-- Memory ran out in a call: it is known only whether the front halted. What its calls answered is not known then, not
+-- even that it was want of memory.
+abbrev pub HasRunOut : Keeping → Exchange → Type 0
+HasRunOut kept d = (kept.spent ≡ true) × (d.sent.halted ≡ kept.halted)
+
+-- The same, unless memory ran out in a call.
+abbrev pub MayHaveExchanged : (WireTold → Type 0) → ProgramParts → Sides → Sides → Exchange → Type 0
+MayHaveExchanged IsMade parts first now d = HasRunOut now.kept d ⊎ HasExchanged IsMade parts first now d
