@@ -1,0 +1,5 @@
+pub mod Histories
+pub mod Steps
+pub mod Dealing
+pub mod Joining
+pub mod Ending

@@ -1,0 +1,6 @@
+pub mod NoRun
+pub mod Numbers
+pub mod Plays
+pub mod Rule
+pub mod Steps
+pub mod Views

@@ -1,0 +1,124 @@
+ghost use Rattle.std.specs.Prelude.{◌≡◌, ◌↔◌, true, false, IsTrue, IfOk, Ok, Contains, length};
+ghost use Rattle.std.specs.Io.{ReadsAtMost, WritesAtMost};
+ghost use Rattle.outside_polling.specs.Polls.{done, once_more, Polls, ReadsWire, WritesWire};
+ghost use Rattle.outside_polling.specs.Early.{hasty, IsCalled};
+ghost use Rattle.outside_polling.specs.declared.traits.Ready.TheVariants.{NotYet};
+
+use crate::traits::{PollWire, Ready};
+use outside_traits::{Failed, Wire};
+use std::alloc::{AllocError, Global};
+use std::marker::Model;
+
+/// A wire that does not wait, over one that does, for tests: while it is open its calls of some numbers come too early, and
+/// each other call is one of the wire in it.
+#[derive(Drop)]
+pub struct EarlyWire<W: Wire + Drop> {
+    wire: W,
+    early: Vec<u64>,
+    calls: u64,
+    waits: u64,
+    closed: bool,
+}
+
+impl<W: Wire + Drop> Model for EarlyWire<W> {
+    ghost use Rattle.std.specs.Prelude.{◌≡◌};
+    ghost use Rattle.outside_polling.specs.Early.{Hasty};
+
+    ghost Value = { Hasty W };
+
+    ghost view = { λ w. record { wire = w.wire; early = w.early.items; calls = w.calls; waits = w.waits } };
+
+    ghost invariant = { λ w. (W.told w.wire).closed ≡ w.closed };
+}
+
+impl<W: Wire + Drop> EarlyWire<W> {
+    /// Over an open wire. The calls of these numbers, from 0, come too early: reads and writes are counted together.
+    pub fn new(alloc: Global, wire: W, early: &[u64]) -> Result<EarlyWire<W>, AllocError>
+        requires { (W.told wire).closed ≡ false }
+        ensures { IfOk result (λ made. made ≡ hasty wire early.now) }
+    {
+        let early = Vec::from_slice(alloc, early)?;
+        Ok(EarlyWire {
+            wire,
+            early,
+            calls: 0,
+            waits: 0,
+            closed: false,
+        })
+    }
+
+    /// The wire in it.
+    pub fn wire(&self) -> &W
+        ensures { result.now ≡ self.now.wire }
+    {
+        &self.wire
+    }
+
+    /// How many of its calls have come too early.
+    pub fn waits(&self) -> u64
+        ensures { result ≡ self.now.waits }
+    {
+        self.waits
+    }
+
+    /// Whether the call at hand comes too early, which is counted then. Of a closed wire none does.
+    fn comes_early(&mut self) -> bool
+        ensures wire { self.new.wire ≡ self.old.wire }
+        ensures early { IsTrue result ↔ (((W.told self.old.wire).closed ≡ false) × Contains self.old.early self.old.calls) }
+        ensures waits { result ≡ true → self.new.waits ≡ once_more self.old.waits }
+        ensures stays { result ≡ false → self.new.waits ≡ self.old.waits }
+        ensures called { (W.told self.old.wire).closed ≡ false → IsCalled self.old self.new }
+    {
+        if self.closed {
+            return false;
+        }
+        let call = self.calls;
+        self.calls = call.saturating_add(1);
+        let is_early = self.early.contains(&call);
+        if is_early {
+            self.waits = self.waits.saturating_add(1);
+        }
+        is_early
+    }
+}
+
+impl<W: Wire + Drop> PollWire for EarlyWire<W> {
+    ghost told = { λ w. record { wire = W.told w.wire; waits = w.waits } };
+
+    fn try_read(&mut self, into: &mut [u8]) -> Result<Ready, Failed>
+        ensures early { result ≡ Ok NotYet ↔ (((W.told self.old.wire).closed ≡ false) × Contains self.old.early self.old.calls) }
+        ensures called { (W.told self.old.wire).closed ≡ false → IsCalled self.old self.new }
+        ensures bound { ReadsAtMost (done result) into.new }
+        ensures reads { Polls result
+            (record { wire = W.told self.old.wire; waits = self.old.waits })
+            (record { wire = W.told self.new.wire; waits = self.new.waits })
+            (λ answer. ReadsWire (length into.old) into.new answer) }
+    {
+        if self.comes_early() {
+            return Ok(Ready::NotYet);
+        }
+        let count = self.wire.read(into)?;
+        Ok(Ready::Done(count))
+    }
+
+    fn try_write(&mut self, from: &[u8]) -> Result<Ready, Failed>
+        ensures early { result ≡ Ok NotYet ↔ (((W.told self.old.wire).closed ≡ false) × Contains self.old.early self.old.calls) }
+        ensures called { (W.told self.old.wire).closed ≡ false → IsCalled self.old self.new }
+        ensures bound { WritesAtMost (done result) from.now }
+        ensures writes { Polls result
+            (record { wire = W.told self.old.wire; waits = self.old.waits })
+            (record { wire = W.told self.new.wire; waits = self.new.waits })
+            (λ answer. WritesWire from.now answer) }
+    {
+        if self.comes_early() {
+            return Ok(Ready::NotYet);
+        }
+        let count = self.wire.write(from)?;
+        Ok(Ready::Done(count))
+    }
+
+    fn close(&mut self) {
+        self.wire.close();
+        self.closed = true;
+    }
+}
