@@ -133,6 +133,7 @@ def clients():
         row("it is still there", served.process.poll(), None)
         h2load(served)
         nginx()
+    page()
     examples()
     wrk()
     json_rpc_cpp()
@@ -141,6 +142,15 @@ def clients():
     few_files()
     bounds()
     ends()
+
+
+def page():
+    """The client in Python that stands in the page, over the example that it calls."""
+    with open(f"{HERE}/../docs/before-you-go-live.md", encoding="utf-8") as file:
+        client = re.search(r"```python\n(.*?)```", file.read(), re.DOTALL)[1]
+    with serving(example("shop")):
+        done = subprocess.run([sys.executable, "-c", client], capture_output=True, text=True, timeout=30)
+        row("the client of the page", done.stdout, "5 of bolt cost 15\n")
 
 
 def examples():
@@ -272,6 +282,9 @@ def nginx():
     with proxy("/tmp", f"{FOLDER}/nginx.conf"):
         done = subprocess.run([*call, "http://localhost:8080/"], capture_output=True, text=True)
         row("through nginx", done.stdout, ANSWER)
+        chunked = [*call, "-H", "Transfer-Encoding: chunked", "http://localhost:8080/"]
+        done = subprocess.run(chunked, capture_output=True, text=True)
+        row("a chunked body through nginx", done.stdout, ANSWER)
     if not shutil.which("openssl"):
         return left_out("nginx with TLS")
     with tempfile.TemporaryDirectory() as folder:

@@ -5,7 +5,7 @@
 cd "$(dirname "$0")" || exit 1
 to=../../crates/test_trials/proofs
 printf 'mod %s\n' CheckedHeads Responses NoResponses CutResponses LinkRequests > $to/Lib.antt
-printf 'mod %s\n' Requests Sent First Parts ConnectionStopped ConnectionSpoilt TwoCalls TwoGuests Pipelined Failed >> $to/Lib.antt
+printf 'mod %s\n' Requests Sent First Parts ConnectionStopped ConnectionSpoilt TwoCalls TwoClients Pipelined Failed >> $to/Lib.antt
 printf 'mod %s\n' Statuses Endings Cuts Noted >> $to/Lib.antt
 printf 'mod %s\n' Counted Told Standing Acting Quiets Agreeing Runs Workers Spends >> $to/Lib.antt
 while read -r name kinds title; do
