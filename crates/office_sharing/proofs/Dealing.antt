@@ -119,7 +119,10 @@ makes parts id v maker s h at =
             mine = λ _. h.fresh v.given (omega (arith, m.1));
             kept = tt;
             own = λ n a. ⊎_elim
-                (λ (is : n ≡ v.given). (ap (λ b. if b then length s.views else h.deal.owner n) (eq-eqb n h.deal.given (is ∙ m.1)), omega (arith, is, m.1)))
+                (λ (is : n ≡ v.given). (
+                  ap (λ b. if b then length s.views else h.deal.owner n) (eq-eqb n h.deal.given (is ∙ m.1)),
+                  omega (arith, is, m.1),
+                ))
                 (λ never. absurd never) a;
             apart = ((λ never. never), tt);
             turn = λ t. absurd (off t);

@@ -101,7 +101,8 @@ all_below g xs a low all n less = ⊎_elim (λ h. h)
 
 -- ---- the end
 
-module _ (parts : ProgramParts) (id : ℕ) (v : View) (xs : List Office) (o : Office) (all : HasAll v) (idle : v.turn ≡ false) (s : State Office View) (h : IsShared parts s) (at : get_elem? s.views id ≡ some v) where
+module _ (parts : ProgramParts) (id : ℕ) (v : View) (xs : List Office) (o : Office) (all : HasAll v)
+    (idle : v.turn ≡ false) (s : State Office View) (h : IsShared parts s) (at : get_elem? s.views id ≡ some v) where
   every : (n : ℕ) → n < h.deal.given → IsAmong n (numbers v)
   every =
       let f = h.fits id v at in

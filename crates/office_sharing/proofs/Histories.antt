@@ -57,7 +57,8 @@ by_adds n log e own =
 -- ---- histories of a shared office
 
 -- the history of an office of the program is legal
-pub legal_of : (parts : ProgramParts) (log : List Entry) (o : Office) → HasHistory parts log o → IsLegal (run_of parts) log
+pub legal_of : (parts : ProgramParts) (log : List Entry) (o : Office) → HasHistory parts log o
+    → IsLegal (run_of parts) log
 legal_of parts log o has =
     subst (IsLegal (run_of parts)) has.entries (subst (λ p. IsLegal (run_of p) (entries_of o)) has.program o.legal)
 

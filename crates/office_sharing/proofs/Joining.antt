@@ -152,10 +152,12 @@ joins parts id other v w idle idle' s h at ne at' =
       held = λ t. (let who = h.held t in
           let not_id : h.deal.holder ≢ id
           = (λ is. true≢false (sym who.2
-          ∙ (ap (λ (u : View). u.turn) (some-injective who.0 v (sym who.1 ∙ (ap (λ k. get_elem? s.views k) is ∙ at))) ∙ idle))) in
+          ∙ (ap (λ (u : View). u.turn) (some-injective who.0 v (sym who.1 ∙ (ap (λ k. get_elem? s.views k) is ∙ at)))
+          ∙ idle))) in
           let not_other : h.deal.holder ≢ other
           = (λ is. true≢false (sym who.2
-          ∙ (ap (λ (u : View). u.turn) (some-injective who.0 w (sym who.1 ∙ (ap (λ k. get_elem? s.views k) is ∙ there))) ∙ idle'))) in (
+          ∙ (ap (λ (u : View). u.turn)
+          (some-injective who.0 w (sym who.1 ∙ (ap (λ k. get_elem? s.views k) is ∙ there))) ∙ idle'))) in (
             who.0,
             set_else (set s.views id (merged v w)) other h.deal.holder nobody not_other
                 ∙ (set_else s.views id h.deal.holder (merged v w) not_id ∙ who.1),

@@ -43,7 +43,8 @@ fits_set log d views seat w others mine j u e =
 -- a seat's own number is among its numbers
 pub own_among : (v : View) → v.may_call ≡ true → IsAmong v.number (numbers v)
 own_among v may =
-    subst (λ b. IsAmong v.number (if b then v.number ∷ numbers_kept v.kept else numbers_kept v.kept)) (sym may) (inl refl)
+    subst (λ b. IsAmong v.number (if b then v.number ∷ numbers_kept v.kept else numbers_kept v.kept)) (sym may)
+    (inl refl)
 
 -- ---- to take the turn
 
@@ -124,7 +125,8 @@ module _ (parts : ProgramParts) (id : ℕ) (v : View) (may : v.may_call ≡ true
         v,
         keeps,
         tt,
-        subst (IsShared parts) (λ i. record { words = e i; homes = s.homes; views = sym (set_again s.views id v at) i }) h,
+        subst (IsShared parts)
+            (λ i. record { words = e i; homes = s.homes; views = sym (set_again s.views id v at) i }) h,
         refl,
       )
 
@@ -206,15 +208,16 @@ caller_fits log d seat v e turn by f =
       kept_stays ks (λ a. apart (inr a)) fits.1,
     )
 
-module _ (parts : ProgramParts) (id : ℕ) (v : View) (o : Office) (e : Entry) (turn : v.turn ≡ true) (call : IsCall v e) (has : HasHistory parts (v.seen ++ e ∷ []) o) (size : length (entries_of o) < 9223372036854775808) where
+module _ (parts : ProgramParts) (id : ℕ) (v : View) (o : Office) (e : Entry) (turn : v.turn ≡ true) (call : IsCall v e)
+    (has : HasHistory parts (v.seen ++ e ∷ []) o) (size : length (entries_of o) < 9223372036854775808) where
   abbrev Committed : State Office View → Type 0
   Committed s = (w : View) × (a : Act Office) × Valid s.homes ((0, o) ∷ []) a
       × IsShared parts (stepped s 1 ((slice_index s.words 1 + 1) % 2 ^ 64) id ((0, o) ∷ []) w a)
       × Commits (step 1 1 1 0 none) (v, (0, o) ∷ []) (slice_index s.words 1) (w, carried_after ((0, o) ∷ []) a)
 
   commits_away : (views : List View) (log : List Entry) (d : Deal) → IsHistory parts log → v.seen ≡ log → d.away ≡ true
-      → d.holder ≡ id → FitAll log d views → ((n : ℕ) → d.given ≤ n → entries_by n log ≡ []) → get_elem? views id ≡ some v
-      → Committed record { words = 1 ∷ length log ∷ []; homes = none ∷ []; views = views }
+      → d.holder ≡ id → FitAll log d views → ((n : ℕ) → d.given ≤ n → entries_by n log ≡ [])
+      → get_elem? views id ≡ some v → Committed record { words = 1 ∷ length log ∷ []; homes = none ∷ []; views = views }
   commits_away views log d history seen away holds fits fresh at =
       let mine = fits id v at in
       let now : entries_of o ≡ log ++ e ∷ [] = has.entries ∙ ap (λ l. l ++ e ∷ []) seen in
@@ -236,7 +239,12 @@ module _ (parts : ProgramParts) (id : ℕ) (v : View) (o : Office) (e : Entry) (
           size = size;
           words = (λ i. word_of (sym away i) ∷ sum i ∷ []);
           home = subst (λ b. IsPlaced parts (entries_of o) b (none ∷ [])) (sym away) refl;
-          held = λ t. (w, subst (λ k. get_elem? (set views id w) k ≡ some w) (sym holds) (set_here views id w (index_below views id v at)), turn);
+          held = λ t. (
+            w,
+            subst (λ k. get_elem? (set views id w) k ≡ some w) (sym holds)
+                (set_here views id w (index_below views id v at)),
+            turn,
+          );
           fits = subst (λ l. FitAll l d (set views id (committed v l))) (sym now)
               (fits_set (log ++ e ∷ []) d views id (committed v (log ++ e ∷ []))
               (λ j u ne at'. others_longer log d id j u e (ap d.owner call.by ∙ owns.0) holds ne (fits j u at'))
@@ -261,7 +269,8 @@ module _ (parts : ProgramParts) (id : ℕ) (v : View) (o : Office) (e : Entry) (
 -- a seat that has the turn, and made a call on the office in its hand, commits it
 pub commits : (parts : ProgramParts) (id : ℕ) (v : View) (o : Office) (e : Entry) → v.turn ≡ true → IsCall v e
     → HasHistory parts (v.seen ++ e ∷ []) o → length (entries_of o) < 9223372036854775808
-    → Allows (IsShared parts) 1 id (v, (0, o) ∷ []) 1 (λ n. (n + 1) % 2 ^ 64) (Commits (step 1 1 1 0 none) (v, (0, o) ∷ []))
+    → Allows (IsShared parts) 1 id (v, (0, o) ∷ []) 1 (λ n. (n + 1) % 2 ^ 64)
+    (Commits (step 1 1 1 0 none) (v, (0, o) ∷ []))
 commits parts id v o e turn call has size s h n at small = commits_shared parts id v o e turn call has size s h at
 
 -- ---- to give the turn back
@@ -280,14 +289,15 @@ others_rest log d seat j u holds apart f = record {
   makes = f.makes;
 }
 
-module _ (parts : ProgramParts) (id : ℕ) (v : View) (o : Office) (turn : v.turn ≡ true) (has : HasHistory parts v.seen o) where
+module _ (parts : ProgramParts) (id : ℕ) (v : View) (o : Office) (turn : v.turn ≡ true)
+    (has : HasHistory parts v.seen o) where
   abbrev Given : State Office View → Type 0
   Given s = (w : View) × (a : Act Office) × Valid s.homes ((0, o) ∷ []) a
       × IsShared parts (stepped s 0 0 id ((0, o) ∷ []) w a)
       × GivesBack (step 1 0 0 0 none) (v, (0, o) ∷ []) 0 (w, carried_after ((0, o) ∷ []) a)
 
-  gives_away : (views : List View) (log : List Entry) (d : Deal) → IsHistory parts log → length log < 9223372036854775808
-      → v.seen ≡ log → d.holder ≡ id → FitAll log d views → ((n : ℕ) → d.given ≤ n → entries_by n log ≡ [])
+  gives_away : (views : List View) (log : List Entry) (d : Deal) → IsHistory parts log
+      → length log < 9223372036854775808 → v.seen ≡ log → d.holder ≡ id → FitAll log d views → ((n : ℕ) → d.given ≤ n → entries_by n log ≡ [])
       → get_elem? views id ≡ some v → Given record { words = 1 ∷ length log ∷ []; homes = none ∷ []; views = views }
   gives_away views log d history size seen holds fits fresh at =
       let f = fits id v at in (
@@ -356,7 +366,8 @@ looks parts id v turn s h n at small =
           who.0,
           set_else s.views id h.deal.holder w
               (λ is. true≢false (sym who.2
-              ∙ (ap (λ (u : View). u.turn) (some-injective who.0 v (sym who.1 ∙ (ap (λ k. get_elem? s.views k) is ∙ at))) ∙ turn)))
+              ∙ (ap (λ (u : View). u.turn) (some-injective who.0 v (sym who.1 ∙ (ap (λ k. get_elem? s.views k) is ∙ at)))
+              ∙ turn)))
               ∙ who.1,
           who.2,
         );

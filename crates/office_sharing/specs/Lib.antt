@@ -1,4 +1,4 @@
-pub mod NoRun
+pub mod Named
 pub mod Numbers
 pub mod Plays
 pub mod Rule

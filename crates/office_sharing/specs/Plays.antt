@@ -23,8 +23,8 @@ pub record InHand (parts : ProgramParts) (log : List Entry) (m : Me Office View)
   pub hand : m.1 ≡ (0, office) ∷ []
   pub has : HasHistory parts log office
 
--- The seat has the turn from now on, and the office with all its history, which begins with what the seat had seen and has
--- of the seat's number just the calls that it made.
+-- The seat has the turn from now on, and the office with all its history, which begins with what the seat had seen and
+-- has of the seat's number just the calls that it made.
 pub record HasTaken (parts : ProgramParts) (m w : Me Office View) : Type 0 where
   pub log : List Entry
   pub history : IsHistory parts log
@@ -63,8 +63,8 @@ Looks parts s m n w = HasLooked parts m.0 n w.0 × (w.1 ≡ [])
 abbrev pub HasAll : View → Type 0
 HasAll v = (v.makes ≡ true) × (length (numbers v) ≡ v.given)
 
--- What the office comes back with: a history that begins with what the last seat has seen, in which each number that was
--- given has just the calls of its seat, and no other has an entry.
+-- What the office comes back with: a history that begins with what the last seat has seen, in which each number that
+-- was given has just the calls of its seat, and no other has an entry.
 pub record Ended (parts : ProgramParts) (v : View) (log : List Entry) : Type 0 where
   pub history : IsHistory parts log
   pub begins : IsPrefix v.seen log

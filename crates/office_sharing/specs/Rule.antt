@@ -26,7 +26,8 @@ pub record HasHistory (parts : ProgramParts) (log : List Entry) (o : Office) : T
   pub program : parts_of o.program ≡ parts
   pub entries : entries_of o ≡ log
 
--- who has which number, who makes seats, how many numbers were given, who had the turn last, and whether it has it still
+-- who has which number, who makes seats, how many numbers were given, who had the turn last, and whether it has it
+-- still
 pub record Deal : Type 0 where
   pub owner : ℕ → ℕ
   pub maker : ℕ
@@ -34,9 +35,10 @@ pub record Deal : Type 0 where
   pub holder : ℕ
   pub away : Bool
 
--- what a seat knows fits the history: it has seen a beginning of it, and was told one; the entries by its number are its
--- calls, and those by numbers of seats that were joined are theirs; its numbers were given to it, each once; where it has
--- the turn, it may call and has seen all; where it makes seats, it alone does, and knows how many numbers were given
+-- what a seat knows fits the history: it has seen a beginning of it, and was told one; the entries by its number are
+-- its calls, and those by numbers of seats that were joined are theirs; its numbers were given to it, each once; where
+-- it has the turn, it may call and has seen all; where it makes seats, it alone does, and knows how many numbers were
+-- given
 pub record Fits (log : List Entry) (d : Deal) (seat : ℕ) (v : View) : Type 0 where
   pub seen : IsPrefix v.seen log
   pub told : IsPrefix v.told log
@@ -65,8 +67,8 @@ abbrev pub IsPlaced : ProgramParts → List Entry → Bool → List (Option Offi
 IsPlaced parts log true homes = homes ≡ none ∷ []
 IsPlaced parts log false homes = (o : Office) × (homes ≡ some o ∷ []) × HasHistory parts log o
 
--- The rule: there is one history, of as many entries as the count word says; the office has it, or the seat that has the
--- turn; what each seat knows fits it; and it has no entry by a number that was not given.
+-- The rule: there is one history, of as many entries as the count word says; the office has it, or the seat that has
+-- the turn; what each seat knows fits it; and it has no entry by a number that was not given.
 pub record IsShared (parts : ProgramParts) (s : State Office View) : Type 0 where
   pub log : List Entry
   pub deal : Deal

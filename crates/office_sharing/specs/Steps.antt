@@ -26,15 +26,17 @@ pub record IsCall (v : View) (e : Entry) : Type 0 where
   pub by : e.actor ≡ v.number
   pub goes : stops e ≡ false
 
--- 2. A seat that has the turn adds one to the count word, where the office in its hand has one call of its own more than it
--- has seen.
+-- 2. A seat that has the turn adds one to the count word, where the office in its hand has one call of its own more
+-- than it has seen.
 abbrev pub CommitsKeep : Type 0
 CommitsKeep =
     (parts : ProgramParts) (id : ℕ) (v : View) (o : Office) (e : Entry) → v.turn ≡ true → IsCall v e
     → HasHistory parts (v.seen ++ e ∷ []) o → length (entries_of o) < 9223372036854775808
-    → Allows (IsShared parts) 1 id (v, (0, o) ∷ []) 1 (λ n. (n + 1) % 2 ^ 64) (Commits (step 1 1 1 0 none) (v, (0, o) ∷ []))
+    → Allows (IsShared parts) 1 id (v, (0, o) ∷ []) 1 (λ n. (n + 1) % 2 ^ 64)
+    (Commits (step 1 1 1 0 none) (v, (0, o) ∷ []))
 
--- 3. A seat that has the turn, and has seen all that the office in its hand has, puts it into its slot and frees the turn.
+-- 3. A seat that has the turn, and has seen all that the office in its hand has, puts it into its slot and frees the
+-- turn.
 abbrev pub GivingKeeps : Type 0
 GivingKeeps =
     (parts : ProgramParts) (id : ℕ) (v : View) (o : Office) → v.turn ≡ true → HasHistory parts v.seen o
@@ -66,7 +68,8 @@ EndKeeps =
 -- 8. The seat that makes others gives the next number to a new one.
 abbrev pub MakingKeeps : Type 0
 MakingKeeps =
-    (parts : ProgramParts) (id : ℕ) (v : View) → v.makes ≡ true → Splits (IsShared parts) id v (one_more v) (next_seat v)
+    (parts : ProgramParts) (id : ℕ) (v : View) → v.makes ≡ true
+    → Splits (IsShared parts) id v (one_more v) (next_seat v)
 
 -- At first the office has no entry, and is at home.
 abbrev pub BeginsSo : Type 0

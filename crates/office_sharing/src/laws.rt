@@ -1,4 +1,5 @@
-ghost use Rattle.office_sharing.specs.Steps.{BeginsSo, CommitsKeep, CopiesKeep, EndKeeps, GivingKeeps, JoinsKeep, LooksKeep, MakingKeeps, TakesKeep};
+ghost use Rattle.office_sharing.specs.Steps.{BeginsSo, CommitsKeep, CopiesKeep, EndKeeps, GivingKeeps};
+ghost use Rattle.office_sharing.specs.Steps.{JoinsKeep, LooksKeep, MakingKeeps, TakesKeep};
 
 /// Does nothing: its clauses say that an office begins as the rule says, and that each kind of step keeps the rule.
 pub fn steps_keep_the_rule()

@@ -1,5 +1,5 @@
-//! The rule by which threads share an office: one legal history, a turn, and seats that have seen beginnings of it. What
-//! each step of a seat owes the rule is a lemma over plain data.
+//! The rule by which threads share an office: one legal history, a turn, and seats that have seen beginnings of it.
+//! What each step of a seat owes the rule is a lemma over plain data.
 #![tactic(auto)]
 
 mod laws;

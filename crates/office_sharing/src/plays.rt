@@ -11,9 +11,10 @@ pub struct TakeTurn<N: Naming> {
 }
 
 impl<N: Naming> Play<Office, View> for TakeTurn<N> {
+    ghost use Rattle.office_sharing.specs.Named.{parts_by};
     ghost use Rattle.office_sharing.specs.Plays.{TakesTurn};
 
-    ghost then = { TakesTurn N.parts };
+    ghost then = { TakesTurn (parts_by N.program) };
 }
 
 /// The call that was made on the office in the hand is counted.
@@ -40,9 +41,10 @@ pub struct Look<N: Naming> {
 }
 
 impl<N: Naming> Play<Office, View> for Look<N> {
+    ghost use Rattle.office_sharing.specs.Named.{parts_by};
     ghost use Rattle.office_sharing.specs.Plays.{Looks};
 
-    ghost then = { Looks N.parts };
+    ghost then = { Looks (parts_by N.program) };
 }
 
 /// The next number is given to a new seat.

@@ -1,0 +1,5 @@
+mod Hands
+mod Allowed
+mod Joined
+mod Telling
+mod Own
