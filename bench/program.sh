@@ -93,7 +93,7 @@ row 'an input that is a directory fails' 4 '' 'roqsulei: the standard input fail
 sed 's/localhost:8000/203.0.113.1:8000/' "$top/examples/shop.ol" > "$work/shop.ol"
 over "$work/empty" serve "$work/shop.ol"
 row 'a port at an address of another machine has its status' 7 '' \
-    'roqsulei: a location could not be listened at, or its door failed'
+    'roqsulei: a location could not be listened at, or its listener failed'
 for lines in "$top"/examples/*.jsonl; do
     example=${lines%.jsonl}
     over "$lines" run "$example.ol"
