@@ -1,0 +1,5 @@
+pub mod Standing
+pub mod Writing
+pub mod Sending
+pub mod Turning
+pub mod Words

@@ -1,0 +1,66 @@
+-- Each turn carries what passed along.
+use Rattle.std.proofs.Common.{refl, inl, inr, ap}
+use Rattle.conn_future.specs.Stages.{stage_of}
+use Rattle.conn_future.specs.Talking.{seen}
+use Rattle.conn_future.proofs.Writing.{responds, responds_not}
+use Rattle.conn_future.proofs.Turning.{nothing_called, over_stops}
+use Rattle.conn_future.proofs.turn.take_turn.Goals as goal
+
+pub returns-in-Holds-clause-talks : goal.returns-in-Holds-clause-talks
+returns-in-Holds-clause-talks g c = λ first bodies texts h. h
+
+pub returns-in-Owes-clause-talks : goal.returns-in-Owes-clause-talks
+returns-in-Owes-clause-talks g c = λ first bodies texts h. h
+
+pub returns-in-Over-clause-talks : goal.returns-in-Over-clause-talks
+returns-in-Over-clause-talks g c = λ first bodies texts h. h
+
+pub returns-in-Spent-clause-talks : goal.returns-in-Spent-clause-talks
+returns-in-Spent-clause-talks g c = λ first bodies texts h. h
+
+pub returns-in_err-respond-in-Says-clause-talks : goal.returns-in_err-respond-in-Says-clause-talks
+returns-in_err-respond-in-Says-clause-talks g c = λ first bodies texts h.
+    responds_not first (seen c.args.kept.now (g.W.PollWire.told c.args.wire.now)) (seen c.respond.new.kept (g.W.PollWire.told c.args.wire.now)) _ bodies texts h
+    c.in-Says.is c.in_err-respond-in-Says.ensures.made.0 refl c.in_err-respond-in-Says.ensures.made.1
+
+pub returns-in_ok-respond-in-Says-clause-talks : goal.returns-in_ok-respond-in-Says-clause-talks
+returns-in_ok-respond-in-Says-clause-talks g c = λ first bodies texts h.
+    responds first (seen c.args.kept.now (g.W.PollWire.told c.args.wire.now)) (seen c.respond.new.kept (g.W.PollWire.told c.args.wire.now)) _ bodies texts h
+    c.in-Says.is c.in_ok-respond-in-Says.ensures.made.0 refl c.in_ok-respond-in-Says.ensures.made.1 c.in_ok-respond-in-Says.ensures.made.2
+
+pub returns-in-Holds-clause-called : goal.returns-in-Holds-clause-called
+returns-in-Holds-clause-called g c = λ first bodies texts h.
+    let was = seen c.args.kept.now (g.W.PollWire.told c.args.wire.now) in
+    nothing_called was was bodies texts (record { reader = refl; read = refl; written = refl }) refl
+
+pub returns-in-Owes-clause-called : goal.returns-in-Owes-clause-called
+returns-in-Owes-clause-called g c = λ first bodies texts h.
+    let was = seen c.args.kept.now (g.W.PollWire.told c.args.wire.now) in
+    nothing_called was was bodies texts (record { reader = refl; read = refl; written = refl }) refl
+
+pub returns-in-Over-clause-called : goal.returns-in-Over-clause-called
+returns-in-Over-clause-called g c = λ first bodies texts h.
+    let was = seen c.args.kept.now (g.W.PollWire.told c.args.wire.now) in
+    nothing_called was was bodies texts (record { reader = refl; read = refl; written = refl }) refl
+
+pub returns-in-Spent-clause-called : goal.returns-in-Spent-clause-called
+returns-in-Spent-clause-called g c = λ first bodies texts h.
+    let was = seen c.args.kept.now (g.W.PollWire.told c.args.wire.now) in
+    nothing_called was was bodies texts (record { reader = refl; read = refl; written = refl }) refl
+
+pub returns-in_err-respond-in-Says-clause-called : goal.returns-in_err-respond-in-Says-clause-called
+returns-in_err-respond-in-Says-clause-called g c = λ first bodies texts h.
+    nothing_called (seen c.args.kept.now (g.W.PollWire.told c.args.wire.now)) (seen c.respond.new.kept (g.W.PollWire.told c.args.wire.now)) bodies texts c.in_err-respond-in-Says.ensures.made.0 refl
+
+pub returns-in_ok-respond-in-Says-clause-called : goal.returns-in_ok-respond-in-Says-clause-called
+returns-in_ok-respond-in-Says-clause-called g c = λ first bodies texts h.
+    nothing_called (seen c.args.kept.now (g.W.PollWire.told c.args.wire.now)) (seen c.respond.new.kept (g.W.PollWire.told c.args.wire.now)) bodies texts c.in_ok-respond-in-Says.ensures.made.0 refl
+
+pub returns-in-Holds-clause-stops : goal.returns-in-Holds-clause-stops
+returns-in-Holds-clause-stops g c = (refl, inl (ap stage_of c.in-Holds.is))
+
+pub returns-in-Owes-clause-stops : goal.returns-in-Owes-clause-stops
+returns-in-Owes-clause-stops g c = (refl, inr (ap stage_of c.in-Owes.is))
+
+pub returns-in-Over-clause-stops : goal.returns-in-Over-clause-stops
+returns-in-Over-clause-stops g c = over_stops _ _ _ c.args.kept.now.next _ refl refl c.in-Over.is

@@ -1,0 +1,5 @@
+pub mod Outgoing
+pub mod Stages
+pub mod Talking
+pub mod Law
+pub mod Steps
