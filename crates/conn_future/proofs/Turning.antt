@@ -1,10 +1,11 @@
 -- What a turn comes to, and the calls of its wire.
-use Rattle.std.proofs.Common.{◌≡◌, ◌≤◌, inl, inr, ℕ, true, false, List, [], ◌∷◌, ◌++◌, length, take, sym, refl, subst, arith}
+use Rattle.std.proofs.Common.{◌≡◌, ◌≤◌, ◌⊎◌, inl, inr, ℕ, true, false, List, [], ◌∷◌, ◌++◌, length, take, sym, refl, subst, arith}
 use Rattle.std.specs.Prelude.{Option, Result, IfOk}
 use Rattle.std.proofs.lemmas.List.{length-take-le}
 use Rattle.outside_traits.specs.Told.{Lists, WireTold}
 use Rattle.outside_traits.specs.declared.calls.WireCall.{WireCall}
 use Rattle.outside_traits.specs.declared.calls.WireCall.TheVariants.{Wrote}
+use Rattle.outside_polling.specs.Polls.{once_more}
 use Rattle.http_connection.specs.Stages.{stage_of as plain_stage_of}
 use Rattle.http_connection.specs.Talking.{IsOpen, WireTells, log_of}
 use Rattle.http_connection.specs.Prompt.{OnlyWrites}
@@ -18,7 +19,7 @@ use Rattle.conn_future.specs.declared.stage.Standing.{Standing}
 use Rattle.conn_future.specs.declared.stage.Standing.TheVariants as Stands
 use Rattle.conn_future.specs.declared.turn.Turn.{Turn}
 use Rattle.conn_future.specs.declared.turn.Turn.TheVariants as Turns
-use Rattle.conn_future.specs.Stages.{IsOver, is_over, plain_standing, stage_behind, stage_of}
+use Rattle.conn_future.specs.Stages.{IsMoving, IsUnanswered, IsOver, is_over, plain_standing, stage_behind, stage_of}
 use Rattle.conn_future.specs.Talking.{Seen, plain, IsTalking, TalksOn, CallsOn, StaysPrompt}
 use Rattle.conn_future.specs.Steps.{IsSame, Stops}
 use Rattle.conn_future.proofs.Standing.{stays, spent_now}
@@ -105,3 +106,11 @@ pub prompt_on : (was mid now : Seen) → TalksOn was mid → CallsOn was mid →
 prompt_on was mid now talks called then = λ first bodies texts h.
     is_prompt was.line.calls now.line.calls (log_of (plain was) bodies texts) (log_of (plain now) bodies texts)
     (calls_on was mid now talks called then first bodies texts h)
+
+-- ---- polls
+
+-- why a poll is pending
+pub why_pending : (before now : ℕ) (stage : Stage) → ((now ≡ once_more before) × IsMoving stage) ⊎ ((now ≡ before) × IsUnanswered stage)
+    → (now ≡ once_more before) ⊎ IsUnanswered stage
+why_pending before now stage (inl waited) = inl waited.0
+why_pending before now stage (inr asked) = inr asked.1

@@ -16,7 +16,7 @@ use Rattle.conn_future.specs.declared.stage.Stage.TheVariants as Stages
 use Rattle.conn_future.specs.declared.stage.Standing.{Standing}
 use Rattle.conn_future.specs.declared.stage.Standing.TheVariants as Stands
 use Rattle.conn_future.specs.Outgoing.{Outgoing}
-use Rattle.conn_future.specs.Stages.{plain_standing, stage_of}
+use Rattle.conn_future.specs.Stages.{plain_standing, stage_of, IsOver}
 
 -- a connection: what it keeps, and what its wire tells beside its waits
 pub record Seen : Type 0 where
@@ -93,3 +93,10 @@ abbrev pub CallsOn : Seen → Seen → Type 0
 CallsOn was now = (first : WireTold) (bodies : List (List ℕ)) (texts : List (Option (List ℕ)))
     → IsTalking first was bodies texts
     → Called was.line.calls now.line.calls (log_of (plain was) bodies texts) (log_of (plain now) bodies texts)
+
+-- What a connection gives that is over: whatever was handed out and told, these are the bytes that passed on it.
+abbrev pub Gives : Seen → PollTold → List ℕ → List ℕ → Type 0
+Gives was told read written = (first : WireTold) (bodies : List (List ℕ)) (texts : List (Option (List ℕ)))
+    → IsTalking first was bodies texts
+    → (now : Seen) × IsOver (stage_of now.kept.next) × IsTalking first now bodies texts
+    × (now.line ≡ told.wire) × (now.kept.read.items ≡ read) × (now.kept.written.items ≡ written)

@@ -9,6 +9,7 @@ ghost use Rattle.conn_future.specs.declared.stage.Standing.TheVariants as Stands
 
 use crate::due::Due;
 use crate::stage::Standing;
+use crate::task::Traffic;
 use http_port::{Fed, HeadReader};
 use jolie_trees::Bytes;
 use std::alloc::{AllocError, Global};
@@ -117,5 +118,17 @@ impl Kept {
             Standing::Spent => {}
         }
         None
+    }
+
+    /// Takes out the bytes that passed.
+    pub(crate) fn take_traffic(&mut self) -> Traffic
+        ensures read { result.read.items ≡ self.old.read.items }
+        ensures written { result.written.items ≡ self.old.written.items }
+        ensures next { self.new.next ≡ self.old.next }
+    {
+        Traffic {
+            read: mem::replace(&mut self.read, Vec::new(self.alloc)),
+            written: mem::replace(&mut self.written, Vec::new(self.alloc)),
+        }
     }
 }

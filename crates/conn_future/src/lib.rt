@@ -4,6 +4,7 @@
 #![tactic(auto)]
 
 mod due;
+mod future;
 mod kept;
 mod law;
 mod stage;
@@ -14,4 +15,4 @@ pub use due::Due;
 pub use kept::Kept;
 pub use law::tasks_keep_their_word;
 pub use stage::Stage;
-pub use task::ConnTask;
+pub use task::{ConnTask, Traffic};

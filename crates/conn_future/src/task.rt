@@ -15,6 +15,13 @@ use jolie_trees::Bytes;
 use outside_polling::PollWire;
 use std::alloc::{AllocError, Global};
 
+/// The bytes that passed on a connection: those that were read, and those that were written.
+#[derive(Drop)]
+pub struct Traffic {
+    pub read: Vec<u8>,
+    pub written: Vec<u8>,
+}
+
 /// A connection over a wire that does not wait, and what it keeps.
 #[derive(Drop)]
 pub struct ConnTask<W> {
@@ -111,11 +118,21 @@ impl<W: PollWire> ConnTask<W> {
         self.kept.say(said);
     }
 
-    /// The wire, which is closed, the bytes that were read and the bytes that were written.
-    pub fn into_parts(self) -> (W, Vec<u8>, Vec<u8>)
-        ensures wire { W.told result.0 ≡ shut_so (W.told self.wire) }
-        ensures read { result.1.items ≡ self.kept.read.items }
-        ensures written { result.2.items ≡ self.kept.written.items }
+    /// Takes out the bytes that passed.
+    pub(crate) fn take_traffic(&mut self) -> Traffic
+        ensures read { result.read.items ≡ self.old.kept.read.items }
+        ensures written { result.written.items ≡ self.old.kept.written.items }
+        ensures wire { self.new.wire ≡ self.old.wire }
+        ensures next { self.new.kept.next ≡ self.old.kept.next }
+    {
+        self.kept.take_traffic()
+    }
+
+    /// The bytes that passed, but for those that the future gave, and the wire, which is closed.
+    pub fn into_parts(self) -> (Traffic, W)
+        ensures read { result.0.read.items ≡ self.kept.read.items }
+        ensures written { result.0.written.items ≡ self.kept.written.items }
+        ensures wire { W.told result.1 ≡ shut_so (W.told self.wire) }
     {
         let ConnTask { mut wire, kept } = self;
         wire.close();
@@ -128,6 +145,6 @@ impl<W: PollWire> ConnTask<W> {
             due: _,
             next: _,
         } = kept;
-        (wire, read, written)
+        (Traffic { read, written }, wire)
     }
 }
