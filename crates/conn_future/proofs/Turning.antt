@@ -19,9 +19,9 @@ use Rattle.conn_future.specs.declared.stage.Standing.{Standing}
 use Rattle.conn_future.specs.declared.stage.Standing.TheVariants as Stands
 use Rattle.conn_future.specs.declared.turn.Turn.{Turn}
 use Rattle.conn_future.specs.declared.turn.Turn.TheVariants as Turns
-use Rattle.conn_future.specs.Stages.{IsMoving, IsUnanswered, IsOver, is_over, plain_standing, stage_behind, stage_of}
-use Rattle.conn_future.specs.Talking.{Seen, plain, IsTalking, TalksOn, CallsOn, StaysPrompt}
-use Rattle.conn_future.specs.Steps.{IsSame, Stops}
+use Rattle.conn_future.specs.Stages.{IsMoving, IsUnanswered, IsOver, plain_standing, stage_behind, stage_of}
+use Rattle.conn_future.specs.Talking.{Seen, plain, IsTalking, TalksOn, StaysPrompt}
+use Rattle.conn_future.specs.Steps.{is_over, CallsOn, IsSame, Stops}
 use Rattle.conn_future.proofs.Standing.{stays, spent_now}
 
 -- ---- waits

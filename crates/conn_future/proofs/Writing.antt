@@ -18,10 +18,10 @@ use Rattle.conn_future.specs.declared.stage.Stage.TheVariants as Stages
 use Rattle.conn_future.specs.declared.stage.Standing.{Standing}
 use Rattle.conn_future.specs.declared.stage.Standing.TheVariants as Stands
 use Rattle.conn_future.specs.declared.kept.Kept.{Kept}
-use Rattle.conn_future.specs.Outgoing.{Outgoing, outgoing}
+use Rattle.conn_future.specs.Outgoing.{Outgoing}
 use Rattle.conn_future.specs.Stages.{plain_standing, stage_of}
 use Rattle.conn_future.specs.Talking.{Seen, plain, closes_behind, IsOut, IsWriting, IsTalking}
-use Rattle.conn_future.specs.Steps.{IsSame, HandsOut}
+use Rattle.conn_future.specs.Steps.{outgoing, IsSame, HandsOut}
 use Rattle.conn_future.proofs.Standing.{stays, talks_at, carried_spent, spent_now}
 
 -- ---- texts that are not empty

@@ -1,5 +1,5 @@
 -- How a connection stands, to its user and in the plain form, over a wire that waits.
-use Rattle.std.specs.Prelude.{◌≡◌, ◌⊎◌, ℕ, Bool, true, false, Result, Ok, Err}
+use Rattle.std.specs.Prelude.{◌≡◌, ◌⊎◌, ℕ, Result, Ok, Err}
 use Rattle.futures.specs.declared.task.Poll.{Poll}
 use Rattle.futures.specs.declared.task.Poll.TheVariants.{Ready, Pending}
 use Rattle.outside_polling.specs.Polls.{once_more}
@@ -46,16 +46,6 @@ IsFailed stage = (stage ≡ Stages.ReadFailed) ⊎ (stage ≡ Stages.WriteFailed
 -- nothing more passes on the connection
 abbrev pub IsOver : Stage → Type 0
 IsOver stage = (stage ≡ Stages.Ended) ⊎ ((stage ≡ Stages.Closed) ⊎ IsFailed stage)
-
--- whether nothing more passes on a connection that stands so
-abbrev pub is_over : Standing → Bool
-is_over Stands.Waits = false
-is_over (Stands.Holds body close) = false
-is_over (Stands.Owes close) = false
-is_over (Stands.Says close) = false
-is_over (Stands.Sends close) = false
-is_over (Stands.Over ending) = true
-is_over Stands.Spent = false
 
 -- how a connection that is over stands in the plain form
 abbrev pub plain_ending : Ending → PlainEnding

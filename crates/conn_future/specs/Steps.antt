@@ -1,12 +1,12 @@
 -- These definitions serve the proofs alone: no promise of a public call speaks of them.
 -- What a connection does turn by turn.
-use Rattle.std.specs.Prelude.{◌≡◌, ℕ, Bool, List, Option, None, Some, Result, Ok, Err}
+use Rattle.std.specs.Prelude.{◌≡◌, ℕ, Bool, true, false, List, [], Option, None, Some, Result, Ok, Err}
 use Rattle.outside_traits.specs.Told.{WireTold}
 use Rattle.outside_polling.specs.Polls.{once_more}
 use Rattle.http_port.specs.declared.head_reader.Fed.{Fed}
 use Rattle.http_port.specs.Talk.{answer}
 use Rattle.http_connection.specs.Talking.{log_of}
-use Rattle.http_connection.specs.Steps.{IsCarried, IsGoing, IsFed}
+use Rattle.http_connection.specs.Steps.{IsCarried, IsGoing, IsFed, Called}
 use Rattle.http_connection.specs.Steps.{Finishes as FinishesPlain}
 use Rattle.conn_future.specs.declared.kept.Kept.{Kept}
 use Rattle.conn_future.specs.declared.stage.Ending.{Ending}
@@ -16,8 +16,22 @@ use Rattle.conn_future.specs.declared.turn.Turn.{Turn}
 use Rattle.conn_future.specs.declared.turn.Turn.TheVariants as Turns
 use Rattle.conn_future.specs.declared.stage.Stage.{Stage}
 use Rattle.conn_future.specs.Stages.{IsMoving, IsUnanswered, IsOver, plain_ending}
-use Rattle.conn_future.specs.Outgoing.{outgoing}
+use Rattle.conn_future.specs.Outgoing.{Outgoing}
 use Rattle.conn_future.specs.Talking.{Seen, plain, IsOut, IsTalking}
+
+-- a text of which nothing is out
+abbrev pub outgoing : List ℕ → Outgoing
+outgoing text = record { out = []; left = text }
+
+-- whether nothing more passes on a connection that stands so
+abbrev pub is_over : Standing → Bool
+is_over Stands.Waits = false
+is_over (Stands.Holds body close) = false
+is_over (Stands.Owes close) = false
+is_over (Stands.Says close) = false
+is_over (Stands.Sends close) = false
+is_over (Stands.Over ending) = true
+is_over Stands.Spent = false
 
 -- what a connection has read and written is as it was, and where its reader is
 pub record IsSame (was now : Kept) : Type 0 where
@@ -69,6 +83,12 @@ abbrev pub IsOutOn : Bool → Seen → Seen → Type 0
 IsOutOn close was now = (first : WireTold) (bodies : List (List ℕ)) (texts : List (Option (List ℕ)))
     → IsCarried first (plain was) → IsOut close was.kept.due was.kept.reader (log_of (plain was) bodies texts)
     → IsTalking first now bodies texts
+
+-- the wire was called so, by which this was read and written
+abbrev pub CallsOn : Seen → Seen → Type 0
+CallsOn was now = (first : WireTold) (bodies : List (List ℕ)) (texts : List (Option (List ℕ)))
+    → IsTalking first was bodies texts
+    → Called was.line.calls now.line.calls (log_of (plain was) bodies texts) (log_of (plain now) bodies texts)
 
 -- The wire was closed, and the connection is over so.
 pub record Finishes (ending : Ending) (was now : Seen) : Type 0 where

@@ -10,7 +10,6 @@ use Rattle.http_connection.specs.Seen.{Seen as PlainSeen}
 use Rattle.http_connection.specs.Talking.{Log, log_of, due, HasWritten}
 use Rattle.http_connection.specs.Talking.{IsTalking as IsPlainTalking}
 use Rattle.http_connection.specs.Prompt.{IsPrompt}
-use Rattle.http_connection.specs.Steps.{Called}
 use Rattle.conn_future.specs.declared.kept.Kept.{Kept}
 use Rattle.conn_future.specs.declared.stage.Stage.TheVariants as Stages
 use Rattle.conn_future.specs.declared.stage.Standing.{Standing}
@@ -87,12 +86,6 @@ abbrev pub StaysPrompt : Seen → Seen → Type 0
 StaysPrompt was now = (first : WireTold) (bodies : List (List ℕ)) (texts : List (Option (List ℕ)))
     → IsTalking first was bodies texts
     → IsPrompt was.line.calls now.line.calls (log_of (plain was) bodies texts) (log_of (plain now) bodies texts)
-
--- the wire was called so, by which this was read and written
-abbrev pub CallsOn : Seen → Seen → Type 0
-CallsOn was now = (first : WireTold) (bodies : List (List ℕ)) (texts : List (Option (List ℕ)))
-    → IsTalking first was bodies texts
-    → Called was.line.calls now.line.calls (log_of (plain was) bodies texts) (log_of (plain now) bodies texts)
 
 -- What a connection gives that is over: whatever was handed out and told, these are the bytes that passed on it.
 abbrev pub Gives : Seen → PollTold → List ℕ → List ℕ → Type 0

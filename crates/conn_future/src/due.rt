@@ -1,6 +1,6 @@
 //! A text on its way out.
 ghost use Rattle.std.specs.Prelude.{◌≡◌, ◌++◌, ◌==◌, ◌≤◌, [], length, drop};
-ghost use Rattle.conn_future.specs.Outgoing.{outgoing};
+ghost use Rattle.conn_future.specs.Steps.{outgoing};
 
 use jolie_trees::Bytes;
 use std::alloc::Global;

@@ -1,9 +1,8 @@
 //! What a connection keeps beside its wire.
 ghost use Rattle.std.specs.Prelude.{◌≡◌, [], false, None, IfOk};
 ghost use Rattle.http_port.specs.Feeding.{Open, Feeds};
-ghost use Rattle.conn_future.specs.Outgoing.{outgoing};
-ghost use Rattle.conn_future.specs.Stages.{is_over, stage_of};
-ghost use Rattle.conn_future.specs.Steps.{HandsOut, IsSame, Says};
+ghost use Rattle.conn_future.specs.Stages.{stage_of};
+ghost use Rattle.conn_future.specs.Steps.{outgoing, is_over, HandsOut, IsSame, Says};
 ghost use Rattle.conn_future.specs.declared.stage.Stage.TheVariants as Stages;
 ghost use Rattle.conn_future.specs.declared.stage.Standing.TheVariants as Stands;
 

@@ -2,8 +2,8 @@
 ghost use Rattle.std.specs.Prelude.{◌≡◌, IfOk, OnErr};
 ghost use Rattle.http_port.specs.Talk.{answer as answer_text};
 ghost use Rattle.conn_future.specs.Stages.{stage_of};
-ghost use Rattle.conn_future.specs.Talking.{seen, TalksOn, CallsOn};
-ghost use Rattle.conn_future.specs.Steps.{Stops, TakesUp, FollowsOn, IsOutOn, Finishes, IsMade};
+ghost use Rattle.conn_future.specs.Talking.{seen, TalksOn};
+ghost use Rattle.conn_future.specs.Steps.{CallsOn, Stops, TakesUp, FollowsOn, IsOutOn, Finishes, IsMade};
 ghost use Rattle.conn_future.specs.declared.stage.Stage.TheVariants as Stages;
 ghost use Rattle.conn_future.specs.declared.stage.Standing.TheVariants as Stands;
 ghost use Rattle.conn_future.specs.declared.turn.Turn.TheVariants as Turns;

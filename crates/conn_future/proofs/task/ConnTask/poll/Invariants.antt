@@ -1,5 +1,6 @@
 use Rattle.std.proofs.Common.{◌≡◌}
-use Rattle.conn_future.specs.Talking.{seen, TalksOn, CallsOn}
+use Rattle.conn_future.specs.Talking.{seen, TalksOn}
+use Rattle.conn_future.specs.Steps.{CallsOn}
 use Rattle.conn_future.proofs.task.ConnTask.poll.Given as goal
 
 abbrev pub invariant-loop : goal.invariant-loop
