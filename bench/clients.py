@@ -411,10 +411,12 @@ def ends():
         row("the second of three", curl("-d", TWICE), ANSWER)
         row("the third of three", curl("-d", TWICE), ANSWER)
         row("then it ends", served.process.wait(15), 0)
-        row("and says nothing", served.process.stderr.read(), b"")
+        row("and has said no more than where it listened", served.process.stderr.read(),
+            b"roqsulei: listening at socket://localhost:8000\n")
     with serving(example("twice")):
         second = subprocess.run([PROGRAM, "serve", example("twice")], capture_output=True, timeout=30)
-        row("a port in use", second.returncode, 7)
+        row("a port in use", (second.returncode, second.stderr),
+            (7, b"roqsulei: socket://localhost:8000: Address already in use (os error 98)\n"))
 
 
 clients()

@@ -12,17 +12,18 @@ make_crate 'door_trials: outside_socket_doors outside_doors outside_sockets outs
 //! wire that went back: `l` where a read failed, `c` where a write did, `e` where a read told the end; and `told`.
 #![tactic(auto)]
 
-use outside_doors::{Door, Doors, Knock};
+use outside_doors::{Door, Doors, Accept};
 use outside_socket_doors::{Patience, PatientStream, SocketDoor, SocketDoors};
 use outside_sockets::SocketWire;
 use outside_traits::Wire;
 use std::alloc::{AllocError, Global};
+use std::io::Eprint;
 use std::net::Net;
 use std::rt::Clock;
 use std::time::Duration;
 
 #[derive(Drop)]
-struct House<H: Net + Clock + Copy + Drop> {
+struct House<H: Net + Clock + Eprint + Copy + Drop> {
     alloc: Global,
     doors: SocketDoors<H>,
     open: Vec<SocketDoor<H>>,
@@ -53,7 +54,7 @@ fn patience() -> Patience {
     }
 }
 
-impl<H: Net + Clock + Copy + Drop> House<H> {
+impl<H: Net + Clock + Eprint + Copy + Drop> House<H> {
     fn follow(&mut self, line: &str) -> Result<String, AllocError> {
         let (verb, rest) = line.split_once(' ').unwrap_or((line, ""));
         match verb {
@@ -90,12 +91,12 @@ impl<H: Net + Clock + Copy + Drop> House<H> {
             return self.say("no door");
         };
         match door.try_accept() {
-            Ok(Knock::Came(wire)) => {
+            Ok(Accept::Came(wire)) => {
                 self.wires.push(wire)?;
                 self.say("came")
             }
-            Ok(Knock::NotYet) => self.say("not yet"),
-            Ok(Knock::Closed) => self.say("closed"),
+            Ok(Accept::NotYet) => self.say("not yet"),
+            Ok(Accept::Closed) => self.say("closed"),
             Err(_) => self.say("failed"),
         }
     }

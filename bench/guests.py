@@ -12,6 +12,7 @@ import socket
 import struct
 import subprocess
 import sys
+import tempfile
 import threading
 import time
 
@@ -30,9 +31,10 @@ class House:
             if files:
                 resource.setrlimit(resource.RLIMIT_NOFILE, (files, files))
 
+        self.notes = tempfile.TemporaryFile("a+")
         self.process = subprocess.Popen(
-            [program], stdin=subprocess.PIPE, stdout=subprocess.PIPE, text=True, preexec_fn=few_files,
-            env={**os.environ, **settings})
+            [program], stdin=subprocess.PIPE, stdout=subprocess.PIPE, stderr=self.notes, text=True,
+            preexec_fn=few_files, env={**os.environ, **settings})
 
     def say(self, line):
         """What the program says of a line."""
@@ -45,6 +47,11 @@ class House:
         before = time.monotonic()
         said = self.say(line)
         return said, time.monotonic() - before
+
+    def noted(self):
+        """The lines that it has written to standard error by now."""
+        self.notes.seek(0)
+        return self.notes.read().splitlines()
 
     def processor_seconds(self):
         """How much of a processor the program has used."""
@@ -104,6 +111,11 @@ def drip(guest):
     threading.Thread(target=send, daemon=True).start()
 
 
+def reason(number):
+    """What the system says of an error."""
+    return f"{os.strerror(number)} (os error {number})"
+
+
 def is_refused(port):
     try:
         come(port).close()
@@ -114,6 +126,7 @@ def is_refused(port):
 
 def one_door(rows, house, port):
     rows.row("a door", house.say(f"open socket://127.0.0.1:{port}"), "opened")
+    rows.row("it is noted where it listens", house.noted(), [f"roqsulei: listening at socket://127.0.0.1:{port}"])
     rows.row("nobody", house.say("accept"), "not yet")
     said, took = house.timed("rest")
     rows.row("a rest", said, "rested")
@@ -198,9 +211,11 @@ def ill_guests(rows, house, port):
 
 def places(rows, house, port):
     rows.row("an address that is in use", house.say(f"open socket://127.0.0.1:{port}"), "failed")
+    rows.row("it is noted", house.noted()[1:], [f"roqsulei: socket://127.0.0.1:{port}: {reason(errno.EADDRINUSE)}"])
     for location in ["local://shop", "http://127.0.0.1:9", "127.0.0.1:9", "socket://127.0.0.1", "socket://",
                      "socket://127.0.0.1:port", "socket://127.0.0.1:65536", "socket://nobody.invalid:9", ""]:
         rows.row(f"no door at {location!r}", house.say(f"open {location}"), "failed")
+        rows.row(f"{location!r} is noted", house.noted()[-1].startswith(f"roqsulei: {location}: "), True)
     other = free_port()
     rows.row("a location with a path", house.say(f"open socket://127.0.0.1:{other}/calls/x:1"), "opened")
     guest = come(other)
@@ -299,14 +314,18 @@ def failing_accepts(rows, program, preloaded):
         rows.row(f"{name} again", house.say("accept"), "not yet")
     rows.row("who waited through all of it", house.say("accept"), "came")
     house.say("shut")
+    rows.row("none of it is noted", len(house.noted()), 1)
     rows.row("none was a failure", house.say("told"), f"doors 1 1 0 wires 1 0 0 0 waits {len(errors)} faults 0")
     rows.row("the door tells so", house.say("doors"), f"1 {len(errors)} 0;")
     rows.row("it ends then", house.end(), 0)
     guest.close()
     for number in FAULTS:
         house = House(program, LD_PRELOAD=preloaded, ERRORS=str(number))
-        house.say(f"open socket://127.0.0.1:{free_port()}")
+        location = f"socket://127.0.0.1:{free_port()}"
+        house.say(f"open {location}")
         rows.row(errno.errorcode[number], house.say("accept"), "failed")
+        rows.row(f"{errno.errorcode[number]} is noted", house.noted()[1:],
+                 [f"roqsulei: {location}: the listener failed: {reason(number)}"])
         house.say("shut")
         rows.row(f"{errno.errorcode[number]} is told", house.say("told"),
                  "doors 1 1 1 wires 0 0 0 0 waits 0 faults 1")

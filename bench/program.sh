@@ -92,8 +92,30 @@ over "$work" run "$twice"
 row 'an input that is a directory fails' 4 '' 'roqsulei: the standard input failed'
 sed 's/localhost:8000/203.0.113.1:8000/' "$top/examples/shop.ol" > "$work/shop.ol"
 over "$work/empty" serve "$work/shop.ol"
-row 'a port at an address of another machine has its status' 7 '' \
-    'roqsulei: a location could not be listened at, or its listener failed'
+unassigned='roqsulei: socket://203.0.113.1:8000: Cannot assign requested address (os error 99)'
+row 'a port at an address of another machine is told' 7 '' "$unassigned"
+# Of two ports the second can't be had: that is told before anything comes, and the first is served.
+free=$(python3 -c 'import socket; s = socket.socket(); s.bind(("127.0.0.1", 0)); print(s.getsockname()[1])')
+{
+    sed "s/localhost:8000/127.0.0.1:$free/" "$top/examples/shop.ol"
+    sed '/^type/d; /^interface/d; s/service Shop/service Other/' "$work/shop.ol"
+} > "$work/two.ol"
+"$program" serve "$work/two.ol" --connections 1 > "$work/output" 2> "$work/notes" &
+serving=$!
+tries=0
+while [ "$(wc -l < "$work/notes")" -lt 2 ] && [ $tries -lt 100 ]; do
+    tries=$((tries + 1))
+    sleep 0.1
+done
+told="roqsulei: listening at socket://127.0.0.1:$free
+$unassigned"
+[ "$(cat "$work/notes")" = "$told" ] || { echo "it is not told while it serves: $(cat "$work/notes")"; odd=$((odd + 1)); }
+curl -s -d '{"jsonrpc":"2.0","method":"price","params":{"name":"bolt","n":5},"id":1}' \
+    "http://127.0.0.1:$free/" > "$work/answer" || kill "$serving"
+status=0
+wait "$serving" || status=$?
+mv "$work/answer" "$work/output"
+row 'one port of two is served, and the other is told' 7 '{"id":1,"jsonrpc":"2.0","result":"5 of bolt cost 15"}' "$told"
 for lines in "$top"/examples/*.jsonl; do
     example=${lines%.jsonl}
     over "$lines" run "$example.ol"

@@ -1,7 +1,10 @@
 """Each call of `serve` goes wrong in turn, under the traffic of three connections at two doors and of probes behind it:
-one connection is cut, or one door fails, and all others are answered as if nothing was."""
+one connection is cut, or one door fails, and all others are answered as if nothing was. Standard error says where it
+listens, and which door fails."""
 import errno
+import itertools
 import json
+import os
 import socket
 import threading
 import time
@@ -211,16 +214,16 @@ def failed_door(calls, fault):
 
 def doors(program, tally):
     """Each call of `serve` under that traffic."""
-    right, guests = serve(program, None)
-    tally.run("doors", None, problems(None, right, guests))
+    right, guests, locations = serve(program, None)
+    tally.run("doors", None, problems(None, right, guests, locations))
     for fault in faults_of(right.calls, lambda it: WAYS.get(it.name, [])):
         if tally.wants("doors", fault):
-            ran, guests = serve(program, fault)
-            tally.run("doors", fault, problems(fault, ran, guests))
+            ran, guests, locations = serve(program, fault)
+            tally.run("doors", fault, problems(fault, ran, guests, locations))
 
 
 def serve(program, fault):
-    """What came of a run, and of its guests."""
+    """What came of a run, and of its guests, and the locations of its doors."""
     ports = [free_port(), free_port()]
     text = FILE.replace("FIRST", str(ports[0])).replace("SECOND", str(ports[1]))
     most = str(len(GUESTS) + PROBES)
@@ -233,7 +236,7 @@ def serve(program, fault):
     probe(program, process, fault, ports, guests)
     for guest in guests:
         guest.join()
-    return program.end(process), guests
+    return program.end(process), guests, [f"socket://127.0.0.1:{port}" for port in ports]
 
 
 def probe(program, process, fault, ports, guests):
@@ -249,14 +252,20 @@ def probe(program, process, fault, ports, guests):
         time.sleep(0.002)
 
 
-def problems(fault, ran, guests):
+def problems(fault, ran, guests, locations):
     """What is wrong of a run in which that call goes wrong, if one does."""
     failed = failed_door(ran.calls, fault)
-    wrong = ran.wrong()
-    is_halted = wrong is not None and wrong.name == "write" and fault.how not in HARMLESS
+    is_unwritten = is_failed_write(fault, ran.wrong())
+    is_halted = is_unwritten and has_begun(ran)
     pairs = list(zip(guests, connections_of(guests, taken_in(ran.calls))))
-    notes = SAID[: moved(ran.before(), "write", NOTES)] if is_halted else SAID * sum(1 for it in pairs if is_noted(*it))
-    found = differences(ran, status_of(failed, is_halted), b"", notes)
+    noted = SAID * sum(1 for it in pairs if is_noted(*it))
+    notes = notes_of_doors(fault, ran, locations)
+    if is_halted:
+        noted = SAID[: moved(ran.before(), "write", NOTES) - len(notes)]
+    elif is_unwritten:
+        notes = without_rest(notes, moved(ran.before(), "write", NOTES))
+    ran, found = without_failure(fault, ran, locations)
+    found += differences(ran, status_of(failed, is_halted), b"", notes + noted)
     if ran.left_open != 0:
         found.append(f"{ran.left_open} descriptors are left")
     if is_halted and any(it.name == "send" for it in ran.behind()):
@@ -265,6 +274,44 @@ def problems(fault, ran, guests):
         must_come = number < len(GUESTS) and guest.door != failed and not is_halted
         found += [f"guest {number}: {it}" for it in problems_of(fault, guest, connection, is_halted, must_come)]
     return found
+
+
+def is_failed_write(fault, wrong):
+    return wrong is not None and wrong.name == "write" and fault.how not in HARMLESS
+
+
+def has_begun(ran):
+    """Whether the call that went wrong was one behind the opening of the doors."""
+    return any(it.name == "accept4" for it in ran.calls[: ran.place() + 1])
+
+
+def notes_of_doors(fault, ran, locations):
+    """What is said as the doors open: where each listens, or why it can't."""
+    failed = None if has_begun(ran) else failed_door(ran.calls, fault)
+    return b"".join(
+        why(location, fault) if door == failed else f"roqsulei: listening at {location}\n".encode()
+        for door, location in enumerate(locations)
+    )
+
+
+def why(location, fault):
+    return f"roqsulei: {location}: {os.strerror(fault.how)} (os error {fault.how})\n".encode()
+
+
+def without_rest(notes, count):
+    """Those notes, of which a write behind so many bytes failed: the rest of its line is not written."""
+    ends = itertools.accumulate(len(line) for line in notes.splitlines(keepends=True))
+    return notes[:count] + notes[next(it for it in ends if it > count) :]
+
+
+def without_failure(fault, ran, locations):
+    """A run without the line that says why a listener failed, and what is wrong where that is not there."""
+    failed = failed_door(ran.calls, fault) if has_begun(ran) else None
+    if failed is None:
+        return ran, []
+    line = why(f"{locations[failed]}: the listener failed", fault)
+    found = [] if ran.notes.count(line) == 1 else [f"notes: {ran.notes!r}, without {line!r}"]
+    return ran._replace(notes=ran.notes.replace(line, b"")), found
 
 
 def status_of(failed, is_halted):

@@ -6,6 +6,7 @@ mod obstacle;
 mod patience;
 mod patient_stream;
 mod returned_wires;
+mod saying;
 mod socket_door;
 mod socket_doors;
 

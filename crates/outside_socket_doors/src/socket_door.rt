@@ -10,11 +10,13 @@ ghost use Rattle.outside_socket_doors.specs.Arrivals.{GivesWire, obstacle_of, un
 use crate::obstacle::{Obstacle, obstacle_of};
 use crate::patience::Patience;
 use crate::patient_stream::PatientStream;
+use crate::saying::say_failed;
 use libc::net as c;
 use libc::types::pollfd;
 use outside_doors::{Accept, Door, DoorCounts};
 use outside_sockets::SocketWire;
 use outside_traits::Failed;
+use std::io::Eprint;
 use std::marker::Model;
 use std::net::{Net, OpenListener, OpenStream, SocketAddr};
 use std::os::fd::{AsRawFd, RawFd};
@@ -26,20 +28,22 @@ use std::{io, thread};
 const LONGEST_REST: u128 = 1_000;
 
 /// A door over a listener of the system, at which somebody may come for as long as it is open: it never answers that
-/// nobody comes any more.
+/// nobody comes any more. It says on standard error where the listener fails, with its location where there was memory
+/// to keep that.
 ///
 /// A rest ends when somebody comes only where nobody was there at the last look, of a try or of a rest. Else who is
 /// there can't be let in now, or is not to be, and a rest that ended at once would be none.
 #[derive(Drop)]
-pub struct SocketDoor<H: Net + Clock + Copy + Drop> {
+pub struct SocketDoor<H: Net + Clock + Eprint + Copy + Drop> {
     host: H,
     listener: H::Listener,
+    location: Option<String>,
     patience: Patience,
     counts: DoorCounts,
     empty: bool,
 }
 
-impl<H: Net + Clock + Copy + Drop> Model for SocketDoor<H> {
+impl<H: Net + Clock + Eprint + Copy + Drop> Model for SocketDoor<H> {
     ghost use Rattle.std.specs.Prelude.{◌≡◌, false};
     ghost use Rattle.outside_socket_doors.specs.Arrivals.{ListenerTold};
 
@@ -50,11 +54,12 @@ impl<H: Net + Clock + Copy + Drop> Model for SocketDoor<H> {
     ghost invariant = { λ d. d.counts.closed ≡ false };
 }
 
-impl<H: Net + Clock + Copy + Drop> SocketDoor<H> {
+impl<H: Net + Clock + Eprint + Copy + Drop> SocketDoor<H> {
     /// A door of this place over a listener whose accept does not wait.
     pub(crate) fn new(
         host: H,
         listener: H::Listener,
+        location: Option<String>,
         patience: Patience,
         place: u64,
     ) -> SocketDoor<H>
@@ -63,6 +68,7 @@ impl<H: Net + Clock + Copy + Drop> SocketDoor<H> {
         SocketDoor {
             host,
             listener,
+            location,
             patience,
             counts: DoorCounts::new(place),
             empty: false,
@@ -155,6 +161,13 @@ impl<H: Net + Clock + Copy + Drop> SocketDoor<H> {
         }
     }
 
+    /// Says so where an accept came to this error and that is a failure of the listener.
+    fn say(&self, error: &io::Error) {
+        if let Obstacle::Fault = obstacle_of(error) {
+            say_failed(&self.host, self.location.as_ref(), error);
+        }
+    }
+
     /// A connection that has come.
     fn wire(&self, stream: H::Stream) -> SocketWire<PatientStream<H::Stream, H>>
         ensures { result ≡ new_socket (Some self.now.counts.place) }
@@ -166,13 +179,16 @@ impl<H: Net + Clock + Copy + Drop> SocketDoor<H> {
     }
 }
 
-impl<H: Net + Clock + Copy + Drop> Door for SocketDoor<H> {
+impl<H: Net + Clock + Eprint + Copy + Drop> Door for SocketDoor<H> {
     type W = SocketWire<PatientStream<H::Stream, H>>;
 
     ghost told = { λ d. d.counts };
 
     fn try_accept(&mut self) -> Result<Accept<SocketWire<PatientStream<H::Stream, H>>>, Failed> {
         let accepted = self.listener.accept();
+        if let Err(error) = &accepted {
+            self.say(error);
+        }
         self.answer(accepted)
     }
 

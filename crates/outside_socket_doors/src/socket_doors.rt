@@ -8,20 +8,24 @@ ghost use Rattle.outside_sockets.specs.Locations.{is_of_socket};
 use crate::patience::Patience;
 use crate::patient_stream::PatientStream;
 use crate::returned_wires::{ReturnedWire, ReturnedWires};
+use crate::saying::{say_open, say_unopened};
 use crate::socket_door::SocketDoor;
 use outside_doors::{Counts, DoorCounts, Doors, ReturnedDoors, Tries, Try};
 use outside_sockets::{SocketWire, address_of};
 use outside_traits::{Failed, Wire};
 use std::alloc::Global;
+use std::io;
+use std::io::{Eprint, ErrorKind};
 use std::marker::Model;
 use std::net::{Net, OpenListener, TcpListener};
 use std::rt::Clock;
 
 /// Doors over the TCP sockets of the system. They tell what they count, and for as long as there is memory to keep it
 /// the tries to open a door, how the calls of each wire had gone that came back, and what each door counted. They tell
-/// none of the bytes.
+/// none of the bytes. They say on standard error at which location they listen, and at which they can't.
 #[derive(Drop)]
-pub struct SocketDoors<H: Net + Clock + Copy + Drop> {
+pub struct SocketDoors<H: Net + Clock + Eprint + Copy + Drop> {
+    alloc: Global,
     host: H,
     patience: Patience,
     counts: Counts,
@@ -31,7 +35,7 @@ pub struct SocketDoors<H: Net + Clock + Copy + Drop> {
     returned_doors: ReturnedDoors,
 }
 
-impl<H: Net + Clock + Copy + Drop> Model for SocketDoors<H> {
+impl<H: Net + Clock + Eprint + Copy + Drop> Model for SocketDoors<H> {
     ghost use Rattle.outside_doors.specs.Returns.{DoorsTold};
 
     ghost Value = { DoorsTold };
@@ -45,12 +49,13 @@ impl<H: Net + Clock + Copy + Drop> Model for SocketDoors<H> {
     } };
 }
 
-impl<H: Net + Clock + Copy + Drop> SocketDoors<H> {
+impl<H: Net + Clock + Eprint + Copy + Drop> SocketDoors<H> {
     /// Doors at which those who come are waited for with this patience.
     pub fn new(alloc: Global, host: H, patience: Patience) -> SocketDoors<H>
         ensures { result ≡ none_told }
     {
         SocketDoors {
+            alloc,
             host,
             patience,
             counts: Counts::new(),
@@ -97,7 +102,7 @@ impl<H: Net + Clock + Copy + Drop> SocketDoors<H> {
     }
 }
 
-impl<H: Net + Clock + Copy + Drop> Doors for SocketDoors<H> {
+impl<H: Net + Clock + Eprint + Copy + Drop> Doors for SocketDoors<H> {
     type D = SocketDoor<H>;
 
     ghost told = { λ d. d };
@@ -114,13 +119,16 @@ impl<H: Net + Clock + Copy + Drop> Doors for SocketDoors<H> {
         ensures cause { HasCause self.old.faults self.new.faults result }
     {
         match listener_at(&self.host, location) {
-            Some(listener) => {
+            Ok(listener) => {
+                say_open(&self.host, location);
                 let place = self.counts.opened();
                 self.counts.add_opened();
                 self.tries.keep(location, true);
-                Ok(SocketDoor::new(self.host, listener, self.patience, place))
+                let named = String::from_str(self.alloc, location).ok();
+                Ok(SocketDoor::new(self.host, listener, named, self.patience, place))
             }
-            None => {
+            Err(error) => {
+                say_unopened(&self.host, location, &error);
                 self.faults = self.faults.saturating_add(1);
                 self.tries.keep(location, false);
                 Err(Failed)
@@ -144,15 +152,17 @@ impl<H: Net + Clock + Copy + Drop> Doors for SocketDoors<H> {
     }
 }
 
-/// A listener at the location of a socket whose accept does not wait, none where there can't be one.
+/// A listener at the location of a socket whose accept does not wait, or why there can't be one.
 ///
 /// A name may have several addresses. The first is taken at which the system lets it listen, and no other: a listener
 /// has one address, and a door one listener, so that a rest can wait for all who come to it.
-fn listener_at<H: Net>(host: &H, location: &str) -> Option<H::Listener>
-    ensures { IfSome result (λ _. IsTrue (is_of_socket location.now)) }
+fn listener_at<H: Net>(host: &H, location: &str) -> io::Result<H::Listener>
+    ensures { IfOk result (λ _. IsTrue (is_of_socket location.now)) }
 {
-    let address = address_of(location)?;
-    let listener = TcpListener::bind(host, address).ok()?;
-    listener.set_nonblocking(true).ok()?;
-    Some(listener)
+    let Some(address) = address_of(location) else {
+        return Err(io::Error::from(ErrorKind::InvalidInput));
+    };
+    let listener = TcpListener::bind(host, address)?;
+    listener.set_nonblocking(true)?;
+    Ok(listener)
 }

@@ -26,9 +26,6 @@ const NOT_UTF8: &str = "error: invalid UTF-8 was detected in one or more argumen
 /// The status of a run whose input failed.
 const INPUT_FAILED: u8 = 4;
 
-/// The status of a run of which a location could not be listened at, or a door failed.
-const DOOR_FAILED: u8 = 7;
-
 /// How many seconds a call to a service elsewhere may take.
 const LONGEST_TRIP: u64 = 30;
 
@@ -56,7 +53,8 @@ fn main(rt: HostRuntime) -> ExitCode {
     }
 }
 
-/// The end of the program with a status. Where nothing else says why, standard error does, in one line.
+/// The end of the program with a status. Where nothing else says why, standard error does, in one line; of a door that
+/// failed the doors have said it.
 fn ended(rt: &HostRuntime, words: &[String], status: u8) -> ExitCode {
     // The status is the same where standard error takes nothing.
     let _ = say_why(rt, words, status);
@@ -71,9 +69,6 @@ fn say_why(rt: &HostRuntime, words: &[String], status: u8) -> io::Result<()> {
         OUTPUT_FAILED => eprintln!(rt;
             "roqsulei: the standard output or the standard error failed"
         ),
-        DOOR_FAILED => {
-            eprintln!(rt; "roqsulei: a location could not be listened at, or its listener failed")
-        }
         OUT_OF_MEMORY => eprintln!(rt; "roqsulei: out of memory"),
         _ => Ok(()),
     }
