@@ -109,7 +109,7 @@ while [ "$(wc -l < "$work/notes")" -lt 2 ] && [ $tries -lt 100 ]; do
 done
 told="roqsulei: listening at socket://127.0.0.1:$free
 $unassigned"
-[ "$(cat "$work/notes")" = "$told" ] || { echo "it is not told while it serves: $(cat "$work/notes")"; odd=$((odd + 1)); }
+[ "$(cat "$work/notes")" = "$told" ] || { echo "while it serves: $(cat "$work/notes")"; odd=$((odd + 1)); }
 curl -s -d '{"jsonrpc":"2.0","method":"price","params":{"name":"bolt","n":5},"id":1}' \
     "http://127.0.0.1:$free/" > "$work/answer" || kill "$serving"
 status=0

@@ -4,12 +4,11 @@ listens, and which door fails."""
 import errno
 import itertools
 import json
-import os
 import socket
 import threading
 import time
 
-from lines import differences
+from lines import differences, why
 from running import LONGEST_RUN, NOTHING, ONE_BYTE, faults_of, moved
 from trips import free_port
 
@@ -292,10 +291,6 @@ def notes_of_doors(fault, ran, locations):
         why(location, fault) if door == failed else f"roqsulei: listening at {location}\n".encode()
         for door, location in enumerate(locations)
     )
-
-
-def why(location, fault):
-    return f"roqsulei: {location}: {os.strerror(fault.how)} (os error {fault.how})\n".encode()
 
 
 def without_rest(notes, count):

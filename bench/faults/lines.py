@@ -2,6 +2,7 @@
 import collections
 import errno
 import json
+import os
 import pathlib
 import sys
 
@@ -27,6 +28,12 @@ WAYS = {
 
 # Ways in which nothing is lost: a call that is made again, and one that moves less.
 HARMLESS = [errno.EINTR, ONE_BYTE]
+
+# The last line of the notes, by the status.
+LAST_LINES = {
+    4: b"roqsulei: the standard input failed\n",
+    5: b"roqsulei: the standard output or the standard error failed\n",
+}
 
 
 def ways(call):
@@ -68,7 +75,7 @@ def try_case(program, tally, case):
     for fault in faults_of(right.calls, ways):
         if tally.wants(case.name, fault):
             ran = program.run(words, case.lines, fault, PIECE)
-            tally.run(case.name, fault, problems(case, fault, right, ran))
+            tally.run(case.name, fault, problems(case, fault, right, ran, words[1]))
 
 
 def problems_of_right(case, right):
@@ -78,7 +85,7 @@ def problems_of_right(case, right):
     return []
 
 
-def problems(case, fault, right, ran):
+def problems(case, fault, right, ran, path):
     """What is wrong of a run in which that call goes wrong."""
     call = ran.wrong()
     if call is None or ran.before() != right.calls[: ran.place()]:
@@ -88,24 +95,37 @@ def problems(case, fault, right, ran):
     if fault.how in HARMLESS or call.name == "close":
         return differences(ran, right.status, right.output, right.notes)
     if call.name == "open" or (call.name == "read" and call.file != INPUT):
-        return differences(ran, 2, b"", b"")
+        return differences(ran, 2, b"", unread(path))
     if call.name == "read":
         return [*problems_of_cut_input(case, right, ran), *goes_on(ran, "read", INPUT)]
     return problems_of_cut_output(right, ran, 5)
 
 
+def why(name, fault):
+    """What is noted of a file or a location of which a call went wrong."""
+    return f"roqsulei: {name}: {os.strerror(fault.how)} (os error {fault.how})\n".encode()
+
+
+def unread(path):
+    """What is noted of a file of which a call went wrong, and which can be read when it is asked again."""
+    return f"roqsulei: {path}: cannot be read\n".encode()
+
+
 def differences(ran, status, output, notes):
-    """What differs from what should have come of a run."""
+    """What differs from what should have come of a run: these notes, and the last line of its status."""
     have = {"status": ran.status, "output": ran.output, "notes": ran.notes}
-    want = {"status": status, "output": output, "notes": notes}
+    want = {"status": status, "output": output, "notes": notes + LAST_LINES.get(status, b"")}
     return [f"{it}: {have[it]!r}, expected {want[it]!r}" for it in have if have[it] != want[it]]
 
 
 def problems_of_cut_output(right, ran, status):
-    """What is wrong where a write has failed: what was written before it has to be there, and nothing else."""
+    """What is wrong where a write has failed: what was written before it has to be there, and nothing else but why it
+    ended."""
     output, notes = (moved(ran.before(), "write", it) for it in (OUTPUT, NOTES))
-    found = differences(ran, status, right.output[:output], right.notes[:notes])
-    return [*found, *goes_on(ran, "read", INPUT), *goes_on(ran, "write", OUTPUT), *goes_on(ran, "write", NOTES)]
+    # Of a file that can't be read the notes say so also behind an output that failed.
+    told = right.notes if status == 2 and ran.wrong().file == OUTPUT else right.notes[:notes]
+    found = differences(ran, status, right.output[:output], told)
+    return [*found, *goes_on(ran, "read", INPUT), *goes_on(ran, "write", OUTPUT)]
 
 
 def goes_on(ran, name, file):
@@ -133,7 +153,7 @@ def problems_of_cut_input(case, right, ran):
             found.append(f"not in its place: {line!r}")
         if not all(answer.get("error") == STOPPED or answer in known for answer in late):
             found.append(f"another answer: {line!r}")
-    if not right.notes.startswith(ran.notes):
+    if not ran.notes.endswith(LAST_LINES[4]) or not right.notes.startswith(ran.notes.removesuffix(LAST_LINES[4])):
         found.append(f"notes: {ran.notes!r}")
     if ran.output and not ran.output.endswith(b"\n"):
         found.append("a line without its end")
@@ -211,10 +231,10 @@ def try_command(program, tally, name, words, status, cut):
     for fault in faults_of(right.calls, ways):
         if tally.wants(name, fault):
             ran = program.run(words, fault=fault, piece=PIECE)
-            tally.run(name, fault, problems_of_command(fault, right, ran, cut, words[0] == "explain"))
+            tally.run(name, fault, problems_of_command(fault, right, ran, cut, words))
 
 
-def problems_of_command(fault, right, ran, cut, explains):
+def problems_of_command(fault, right, ran, cut, words):
     """What is wrong of a run of another command in which that call goes wrong."""
     call = ran.wrong()
     if call is None or ran.before() != right.calls[: ran.place()]:
@@ -223,6 +243,14 @@ def problems_of_command(fault, right, ran, cut, explains):
         return differences(ran, right.status, right.output, right.notes)
     if call.name == "write":
         return problems_of_cut_output(right, ran, cut)
-    if explains:
-        return [] if (ran.status, ran.notes) == (2, b"") and b"cannot be read" in ran.output else [f"{ran}"]
-    return differences(ran, 2, b"", b"")
+    if words[0] == "explain":
+        notes = notes_of_unread(fault, right, words[1])
+        return [] if (ran.status, ran.notes) == (2, notes) and b"cannot be read" in ran.output else [f"{ran}"]
+    return differences(ran, 2, b"", unread(words[1]))
+
+
+def notes_of_unread(fault, right, path):
+    """What is noted of a file that can't be read: what the system says where it is asked again."""
+    if right.status != 2:
+        return unread(path)
+    return right.notes if fault.number == 1 else why(path, fault)
