@@ -137,6 +137,16 @@ impl Table {
         self.scopes.reserve(more as usize)
     }
 
+    /// Makes room for what passed from a scope that ended.
+    #[tactic(auto, using(crate::proofs::Counted::entries_counted))]
+    pub fn reserve_for(&mut self, completed: &Handlers) -> Result<(), AllocError>
+        ensures room { OnOk result (length (entries_in (handlers_view completed.now)) ≤ room self.new) }
+        ensures kept { room self.old ≤ room self.new }
+        ensures same { table_view self.new ≡ table_view self.old }
+    {
+        self.scopes.reserve(completed.list.len())
+    }
+
     /// Puts what passed from a scope that ended over the handlers under the names of scopes. Of two under one name the
     /// first stands.
     pub fn merge(&mut self, completed: Handlers)

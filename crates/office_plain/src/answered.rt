@@ -31,7 +31,7 @@ impl Office {
         let Some(place) = self.kept.place(session, call) else {
             unreachable!()
         };
-        self.kept.outcomes.set(place as usize, Some(copy));
+        self.kept.outcomes.set(place, Some(copy));
         self.log.put(Entry {
             actor,
             act: Act::Answered {

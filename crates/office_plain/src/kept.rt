@@ -26,7 +26,7 @@ pub struct Kept {
     pub messages: Items<Message>,
     pub weight: u64,
     pub sessions: Items<SessionRow>,
-    pub places: Vec<Items<u32>>,
+    pub places: Vec<Items<usize>>,
     pub boxes: Boxes,
     pub book: Book,
     pub rows: Rows,

@@ -171,7 +171,7 @@ fn passed_on(
 ) -> Result<Option<Posted>, AllocError>
     ensures { IfOk result (λ q. q ≡ passed_on (parts_of program.now) (port_view port.now) op value.now) }
 {
-    match service_behind(program, port.location.as_str())? {
+    match service_behind(program, port.location.as_str()) {
         Some(service) => passed_to(program.parts(), port, op, value, service),
         None => Ok(None),
     }

@@ -16,7 +16,7 @@ use crate::asked::ops_of;
 use crate::event::{Acted, Moved, event_came, event_of, instead};
 use crate::scene::Scene;
 use crate::send::copied_path;
-use behaviour_tree::{Behaviour, Branch, Given, Kind, Need, Numbers, ReplyPart};
+use behaviour_tree::{Behaviour, Branch, Given, Kind, Need, Numbers, ReplyPart, in_u32};
 use jolie_trees::Tree;
 use session_forms::{Begun, Rest, Term, boxed, started};
 use session_values::{Actor, Memory, receive};
@@ -67,9 +67,8 @@ fn comes(
     for i in 0..list.len() {
         let branch = &list[i];
         if branch.op == mail.op {
-            let place = u32::try_from(i).map_err(|_| AllocError)?;
             let ops = ops_of(alloc, list)?;
-            let arrived = arrived(alloc, branch, mail, place, ops, scene, memory)?;
+            let arrived = arrived(alloc, branch, mail, i, ops, scene, memory)?;
             return Ok(Acted::Moved(arrived));
         }
     }
@@ -81,7 +80,7 @@ fn arrived(
     alloc: Global,
     branch: &Branch,
     mail: Mail<'_>,
-    place: u32,
+    place: usize,
     ops: Numbers,
     scene: Scene<'_>,
     memory: &mut Memory,
@@ -107,7 +106,7 @@ fn taken(
     alloc: Global,
     form: Box<Term>,
     mail: Mail<'_>,
-    place: u32,
+    place: usize,
     ops: Numbers,
     actor: Actor<'_>,
 ) -> Result<Moved, AllocError>
@@ -115,7 +114,7 @@ fn taken(
     ensures event { IfOk result (λ m. m.event ≡ in_event actor.entry mail.entry.message place) }
     ensures need { IfOk result (λ m. m.need.value ≡ need.Take ops) }
 {
-    let event = event_of(actor, Kind::In, mail.message, place, 0);
+    let event = event_of(actor, Kind::In, mail.message, in_u32(place), 0);
     event_came(alloc, form, event, Need::Take { ops })
 }
 

@@ -68,7 +68,7 @@ fn read_named(
 ) -> Result<Fault, AllocError>
     ensures { IfOk result (λ f. fault_view f ≡ spec.read_named (seen_of actor.entry) (call_of sent) name.now value) }
 {
-    match number_of(actor.program, name)? {
+    match number_of(actor.program, name) {
         None => Ok(bare(alloc, standard::UNDECLARED_FAULT)),
         Some(name) => read_fault(alloc, sent, Fault { name, value }, actor),
     }

@@ -1,12 +1,10 @@
-ghost use Rattle.std.specs.Prelude.{◌≡◌, [], ◌∷◌, length, option_map, IfOk, IfNone, None};
+ghost use Rattle.std.specs.Prelude.{◌≡◌, [], ◌∷◌, option_map, IfOk, IfNone, None};
 ghost use Rattle.behaviour_tree.specs.PartsView.{parts_of};
 ghost use Rattle.behaviour_tree.specs.Values.{stepped};
-ghost use Rattle.behaviour_tree.specs.View.{handlers_view};
 ghost use Rattle.behaviour_tree.specs.declared.words.Given.TheVariants as given;
 ghost use Rattle.session_calculus.specs.Names as names;
 ghost use Rattle.session_calculus.specs.Scopes as spec;
 ghost use Rattle.session_calculus.specs.Terms as terms;
-ghost use Rattle.handler_table.specs.Entries.{entries_in};
 ghost use Rattle.handler_table.specs.View.{table_view};
 ghost use Rattle.session_events.specs.Seen.{moved_in, moved_view, seen_by, seen_in};
 ghost use Rattle.session_values.specs.declared.memory.Memory.{Memory as Held};
@@ -15,7 +13,7 @@ ghost use Rattle.session_forms.specs.View.{fault_view, state_view, term_view};
 use crate::event::{Moved, event_came, event_of};
 use crate::handlers::handler_started;
 use crate::scene::{Scene, scene_of};
-use behaviour_tree::{Handlers, Kind, Need};
+use behaviour_tree::{Kind, Need};
 use handler_table::Table;
 use jolie_trees::{Path, Step};
 use session_forms::{Begun, Fault, Installed, ScopeState, Term, boxed};
@@ -66,22 +64,11 @@ fn ended(
     ensures name { around.new.scope ≡ around.old.scope }
 {
     let completed = taken(alloc, own).completed();
-    around.table.reserve(count_of(&completed)?)?;
+    around.table.reserve_for(&completed)?;
     around.table.merge(completed);
     let form = boxed(alloc, Term::Done)?;
     let event = event_of(actor, Kind::EndScope, 0, own.scope, 0);
     event_came(alloc, form, event, Need::Nothing)
-}
-
-/// How many handlers there are.
-#[tactic(auto, using(crate::proofs::Counted::entries_counted))]
-fn count_of(handlers: &Handlers) -> Result<u32, AllocError>
-    ensures { IfOk result (λ n. n ≡ length (entries_in (handlers_view handlers.now))) }
-{
-    match u32::try_from(handlers.list.len()) {
-        Ok(count) => Ok(count),
-        Err(_) => Err(AllocError),
-    }
 }
 
 /// The handlers of a scope, which keeps none.
