@@ -126,7 +126,7 @@ impl<W: Wire> Connection<W> {
     }
 }
 
-/// Writes the answer that is owed, and closes or goes on.
+/// Writes the answer that is owed, and closes or goes on. Where memory ran out, that is answered again.
 fn tell<W: Wire>(wire: &mut W, kept: &mut Kept, text: Option<&[u8]>) -> Result<(), AllocError>
     requires { MayBeTold (stage_of kept.old.next) }
     ensures talks { (first : WireTold) (bodies : List (List ℕ)) (texts : List (Option (List ℕ)))
@@ -138,10 +138,8 @@ fn tell<W: Wire>(wire: &mut W, kept: &mut Kept, text: Option<&[u8]>) -> Result<(
     ensures read { kept.new.read.items ≡ kept.old.read.items }
     ensures wrote { OnlyWrites (W.told wire.old).calls (W.told wire.new).calls kept.old.written.items kept.new.written.items }
 {
-    match kept.owed() {
-        None => Err(AllocError),
-        Some(close) => answer_with(wire, kept, text, close),
-    }
+    let close = kept.owed()?;
+    answer_with(wire, kept, text, close)
 }
 
 /// Writes the answer with which the connection closes or goes on.

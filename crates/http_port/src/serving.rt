@@ -67,7 +67,8 @@ pub fn serve_wire<W: Wire, S: Serve>(
     end
 }
 
-/// Serves turn by turn, with what the reader holds first.
+/// Serves turn by turn, with what the reader holds first. It notes how long the piece of each turn was: so memory ends
+/// where the wire does not.
 fn serve_each<W: Wire, S: Serve>(
     alloc: Global,
     wire: &mut W,
@@ -95,9 +96,11 @@ fn serve_each<W: Wire, S: Serve>(
     ensures closed { (W.told wire.new).closed ≡ (W.told wire.old).closed }
 {
     reader.asks_where_given();
+    let mut pieces = Vec::new(alloc);
     let mut chunk = [0; CHUNK];
     let mut count = 0;
-    for _ in 0..u64::MAX {
+    loop {
+        pieces.push(count)?;
         match take_turn(alloc, wire, reader, serve, &chunk[..count])? {
             Turn::GoesOn => count = 0,
             Turn::Ends(end) => return Ok(end),
@@ -108,5 +111,4 @@ fn serve_each<W: Wire, S: Serve>(
             },
         }
     }
-    Err(AllocError)
 }
