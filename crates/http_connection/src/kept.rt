@@ -69,7 +69,8 @@ impl Kept {
     /// Whether the connection closes with the answer that is owed. Where memory ran out, that is answered again.
     pub(crate) fn owed(&self) -> Result<bool, AllocError>
         requires { MayTell self.now.next }
-        ensures { MatchResult result (λ close. self.now.next ≡ Stands.Owes close) (λ _. self.now.next ≡ Stands.Spent) }
+        ensures { MatchResult result (λ close. self.now.next ≡ Stands.Owes close)
+            (λ _. self.now.next ≡ Stands.Spent) }
     {
         match &self.next {
             Standing::Owes { close } => Ok(*close),
@@ -88,8 +89,8 @@ impl Kept {
         self.reader.feed(piece)
     }
 
-    /// Hands out the request that is held, whose answer is owed then; none where the connection is over. Where memory ran
-    /// out, that is answered again.
+    /// Hands out the request that is held, whose answer is owed then; none where the connection is over. Where memory
+    /// ran out, that is answered again.
     pub(crate) fn hand_out(&mut self) -> Result<Option<Bytes>, AllocError>
         requires { MayHandOut self.old.next }
         ensures handed { HandsOut self.old.next result self.new.next }

@@ -51,7 +51,8 @@ fn read_on<W: Wire>(wire: &mut W, kept: &mut Kept) -> Result<(), AllocError>
     ensures talks { (first : WireTold) (bodies : List (List ℕ)) (texts : List (Option (List ℕ)))
         → IsTalking first (seen kept.old (W.told wire.old)) bodies texts
         → IsTalking first (seen kept.new (W.told wire.new)) bodies texts }
-    ensures next { MatchResult result (λ _. is_waiting kept.new.next ≡ false → MayHandOut kept.new.next) (λ _. kept.new.next ≡ Stands.Spent) }
+    ensures next { MatchResult result (λ _. is_waiting kept.new.next ≡ false → MayHandOut kept.new.next)
+        (λ _. kept.new.next ≡ Stands.Spent) }
     ensures further { is_waiting kept.new.next ≡ true → length kept.old.read.items < length kept.new.read.items }
     ensures called { (first : WireTold) (bodies : List (List ℕ)) (texts : List (Option (List ℕ)))
         → IsTalking first (seen kept.old (W.told wire.old)) bodies texts
@@ -87,9 +88,11 @@ pub(crate) fn go_on<W: Wire>(wire: &mut W, kept: &mut Kept, piece: &[u8]) -> Res
     ensures talks { (first : WireTold) (bodies : List (List ℕ)) (texts : List (Option (List ℕ)))
         → IsGoing first (seen kept.old (W.told wire.old)) piece.now bodies texts
         → IsTalking first (seen kept.new (W.told wire.new)) bodies texts }
-    ensures next { MatchResult result (λ _. IsBehindTelling (stage_of kept.new.next)) (λ _. kept.new.next ≡ Stands.Spent) }
+    ensures next { MatchResult result (λ _. IsBehindTelling (stage_of kept.new.next))
+        (λ _. kept.new.next ≡ Stands.Spent) }
     ensures read { kept.new.read.items ≡ kept.old.read.items }
-    ensures wrote { OnlyWrites (W.told wire.old).calls (W.told wire.new).calls kept.old.written.items kept.new.written.items }
+    ensures wrote { OnlyWrites (W.told wire.old).calls (W.told wire.new).calls kept.old.written.items
+        kept.new.written.items }
 {
     let fed = kept.feed(piece)?;
     if is_interim(&fed) {
@@ -112,9 +115,11 @@ fn invite<W: Wire>(wire: &mut W, kept: &mut Kept) -> Result<(), AllocError>
     ensures talks { (first : WireTold) (bodies : List (List ℕ)) (texts : List (Option (List ℕ)))
         → IsFed first (seen kept.old (W.told wire.old)) Gives.Interim bodies texts
         → IsTalking first (seen kept.new (W.told wire.new)) bodies texts }
-    ensures next { MatchResult result (λ _. IsBehindTelling (stage_of kept.new.next)) (λ _. kept.new.next ≡ Stands.Spent) }
+    ensures next { MatchResult result (λ _. IsBehindTelling (stage_of kept.new.next))
+        (λ _. kept.new.next ≡ Stands.Spent) }
     ensures read { kept.new.read.items ≡ kept.old.read.items }
-    ensures wrote { OnlyWrites (W.told wire.old).calls (W.told wire.new).calls kept.old.written.items kept.new.written.items }
+    ensures wrote { OnlyWrites (W.told wire.old).calls (W.told wire.new).calls kept.old.written.items
+        kept.new.written.items }
 {
     let cut = send(wire, kept, INTERIM)?;
     if cut {
@@ -132,9 +137,11 @@ fn take_up<W: Wire>(wire: &mut W, kept: &mut Kept, fed: Fed) -> Result<(), Alloc
     ensures talks { (first : WireTold) (bodies : List (List ℕ)) (texts : List (Option (List ℕ)))
         → IsFed first (seen kept.old (W.told wire.old)) fed bodies texts
         → IsTalking first (seen kept.new (W.told wire.new)) bodies texts }
-    ensures next { MatchResult result (λ _. IsBehindTelling (stage_of kept.new.next)) (λ _. kept.new.next ≡ Stands.Spent) }
+    ensures next { MatchResult result (λ _. IsBehindTelling (stage_of kept.new.next))
+        (λ _. kept.new.next ≡ Stands.Spent) }
     ensures read { kept.new.read.items ≡ kept.old.read.items }
-    ensures wrote { OnlyWrites (W.told wire.old).calls (W.told wire.new).calls kept.old.written.items kept.new.written.items }
+    ensures wrote { OnlyWrites (W.told wire.old).calls (W.told wire.new).calls kept.old.written.items
+        kept.new.written.items }
 {
     match fed {
         Fed::NotYet => {
@@ -156,9 +163,11 @@ fn refuse<W: Wire>(wire: &mut W, kept: &mut Kept, status: u16) -> Result<(), All
     ensures talks { (first : WireTold) (bodies : List (List ℕ)) (texts : List (Option (List ℕ)))
         → IsFed first (seen kept.old (W.told wire.old)) (Gives.Refused status) bodies texts
         → IsTalking first (seen kept.new (W.told wire.new)) bodies texts }
-    ensures next { MatchResult result (λ _. IsBehindTelling (stage_of kept.new.next)) (λ _. kept.new.next ≡ Stands.Spent) }
+    ensures next { MatchResult result (λ _. IsBehindTelling (stage_of kept.new.next))
+        (λ _. kept.new.next ≡ Stands.Spent) }
     ensures read { kept.new.read.items ≡ kept.old.read.items }
-    ensures wrote { OnlyWrites (W.told wire.old).calls (W.told wire.new).calls kept.old.written.items kept.new.written.items }
+    ensures wrote { OnlyWrites (W.told wire.old).calls (W.told wire.new).calls kept.old.written.items
+        kept.new.written.items }
 {
     let bytes = response_bytes(kept.alloc, status, &[], true)?;
     let cut = send(wire, kept, bytes.as_slice())?;

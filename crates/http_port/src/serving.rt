@@ -32,7 +32,8 @@ pub enum WireEnd {
 /// How many bytes are read at once.
 const CHUNK: usize = 4096;
 
-/// Serves the requests of a connection one after another, as far as the bytes reach: writes the interim lines and the responses, and asks for each answer. Where an answer comes later, the caller writes it and may call again.
+/// Serves the requests of a connection one after another, as far as the bytes reach: writes the interim lines and the
+/// responses, and asks for each answer. Where an answer comes later, the caller writes it and may call again.
 pub fn serve_wire<W: Wire, S: Serve>(
     alloc: Global,
     wire: &mut W,
@@ -55,7 +56,8 @@ pub fn serve_wire<W: Wire, S: Serve>(
         (λ end. (W.told wire.new).read_failed ≡ lost_behind end (W.told wire.old).read_failed)
         (λ _. (W.told wire.new).read_failed ≡ (W.told wire.old).read_failed) }
     ensures cut { MatchResult result
-        (λ end. (W.told wire.new).write_failed ≡ cut_behind end (W.told wire.old).closed (W.told wire.old).write_failed)
+        (λ end. (W.told wire.new).write_failed
+        ≡ cut_behind end (W.told wire.old).closed (W.told wire.old).write_failed)
         (λ _. (W.told wire.new).write_failed ≡ (W.told wire.old).write_failed) }
     ensures closed { (W.told wire.new).closed ≡ (W.told wire.old).closed }
     ensures err { OnErr result (reader.new ≡ Spent) }
@@ -91,7 +93,8 @@ fn serve_each<W: Wire, S: Serve>(
         (λ end. (W.told wire.new).read_failed ≡ lost_behind end (W.told wire.old).read_failed)
         (λ _. (W.told wire.new).read_failed ≡ (W.told wire.old).read_failed) }
     ensures cut { MatchResult result
-        (λ end. (W.told wire.new).write_failed ≡ cut_behind end (W.told wire.old).closed (W.told wire.old).write_failed)
+        (λ end. (W.told wire.new).write_failed
+        ≡ cut_behind end (W.told wire.old).closed (W.told wire.old).write_failed)
         (λ _. (W.told wire.new).write_failed ≡ (W.told wire.old).write_failed) }
     ensures closed { (W.told wire.new).closed ≡ (W.told wire.old).closed }
 {

@@ -31,7 +31,8 @@ impl Kept {
         requires few { length self.old.messages < 2 ^ 32 }
         requires fresh { origin_of self.old.book (length self.old.messages) ≡ None }
         requires unborn { message.starts ≡ true → is_born (sessions_of self.old.rows) message.session ≡ false }
-        ensures { OnOk result (Accepts (parts_of program.now) (operation_view operation.now) message self.old self.new) }
+        ensures { OnOk result (Accepts (parts_of program.now) (operation_view operation.now) message self.old
+            self.new) }
     {
         let number = numbered(self.messages.len());
         note(alloc, &mut self.book, operation, number, message.origin)?;
@@ -51,7 +52,8 @@ impl Kept {
         message: &Message,
     ) -> Result<(), AllocError>
         requires { message.now.starts ≡ true → is_born (sessions_of self.old.rows) message.now.session ≡ false }
-        ensures { OnOk result (Starts (parts_of program.now) (operation_view operation.now) message.now self.old self.new) }
+        ensures { OnOk result (Starts (parts_of program.now) (operation_view operation.now) message.now self.old
+            self.new) }
     {
         if !message.starts {
             return Ok(());
@@ -88,7 +90,8 @@ fn note(
 /// Puts a message into the box of its session, which has room where the message was routed to it: a box without room
 /// counts as want of memory.
 fn put(boxes: &mut Boxes, session: u32, op: u32, number: u32) -> Result<(), AllocError>
-    ensures { OnOk result (ChangesOnly session (box_of boxes.old session ++ waiting op number ∷ []) boxes.old boxes.new) }
+    ensures { OnOk result (ChangesOnly session (box_of boxes.old session ++ waiting op number ∷ []) boxes.old
+        boxes.new) }
 {
     match boxes.put(session, op, number) {
         Ok(()) => Ok(()),

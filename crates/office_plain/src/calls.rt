@@ -108,9 +108,12 @@ impl Kept {
         requires { call.session < vec_len self.old.places }
         ensures calls { OnOk result (self.new.calls ≡ self.old.calls ++ call ∷ []) }
         ensures outcomes { OnOk result (self.new.outcomes ≡ self.old.outcomes ++ None ∷ []) }
-        ensures places { OnOk result (self.new.places.items ≡ with_place call.session (length self.old.calls) self.old.places.items) }
-        ensures console { OnOk result (self.new.console ≡ self.old.console ++ queued outs.Console call kind (length self.old.calls)) }
-        ensures remote { OnOk result (self.new.remote ≡ self.old.remote ++ queued outs.Remote call kind (length self.old.calls)) }
+        ensures places { OnOk result (self.new.places.items
+            ≡ with_place call.session (length self.old.calls) self.old.places.items) }
+        ensures console { OnOk result (self.new.console ≡ self.old.console
+            ++ queued outs.Console call kind (length self.old.calls)) }
+        ensures remote { OnOk result (self.new.remote ≡ self.old.remote
+            ++ queued outs.Remote call kind (length self.old.calls)) }
         ensures others { KeepsMail self.old self.new }
     {
         let place = self.calls.len();
@@ -122,7 +125,8 @@ impl Kept {
 
     /// Puts the place of a call that goes out behind all others of its kind.
     fn queue(&mut self, call: &Call, kind: OutKind, place: usize) -> Result<(), AllocError>
-        ensures console { OnOk result (self.new.console ≡ self.old.console ++ queued outs.Console call.now kind place) }
+        ensures console { OnOk result (self.new.console ≡ self.old.console
+            ++ queued outs.Console call.now kind place) }
         ensures remote { OnOk result (self.new.remote ≡ self.old.remote ++ queued outs.Remote call.now kind place) }
         ensures others { self.new ≡ record self.old { console = self.new.console; remote = self.new.remote } }
     {

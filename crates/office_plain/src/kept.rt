@@ -19,8 +19,8 @@ pub struct SessionRow {
 }
 
 /// What the office keeps of its history, so that no call looks through it: accepted messages, their weight and that of
-/// replies, sessions with the places of their calls, boxes, answers, correlation, calls with what was brought for them, and
-/// those that go out.
+/// replies, sessions with the places of their calls, boxes, answers, correlation, calls with what was brought for them,
+/// and those that go out.
 #[derive(Drop)]
 pub struct Kept {
     pub messages: Items<Message>,

@@ -38,7 +38,10 @@ pub fn chosen(
     scene: Scene<'_>,
     memory: &mut Memory,
 ) -> Result<Acted, AllocError>
-    ensures { IfOk result (λ r. acted_in scene.entry given.now r memory.new ≡ comes_to (seen_in scene.entry given.now memory.old) (plain.choice (branches_of (map branch_view list.now)))) }
+    ensures { IfOk result
+        (λ r. acted_in scene.entry given.now r memory.new
+        ≡ comes_to (seen_in scene.entry given.now memory.old)
+        (plain.choice (branches_of (map branch_view list.now)))) }
 {
     match given {
         Given::Mail { message, op, value } => {
@@ -62,7 +65,12 @@ fn comes(
     scene: Scene<'_>,
     memory: &mut Memory,
 ) -> Result<Acted, AllocError>
-    ensures { IfOk result (λ r. acted_in scene.entry (mail_of mail.entry) r memory.new ≡ came (seen_in scene.entry (mail_of mail.entry) memory.old) None (spec.comes (seen_in scene.entry (mail_of mail.entry) memory.old) (coming mail.entry (branch_operations (branches_of (map branch_view list.now))) 0) (branches_of (map branch_view list.now)))) }
+    ensures { IfOk result
+        (λ r. acted_in scene.entry (mail_of mail.entry) r memory.new
+        ≡ came (seen_in scene.entry (mail_of mail.entry) memory.old) None
+        (spec.comes (seen_in scene.entry (mail_of mail.entry) memory.old)
+        (coming mail.entry (branch_operations (branches_of (map branch_view list.now))) 0)
+        (branches_of (map branch_view list.now)))) }
 {
     for i in 0..list.len() {
         let branch = &list[i];
@@ -85,7 +93,10 @@ fn arrived(
     scene: Scene<'_>,
     memory: &mut Memory,
 ) -> Result<Moved, AllocError>
-    ensures { IfOk result (λ m. moved_in scene.entry m memory.new ≡ arrives (seen_in scene.entry (mail_of mail.entry) memory.old) (coming mail.entry ops place) (branch_view branch.now)) }
+    ensures { IfOk result
+        (λ m. moved_in scene.entry m memory.new
+        ≡ arrives (seen_in scene.entry (mail_of mail.entry) memory.old) (coming mail.entry ops place)
+        (branch_view branch.now)) }
 {
     let fault = receive(alloc, &branch.target, mail.value.copied()?, memory)?;
     match &branch.reply {
@@ -125,7 +136,8 @@ fn gone_on(
     fault: Option<u32>,
     memory: &mut Memory,
 ) -> Result<Box<Term>, AllocError>
-    ensures form { IfOk result (λ t. begun (term_view t.value) memory.new.next ≡ goes fault (behaviour_view behaviour.now) memory.old.next) }
+    ensures form { IfOk result
+        (λ t. begun (term_view t.value) memory.new.next ≡ goes fault (behaviour_view behaviour.now) memory.old.next) }
     ensures store { memory.new.store ≡ memory.old.store }
     ensures call { memory.new.call ≡ memory.old.call }
 {
@@ -147,7 +159,9 @@ fn asked(
     after: &Behaviour,
     body: Box<Term>,
 ) -> Result<Box<Term>, AllocError>
-    ensures { IfOk result (λ t. term_view t.value ≡ asked_after mail.entry (reply_view reply.now).path (behaviour_view after.now) (term_view body.value)) }
+    ensures { IfOk result
+        (λ t. term_view t.value ≡ asked_after mail.entry (reply_view reply.now).path (behaviour_view after.now)
+        (term_view body.value)) }
 {
     let head = in_request(alloc, mail, reply, body)?;
     let rest = Rest::of_one(alloc, after)?;
@@ -161,7 +175,9 @@ fn in_request(
     reply: &ReplyPart,
     body: Box<Term>,
 ) -> Result<Box<Term>, AllocError>
-    ensures { IfOk result (λ t. term_view t.value ≡ terms.exec mail.entry.message mail.entry.op (reply_view reply.now).path (term_view body.value)) }
+    ensures { IfOk result
+        (λ t. term_view t.value ≡ terms.exec mail.entry.message mail.entry.op (reply_view reply.now).path
+        (term_view body.value)) }
 {
     let form = Term::Exec {
         message: mail.message,

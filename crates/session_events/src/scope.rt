@@ -33,7 +33,10 @@ pub fn scope_acts(
     around: &mut Installed,
     memory: &mut Memory,
 ) -> Result<Option<Moved>, AllocError>
-    ensures event { IfOk result (λ r. option_map (λ m. moved_view m around.new memory.new) r ≡ spec.scope_acts (seen_by actor.entry given.Nothing around.old memory.old) own.old.scope (table_view own.old.table) (state_view state.now)) }
+    ensures event { IfOk result
+        (λ r. option_map (λ m. moved_view m around.new memory.new) r
+        ≡ spec.scope_acts (seen_by actor.entry given.Nothing around.old memory.old) own.old.scope
+        (table_view own.old.table) (state_view state.now)) }
     ensures name { around.new.scope ≡ around.old.scope }
     ensures own { IfOk result (λ r. IfNone r (own.new ≡ own.old)) }
     ensures around { IfOk result (λ r. IfNone r (around.new ≡ around.old)) }
@@ -60,7 +63,9 @@ fn ended(
     actor: Actor<'_>,
     around: &mut Installed,
 ) -> Result<Moved, AllocError>
-    ensures event { (k : Held) → IfOk result (λ m. moved_view m around.new k ≡ spec.ends (seen_by actor.entry given.Nothing around.old k) own.old.scope (table_view own.old.table)) }
+    ensures event { (k : Held) → IfOk result
+        (λ m. moved_view m around.new k ≡ spec.ends (seen_by actor.entry given.Nothing around.old k) own.old.scope
+        (table_view own.old.table)) }
     ensures name { around.new.scope ≡ around.old.scope }
 {
     let completed = taken(alloc, own).completed();
@@ -87,7 +92,10 @@ fn fault_handled(
     scene: Scene<'_>,
     memory: &mut Memory,
 ) -> Result<Moved, AllocError>
-    ensures { IfOk result (λ m. moved_in scene.entry m memory.new ≡ spec.handles_fault (seen_in scene.entry given.Nothing memory.old) own.old.scope (table_view own.old.table) (fault_view fault.now)) }
+    ensures { IfOk result
+        (λ m. moved_in scene.entry m memory.new
+        ≡ spec.handles_fault (seen_in scene.entry given.Nothing memory.old) own.old.scope (table_view own.old.table)
+        (fault_view fault.now)) }
 {
     note(alloc, own.scope, fault, scene, memory)?;
     let Begun { form, next } = handler_started(alloc, own.table.fault(fault.name), memory.next)?;
@@ -106,7 +114,9 @@ fn end_handled(
     scene: Scene<'_>,
     memory: &mut Memory,
 ) -> Result<Moved, AllocError>
-    ensures { IfOk result (λ m. moved_in scene.entry m memory.new ≡ spec.handles_end (seen_in scene.entry given.Nothing memory.old) own.old.scope (table_view own.old.table)) }
+    ensures { IfOk result
+        (λ m. moved_in scene.entry m memory.new
+        ≡ spec.handles_end (seen_in scene.entry given.Nothing memory.old) own.old.scope (table_view own.old.table)) }
 {
     let Begun { form, next } = handler_started(alloc, own.table.scope(own.scope), memory.next)?;
     drop(own.table.spend(own.scope));
@@ -124,7 +134,9 @@ fn in_scope(
     body: Box<Term>,
     state: ScopeState,
 ) -> Result<Box<Term>, AllocError>
-    ensures { IfOk result (λ t. term_view t.value ≡ terms.in_scope own.old.scope (term_view body.value) (table_view own.old.table) (state_view state)) }
+    ensures { IfOk result
+        (λ t. term_view t.value ≡ terms.in_scope own.old.scope (term_view body.value) (table_view own.old.table)
+        (state_view state)) }
 {
     let table = taken(alloc, own);
     let scope = own.scope;
@@ -147,7 +159,9 @@ fn note(
     scene: Scene<'_>,
     memory: &mut Memory,
 ) -> Result<(), AllocError>
-    ensures store { IfOk result (λ _. memory.new.store ≡ spec.noted (seen_in scene.entry given.Nothing memory.old) scope (fault_view fault.now)) }
+    ensures store { IfOk result
+        (λ _. memory.new.store ≡ spec.noted (seen_in scene.entry given.Nothing memory.old) scope
+        (fault_view fault.now)) }
     ensures next { memory.new.next ≡ memory.old.next }
     ensures call { memory.new.call ≡ memory.old.call }
 {
@@ -163,7 +177,9 @@ fn place_of_fault(
     fault: u32,
     actor: Actor<'_>,
 ) -> Result<Path, AllocError>
-    ensures { IfOk result (λ p. p.steps ≡ stepped (names.name_at (parts_of actor.entry.program.now) scope) None ∷ stepped (names.name_at (parts_of actor.entry.program.now) fault) None ∷ []) }
+    ensures { IfOk result
+        (λ p. p.steps ≡ stepped (names.name_at (parts_of actor.entry.program.now) scope) None ∷ stepped
+        (names.name_at (parts_of actor.entry.program.now) fault) None ∷ []) }
 {
     let mut steps = Items::new(alloc);
     steps.push(step_of(alloc, scope, actor)?)?;
