@@ -1,4 +1,5 @@
 pub mod Behind
+pub mod FewEnough
 pub mod Inputs
 pub mod Leading
 pub mod Positions

@@ -6,6 +6,7 @@ pub mod Distinct
 pub mod FormedBehaviours
 pub mod FormedExpressions
 pub mod FormedInterfaces
+pub mod FormedNumbers
 pub mod FormedPorts
 pub mod FormedServices
 pub mod FormedSets

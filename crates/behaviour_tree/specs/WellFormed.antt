@@ -8,6 +8,7 @@ use Rattle.behaviour_tree.specs.FormedTypes.{are_types}
 use Rattle.behaviour_tree.specs.FormedInterfaces.{is_interface}
 use Rattle.behaviour_tree.specs.FormedPorts.{input_locations}
 use Rattle.behaviour_tree.specs.FormedServices.{is_service}
+use Rattle.behaviour_tree.specs.FormedNumbers.{are_numbered}
 
 -- ---- names
 
@@ -44,4 +45,5 @@ are_services parts =
 
 -- Well-formed parts of a program.
 unfoldable pub is_well_formed : ProgramParts → Bool
-is_well_formed parts = are_names parts.names && are_types parts.types && are_interfaces parts && are_services parts
+is_well_formed parts =
+    are_names parts.names && are_types parts.types && are_interfaces parts && are_services parts && are_numbered parts

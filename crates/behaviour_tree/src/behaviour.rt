@@ -189,7 +189,9 @@ fn copied_if(
     then: Box<Behaviour>,
     other: Box<Behaviour>,
 ) -> Result<Behaviour, AllocError>
-    ensures { IfOk result (λ p. behaviour_view p ≡ choose (expr_view test.now) (behaviour_view then.value) (behaviour_view other.value)) }
+    ensures { IfOk result
+        (λ p. behaviour_view p ≡ choose (expr_view test.now) (behaviour_view then.value)
+        (behaviour_view other.value)) }
 {
     let test = test.copied()?;
     Ok(Behaviour::If { test, then, other })

@@ -4,6 +4,7 @@
 mod behaviour;
 mod expr;
 mod operations;
+mod places;
 mod program;
 mod shape;
 pub mod standard;
@@ -15,6 +16,7 @@ pub use expr::{
     CastKind, CompareOp, Expr, Member, MulOp, MulPart, PathExpr, PathStep, SumOp, SumPart,
 };
 pub use operations::operation_sent;
+pub use places::{in_u32, numbered};
 pub use program::{
     Alias, CorrelationSet, Execution, Interface, Operation, Parts, Port, Program, Service,
     SetVariable, Throws,

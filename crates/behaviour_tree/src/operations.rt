@@ -84,7 +84,8 @@ fn operations_at(interfaces: &[Interface], number: u32) -> &[Operation]
 
 /// The operation of a number that can be sent to a port: none of an input port.
 pub fn operation_sent<'a>(parts: &'a Parts, port: &Port, op: u32) -> Option<&'a Operation>
-    ensures { option_map operation_view (option_copied result) ≡ slice_get (sent_to (parts_view parts.now).interfaces (port_view port.now)) op }
+    ensures { option_map operation_view (option_copied result)
+        ≡ slice_get (sent_to (parts_view parts.now).interfaces (port_view port.now)) op }
 {
     if port.input {
         return None;
@@ -98,7 +99,8 @@ fn operation_among<'a>(
     numbers: &[u32],
     op: u32,
 ) -> Option<&'a Operation>
-    ensures { option_map operation_view (option_copied result) ≡ slice_get (operations_of (map interface_view interfaces.now) numbers.now) op }
+    ensures { option_map operation_view (option_copied result)
+        ≡ slice_get (operations_of (map interface_view interfaces.now) numbers.now) op }
 {
     let mut left = op as usize;
     for number in numbers {
@@ -112,7 +114,8 @@ fn operation_among<'a>(
 }
 
 fn operation_of<'a>(parts: &'a Parts, service: &Service, op: u32) -> Option<&'a Operation>
-    ensures { option_map operation_view (option_copied result) ≡ slice_get (service_operations (parts_view parts.now) (service_view service.now)) op }
+    ensures { option_map operation_view (option_copied result)
+        ≡ slice_get (service_operations (parts_view parts.now) (service_view service.now)) op }
 {
     let mut left = op as usize;
     let mut inputs = InputInterfaces::new(&service.ports);
@@ -145,7 +148,8 @@ impl<'a> InputInterfaces<'a> {
         }
     }
 
-    /// The next input interface that was not mentioned before; none where nothing is left, and then nothing comes again.
+    /// The next input interface that was not mentioned before; none where nothing is left, and then nothing comes
+    /// again.
     fn next(&mut self) -> Option<u32>
         ensures rest { MatchOption result (rest_of self.old ≡ []) (λ n. rest_of self.old ≡ n ∷ rest_of self.new) }
         ensures ended { IfNone result (rest_of self.new ≡ []) }

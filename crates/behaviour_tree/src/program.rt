@@ -97,7 +97,8 @@ pub struct Program {
 }
 
 impl Program {
-    ghost use Rattle.std.specs.Prelude.{IfOk};
+    ghost use Rattle.std.specs.Prelude.{◌<◌, ◌^◌, IfOk, length};
+    ghost use Rattle.behaviour_tree.specs.FormedNumbers.{are_numbered};
     ghost use Rattle.behaviour_tree.specs.PartsView.{parts_of, shared_by};
 
     /// A program of well-formed parts.
@@ -115,6 +116,25 @@ impl Program {
         ensures well_formed { is_well_formed (parts_of self.now) ≡ true }
     {
         &self.parts
+    }
+
+    /// The names of faults and scopes, each of which has a number.
+    #[tactic(auto, using(crate::proofs::FewEnough::few_names))]
+    pub fn names(&self) -> &[Text]
+        ensures names { result.now ≡ (parts_of self.now).names }
+        ensures few { length result.now < 2 ^ 32 }
+    {
+        self.parts().names.as_slice()
+    }
+
+    /// The services. Each of them has a number, and so has all that they have.
+    #[tactic(auto, using(crate::proofs::FewEnough::few_services))]
+    pub fn services(&self) -> &[Service]
+        ensures shared { result.now ≡ (shared_by self.now).services.items }
+        ensures few { length result.now < 2 ^ 32 }
+        ensures numbered { are_numbered (parts_of self.now) ≡ true }
+    {
+        self.parts().services.as_slice()
     }
 
     /// The same program once more, which shares its parts.

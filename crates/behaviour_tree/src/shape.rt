@@ -7,7 +7,8 @@ use crate::types::TypeDef;
 
 /// The type behind its names, none where they lead nowhere or in a circle.
 pub fn behind_names<'a>(ty: &'a TypeDef, types: &'a [TypeDef]) -> Option<&'a TypeDef>
-    ensures { option_map type_view (option_copied result) ≡ spec.shape (map type_view types.now) (length types.now) (type_view ty.now) }
+    ensures { option_map type_view (option_copied result)
+        ≡ spec.shape (map type_view types.now) (length types.now) (type_view ty.now) }
 {
     let mut found = ty;
     let mut left = types.len();

@@ -16,7 +16,8 @@ pub fn number(names: &Names<'_>, text: &str) -> Result<u32, AllocError>
     }
 }
 
-/// A number of the program. It takes no memory: a number past 32 bits, and no other, is told as want of it.
+/// A number of the program. It takes no memory: a number past 32 bits, and no other, is told as want of it. None comes
+/// of a text, which has at most 1,048,576 bytes, and at least one for each thing that is numbered.
 pub fn fitting(place: usize) -> Result<u32, AllocError>
     ensures value { IfOk result (λ n. n ≡ place) }
     ensures fits { IsOk result ↔ (place < 2 ^ 32) }

@@ -14,8 +14,8 @@ use jolie_trees::Bytes;
 use std::alloc::{AllocError, Global};
 use std::mem;
 
-/// What a connection keeps: its reader, the bytes that were read and written, what was said to the request that was handed
-/// out last, the text that goes out, and what it does next.
+/// What a connection keeps: its reader, the bytes that were read and written, what was said to the request that was
+/// handed out last, the text that goes out, and what it does next.
 #[derive(Drop)]
 pub struct Kept {
     pub(crate) alloc: Global,

@@ -40,8 +40,10 @@ pub(crate) enum Turn {
 pub(crate) fn take_turn<W: PollWire>(wire: &mut W, kept: &mut Kept) -> Result<Turn, AllocError>
     ensures talks { TalksOn (seen kept.old (W.told wire.old)) (seen kept.new (W.told wire.new)) }
     ensures called { CallsOn (seen kept.old (W.told wire.old)) (seen kept.new (W.told wire.new)) }
-    ensures stops { IfOk result (λ turn. Stops turn (W.told wire.old).waits (W.told wire.new).waits (stage_of kept.new.next)) }
-    ensures spent { OnErr result (((W.told wire.new).waits ≡ (W.told wire.old).waits) × (kept.new.next ≡ Stands.Spent)) }
+    ensures stops { IfOk result
+        (λ turn. Stops turn (W.told wire.old).waits (W.told wire.new).waits (stage_of kept.new.next)) }
+    ensures spent { OnErr result (((W.told wire.new).waits ≡ (W.told wire.old).waits)
+        × (kept.new.next ≡ Stands.Spent)) }
 {
     match &kept.next {
         Standing::Waits => read_on(wire, kept),
@@ -66,8 +68,10 @@ fn read_on<W: PollWire>(wire: &mut W, kept: &mut Kept) -> Result<Turn, AllocErro
     requires { kept.old.next ≡ Stands.Waits }
     ensures talks { TalksOn (seen kept.old (W.told wire.old)) (seen kept.new (W.told wire.new)) }
     ensures called { CallsOn (seen kept.old (W.told wire.old)) (seen kept.new (W.told wire.new)) }
-    ensures stops { IfOk result (λ turn. Stops turn (W.told wire.old).waits (W.told wire.new).waits (stage_of kept.new.next)) }
-    ensures spent { OnErr result (((W.told wire.new).waits ≡ (W.told wire.old).waits) × (kept.new.next ≡ Stands.Spent)) }
+    ensures stops { IfOk result
+        (λ turn. Stops turn (W.told wire.old).waits (W.told wire.new).waits (stage_of kept.new.next)) }
+    ensures spent { OnErr result (((W.told wire.new).waits ≡ (W.told wire.old).waits)
+        × (kept.new.next ≡ Stands.Spent)) }
 {
     kept.stand(Standing::Spent);
     kept.read.reserve(CHUNK)?;
@@ -113,8 +117,10 @@ fn write_on<W: PollWire>(wire: &mut W, kept: &mut Kept, close: bool) -> Result<T
     requires { kept.old.next ≡ Stands.Sends close }
     ensures talks { TalksOn (seen kept.old (W.told wire.old)) (seen kept.new (W.told wire.new)) }
     ensures called { CallsOn (seen kept.old (W.told wire.old)) (seen kept.new (W.told wire.new)) }
-    ensures stops { IfOk result (λ turn. Stops turn (W.told wire.old).waits (W.told wire.new).waits (stage_of kept.new.next)) }
-    ensures spent { OnErr result (((W.told wire.new).waits ≡ (W.told wire.old).waits) × (kept.new.next ≡ Stands.Spent)) }
+    ensures stops { IfOk result
+        (λ turn. Stops turn (W.told wire.old).waits (W.told wire.new).waits (stage_of kept.new.next)) }
+    ensures spent { OnErr result (((W.told wire.new).waits ≡ (W.told wire.old).waits)
+        × (kept.new.next ≡ Stands.Spent)) }
 {
     kept.stand(Standing::Spent);
     let rest = kept.due.left();
@@ -140,8 +146,10 @@ fn go_behind<W: PollWire>(wire: &mut W, kept: &mut Kept, close: bool) -> Result<
     ensures calls { (W.told wire.new).wire.calls ≡ (W.told wire.old).wire.calls }
     ensures read { kept.new.read.items ≡ kept.old.read.items }
     ensures written { kept.new.written.items ≡ kept.old.written.items }
-    ensures stops { IfOk result (λ turn. Stops turn (W.told wire.old).waits (W.told wire.new).waits (stage_of kept.new.next)) }
-    ensures spent { OnErr result (((W.told wire.new).waits ≡ (W.told wire.old).waits) × (kept.new.next ≡ Stands.Spent)) }
+    ensures stops { IfOk result
+        (λ turn. Stops turn (W.told wire.old).waits (W.told wire.new).waits (stage_of kept.new.next)) }
+    ensures spent { OnErr result (((W.told wire.new).waits ≡ (W.told wire.old).waits)
+        × (kept.new.next ≡ Stands.Spent)) }
 {
     if !kept.due.is_out() {
         kept.stand(Standing::Sends { close });

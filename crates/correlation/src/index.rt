@@ -33,8 +33,8 @@ impl Index {
         None
     }
 
-    /// Puts in the key of a session in the set that has a variable, if it is complete and no session has it; the session
-    /// that has it.
+    /// Puts in the key of a session in the set that has a variable, if it is complete and no session has it; the
+    /// session that has it.
     pub fn claim(
         &mut self,
         alloc: Global,

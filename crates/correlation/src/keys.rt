@@ -46,7 +46,8 @@ impl Keys {
     pub fn claim(&mut self, values: Vec<Root>, session: u32) -> Result<Option<u32>, AllocError>
         ensures holder { IfOk result (λ t. t ≡ session_with values.items self.old.rows.items) }
         ensures rows { self.new.rows.items
-            ≡ (if is_ok result then with_row (row_of session values.items) self.old.rows.items else self.old.rows.items) }
+            ≡ (if is_ok result then with_row (row_of session values.items) self.old.rows.items
+            else self.old.rows.items) }
     {
         match place_of::<Brand>(&self.rows, &values, Blank::new(1)) {
             Ok(place) => Ok(Some(self.rows[place].session)),

@@ -64,13 +64,14 @@ impl Rows {
         false
     }
 
-    /// The live session whose key in a set has the values that are sought. Of n keys it compares at most as many as n can be
-    /// halved, and one more: 2 to the power of their number is at most 2 n + 1.
+    /// The live session whose key in a set has the values that are sought. Of n keys it compares at most as many as n
+    /// can be halved, and one more: 2 to the power of their number is at most 2 n + 1.
     pub fn find<L: Ledger>(&self, set: u32, sought: &mut Sought<'_, L>) -> Option<u32>
         ensures session { result ≡ holder (sessions_of self.now) set sought.old.values }
         ensures same { sought.new.values ≡ sought.old.values }
         ensures counted { sought.old.steps ≤ sought.new.steps }
-        ensures cost { 2 ^ (sought.new.steps - sought.old.steps) ≤ 2 * length (rows_of (sessions_of self.now) set) + 1 }
+        ensures cost { 2 ^ (sought.new.steps - sought.old.steps) ≤ 2 * length (rows_of (sessions_of self.now) set) +
+            1 }
     {
         self.index.find(set, sought)
     }

@@ -1,3 +1,4 @@
+pub mod Counted
 pub mod Fills
 pub mod Places
 pub mod Sums

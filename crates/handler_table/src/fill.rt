@@ -50,7 +50,8 @@ fn filled_in_box(
     body: &Box<Behaviour>,
     former: Option<&Behaviour>,
 ) -> Result<Box<Behaviour>, AllocError>
-    ensures { IfOk result (λ p. behaviour_view p.value ≡ spec.filled (former_of former.entry) (behaviour_view body.now.value)) }
+    ensures { IfOk result
+        (λ p. behaviour_view p.value ≡ spec.filled (former_of former.entry) (behaviour_view body.now.value)) }
 {
     let copy = filled(body, former)?;
     Ok(Box::new(*Box::allocator(body), copy)?)
@@ -61,7 +62,9 @@ fn filled_all(
     list: &Vec<Behaviour>,
     former: Option<&Behaviour>,
 ) -> Result<Vec<Behaviour>, AllocError>
-    ensures { IfOk result (λ v. procs_of (map behaviour_view v.items) ≡ spec.filled_all (former_of former.entry) (procs_of (map behaviour_view list.now.items))) }
+    ensures { IfOk result
+        (λ v. procs_of (map behaviour_view v.items)
+        ≡ spec.filled_all (former_of former.entry) (procs_of (map behaviour_view list.now.items))) }
 {
     let mut copies = Vec::new(*list.allocator());
     for body in list {
@@ -75,7 +78,9 @@ fn filled_branches(
     list: &Vec<Branch>,
     former: Option<&Behaviour>,
 ) -> Result<Vec<Branch>, AllocError>
-    ensures { IfOk result (λ v. branches_of (map branch_view v.items) ≡ spec.filled_branches (former_of former.entry) (branches_of (map branch_view list.now.items))) }
+    ensures { IfOk result
+        (λ v. branches_of (map branch_view v.items)
+        ≡ spec.filled_branches (former_of former.entry) (branches_of (map branch_view list.now.items))) }
 {
     let mut copies = Vec::new(*list.allocator());
     for branch in list {
@@ -110,7 +115,9 @@ fn filled_in_answer(
     reply: &Option<ReplyPart>,
     former: Option<&Behaviour>,
 ) -> Result<Option<ReplyPart>, AllocError>
-    ensures { IfOk result (λ r. option_map reply_view r ≡ option_map (filled_reply (former_of former.entry)) (option_map reply_view reply.now)) }
+    ensures { IfOk result
+        (λ r. option_map reply_view r ≡ option_map (filled_reply (former_of former.entry))
+        (option_map reply_view reply.now)) }
 {
     match reply {
         None => Ok(None),
@@ -139,7 +146,9 @@ fn copied_former(former: Option<&Behaviour>) -> Result<Behaviour, AllocError>
 }
 
 fn chosen(test: &Expr, then: Box<Behaviour>, other: Box<Behaviour>) -> Result<Behaviour, AllocError>
-    ensures { IfOk result (λ p. behaviour_view p ≡ choose (expr_view test.now) (behaviour_view then.value) (behaviour_view other.value)) }
+    ensures { IfOk result
+        (λ p. behaviour_view p ≡ choose (expr_view test.now) (behaviour_view then.value)
+        (behaviour_view other.value)) }
 {
     Ok(Behaviour::If {
         test: test.copied()?,

@@ -64,7 +64,8 @@ impl Row {
     pub fn take(&mut self, number: u32) -> Option<Behaviour>
         ensures value { option_map behaviour_view result ≡ entry number (row_view self.old) }
         ensures row { row_view self.new ≡ without number (row_view self.old) }
-        ensures keys { are_scopes (views_of self.old.list.items) ≡ true → are_scopes (views_of self.new.list.items) ≡ true }
+        ensures keys { are_scopes (views_of self.old.list.items) ≡ true
+            → are_scopes (views_of self.new.list.items) ≡ true }
         ensures room { room_of self.old ≤ room_of self.new }
     {
         match self.search(number) {
@@ -80,8 +81,10 @@ impl Row {
     #[tactic(auto, using(crate::proofs::Places::scopes_set, crate::proofs::Places::scopes_insert))]
     pub fn put(&mut self, handler: Handler)
         requires { 0 < room_of self.old }
-        ensures row { row_view self.new ≡ with (number_of (handler_view handler).key) (handler_view handler).body (row_view self.old) }
-        ensures keys { are_scopes (views_of self.old.list.items) ≡ true → is_scope (handler_view handler).key ≡ true → are_scopes (views_of self.new.list.items) ≡ true }
+        ensures row { row_view self.new ≡ with (number_of (handler_view handler).key) (handler_view handler).body
+            (row_view self.old) }
+        ensures keys { are_scopes (views_of self.old.list.items) ≡ true → is_scope (handler_view handler).key ≡ true
+            → are_scopes (views_of self.new.list.items) ≡ true }
         ensures room { room_of self.old ≤ room_of self.new + 1 }
     {
         match self.search(number_in(handler.key)) {

@@ -97,7 +97,8 @@ pub fn size_of(body: &Behaviour, former: &Former) -> Size
 #[cycle(size)]
 #[tactic(auto, using(crate::proofs::Sums::all_more))]
 fn size_of_all(list: &Vec<Behaviour>, former: &Former) -> Size
-    ensures { result ≡ spec.size_of_all (filled_all (former_of former.now.body) (procs_of (map behaviour_view list.now.items))) }
+    ensures { result ≡ spec.size_of_all (filled_all (former_of former.now.body)
+        (procs_of (map behaviour_view list.now.items))) }
 {
     let mut size = Size::none();
     for body in list {
@@ -109,7 +110,8 @@ fn size_of_all(list: &Vec<Behaviour>, former: &Former) -> Size
 #[cycle(size)]
 #[tactic(auto, using(crate::proofs::Sums::branches_more))]
 fn size_of_branches(list: &Vec<Branch>, former: &Former) -> Size
-    ensures { result ≡ spec.size_of_branches (filled_branches (former_of former.now.body) (branches_of (map branch_view list.now.items))) }
+    ensures { result ≡ spec.size_of_branches
+        (filled_branches (former_of former.now.body) (branches_of (map branch_view list.now.items))) }
 {
     let mut size = Size::none();
     for branch in list {
@@ -121,7 +123,8 @@ fn size_of_branches(list: &Vec<Branch>, former: &Former) -> Size
 #[cycle(size)]
 #[tactic(auto, using(crate::proofs::Sums::one_branch, crate::proofs::Sums::one_request))]
 fn size_of_branch(branch: &Branch, former: &Former) -> Size
-    ensures { result ≡ spec.size_of_branches (filled_branches (former_of former.now.body) (branches_of (branch_view branch.now ∷ []))) }
+    ensures { result ≡ spec.size_of_branches
+        (filled_branches (former_of former.now.body) (branches_of (branch_view branch.now ∷ []))) }
 {
     match &branch.reply {
         None => size_of(&branch.after, former),

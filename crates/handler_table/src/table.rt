@@ -59,9 +59,11 @@ impl Table {
 
     /// Puts handlers over those of the scope, with what stood under the same key in place of each cH.
     pub fn install(&mut self, handlers: &Handlers, scope: u32) -> Result<(), InstallError>
-        ensures installed { OnOk result (table_view self.new ≡ spec.plus scope (table_view self.old) (handlers_view handlers.now)) }
+        ensures installed { OnOk result (table_view self.new
+            ≡ spec.plus scope (table_view self.old) (handlers_view handlers.now)) }
         ensures fit { OnOk result (spec.fits scope (table_view self.old) (handlers_view handlers.now) ≡ true) }
-        ensures refused { IfErr result (TellsWhether (spec.fits scope (table_view self.old) (handlers_view handlers.now))) }
+        ensures refused { IfErr result (TellsWhether
+            (spec.fits scope (table_view self.old) (handlers_view handlers.now))) }
         ensures unchanged { OnErr result (table_view self.new ≡ table_view self.old) }
     {
         if !self.fits(handlers, scope) {
@@ -103,7 +105,8 @@ impl Table {
     /// Takes out the handler of a fault.
     pub fn drop_fault(&mut self, name: u32) -> Option<Behaviour>
         ensures value { option_map behaviour_view result ≡ spec.entry name (table_view self.old).faults }
-        ensures table { table_view self.new ≡ record (table_view self.old) { faults = spec.without name (table_view self.old).faults } }
+        ensures table { table_view self.new
+            ≡ record (table_view self.old) { faults = spec.without name (table_view self.old).faults } }
         ensures room { room self.old ≤ room self.new }
     {
         self.faults.take(name)
@@ -112,7 +115,8 @@ impl Table {
     /// Takes out the handler under the name of a scope.
     pub fn spend(&mut self, scope: u32) -> Option<Behaviour>
         ensures value { option_map behaviour_view result ≡ spec.entry scope (table_view self.old).scopes }
-        ensures table { table_view self.new ≡ record (table_view self.old) { scopes = spec.without scope (table_view self.old).scopes } }
+        ensures table { table_view self.new
+            ≡ record (table_view self.old) { scopes = spec.without scope (table_view self.old).scopes } }
         ensures room { room self.old ≤ room self.new }
     {
         self.scopes.take(scope)
@@ -137,12 +141,26 @@ impl Table {
         self.scopes.reserve(more as usize)
     }
 
+    /// Makes room for what passed from a scope that ended.
+    #[tactic(auto, using(crate::proofs::Counted::entries_counted))]
+    pub fn reserve_for(&mut self, completed: &Handlers) -> Result<(), AllocError>
+        ensures room { OnOk result (length (entries_in (handlers_view completed.now)) ≤ room self.new) }
+        ensures kept { room self.old ≤ room self.new }
+        ensures same { table_view self.new ≡ table_view self.old }
+    {
+        self.scopes.reserve(completed.list.len())
+    }
+
     /// Puts what passed from a scope that ended over the handlers under the names of scopes. Of two under one name the
     /// first stands.
     pub fn merge(&mut self, completed: Handlers)
         requires room { length (entries_in (handlers_view completed)) ≤ room self.old }
         requires keys { are_of_scopes (handlers_view completed) ≡ true }
-        ensures { table_view self.new ≡ record (table_view self.old) { scopes = spec.over (entries_in (handlers_view completed)) (table_view self.old).scopes } }
+        ensures { table_view self.new ≡ record
+            (table_view self.old) {
+              scopes = spec.over (entries_in (handlers_view completed))
+                  (table_view self.old).scopes;
+            } }
     {
         let mut list = completed.list;
         while let Some(handler) = list.pop() {
@@ -163,7 +181,9 @@ impl Table {
 
     /// Handlers as the table takes them.
     fn taken_in(&self, handlers: &Handlers, scope: u32) -> Result<Vec<Handler>, AllocError>
-        ensures { IfOk result (λ v. map handler_view v.items ≡ map (taken scope (table_view self.now)) (map handler_view (out-Handlers handlers.now).list.items)) }
+        ensures { IfOk result
+            (λ v. map handler_view v.items
+            ≡ map (taken scope (table_view self.now)) (map handler_view (out-Handlers handlers.now).list.items)) }
     {
         let mut list = Vec::new(*handlers.list.allocator());
         for handler in &handlers.list {
@@ -190,7 +210,8 @@ impl Table {
     fn put(&mut self, handler: Handler, scope: u32)
         requires faults { 0 < room_of self.old.faults }
         requires scopes { 0 < room_of self.old.scopes }
-        ensures table { table_view self.new ≡ spec.with_handler scope (handler_view handler).key (handler_view handler).body (table_view self.old) }
+        ensures table { table_view self.new
+            ≡ spec.with_handler scope (handler_view handler).key (handler_view handler).body (table_view self.old) }
         ensures faults_room { room_of self.old.faults ≤ room_of self.new.faults + 1 }
         ensures scopes_room { room_of self.old.scopes ≤ room_of self.new.scopes + 1 }
     {
@@ -209,7 +230,11 @@ impl Table {
     fn put_scope(&mut self, handler: Handler)
         requires key { is_scope (handler_view handler).key ≡ true }
         requires room { 0 < room_of self.old.scopes }
-        ensures table { table_view self.new ≡ record (table_view self.old) { scopes = spec.with (number_of (handler_view handler).key) (handler_view handler).body (table_view self.old).scopes } }
+        ensures table { table_view self.new
+            ≡ record (table_view self.old) {
+              scopes = spec.with (number_of (handler_view handler).key)
+                  (handler_view handler).body (table_view self.old).scopes;
+            } }
         ensures faults_room { room_of self.new.faults ≡ room_of self.old.faults }
         ensures scopes_room { room_of self.old.scopes ≤ room_of self.new.scopes + 1 }
     {

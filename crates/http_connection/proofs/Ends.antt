@@ -17,6 +17,9 @@ use Rattle.http_connection.specs.Steps.{HandsOut}
 pub spent_unended : (next : Standing) → next ≡ Stands.Spent → stage_of next ≡ Stages.Ended → ⊥
 spent_unended next e ended = let clash : Stages.Spent ≡ Stages.Ended = sym (ap stage_of e) ∙ ended in cc
 
+pub waiting_unended : (next : Standing) → next ≡ Stands.Waits → stage_of next ≡ Stages.Ended → ⊥
+waiting_unended next e ended = let clash : Stages.Reads ≡ Stages.Ended = sym (ap stage_of e) ∙ ended in cc
+
 pub failed_unended : (next : Standing) → next ≡ Stands.Over Ends.ReadFailed → stage_of next ≡ Stages.Ended → ⊥
 failed_unended next e ended = let clash : Stages.ReadFailed ≡ Stages.Ended = sym (ap stage_of e) ∙ ended in cc
 
@@ -45,10 +48,10 @@ going_unended (Err e) next spent ended = spent_unended next spent ended
 -- a connection that has ended behind what is handed out had ended
 pub ended_before : {E : Type 0} (was now : Standing) (result : Result (Option (List ℕ)) E) → HandsOut was result now → stage_of now ≡ Stages.Ended
     → stage_of was ≡ Stages.Ended
-ended_before Stands.Waits now result h ended = absurd (spent_unended now h.1 ended)
+ended_before Stands.Waits now result h ended = absurd h
 ended_before (Stands.Holds body close) now result h ended =
     let clash : Stages.Owes ≡ Stages.Ended = sym (ap stage_of h.1) ∙ ended in cc
-ended_before (Stands.Owes close) now result h ended = absurd (spent_unended now h.1 ended)
+ended_before (Stands.Owes close) now result h ended = absurd h
 ended_before (Stands.Over ending) now result h ended = sym (ap stage_of h.1) ∙ ended
 ended_before Stands.Spent now result h ended = absurd (spent_unended now h.1 ended)
 

@@ -1,5 +1,5 @@
 -- What each step of a connection passes on.
-use Rattle.std.proofs.Common.{◌≡◌, ◌||◌, inl, inr, ℕ, Bool, true, false, not, ltb, List, [], ◌∷◌, ◌++◌, length, take, Some, None, Result, Ok, Err, IsErr, OnErr, MatchResult, sym, refl, ap, ap₂, ◌∙◌, subst, arith, append-nil}
+use Rattle.std.proofs.Common.{◌≡◌, ◌||◌, inl, inr, ℕ, Bool, true, false, not, ltb, List, [], ◌∷◌, ◌++◌, length, take, Some, None, Result, Ok, Err, IsErr, MatchResult, sym, refl, ap, ap₂, ◌∙◌, subst, arith, append-nil, true≢false}
 use Rattle.std.specs.Prelude.{Option, IfSome}
 use Rattle.std.proofs.lemmas.Bool.{lt-ltb, le-ltb, cases_lt}
 use Rattle.std.proofs.lemmas.List.{take_all}
@@ -17,11 +17,11 @@ use Rattle.http_connection.specs.declared.stage.Ending.{Ending}
 use Rattle.http_connection.specs.declared.stage.Ending.TheVariants as Ends
 use Rattle.http_connection.specs.declared.stage.Standing.{Standing}
 use Rattle.http_connection.specs.declared.stage.Standing.TheVariants as Stands
-use Rattle.http_connection.specs.Stages.{stage_behind, stage_of, is_waiting, MayBeTold, IsOver, IsBehindAsking}
+use Rattle.http_connection.specs.Stages.{stage_behind, stage_of, is_waiting, MayBeAsked, MayBeTold, IsOver, IsBehindAsking, IsBehindTelling}
 use Rattle.outside_traits.specs.Told.{WireTold}
 use Rattle.http_connection.specs.Seen.{Failures, Seen, failures_of}
 use Rattle.http_connection.specs.Talking.{log, log_of, IsAnswered, HasGiven, due, told_to, Closes, HasWritten, HasAsked, Passed, IsOpen, IsShut, cut_behind_failed_write, WireTells, IsTalking, handed}
-use Rattle.http_connection.specs.Steps.{HandsOut, owed_in, is_interim, Takes, Sends, Finishes, IsCarried, IsGoing, IsFed}
+use Rattle.http_connection.specs.Steps.{MayHandOut, HandsOut, MayTell, is_interim, Takes, Sends, Finishes, IsCarried, IsGoing, IsFed}
 use Rattle.http_connection.proofs.Histories.{LetsGo, answered_all}
 
 -- ---- what stays as it was
@@ -553,11 +553,11 @@ hands_out first was now bodies texts result t h s reader = by_next was.kept.next
     failed w is next = if_error result (λ came. IsTalking first now (bodies ++ handed came) texts) (IsTalking first now bodies texts) is (gives_up first was now bodies texts t w s next)
 
     by_next : (next : Standing) → was.kept.next ≡ next → HandsOut next result now.kept.next → Handed first now bodies texts result
-    by_next Stands.Waits e x = failed (wire_at Stands.Waits e) x.0 x.1
+    by_next Stands.Waits e x = absurd x
     by_next (Stands.Holds body close) e x =
         subst (Handed first now bodies texts) (sym x.0)
         (asked_talks first now body close bodies texts (fed_on first was now (Request body close) bodies texts (holding_fed first was body close bodies texts t e) s reader) x.1)
-    by_next (Stands.Owes close) e x = failed (wire_at (Stands.Owes close) e) x.0 x.1
+    by_next (Stands.Owes close) e x = absurd x
     by_next (Stands.Over ending) e x =
         subst (Handed first now bodies texts) (sym x.0)
         (subst (λ b. IsTalking first now b texts) (sym (append-nil bodies)) (moved first was now bodies texts t s reader (x.1 ∙ sym e)))
@@ -574,9 +574,9 @@ over_stage Ends.ReadFailed = inr (inr (inl refl))
 over_stage Ends.WriteFailed = inr (inr (inr refl))
 
 pub stands_then : {E : Type 0} (was now : Standing) (result : Result (Option (List ℕ)) E) → HandsOut was result now → StandsThen result now
-stands_then Stands.Waits now result x = if_error result (λ came. IsBehindAsking came (stage_of now)) (stage_of now ≡ Stages.Spent) x.0 (ap stage_of x.1)
+stands_then Stands.Waits now result x = absurd x
 stands_then (Stands.Holds body close) now result x = subst (λ r. StandsThen r now) (sym x.0) (ap stage_of x.1)
-stands_then (Stands.Owes close) now result x = if_error result (λ came. IsBehindAsking came (stage_of now)) (stage_of now ≡ Stages.Spent) x.0 (ap stage_of x.1)
+stands_then (Stands.Owes close) now result x = absurd x
 stands_then (Stands.Over ending) now result x = subst (λ r. StandsThen r now) (sym x.0) (subst (λ n. IsOver (stage_of n)) (sym x.1) (over_stage ending))
 stands_then Stands.Spent now result x = if_error result (λ came. IsBehindAsking came (stage_of now)) (stage_of now ≡ Stages.Spent) x.0 (ap stage_of x.1)
 
@@ -586,6 +586,42 @@ waits_where (Stands.Holds body close) e = absurd (cc)
 waits_where (Stands.Owes close) e = absurd (cc)
 waits_where (Stands.Over ending) e = absurd (cc)
 waits_where Stands.Spent e = absurd (cc)
+
+pub not_waiting : (next is : Standing) → next ≡ is → is_waiting is ≡ false → is_waiting next ≡ true → ⊥
+not_waiting next is e held waits = true≢false (sym waits ∙ ap is_waiting e ∙ held)
+
+-- ---- what may be handed out
+
+-- where the next request may be asked for, and no more bytes are to be read
+pub may_hand_out : (next : Standing) → MayBeAsked (stage_of next) → is_waiting next ≡ false → MayHandOut next
+may_hand_out Stands.Waits may held = absurd (cc)
+may_hand_out (Stands.Holds body close) may held = tt
+may_hand_out (Stands.Owes close) (inl e) held = absurd (cc)
+may_hand_out (Stands.Owes close) (inr e) held = absurd (cc)
+may_hand_out (Stands.Over ending) may held = tt
+may_hand_out Stands.Spent may held = tt
+
+-- where the connection is over
+pub over_hand_out : (next : Standing) (ending : Ending) → next ≡ Stands.Over ending → MayHandOut next
+over_hand_out next ending e = subst MayHandOut (sym e) tt
+
+-- where what is due for a piece was done
+behind_hand_out : (next : Standing) → IsBehindTelling (stage_of next) → is_waiting next ≡ false → MayHandOut next
+behind_hand_out Stands.Waits behind held = absurd (cc)
+behind_hand_out (Stands.Holds body close) behind held = tt
+behind_hand_out (Stands.Owes close) (inl e) held = absurd (cc)
+behind_hand_out (Stands.Owes close) (inr (inl e)) held = absurd (cc)
+behind_hand_out (Stands.Owes close) (inr (inr e)) held = absurd (cc)
+behind_hand_out (Stands.Over ending) behind held = tt
+behind_hand_out Stands.Spent behind held = tt
+
+-- the same unless memory ran out
+pub hands_behind : {T E : Type 0} (r : Result T E) (next : Standing) → MatchResult r (λ _. IsBehindTelling (stage_of next)) (λ _. next ≡ Stands.Spent)
+    → MatchResult r (λ _. is_waiting next ≡ false → MayHandOut next) (λ _. next ≡ Stands.Spent)
+hands_behind (Ok x) next behind = behind_hand_out next behind
+hands_behind (Err e) next spent = spent
+
+-- ---- the interim line
 
 pub interim_fed : (fed : Fed) → is_interim fed ≡ true → fed ≡ Interim
 interim_fed NotYet e = absurd (cc)
@@ -601,14 +637,14 @@ pub owing_spent : (first : WireTold) (was now : Seen) (close : Bool) (bodies : L
 owing_spent first was now close bodies texts t e s next =
     gives_up first was now bodies texts t (subst (λ n. WireTells (stage_of n) first was.kept.read.items was.line) e t.wire) s next
 
--- only a connection that is spent owes none, where one may be told
-pub owed_or_spent : (next : Standing) → MayBeTold (stage_of next) → owed_in next ≡ None → next ≡ Stands.Spent
-owed_or_spent Stands.Waits (inl e) none = absurd (cc)
-owed_or_spent Stands.Waits (inr e) none = absurd (cc)
-owed_or_spent (Stands.Holds body close) (inl e) none = absurd (cc)
-owed_or_spent (Stands.Holds body close) (inr e) none = absurd (cc)
-owed_or_spent (Stands.Owes close) may none = absurd (cc)
-owed_or_spent (Stands.Over ending) may none = absurd (not_over ending may)
+-- an answer is owed, or memory ran out, where one may be told
+pub may_tell : (next : Standing) → MayBeTold (stage_of next) → MayTell next
+may_tell Stands.Waits (inl e) = absurd (cc)
+may_tell Stands.Waits (inr e) = absurd (cc)
+may_tell (Stands.Holds body close) (inl e) = absurd (cc)
+may_tell (Stands.Holds body close) (inr e) = absurd (cc)
+may_tell (Stands.Owes close) may = tt
+may_tell (Stands.Over ending) may = absurd (not_over ending may)
   where
     not_over : (ending : Ending) → MayBeTold (stage_behind ending) → ⊥
     not_over Ends.Ended (inl e) = cc
@@ -619,14 +655,7 @@ owed_or_spent (Stands.Over ending) may none = absurd (not_over ending may)
     not_over Ends.ReadFailed (inr e) = cc
     not_over Ends.WriteFailed (inl e) = cc
     not_over Ends.WriteFailed (inr e) = cc
-owed_or_spent Stands.Spent may none = refl
-
-pub owes_where : (next : Standing) (close : Bool) → owed_in next ≡ Some close → next ≡ Stands.Owes close
-owes_where Stands.Waits close e = absurd (cc)
-owes_where (Stands.Holds body c) close e = absurd (cc)
-owes_where (Stands.Owes c) close e = let same : c ≡ close = cc in ap (λ x. Stands.Owes x) same
-owes_where (Stands.Over ending) close e = absurd (cc)
-owes_where Stands.Spent close e = absurd (cc)
+may_tell Stands.Spent may = tt
 
 -- the wire failed in the answer
 pub answer_failing : (first : WireTold) (was mid now : Seen) (close : Bool) (text : Option (List ℕ)) (bodies : List (List ℕ)) (texts : List (Option (List ℕ)))
@@ -663,8 +692,3 @@ told_or_spent (Err e) P first now bodies texts text t next = spent_any first now
 pub spent_stage : {T E : Type 0} (r : Result T E) (P : T → Type 0) (next : Standing) → MatchResult r P (λ _. next ≡ Stands.Spent) → MatchResult r P (λ _. stage_of next ≡ Stages.Spent)
 spent_stage (Ok x) P next h = h
 spent_stage (Err e) P next h = ap stage_of h
-
--- what an error leaves
-pub err_only : {T E : Type 0} (r : Result T E) (P : T → Type 0) (Q : Type 0) → MatchResult r P (λ _. Q) → OnErr r Q
-err_only (Ok x) P Q h = tt
-err_only (Err e) P Q h = h

@@ -1,11 +1,12 @@
 -- These definitions serve the proofs alone: no promise of a public call speaks of them.
 -- What a connection does step by step.
-use Rattle.std.specs.Prelude.{◌≡◌, ◌<◌, ◌≤◌, ◌+◌, ℕ, Bool, true, false, List, ◌∷◌, ◌++◌, length, take}
+use Rattle.std.specs.Prelude.{◌≡◌, ◌<◌, ◌≤◌, ◌+◌, ◌-◌, ◌^◌, ℕ, Bool, true, false, if◌then◌else◌, List, ◌∷◌, ◌++◌, length, take}
 use Rattle.std.specs.Prelude.{Option, None, Some, Result, Ok, IsErr}
 use Rattle.std.specs.Io.KnownBytes.{Appends}
 use Rattle.outside_traits.specs.Told.{Lists}
 use Rattle.outside_traits.specs.declared.calls.WireCall.{WireCall}
 use Rattle.outside_traits.specs.declared.calls.WireCall.TheVariants.{Read}
+use Rattle.http_port.specs.Feeding.{Place, Open, Over, Spent}
 use Rattle.http_port.specs.Prompt.{read_in, written_in}
 use Rattle.http_port.specs.declared.head_reader.Fed.{Fed}
 use Rattle.http_port.specs.declared.head_reader.Fed.TheVariants.{NotYet, Interim, Request, Refused}
@@ -17,23 +18,42 @@ use Rattle.outside_traits.specs.Told.{WireTold}
 use Rattle.http_connection.specs.Seen.{Seen, failures_of}
 use Rattle.http_connection.specs.Talking.{Log, log, log_of, IsAnswered, HasGiven, IsOpen, cut_behind_failed_write}
 use Rattle.http_connection.specs.Prompt.{IsDone}
+use Rattle.http_connection.specs.Stages.{is_waiting}
+
+-- what may be handed out: a request that is held, or that none comes any more; or memory ran out
+abbrev pub MayHandOut : Standing → Type 0
+MayHandOut Stands.Waits = ⊥
+MayHandOut (Stands.Holds body close) = Unit {0}
+MayHandOut (Stands.Owes close) = ⊥
+MayHandOut (Stands.Over ending) = Unit {0}
+MayHandOut Stands.Spent = Unit {0}
 
 -- What is handed out by how the connection stands, and how it stands then: a request that is held; none of a connection
 -- that is over.
 abbrev pub HandsOut : {E : Type 0} → Standing → Result (Option (List ℕ)) E → Standing → Type 0
 HandsOut (Stands.Holds body close) result next = (result ≡ Ok (Some body)) × (next ≡ Stands.Owes close)
 HandsOut (Stands.Over ending) result next = (result ≡ Ok None) × (next ≡ Stands.Over ending)
-HandsOut Stands.Waits result next = IsErr result × (next ≡ Stands.Spent)
-HandsOut (Stands.Owes close) result next = IsErr result × (next ≡ Stands.Spent)
+HandsOut Stands.Waits result next = ⊥
+HandsOut (Stands.Owes close) result next = ⊥
 HandsOut Stands.Spent result next = IsErr result × (next ≡ Stands.Spent)
 
--- whether the connection closes with the answer that is owed, where one is
-abbrev pub owed_in : Standing → Option Bool
-owed_in Stands.Waits = None
-owed_in (Stands.Holds body close) = None
-owed_in (Stands.Owes close) = Some close
-owed_in (Stands.Over ending) = None
-owed_in Stands.Spent = None
+-- an answer may be told: one is owed, or memory ran out
+abbrev pub MayTell : Standing → Type 0
+MayTell Stands.Waits = ⊥
+MayTell (Stands.Holds body close) = ⊥
+MayTell (Stands.Owes close) = Unit {0}
+MayTell (Stands.Over ending) = ⊥
+MayTell Stands.Spent = Unit {0}
+
+-- the head that comes next had its interim line
+abbrev pub is_invited : Place → Bool
+is_invited (Open left asked) = asked
+is_invited Over = false
+is_invited Spent = false
+
+-- how many bytes a connection that waits may read yet, as memory has an end
+abbrev pub left_to_read : Kept → ℕ
+left_to_read kept = if is_waiting kept.next then 2 ^ 63 - length kept.read.items else 0
 
 -- the interim line is asked for
 abbrev pub is_interim : Fed → Bool

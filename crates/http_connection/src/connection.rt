@@ -63,9 +63,10 @@ impl<W: Wire> Connection<W> {
         self.kept.written.as_slice()
     }
 
-    /// Reads on until the next request is whole, and hands out its body; none where no request comes any more. A request
-    /// that is whole already is handed out without a call of the wire. After want of memory nothing was handed out. A
-    /// connection that was made with an open wire stands as ended only where a read told the end of what comes in.
+    /// Reads on until the next request is whole, and hands out its body; none where no request comes any more. A
+    /// request that is whole already is handed out without a call of the wire. After want of memory nothing was handed
+    /// out. A connection that was made with an open wire stands as ended only where a read told the end of what comes
+    /// in.
     pub fn next_request(&mut self) -> Result<Option<Bytes>, AllocError>
         requires { MayBeAsked (stage_of self.old.kept.next) }
         ensures talks { (first : WireTold) (bodies : List (List ℕ)) (texts : List (Option (List ℕ)))
@@ -73,7 +74,8 @@ impl<W: Wire> Connection<W> {
             → MatchResult result
             (λ came. IsTalking first (seen self.new.kept (W.told self.new.wire)) (bodies ++ handed came) texts)
             (λ _. IsTalking first (seen self.new.kept (W.told self.new.wire)) bodies texts) }
-        ensures stage { MatchResult result (λ came. IsBehindAsking came (stage_of self.new.kept.next)) (λ _. stage_of self.new.kept.next ≡ Stages.Spent) }
+        ensures stage { MatchResult result (λ came. IsBehindAsking came (stage_of self.new.kept.next))
+            (λ _. stage_of self.new.kept.next ≡ Stages.Spent) }
         ensures held { is_waiting self.old.kept.next ≡ false → self.new.wire ≡ self.old.wire }
         ensures prompt { (first : WireTold) (bodies : List (List ℕ)) (texts : List (Option (List ℕ)))
             → IsTalking first (seen self.old.kept (W.told self.old.wire)) bodies texts
@@ -82,7 +84,8 @@ impl<W: Wire> Connection<W> {
             (log self.new.kept.read.items self.new.kept.written.items bodies texts) }
         ensures ended { (first : WireTold) (bodies : List (List ℕ)) (texts : List (Option (List ℕ)))
             → IsTalking first (seen self.old.kept (W.told self.old.wire)) bodies texts
-            → first.closed ≡ false → stage_of self.new.kept.next ≡ Stages.Ended → (W.told self.new.wire).ended ≡ true }
+            → first.closed ≡ false → stage_of self.new.kept.next ≡ Stages.Ended
+            → (W.told self.new.wire).ended ≡ true }
     {
         if !self.kept.waits() {
             return self.kept.hand_out();
@@ -92,18 +95,21 @@ impl<W: Wire> Connection<W> {
     }
 
     /// Answers the request that was handed out last, with a text or with nothing to say. Where the connection goes on,
-    /// all is written then that is due for the bytes that came already: the interim line of the next head, or a refusal.
-    /// After want of memory the text counts for nothing.
+    /// all is written then that is due for the bytes that came already: the interim line of the next head, or a
+    /// refusal. After want of memory the text counts for nothing.
     pub fn answer(&mut self, text: Option<&[u8]>) -> Result<(), AllocError>
         requires { MayBeTold (stage_of self.old.kept.next) }
         ensures talks { (first : WireTold) (bodies : List (List ℕ)) (texts : List (Option (List ℕ)))
             → IsTalking first (seen self.old.kept (W.told self.old.wire)) bodies texts
             → MatchResult result
-            (λ _. IsTalking first (seen self.new.kept (W.told self.new.wire)) bodies (texts ++ option_copied text.entry ∷ []))
+            (λ _. IsTalking first (seen self.new.kept (W.told self.new.wire)) bodies
+            (texts ++ option_copied text.entry ∷ []))
             (λ _. IsTalking first (seen self.new.kept (W.told self.new.wire)) bodies texts) }
-        ensures stage { MatchResult result (λ _. IsBehindTelling (stage_of self.new.kept.next)) (λ _. stage_of self.new.kept.next ≡ Stages.Spent) }
+        ensures stage { MatchResult result (λ _. IsBehindTelling (stage_of self.new.kept.next))
+            (λ _. stage_of self.new.kept.next ≡ Stages.Spent) }
         ensures read { self.new.kept.read.items ≡ self.old.kept.read.items }
-        ensures wrote { OnlyWrites (W.told self.old.wire).calls (W.told self.new.wire).calls self.old.kept.written.items self.new.kept.written.items }
+        ensures wrote { OnlyWrites (W.told self.old.wire).calls (W.told self.new.wire).calls
+            self.old.kept.written.items self.new.kept.written.items }
     {
         tell(&mut self.wire, &mut self.kept, text)
     }
@@ -126,7 +132,7 @@ impl<W: Wire> Connection<W> {
     }
 }
 
-/// Writes the answer that is owed, and closes or goes on.
+/// Writes the answer that is owed, and closes or goes on. Where memory ran out, that is answered again.
 fn tell<W: Wire>(wire: &mut W, kept: &mut Kept, text: Option<&[u8]>) -> Result<(), AllocError>
     requires { MayBeTold (stage_of kept.old.next) }
     ensures talks { (first : WireTold) (bodies : List (List ℕ)) (texts : List (Option (List ℕ)))
@@ -134,14 +140,14 @@ fn tell<W: Wire>(wire: &mut W, kept: &mut Kept, text: Option<&[u8]>) -> Result<(
         → MatchResult result
         (λ _. IsTalking first (seen kept.new (W.told wire.new)) bodies (texts ++ option_copied text.entry ∷ []))
         (λ _. IsTalking first (seen kept.new (W.told wire.new)) bodies texts) }
-    ensures next { MatchResult result (λ _. IsBehindTelling (stage_of kept.new.next)) (λ _. kept.new.next ≡ Stands.Spent) }
+    ensures next { MatchResult result (λ _. IsBehindTelling (stage_of kept.new.next))
+        (λ _. kept.new.next ≡ Stands.Spent) }
     ensures read { kept.new.read.items ≡ kept.old.read.items }
-    ensures wrote { OnlyWrites (W.told wire.old).calls (W.told wire.new).calls kept.old.written.items kept.new.written.items }
+    ensures wrote { OnlyWrites (W.told wire.old).calls (W.told wire.new).calls kept.old.written.items
+        kept.new.written.items }
 {
-    match kept.owed() {
-        None => Err(AllocError),
-        Some(close) => answer_with(wire, kept, text, close),
-    }
+    let close = kept.owed()?;
+    answer_with(wire, kept, text, close)
 }
 
 /// Writes the answer with which the connection closes or goes on.
@@ -157,9 +163,11 @@ fn answer_with<W: Wire>(
         → MatchResult result
         (λ _. IsTalking first (seen kept.new (W.told wire.new)) bodies (texts ++ option_copied text.entry ∷ []))
         (λ _. IsTalking first (seen kept.new (W.told wire.new)) bodies texts) }
-    ensures next { MatchResult result (λ _. IsBehindTelling (stage_of kept.new.next)) (λ _. kept.new.next ≡ Stands.Spent) }
+    ensures next { MatchResult result (λ _. IsBehindTelling (stage_of kept.new.next))
+        (λ _. kept.new.next ≡ Stands.Spent) }
     ensures read { kept.new.read.items ≡ kept.old.read.items }
-    ensures wrote { OnlyWrites (W.told wire.old).calls (W.told wire.new).calls kept.old.written.items kept.new.written.items }
+    ensures wrote { OnlyWrites (W.told wire.old).calls (W.told wire.new).calls kept.old.written.items
+        kept.new.written.items }
 {
     kept.stand(Standing::Spent);
     let bytes = answer_bytes(kept.alloc, text, close)?;

@@ -1,8 +1,8 @@
 //! What a connection keeps beside its wire.
-ghost use Rattle.std.specs.Prelude.{◌≡◌, [], false, IfOk};
+ghost use Rattle.std.specs.Prelude.{◌≡◌, [], false, IfOk, MatchResult};
 ghost use Rattle.http_port.specs.Feeding.{Open, Feeds};
 ghost use Rattle.http_connection.specs.Stages.{is_waiting};
-ghost use Rattle.http_connection.specs.Steps.{HandsOut, owed_in};
+ghost use Rattle.http_connection.specs.Steps.{HandsOut, MayHandOut, MayTell};
 ghost use Rattle.http_connection.specs.declared.stage.Standing.TheVariants as Stands;
 
 use crate::stage::Standing;
@@ -66,16 +66,16 @@ impl Kept {
         matches!(self.next, Standing::Waits)
     }
 
-    /// Whether the connection closes with the answer that is owed, where one is.
-    pub(crate) fn owed(&self) -> Option<bool>
-        ensures { result ≡ owed_in self.now.next }
+    /// Whether the connection closes with the answer that is owed. Where memory ran out, that is answered again.
+    pub(crate) fn owed(&self) -> Result<bool, AllocError>
+        requires { MayTell self.now.next }
+        ensures { MatchResult result (λ close. self.now.next ≡ Stands.Owes close)
+            (λ _. self.now.next ≡ Stands.Spent) }
     {
         match &self.next {
-            Standing::Owes { close } => Some(*close),
-            Standing::Waits => None,
-            Standing::Holds { .. } => None,
-            Standing::Over(_) => None,
-            Standing::Spent => None,
+            Standing::Owes { close } => Ok(*close),
+            Standing::Spent => Err(AllocError),
+            Standing::Waits | Standing::Holds { .. } | Standing::Over(_) => unreachable!(),
         }
     }
 
@@ -89,8 +89,10 @@ impl Kept {
         self.reader.feed(piece)
     }
 
-    /// Hands out the request that is held, whose answer is owed then; none where the connection is over.
+    /// Hands out the request that is held, whose answer is owed then; none where the connection is over. Where memory
+    /// ran out, that is answered again.
     pub(crate) fn hand_out(&mut self) -> Result<Option<Bytes>, AllocError>
+        requires { MayHandOut self.old.next }
         ensures handed { HandsOut self.old.next result self.new.next }
         ensures reader { self.new.reader ≡ self.old.reader }
         ensures read { self.new.read.items ≡ self.old.read.items }
@@ -105,9 +107,8 @@ impl Kept {
                 self.stand(Standing::Over(ending));
                 Ok(None)
             }
-            Standing::Waits => Err(AllocError),
-            Standing::Owes { .. } => Err(AllocError),
             Standing::Spent => Err(AllocError),
+            Standing::Waits | Standing::Owes { .. } => unreachable!(),
         }
     }
 }

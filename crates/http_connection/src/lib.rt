@@ -1,6 +1,6 @@
-//! One connection of HTTP/1.1, as a front of several connections holds it: it reads on until a request is whole and hands
-//! out its body, and is told the answer later, possibly after other connections were served.
-//! What passes on it is what its bytes hold, whatever the pieces in which they come.
+//! One connection of HTTP/1.1, as a front of several connections holds it: it reads on until a request is whole and
+//! hands out its body, and is told the answer later, possibly after other connections were served. What passes on it is
+//! what its bytes hold, whatever the pieces in which they come.
 #![tactic(auto)]
 
 mod connection;

@@ -27,14 +27,16 @@ fn write_all<W: Wire>(wire: &mut W, bytes: &[u8]) -> usize
     done
 }
 
-/// Writes the bytes and keeps those that the wire took, and says whether that cut them. After want of memory nothing was written.
+/// Writes the bytes and keeps those that the wire took, and says whether that cut them. After want of memory nothing
+/// was written.
 pub(crate) fn send<W: Wire>(wire: &mut W, kept: &mut Kept, bytes: &[u8]) -> Result<bool, AllocError>
     ensures sends { MatchResult result
         (λ cut. Sends bytes.now cut
         (seen kept.old (W.told wire.old))
         (seen kept.new (W.told wire.new)))
         (λ _. Rests kept.old kept.new × (wire.new ≡ wire.old)) }
-    ensures wrote { OnlyWrites (W.told wire.old).calls (W.told wire.new).calls kept.old.written.items kept.new.written.items }
+    ensures wrote { OnlyWrites (W.told wire.old).calls (W.told wire.new).calls kept.old.written.items
+        kept.new.written.items }
 {
     kept.written.reserve(bytes.len())?;
     let count = write_all(wire, bytes);
@@ -47,7 +49,8 @@ pub(crate) fn finish<W: Wire>(wire: &mut W, kept: &mut Kept, ending: Ending)
     ensures finishes { Finishes ending
         (seen kept.old (W.told wire.old))
         (seen kept.new (W.told wire.new)) }
-    ensures wrote { OnlyWrites (W.told wire.old).calls (W.told wire.new).calls kept.old.written.items kept.new.written.items }
+    ensures wrote { OnlyWrites (W.told wire.old).calls (W.told wire.new).calls kept.old.written.items
+        kept.new.written.items }
     ensures ended { (W.told wire.new).ended ≡ (W.told wire.old).ended }
 {
     wire.close();

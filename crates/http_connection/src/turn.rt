@@ -1,12 +1,12 @@
 //! What a connection does for the bytes that come.
-ghost use Rattle.std.specs.Prelude.{◌≡◌, true, false, List, ℕ, Option, OnErr, MatchResult};
+ghost use Rattle.std.specs.Prelude.{◌≡◌, ◌<◌, true, false, length, List, ℕ, Option, MatchResult};
 ghost use Rattle.http_port.specs.declared.head_reader.Fed.TheVariants as Gives;
-ghost use Rattle.http_connection.specs.Stages.{stage_of, IsBehindTelling};
+ghost use Rattle.http_connection.specs.Stages.{stage_of, is_waiting, IsBehindTelling};
 ghost use Rattle.outside_traits.specs.Told.{WireTold};
 ghost use Rattle.http_connection.specs.Seen.{seen};
 ghost use Rattle.http_connection.specs.Talking.{log, IsTalking};
 ghost use Rattle.http_connection.specs.Prompt.{OnlyWrites};
-ghost use Rattle.http_connection.specs.Steps.{IsGoing, IsFed, is_interim, Called};
+ghost use Rattle.http_connection.specs.Steps.{IsGoing, IsFed, is_interim, is_invited, Called, MayHandOut};
 ghost use Rattle.http_connection.specs.declared.stage.Stage.TheVariants as Stages;
 ghost use Rattle.http_connection.specs.declared.stage.Standing.TheVariants as Stands;
 
@@ -29,7 +29,7 @@ pub(crate) fn settle<W: Wire>(wire: &mut W, kept: &mut Kept) -> Result<(), Alloc
     ensures talks { (first : WireTold) (bodies : List (List ℕ)) (texts : List (Option (List ℕ)))
         → IsTalking first (seen kept.old (W.told wire.old)) bodies texts
         → IsTalking first (seen kept.new (W.told wire.new)) bodies texts }
-    ensures next { OnErr result (kept.new.next ≡ Stands.Spent) }
+    ensures next { MatchResult result (λ _. MayHandOut kept.new.next) (λ _. kept.new.next ≡ Stands.Spent) }
     ensures called { (first : WireTold) (bodies : List (List ℕ)) (texts : List (Option (List ℕ)))
         → IsTalking first (seen kept.old (W.told wire.old)) bodies texts
         → Called (W.told wire.old).calls (W.told wire.new).calls
@@ -39,14 +39,10 @@ pub(crate) fn settle<W: Wire>(wire: &mut W, kept: &mut Kept) -> Result<(), Alloc
         → IsTalking first (seen kept.old (W.told wire.old)) bodies texts
         → first.closed ≡ false → stage_of kept.new.next ≡ Stages.Ended → (W.told wire.new).ended ≡ true }
 {
-    for _ in 0..u64::MAX {
+    while kept.waits() {
         read_on(wire, kept)?;
-        if !kept.waits() {
-            return Ok(());
-        }
     }
-    kept.stand(Standing::Spent);
-    Err(AllocError)
+    Ok(())
 }
 
 /// Reads a piece and does all that is due for it.
@@ -55,7 +51,9 @@ fn read_on<W: Wire>(wire: &mut W, kept: &mut Kept) -> Result<(), AllocError>
     ensures talks { (first : WireTold) (bodies : List (List ℕ)) (texts : List (Option (List ℕ)))
         → IsTalking first (seen kept.old (W.told wire.old)) bodies texts
         → IsTalking first (seen kept.new (W.told wire.new)) bodies texts }
-    ensures next { OnErr result (kept.new.next ≡ Stands.Spent) }
+    ensures next { MatchResult result (λ _. is_waiting kept.new.next ≡ false → MayHandOut kept.new.next)
+        (λ _. kept.new.next ≡ Stands.Spent) }
+    ensures further { is_waiting kept.new.next ≡ true → length kept.old.read.items < length kept.new.read.items }
     ensures called { (first : WireTold) (bodies : List (List ℕ)) (texts : List (Option (List ℕ)))
         → IsTalking first (seen kept.old (W.told wire.old)) bodies texts
         → Called (W.told wire.old).calls (W.told wire.new).calls
@@ -90,9 +88,11 @@ pub(crate) fn go_on<W: Wire>(wire: &mut W, kept: &mut Kept, piece: &[u8]) -> Res
     ensures talks { (first : WireTold) (bodies : List (List ℕ)) (texts : List (Option (List ℕ)))
         → IsGoing first (seen kept.old (W.told wire.old)) piece.now bodies texts
         → IsTalking first (seen kept.new (W.told wire.new)) bodies texts }
-    ensures next { MatchResult result (λ _. IsBehindTelling (stage_of kept.new.next)) (λ _. kept.new.next ≡ Stands.Spent) }
+    ensures next { MatchResult result (λ _. IsBehindTelling (stage_of kept.new.next))
+        (λ _. kept.new.next ≡ Stands.Spent) }
     ensures read { kept.new.read.items ≡ kept.old.read.items }
-    ensures wrote { OnlyWrites (W.told wire.old).calls (W.told wire.new).calls kept.old.written.items kept.new.written.items }
+    ensures wrote { OnlyWrites (W.told wire.old).calls (W.told wire.new).calls kept.old.written.items
+        kept.new.written.items }
 {
     let fed = kept.feed(piece)?;
     if is_interim(&fed) {
@@ -108,15 +108,18 @@ fn is_interim(fed: &Fed) -> bool
     matches!(fed, Fed::Interim)
 }
 
-/// Writes the interim line, and goes on with what the reader gives then.
+/// Writes the interim line, and goes on with what the reader gives then, which is no second one.
 fn invite<W: Wire>(wire: &mut W, kept: &mut Kept) -> Result<(), AllocError>
-    requires { kept.old.next ≡ Stands.Spent }
+    requires next { kept.old.next ≡ Stands.Spent }
+    requires invited { is_invited kept.old.reader ≡ true }
     ensures talks { (first : WireTold) (bodies : List (List ℕ)) (texts : List (Option (List ℕ)))
         → IsFed first (seen kept.old (W.told wire.old)) Gives.Interim bodies texts
         → IsTalking first (seen kept.new (W.told wire.new)) bodies texts }
-    ensures next { MatchResult result (λ _. IsBehindTelling (stage_of kept.new.next)) (λ _. kept.new.next ≡ Stands.Spent) }
+    ensures next { MatchResult result (λ _. IsBehindTelling (stage_of kept.new.next))
+        (λ _. kept.new.next ≡ Stands.Spent) }
     ensures read { kept.new.read.items ≡ kept.old.read.items }
-    ensures wrote { OnlyWrites (W.told wire.old).calls (W.told wire.new).calls kept.old.written.items kept.new.written.items }
+    ensures wrote { OnlyWrites (W.told wire.old).calls (W.told wire.new).calls kept.old.written.items
+        kept.new.written.items }
 {
     let cut = send(wire, kept, INTERIM)?;
     if cut {
@@ -124,10 +127,6 @@ fn invite<W: Wire>(wire: &mut W, kept: &mut Kept) -> Result<(), AllocError>
         return Ok(());
     }
     let fed = kept.feed(&[])?;
-    // No reader gives a second interim line of one head, which is not shown here.
-    if is_interim(&fed) {
-        return Err(AllocError);
-    }
     take_up(wire, kept, fed)
 }
 
@@ -138,9 +137,11 @@ fn take_up<W: Wire>(wire: &mut W, kept: &mut Kept, fed: Fed) -> Result<(), Alloc
     ensures talks { (first : WireTold) (bodies : List (List ℕ)) (texts : List (Option (List ℕ)))
         → IsFed first (seen kept.old (W.told wire.old)) fed bodies texts
         → IsTalking first (seen kept.new (W.told wire.new)) bodies texts }
-    ensures next { MatchResult result (λ _. IsBehindTelling (stage_of kept.new.next)) (λ _. kept.new.next ≡ Stands.Spent) }
+    ensures next { MatchResult result (λ _. IsBehindTelling (stage_of kept.new.next))
+        (λ _. kept.new.next ≡ Stands.Spent) }
     ensures read { kept.new.read.items ≡ kept.old.read.items }
-    ensures wrote { OnlyWrites (W.told wire.old).calls (W.told wire.new).calls kept.old.written.items kept.new.written.items }
+    ensures wrote { OnlyWrites (W.told wire.old).calls (W.told wire.new).calls kept.old.written.items
+        kept.new.written.items }
 {
     match fed {
         Fed::NotYet => {
@@ -162,9 +163,11 @@ fn refuse<W: Wire>(wire: &mut W, kept: &mut Kept, status: u16) -> Result<(), All
     ensures talks { (first : WireTold) (bodies : List (List ℕ)) (texts : List (Option (List ℕ)))
         → IsFed first (seen kept.old (W.told wire.old)) (Gives.Refused status) bodies texts
         → IsTalking first (seen kept.new (W.told wire.new)) bodies texts }
-    ensures next { MatchResult result (λ _. IsBehindTelling (stage_of kept.new.next)) (λ _. kept.new.next ≡ Stands.Spent) }
+    ensures next { MatchResult result (λ _. IsBehindTelling (stage_of kept.new.next))
+        (λ _. kept.new.next ≡ Stands.Spent) }
     ensures read { kept.new.read.items ≡ kept.old.read.items }
-    ensures wrote { OnlyWrites (W.told wire.old).calls (W.told wire.new).calls kept.old.written.items kept.new.written.items }
+    ensures wrote { OnlyWrites (W.told wire.old).calls (W.told wire.new).calls kept.old.written.items
+        kept.new.written.items }
 {
     let bytes = response_bytes(kept.alloc, status, &[], true)?;
     let cut = send(wire, kept, bytes.as_slice())?;

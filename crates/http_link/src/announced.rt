@@ -45,7 +45,8 @@ pub(crate) const NOTHING: Announced = Announced {
 pub(crate) fn announced_in(bytes: &[u8], scan: &mut Scan) -> Option<Announced>
     requires { HoldsScan (take LONGEST_HEAD bytes.now) scan.old }
     ensures none { IfNone result ((head_part bytes.now ≡ None) × (length bytes.now < LONGEST_HEAD)) }
-    ensures some { IfSome result (λ a. HasHead bytes.now a ⊎ ((a.extent ≡ Extent.Refused) × IsNoResponse bytes.now false)) }
+    ensures some { IfSome result
+        (λ a. HasHead bytes.now a ⊎ ((a.extent ≡ Extent.Refused) × IsNoResponse bytes.now false)) }
     ensures fits { IfSome result Fits }
     ensures scan { HoldsScan (take LONGEST_HEAD bytes.now) scan.new }
 {

@@ -11,7 +11,8 @@ use httparse::spans::Span;
 use outside_dials::Dial;
 use outside_traits::{Failed, Wire};
 
-/// Dials a location, writes a request there and reads the response: it says where the body is, none where what came is no response. The wire goes back.
+/// Dials a location, writes a request there and reads the response: it says where the body is, none where what came is
+/// no response. The wire goes back.
 pub(crate) fn visit<D: Dial>(
     dial: &mut D,
     location: &str,

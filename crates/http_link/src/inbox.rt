@@ -16,7 +16,8 @@ use outside_traits::{Failed, Wire};
 use std::alloc::{AllocError, Global};
 use std::marker::Model;
 
-/// The most bytes that are read: those of the longest head part and the longest body, and one more, which shows that a body is too long.
+/// The most bytes that are read: those of the longest head part and the longest body, and one more, which shows that a
+/// body is too long.
 pub(crate) const MOST_READ: usize = LONGEST_HEAD + LONGEST_BODY as usize + 1;
 
 /// How many bytes are read at once.

@@ -52,8 +52,10 @@ impl<D: Dial> Link for HttpLink<D> {
 
     fn trip(&mut self, location: &str, text: &[u8]) -> Result<Vec<u8>, CallError>
         ensures trip { MatchResult result
-            (λ body. Answered location.now text.now (telling D.blank (D.told self.old.dial)) (telling D.blank (D.told self.new.dial)) body.items)
-            (λ error. BringsNothing location.now text.now (telling D.blank (D.told self.old.dial)) (telling D.blank (D.told self.new.dial)) error) }
+            (λ body. Answered location.now text.now (telling D.blank (D.told self.old.dial))
+            (telling D.blank (D.told self.new.dial)) body.items)
+            (λ error. BringsNothing location.now text.now (telling D.blank (D.told self.old.dial))
+            (telling D.blank (D.told self.new.dial)) error) }
         ensures faults { self.new.faults ≡ faults_after result self.old.faults }
     {
         let request = request_bytes(self.alloc, location, text)?;

@@ -4,6 +4,7 @@ pub mod KnownLemmas
 pub mod PartLemmas
 pub mod PlaceLemmas
 pub mod ReadingLemmas
+pub mod InterimLemmas
 pub mod TalkLemmas
 pub mod TurnLemmas
 pub mod CallLemmas

@@ -97,7 +97,8 @@ impl Framing {
     }
 }
 
-/// The number that digits write, where they are digits alone. One more than the longest body stands for each larger number.
+/// The number that digits write, where they are digits alone. One more than the longest body stands for each larger
+/// number.
 fn capped_number(digits: &[u8]) -> Option<u32>
     ensures { result ≡ (if is_digits digits.now then Some (min (digits_value 10 digits.now) 65537) else None) }
 {

@@ -75,7 +75,8 @@ impl HeadReader {
         }
     }
 
-    /// Takes the next piece of the connection's bytes, and gives what comes next of them. An empty piece asks for what follows that.
+    /// Takes the next piece of the connection's bytes, and gives what comes next of them. An empty piece asks for what
+    /// follows that.
     pub fn feed(&mut self, piece: &[u8]) -> Result<Fed, AllocError>
         ensures gives { IfOk result (λ fed. Feeds self.old piece.now fed self.new) }
         ensures err { OnErr result (self.new ≡ Spent) }
@@ -110,7 +111,8 @@ fn advance(
     piece: &[u8],
 ) -> Result<Came, AllocError>
     requires { ∥ StageHolds unread.old stage ∥₁ }
-    ensures gives { IfOk result (λ came. Feeds (place_of unread.old stage) piece.now came.fed (place_of unread.new came.stage)) }
+    ensures gives { IfOk result
+        (λ came. Feeds (place_of unread.old stage) piece.now came.fed (place_of unread.new came.stage)) }
     ensures stage { IfOk result (λ came. ∥ StageHolds unread.new came.stage ∥₁) }
 {
     match stage {
@@ -161,7 +163,8 @@ fn from_head(alloc: Global, unread: &mut Unread, mut scan: Scan) -> Result<Came,
 /// What comes where a body is waited for.
 fn from_body(alloc: Global, unread: &mut Unread, admission: Admission) -> Result<Came, AllocError>
     requires { ∥ Judges unread.old (Admits admission) ∥₁ }
-    ensures gives { IfOk result (λ came. (came.fed, place_of unread.new came.stage) ≡ next_in_body unread.old admission) }
+    ensures gives { IfOk result
+        (λ came. (came.fed, place_of unread.new came.stage) ≡ next_in_body unread.old admission) }
     ensures stage { IfOk result (λ came. ∥ StageHolds unread.new came.stage ∥₁) }
 {
     let start = admission.head as usize;

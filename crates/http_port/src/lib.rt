@@ -1,6 +1,7 @@
-//! HTTP/1.1 as a service speaks it: requests out of the bytes of a connection, however these are cut, and the bytes of responses.
-//! What the bytes hold is defined over the whole of them; the reader meets that with each piece that it is fed.
-//! What a client reads and writes by the same rules is open to it: the search for the end of a head part, what fields say of a body, and the writing of bytes.
+//! HTTP/1.1 as a service speaks it: requests out of the bytes of a connection, however these are cut, and the bytes of
+//! responses. What the bytes hold is defined over the whole of them; the reader meets that with each piece that it is
+//! fed. What a client reads and writes by the same rules is open to it: the search for the end of a head part, what
+//! fields say of a body, and the writing of bytes.
 #![tactic(auto)]
 
 mod fields;

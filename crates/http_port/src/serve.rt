@@ -29,6 +29,8 @@ pub trait Serve {
 
     /// What is said to the request with this body. For want of memory nothing is.
     fn request(&mut self, body: &[u8]) -> Result<Said, AllocError>
-        ensures heard { MatchResult result (λ _. Grows (heard self.old) (heard self.new) (body.now ∷ [])) (λ _. heard self.new ≡ heard self.old) }
-        ensures said { MatchResult result (λ answer. Grows (said self.old) (said self.new) (answer ∷ [])) (λ _. said self.new ≡ said self.old) };
+        ensures heard { MatchResult result (λ _. Grows (heard self.old) (heard self.new) (body.now ∷ []))
+            (λ _. heard self.new ≡ heard self.old) }
+        ensures said { MatchResult result (λ answer. Grows (said self.old) (said self.new) (answer ∷ []))
+            (λ _. said self.new ≡ said self.old) };
 }

@@ -32,7 +32,8 @@ pub enum WireEnd {
 /// How many bytes are read at once.
 const CHUNK: usize = 4096;
 
-/// Serves the requests of a connection one after another, as far as the bytes reach: writes the interim lines and the responses, and asks for each answer. Where an answer comes later, the caller writes it and may call again.
+/// Serves the requests of a connection one after another, as far as the bytes reach: writes the interim lines and the
+/// responses, and asks for each answer. Where an answer comes later, the caller writes it and may call again.
 pub fn serve_wire<W: Wire, S: Serve>(
     alloc: Global,
     wire: &mut W,
@@ -55,7 +56,8 @@ pub fn serve_wire<W: Wire, S: Serve>(
         (λ end. (W.told wire.new).read_failed ≡ lost_behind end (W.told wire.old).read_failed)
         (λ _. (W.told wire.new).read_failed ≡ (W.told wire.old).read_failed) }
     ensures cut { MatchResult result
-        (λ end. (W.told wire.new).write_failed ≡ cut_behind end (W.told wire.old).closed (W.told wire.old).write_failed)
+        (λ end. (W.told wire.new).write_failed
+        ≡ cut_behind end (W.told wire.old).closed (W.told wire.old).write_failed)
         (λ _. (W.told wire.new).write_failed ≡ (W.told wire.old).write_failed) }
     ensures closed { (W.told wire.new).closed ≡ (W.told wire.old).closed }
     ensures err { OnErr result (reader.new ≡ Spent) }
@@ -67,7 +69,8 @@ pub fn serve_wire<W: Wire, S: Serve>(
     end
 }
 
-/// Serves turn by turn, with what the reader holds first.
+/// Serves turn by turn, with what the reader holds first. It notes how long the piece of each turn was: so memory ends
+/// where the wire does not.
 fn serve_each<W: Wire, S: Serve>(
     alloc: Global,
     wire: &mut W,
@@ -90,14 +93,17 @@ fn serve_each<W: Wire, S: Serve>(
         (λ end. (W.told wire.new).read_failed ≡ lost_behind end (W.told wire.old).read_failed)
         (λ _. (W.told wire.new).read_failed ≡ (W.told wire.old).read_failed) }
     ensures cut { MatchResult result
-        (λ end. (W.told wire.new).write_failed ≡ cut_behind end (W.told wire.old).closed (W.told wire.old).write_failed)
+        (λ end. (W.told wire.new).write_failed
+        ≡ cut_behind end (W.told wire.old).closed (W.told wire.old).write_failed)
         (λ _. (W.told wire.new).write_failed ≡ (W.told wire.old).write_failed) }
     ensures closed { (W.told wire.new).closed ≡ (W.told wire.old).closed }
 {
     reader.asks_where_given();
+    let mut pieces = Vec::new(alloc);
     let mut chunk = [0; CHUNK];
     let mut count = 0;
-    for _ in 0..u64::MAX {
+    loop {
+        pieces.push(count)?;
         match take_turn(alloc, wire, reader, serve, &chunk[..count])? {
             Turn::GoesOn => count = 0,
             Turn::Ends(end) => return Ok(end),
@@ -108,5 +114,4 @@ fn serve_each<W: Wire, S: Serve>(
             },
         }
     }
-    Err(AllocError)
 }

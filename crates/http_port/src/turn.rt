@@ -171,7 +171,8 @@ fn write<W: Wire>(wire: &mut W, text: &[u8], next: Turn) -> Turn
 #[tactic(auto, using(crate::proofs::CallLemmas::nothing_written, crate::proofs::CallLemmas::written_still))]
 pub fn write_all<W: Wire>(wire: &mut W, bytes: &[u8]) -> Result<(), Failed>
     ensures writes { MatchResult result
-        (λ _. Appends (W.told wire.old).written (W.told wire.new).written bytes.now × IsWritten (W.told wire.old).calls (W.told wire.new).calls bytes.now true)
+        (λ _. Appends (W.told wire.old).written (W.told wire.new).written bytes.now
+        × IsWritten (W.told wire.old).calls (W.told wire.new).calls bytes.now true)
         (λ _. (count : ℕ) × (count < length bytes.now)
         × Appends (W.told wire.old).written (W.told wire.new).written (take count bytes.now)
         × IsWritten (W.told wire.old).calls (W.told wire.new).calls (take count bytes.now) false) }

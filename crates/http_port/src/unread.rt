@@ -56,7 +56,8 @@ impl Unread {
         self.start += count;
     }
 
-    /// Gives back the room of what was taken, once that is as much as is left. So each byte is moved a bounded number of times.
+    /// Gives back the room of what was taken, once that is as much as is left. So each byte is moved a bounded number
+    /// of times.
     fn close_gap(&mut self)
         ensures { self.new ≡ self.old }
     {

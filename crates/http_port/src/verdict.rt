@@ -111,7 +111,8 @@ fn judge_in_room(part: &[u8], room: &mut [HeaderSpan]) -> Option<Verdict>
     requires part { length part.now ≤ LONGEST_HEAD }
     requires room { length room.old ≤ MOST_FIELDS }
     ensures judges { IfSome result (JudgesPart part.now) }
-    ensures found { (h : RequestHead) (rest : List ℕ) → ReadsRequest part.now h rest → length h.fields ≤ length room.old → IsSome result }
+    ensures found { (h : RequestHead) (rest : List ℕ) → ReadsRequest part.now h rest
+        → length h.fields ≤ length room.old → IsSome result }
 {
     match parse_request(part, room) {
         Ok(Status::Complete(head)) => Some(judge_head(part, &head, &room[..head.headers])),

@@ -127,7 +127,8 @@ pub fn truth_value(alloc: Global, e: &Expr, store: &Tree) -> Result<bool, EvalEr
 /// The tree of some members.
 #[cycle(value)]
 fn literal(alloc: Global, members: &[Member], store: &Tree) -> Result<Tree, EvalError>
-    ensures { Answers (spec.literal_from store.now (Some void_tree) (member_list_of (map member_view members.now))) result }
+    ensures { Answers (spec.literal_from store.now (Some void_tree) (member_list_of (map member_view members.now)))
+        result }
 {
     let mut literal = Tree::void(alloc);
     for member in members {

@@ -26,7 +26,8 @@ fn comment_end(after: &[u8]) -> Option<usize>
 /// A comment whose inside is these bytes, after its two first, and which has so many bytes.
 fn checked(inside: &[u8], len: u32, at: u32) -> Result<Lexeme, LexError>
     requires { at + length inside.now + 2 ≤ longest }
-    ensures { MatchOption (spec.utf8_stop inside.now) (result ≡ Ok (record { kind = None; len = len })) (λ k. result ≡ Err (LexError.BadByte (at + 2 + k))) }
+    ensures { MatchOption (spec.utf8_stop inside.now) (result ≡ Ok (record { kind = None; len = len }))
+        (λ k. result ≡ Err (LexError.BadByte (at + 2 + k))) }
 {
     match utf8_stop(inside) {
         Some(stop) => Err(LexError::BadByte(at + 2 + stop as u32)),

@@ -4,8 +4,8 @@ ghost use Rattle.jolie_tokens.specs.declared.lex_error.LexError.TheVariants.{Mem
 use std::alloc::AllocError;
 use thiserror::Error;
 
-/// Why a text has no tokens, with the place of the byte that is at fault, which is the text's length where its end cuts a
-/// character of a comment.
+/// Why a text has no tokens, with the place of the byte that is at fault, which is the text's length where its end cuts
+/// a character of a comment.
 #[derive(Debug, Drop, Error)]
 pub enum LexError {
     #[error("the text is too long")]

@@ -85,7 +85,8 @@ pub fn lex(alloc: Global, text: &[u8]) -> Result<Tokens, LexError>
     // Any other refusal is the text's own, at its place.
     ensures refused { IfErr result (λ e. IsCause text.now e) }
     // A text that is read gives its tokens and a text that is refused its refusal, unless memory runs out.
-    ensures read { (tokens : List Token) → length text.now ≤ longest → IsRead text.now tokens → UnlessMemory result (Ok tokens) }
+    ensures read { (tokens : List Token) → length text.now ≤ longest → IsRead text.now tokens
+        → UnlessMemory result (Ok tokens) }
     ensures exact { (e : LexError) → length text.now ≤ longest → IsRefused text.now e → UnlessMemory result (Err e) }
 {
     if text.len() > LONGEST {

@@ -41,7 +41,8 @@ fn with_commands<'a>(
     program: Command<'a>,
     rows: &[CommandRow],
 ) -> Result<Command<'a>, AllocError>
-    ensures { IfOk result (λ command. app_of command ≡ with_commands (app_of program.entry) (map command_words rows.now)) }
+    ensures { IfOk result
+        (λ command. app_of command ≡ with_commands (app_of program.entry) (map command_words rows.now)) }
 {
     let mut program = program;
     for row in rows {
@@ -64,8 +65,10 @@ fn with_operands<'a>(
     command: Command<'a>,
     rows: &[OperandRow],
 ) -> Result<Command<'a>, AllocError>
-    ensures shape { IfOk result (λ made. app_of made ≡ with_rules (app_of command.entry) (map operand_rule (map operand_words rows.now))) }
-    ensures local { (fields_of command.entry).has_globals ≡ false → IfOk result (λ made. (fields_of made).has_globals ≡ false) }
+    ensures shape { IfOk result
+        (λ made. app_of made ≡ with_rules (app_of command.entry) (map operand_rule (map operand_words rows.now))) }
+    ensures local { (fields_of command.entry).has_globals ≡ false
+        → IfOk result (λ made. (fields_of made).has_globals ≡ false) }
 {
     let mut command = command;
     for row in rows {
@@ -86,8 +89,10 @@ fn with_options<'a>(
     command: Command<'a>,
     rows: &[OptionRow],
 ) -> Result<Command<'a>, AllocError>
-    ensures shape { IfOk result (λ made. app_of made ≡ with_rules (app_of command.entry) (map option_rule (map option_words rows.now))) }
-    ensures local { (fields_of command.entry).has_globals ≡ false → IfOk result (λ made. (fields_of made).has_globals ≡ false) }
+    ensures shape { IfOk result
+        (λ made. app_of made ≡ with_rules (app_of command.entry) (map option_rule (map option_words rows.now))) }
+    ensures local { (fields_of command.entry).has_globals ≡ false
+        → IfOk result (λ made. (fields_of made).has_globals ≡ false) }
 {
     let mut command = command;
     for row in rows {

@@ -48,7 +48,8 @@ pub fn understood(alloc: Global, words: &[String]) -> Result<Words, AllocError>
 }
 
 fn parsed<'a>(alloc: Global, words: &'a [String]) -> Result<ArgMatches<'a>, Error>
-    ensures entered { IfOk result (λ matches. subcommand_rows_of matches ≡ subcommand_of program (spelled words.now)) }
+    ensures entered { IfOk result
+        (λ matches. subcommand_rows_of matches ≡ subcommand_of program (spelled words.now)) }
     ensures kinds { FailsBy (fault_of program (spelled words.now)) result }
 {
     let program = program(alloc)?;

@@ -21,7 +21,9 @@ pub fn first_breach(
     ty: &TypeDef,
     program: &Program,
 ) -> Result<Option<Path>, AllocError>
-    ensures { IfOk result (λ path. option_map (λ p. p.steps) path ≡ spec.first_breach (parts_of program.now).types value.now (type_view ty.now)) }
+    ensures { IfOk result
+        (λ path. option_map (λ p. p.steps) path
+        ≡ spec.first_breach (parts_of program.now).types value.now (type_view ty.now)) }
 {
     let types = program.parts().types.as_slice();
     let steps = if is_message(value) {
@@ -51,7 +53,9 @@ fn breach(
     types: &[TypeDef],
 ) -> Result<Option<Vec<Step>>, AllocError>
     requires { size value.now ≤ 4096 }
-    ensures { IfOk result (λ steps. option_map (λ v. v.items) steps ≡ spec.breach (map type_view types.now) value.now (type_view ty.now)) }
+    ensures { IfOk result
+        (λ steps. option_map (λ v. v.items) steps
+        ≡ spec.breach (map type_view types.now) value.now (type_view ty.now)) }
 {
     match behind_names(ty, types) {
         Some(TypeDef::Plain { kind, fields }) => {
@@ -69,7 +73,8 @@ fn breach(
 
 /// Whether the node itself breaks nothing.
 fn fits_alone(value: &Tree, kind: RootKind, fields: &[Field]) -> bool
-    ensures { result ≡ spec.fits_alone kind (type_fields_of (map field_view fields.now)) (root_of value.now) (children_of value.now) }
+    ensures { result ≡ spec.fits_alone kind (type_fields_of (map field_view fields.now)) (root_of value.now)
+        (children_of value.now) }
 {
     has_kind(kind, value.root()) && counts_fit(value, fields) && all_have_fields(value, fields)
 }
@@ -88,7 +93,8 @@ fn all_have_fields(value: &Tree, fields: &[Field]) -> bool
 
 /// Whether there is a field for a name, or no member that wants one.
 fn have_field(members: &[Tree], name: &Text, fields: &[Field]) -> bool
-    ensures { result ≡ (length members.now == 0 || is_some (field_type name.now (type_fields_of (map field_view fields.now)))) }
+    ensures { result ≡ (length members.now == 0
+        || is_some (field_type name.now (type_fields_of (map field_view fields.now)))) }
 {
     members.is_empty() || field_named(name, fields).is_some()
 }
@@ -101,7 +107,10 @@ fn breach_of_children(
     types: &[TypeDef],
 ) -> Result<Option<Vec<Step>>, AllocError>
     requires { size value.now ≤ 4096 }
-    ensures { IfOk result (λ steps. option_map (λ v. v.items) steps ≡ spec.breach_of_children (map type_view types.now) (children_of value.now) (type_fields_of (map field_view fields.now))) }
+    ensures { IfOk result
+        (λ steps. option_map (λ v. v.items) steps
+        ≡ spec.breach_of_children (map type_view types.now) (children_of value.now)
+        (type_fields_of (map field_view fields.now))) }
 {
     for (name, members) in value.children() {
         if let Some(steps) = breach_under(alloc, members, name, fields, types)? {
@@ -121,7 +130,10 @@ fn breach_under(
     types: &[TypeDef],
 ) -> Result<Option<Vec<Step>>, AllocError>
     requires { trees_size (trees_of members.now) ≤ 4096 }
-    ensures { IfOk result (λ steps. option_map (λ v. v.items) steps ≡ spec.breach_of_members (map type_view types.now) name.now 0 (trees_of members.now) (field_type name.now (type_fields_of (map field_view fields.now)))) }
+    ensures { IfOk result
+        (λ steps. option_map (λ v. v.items) steps
+        ≡ spec.breach_of_members (map type_view types.now) name.now 0 (trees_of members.now)
+        (field_type name.now (type_fields_of (map field_view fields.now)))) }
 {
     match field_named(name, fields) {
         None => Ok(None),
@@ -138,7 +150,10 @@ fn breach_of_members(
     types: &[TypeDef],
 ) -> Result<Option<Vec<Step>>, AllocError>
     requires { trees_size (trees_of members.now) ≤ 4096 }
-    ensures { IfOk result (λ steps. option_map (λ v. v.items) steps ≡ spec.breach_of_members (map type_view types.now) name.now 0 (trees_of members.now) (Some (type_view ty.now))) }
+    ensures { IfOk result
+        (λ steps. option_map (λ v. v.items) steps
+        ≡ spec.breach_of_members (map type_view types.now) name.now 0 (trees_of members.now)
+        (Some (type_view ty.now))) }
 {
     for (index, member) in members.iter().enumerate() {
         if let Some(steps) = breach(alloc, member, ty, types)? {

@@ -51,7 +51,8 @@ fn fits(value: &Tree, ty: &TypeDef, types: &[TypeDef]) -> bool
 /// Whether the members of each name fit the field of that name.
 #[cycle(fits)]
 fn children_fit(value: &Tree, fields: &[Field], types: &[TypeDef]) -> bool
-    ensures { result ≡ spec.children_fit (map type_view types.now) (children_of value.now) (type_fields_of (map field_view fields.now)) }
+    ensures { result ≡ spec.children_fit (map type_view types.now) (children_of value.now)
+        (type_fields_of (map field_view fields.now)) }
 {
     for (name, members) in value.children() {
         if !members_fit(members, name, fields, types) {
@@ -64,7 +65,8 @@ fn children_fit(value: &Tree, fields: &[Field], types: &[TypeDef]) -> bool
 /// Whether the members of a name fit its field, which none does where there is no field.
 #[cycle(fits)]
 fn members_fit(members: &[Tree], name: &Text, fields: &[Field], types: &[TypeDef]) -> bool
-    ensures { result ≡ spec.members_fit (map type_view types.now) (trees_of members.now) (spec.field_type name.now (type_fields_of (map field_view fields.now))) }
+    ensures { result ≡ spec.members_fit (map type_view types.now) (trees_of members.now)
+        (spec.field_type name.now (type_fields_of (map field_view fields.now))) }
 {
     match field_named(name, fields) {
         None => members.is_empty(),

@@ -1,4 +1,5 @@
-//! Messages and their types: whether a tree is of a type, where it breaks the type, and the tree with its ints made longs.
+//! Messages and their types: whether a tree is of a type, where it breaks the type, and the tree with its ints made
+//! longs.
 #![tactic(auto)]
 
 mod breach;

@@ -9,7 +9,8 @@ use jolie_trees::{Root, Text, Tree};
 
 /// The first field of a name.
 pub(crate) fn field_named<'a>(name: &Text, fields: &'a [Field]) -> Option<&'a Field>
-    ensures { option_map (λ f. (field_view f).ty) (option_copied result) ≡ spec.field_type name.now (type_fields_of (map field_view fields.now)) }
+    ensures { option_map (λ f. (field_view f).ty) (option_copied result)
+        ≡ spec.field_type name.now (type_fields_of (map field_view fields.now)) }
 {
     for field in fields {
         if *name == field.name {
@@ -47,7 +48,8 @@ pub(crate) fn counts_fit(value: &Tree, fields: &[Field]) -> bool
 
 /// Whether a field occurs as often as it may.
 fn count_fits(value: &Tree, field: &Field) -> bool
-    ensures { result ≡ (nat_le field.now.least (count_of (under field.now.name (children_of value.now))) && spec.at_most field.now.most (count_of (under field.now.name (children_of value.now)))) }
+    ensures { result ≡ (nat_le field.now.least (count_of (under field.now.name (children_of value.now)))
+        && spec.at_most field.now.most (count_of (under field.now.name (children_of value.now)))) }
 {
     let count = value.members(&field.name).len();
     field.least as usize <= count && at_most(field.most, count)

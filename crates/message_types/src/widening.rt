@@ -48,7 +48,9 @@ fn widen_root(value: &mut Tree, kind: RootKind)
 /// Widens the members of each field. Of fields with one name the first alone counts.
 #[cycle(widened)]
 fn widen_children(value: &mut Tree, fields: &[Field], types: &[TypeDef])
-    ensures { value.new ≡ node (root_of value.old) (spec.wide_children (map type_view types.now) (children_of value.old) (type_fields_of (map field_view fields.now))) }
+    ensures { value.new ≡ node (root_of value.old)
+        (spec.wide_children (map type_view types.now) (children_of value.old)
+        (type_fields_of (map field_view fields.now))) }
 {
     for (place, field) in fields.iter().enumerate() {
         if let Some(members) = value.members_mut(&field.name) {
@@ -61,7 +63,8 @@ fn widen_children(value: &mut Tree, fields: &[Field], types: &[TypeDef])
 
 #[cycle(widened)]
 fn widen_members(members: &mut [Tree], ty: &TypeDef, types: &[TypeDef])
-    ensures { trees_of members.new ≡ spec.wide_members (map type_view types.now) (trees_of members.old) (Some (type_view ty.now)) }
+    ensures { trees_of members.new ≡ spec.wide_members (map type_view types.now) (trees_of members.old)
+        (Some (type_view ty.now)) }
 {
     for member in members.iter_mut() {
         widen_tree(member, ty, types);

@@ -9,6 +9,7 @@ pub mod Assembled
 pub mod Births
 pub mod CallPlaces
 pub mod Coming
+pub mod Few
 pub mod Grows
 pub mod Keyed
 pub mod Idle

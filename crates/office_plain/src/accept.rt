@@ -1,6 +1,6 @@
 //! What an accepted message makes of what is kept.
 
-ghost use Rattle.std.specs.Prelude.{◌≡◌, ◌≢◌, ◌++◌, [], ◌∷◌, ℕ, false, true, None, Some, OnOk, is_some, length};
+ghost use Rattle.std.specs.Prelude.{◌≡◌, ◌≢◌, ◌<◌, ◌^◌, ◌++◌, [], ◌∷◌, ℕ, false, true, None, Some, OnOk, is_some, length};
 ghost use Rattle.behaviour_tree.specs.PartsView.{operation_view, parts_of};
 ghost use Rattle.correlation.specs.Sessions.{is_born};
 ghost use Rattle.correlation.specs.View.{sessions_of};
@@ -10,10 +10,9 @@ ghost use Rattle.reqresp_book.specs.View.{origin_of, standing_of};
 ghost use Rattle.office_plain.specs.Accepting.{standing_first, Accepts, Starts};
 
 use crate::kept::Kept;
-use crate::numbers::numbered;
 use crate::weights::weight;
 use crate::writing::write_first;
-use behaviour_tree::{Operation, Outcome, Program};
+use behaviour_tree::{Operation, Outcome, Program, numbered};
 use jolie_trees::Tree;
 use office_core::Message;
 use post_box::Boxes;
@@ -29,11 +28,13 @@ impl Kept {
         operation: &Operation,
         message: Message,
     ) -> Result<(), AllocError>
+        requires few { length self.old.messages < 2 ^ 32 }
         requires fresh { origin_of self.old.book (length self.old.messages) ≡ None }
         requires unborn { message.starts ≡ true → is_born (sessions_of self.old.rows) message.session ≡ false }
-        ensures { OnOk result (Accepts (parts_of program.now) (operation_view operation.now) message self.old self.new) }
+        ensures { OnOk result (Accepts (parts_of program.now) (operation_view operation.now) message self.old
+            self.new) }
     {
-        let number = numbered(self.messages.len())?;
+        let number = numbered(self.messages.len());
         note(alloc, &mut self.book, operation, number, message.origin)?;
         self.start(alloc, program, operation, &message)?;
         put(&mut self.boxes, message.session, message.op, number)?;
@@ -51,7 +52,8 @@ impl Kept {
         message: &Message,
     ) -> Result<(), AllocError>
         requires { message.now.starts ≡ true → is_born (sessions_of self.old.rows) message.now.session ≡ false }
-        ensures { OnOk result (Starts (parts_of program.now) (operation_view operation.now) message.now self.old self.new) }
+        ensures { OnOk result (Starts (parts_of program.now) (operation_view operation.now) message.now self.old
+            self.new) }
     {
         if !message.starts {
             return Ok(());
@@ -88,7 +90,8 @@ fn note(
 /// Puts a message into the box of its session, which has room where the message was routed to it: a box without room
 /// counts as want of memory.
 fn put(boxes: &mut Boxes, session: u32, op: u32, number: u32) -> Result<(), AllocError>
-    ensures { OnOk result (ChangesOnly session (box_of boxes.old session ++ waiting op number ∷ []) boxes.old boxes.new) }
+    ensures { OnOk result (ChangesOnly session (box_of boxes.old session ++ waiting op number ∷ []) boxes.old
+        boxes.new) }
 {
     match boxes.put(session, op, number) {
         Ok(()) => Ok(()),

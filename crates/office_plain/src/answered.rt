@@ -20,7 +20,8 @@ impl Office {
     ) -> Result<(), AllocError>
         requires works { is_at_work (past_in self.old) actor ≡ true }
         requires fetched { is_fetched (past_in self.old) actor session call ≡ true }
-        ensures added { OnOk result (Adds (Some (entry actor (act.Answered session call outcome))) self.old self.new) }
+        ensures added { OnOk result (Adds (Some (entry actor (act.Answered session call outcome))) self.old
+            self.new) }
         ensures ready { OnOk result (self.new.spent ≡ false) }
         ensures able { OnOk result (self.old.out_of_memory ≡ false) }
         ensures lasting { OnErr result (self.new.out_of_memory ≡ true) }
@@ -31,7 +32,7 @@ impl Office {
         let Some(place) = self.kept.place(session, call) else {
             unreachable!()
         };
-        self.kept.outcomes.set(place as usize, Some(copy));
+        self.kept.outcomes.set(place, Some(copy));
         self.log.put(Entry {
             actor,
             act: Act::Answered {

@@ -25,7 +25,8 @@ pub fn answer_waiting(boxes: &mut Boxes, book: &mut Book, session: u32)
     ensures emptied { box_of boxes.new session ≡ [] }
     ensures others { (s : ℕ) → s ≢ session → box_of boxes.new s ≡ box_of boxes.old s }
     ensures origins { HaveSameOrigins book.old book.new }
-    ensures standings { (n : ℕ) → standing_of book.new n ≡ ended_at n (box_of boxes.old session) (standing_of book.old n) }
+    ensures standings { (n : ℕ) → standing_of book.new n
+        ≡ ended_at n (box_of boxes.old session) (standing_of book.old n) }
 {
     while let Some(message) = boxes.take_any(session) {
         answer_if_open(book, message, Outcome::Refused(Reason::SessionEnded));

@@ -5,14 +5,13 @@ ghost use Rattle.office_plain.specs.Rows.{brought_at, going_from, message_of, ou
 ghost use Rattle.office_core.specs.declared.outgoing.OutKind.TheVariants as outs;
 
 use crate::kept::Kept;
-use crate::numbers::numbered;
 use behaviour_tree::Outcome;
 use office_core::{Call, OutKind, Outgoing, Placed};
 use std::alloc::AllocError;
 
 impl Kept {
     /// The place among all calls of a call of a session.
-    pub fn place(&self, session: u32, call: u32) -> Option<u32>
+    pub fn place(&self, session: u32, call: u32) -> Option<usize>
         ensures { result ≡ place_of self.now session call }
     {
         match self.places.get(session as usize) {
@@ -22,7 +21,7 @@ impl Kept {
     }
 
     /// The place of the oldest call of a kind that goes out and that nobody fetched yet.
-    pub fn first_outgoing(&self, kind: OutKind) -> Option<u32>
+    pub fn first_outgoing(&self, kind: OutKind) -> Option<usize>
         ensures { result ≡ slice_get (queue_of self.now kind) 0 }
     {
         match kind {
@@ -32,10 +31,10 @@ impl Kept {
     }
 
     /// The call of a place as it goes out.
-    pub fn outgoing(&self, place: u32) -> Result<Option<Outgoing>, AllocError>
+    pub fn outgoing(&self, place: usize) -> Result<Option<Outgoing>, AllocError>
         ensures { IfOk result (λ out. out ≡ going_from self.now place) }
     {
-        let Some(call) = self.calls.get(place as usize) else {
+        let Some(call) = self.calls.get(place) else {
             return Ok(None);
         };
         let Some(row) = self.sessions.get(call.session as usize) else {
@@ -63,10 +62,10 @@ impl Kept {
     }
 
     /// The outcome of the call of a place, once it has one.
-    fn outcome_at(&self, place: u32) -> Result<Option<Outcome>, AllocError>
+    fn outcome_at(&self, place: usize) -> Result<Option<Outcome>, AllocError>
         ensures { IfOk result (λ o. o ≡ outcome_in self.now place) }
     {
-        let Some(call) = self.calls.get(place as usize) else {
+        let Some(call) = self.calls.get(place) else {
             return Ok(None);
         };
         match call.placed {
@@ -83,7 +82,7 @@ impl Kept {
         let Some(place) = self.place(session, call) else {
             return false;
         };
-        let Some(call) = self.calls.get(place as usize) else {
+        let Some(call) = self.calls.get(place) else {
             return false;
         };
         match call.placed {
@@ -98,7 +97,7 @@ impl Kept {
         ensures { result ≡ message_of self.now session call }
     {
         let place = self.place(session, call)?;
-        match self.calls.get(place as usize)?.placed {
+        match self.calls.get(place)?.placed {
             Placed::At(message) => Some(message),
             Placed::Refused(_) | Placed::Out => None,
         }
@@ -109,12 +108,15 @@ impl Kept {
         requires { call.session < vec_len self.old.places }
         ensures calls { OnOk result (self.new.calls ≡ self.old.calls ++ call ∷ []) }
         ensures outcomes { OnOk result (self.new.outcomes ≡ self.old.outcomes ++ None ∷ []) }
-        ensures places { OnOk result (self.new.places.items ≡ with_place call.session (length self.old.calls) self.old.places.items) }
-        ensures console { OnOk result (self.new.console ≡ self.old.console ++ queued outs.Console call kind (length self.old.calls)) }
-        ensures remote { OnOk result (self.new.remote ≡ self.old.remote ++ queued outs.Remote call kind (length self.old.calls)) }
+        ensures places { OnOk result (self.new.places.items
+            ≡ with_place call.session (length self.old.calls) self.old.places.items) }
+        ensures console { OnOk result (self.new.console ≡ self.old.console
+            ++ queued outs.Console call kind (length self.old.calls)) }
+        ensures remote { OnOk result (self.new.remote ≡ self.old.remote
+            ++ queued outs.Remote call kind (length self.old.calls)) }
         ensures others { KeepsMail self.old self.new }
     {
-        let place = numbered(self.calls.len())?;
+        let place = self.calls.len();
         self.places[call.session as usize].push(place)?;
         self.queue(&call, kind, place)?;
         self.outcomes.push(None)?;
@@ -122,8 +124,9 @@ impl Kept {
     }
 
     /// Puts the place of a call that goes out behind all others of its kind.
-    fn queue(&mut self, call: &Call, kind: OutKind, place: u32) -> Result<(), AllocError>
-        ensures console { OnOk result (self.new.console ≡ self.old.console ++ queued outs.Console call.now kind place) }
+    fn queue(&mut self, call: &Call, kind: OutKind, place: usize) -> Result<(), AllocError>
+        ensures console { OnOk result (self.new.console ≡ self.old.console
+            ++ queued outs.Console call.now kind place) }
         ensures remote { OnOk result (self.new.remote ≡ self.old.remote ++ queued outs.Remote call.now kind place) }
         ensures others { self.new ≡ record self.old { console = self.new.console; remote = self.new.remote } }
     {
@@ -135,10 +138,10 @@ impl Kept {
     }
 
     /// What was brought for the call of a place.
-    fn brought(&self, place: u32) -> Option<&Outcome>
+    fn brought(&self, place: usize) -> Option<&Outcome>
         ensures { option_copied result ≡ brought_at self.now.outcomes place }
     {
-        match self.outcomes.get(place as usize) {
+        match self.outcomes.get(place) {
             Some(Some(outcome)) => Some(outcome),
             Some(None) | None => None,
         }

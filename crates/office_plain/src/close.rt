@@ -6,8 +6,8 @@ ghost use Rattle.office_plain.specs.View.{setting_of, past_in, Adds};
 ghost use Rattle.office_plain.specs.Entries.{entry};
 
 use crate::answering::answer_below;
-use crate::numbers::in_u32;
 use crate::office::Office;
+use behaviour_tree::in_u32;
 use office_core::{Act, Entry};
 
 impl Office {

@@ -19,14 +19,14 @@ pub struct SessionRow {
 }
 
 /// What the office keeps of its history, so that no call looks through it: accepted messages, their weight and that of
-/// replies, sessions with the places of their calls, boxes, answers, correlation, calls with what was brought for them, and
-/// those that go out.
+/// replies, sessions with the places of their calls, boxes, answers, correlation, calls with what was brought for them,
+/// and those that go out.
 #[derive(Drop)]
 pub struct Kept {
     pub messages: Items<Message>,
     pub weight: u64,
     pub sessions: Items<SessionRow>,
-    pub places: Vec<Items<u32>>,
+    pub places: Vec<Items<usize>>,
     pub boxes: Boxes,
     pub book: Book,
     pub rows: Rows,

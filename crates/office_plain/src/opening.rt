@@ -1,6 +1,6 @@
 //! What is kept at the start, and of a session that is born.
 
-ghost use Rattle.std.specs.Prelude.{◌≡◌, false, true, length, map, not, take, IfOk, OnOk};
+ghost use Rattle.std.specs.Prelude.{◌≡◌, ◌<◌, ◌^◌, false, true, length, map, not, take, IfOk, OnOk};
 ghost use Rattle.behaviour_tree.specs.FormedSets.{is_concurrent};
 ghost use Rattle.behaviour_tree.specs.PartsView.{parts_of, service_view};
 ghost use Rattle.correlation.specs.Sessions.{is_born};
@@ -12,11 +12,10 @@ ghost use Rattle.office_plain.specs.Accepting.{has_session, IsEmpty, Opens, Open
 ghost use Rattle.office_plain.specs.Ties.{Ties};
 
 use crate::kept::{Kept, SessionRow};
-use crate::numbers::numbered;
 use crate::queue::Queue;
 use crate::services::services_of;
 use crate::sets::numbered_sets;
-use behaviour_tree::{Execution, Program, Service};
+use behaviour_tree::{Execution, Program, Service, numbered};
 use correlation::Rows;
 use post_box::Boxes;
 use reqresp_book::Book;
@@ -61,7 +60,8 @@ impl Kept {
         program: &Program,
         services: &[Service],
     ) -> Result<(), AllocError>
-        requires { IsEmpty self.old }
+        requires empty { IsEmpty self.old }
+        requires few { length services.now < 2 ^ 32 }
         ensures { OnOk result (OpensFirst (parts_of program.now)
             (take 4096 (singles_from 0 (map service_view services.now))) self.old self.new) }
     {
@@ -79,7 +79,8 @@ impl Kept {
         number: usize,
         service: &Service,
     ) -> Result<(), AllocError>
-        requires { is_born (sessions_of self.old.rows) (length self.old.sessions) ≡ false }
+        requires unborn { is_born (sessions_of self.old.rows) (length self.old.sessions) ≡ false }
+        requires number { number < 2 ^ 32 }
         ensures none { has_session (service_view service.now) (length self.old.sessions) ≡ false
             → OnOk result (self.new ≡ self.old) }
         ensures one { has_session (service_view service.now) (length self.old.sessions) ≡ true
@@ -88,8 +89,8 @@ impl Kept {
         if !self.has_session(service) {
             return Ok(());
         }
-        let place = numbered(number)?;
-        let session = numbered(self.sessions.len())?;
+        let place = numbered(number);
+        let session = numbered(self.sessions.len());
         self.open_session(alloc, program, place, session)?;
         Ok(())
     }

@@ -16,10 +16,9 @@ ghost use Rattle.office_plain.specs.Ways.{replied_as, way_view};
 ghost use Rattle.office_plain.specs.View.{setting_of, past_in, Adds};
 
 use crate::asked::{Asked, asked_of};
-use crate::numbers::numbered;
 use crate::office::Office;
 use crate::route::Way;
-use behaviour_tree::{Program, Reason};
+use behaviour_tree::{Program, Reason, numbered};
 use message_types::widen;
 use office_core::{Act, Entry, Message, PostReply, Posted};
 use reqresp_book::Origin;
@@ -85,7 +84,7 @@ impl Office {
         match way {
             Way::Session(session) => Ok(Ok(self.accept(origin, posted, session, false)?)),
             Way::New => {
-                let session = numbered(self.kept.sessions.len())?;
+                let session = numbered(self.kept.sessions.len());
                 Ok(Ok(self.accept(origin, posted, session, true)?))
             }
             Way::Refused(reason) => Ok(Err(reason)),
@@ -119,7 +118,7 @@ impl Office {
             unreachable!()
         };
         let message = message_to(&self.program, asked, origin, session, starts)?;
-        let number = numbered(self.kept.messages.len())?;
+        let number = numbered(self.kept.messages.len());
         self.spent = true;
         self.kept
             .accept(self.alloc, &self.program, asked.operation, message)?;

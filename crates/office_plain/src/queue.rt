@@ -5,7 +5,7 @@ use std::marker::Model;
 /// Numbers that wait in order, which contracts see as their list.
 #[derive(Drop)]
 pub struct Queue {
-    numbers: VecDeque<u32>,
+    numbers: VecDeque<usize>,
 }
 
 impl Model for Queue {
@@ -28,14 +28,14 @@ impl Queue {
     }
 
     /// The number that waits first.
-    pub fn first(&self) -> Option<u32>
+    pub fn first(&self) -> Option<usize>
         ensures { result ≡ slice_get self.now 0 }
     {
         self.numbers.front().copied()
     }
 
     /// Puts a number behind all others.
-    pub fn push(&mut self, number: u32) -> Result<(), AllocError>
+    pub fn push(&mut self, number: usize) -> Result<(), AllocError>
         ensures ok { OnOk result (self.new ≡ self.old ++ number ∷ []) }
         ensures err { OnErr result (self.new ≡ self.old) }
     {

@@ -16,11 +16,11 @@ use crate::asked::{Asked, asked_of};
 use crate::beginnings::begins_with;
 use crate::kept::SessionRow;
 use crate::named::named_values;
-use crate::numbers::{numbered, sum};
+use crate::numbers::sum;
 use crate::office::Office;
 use crate::sets::sets_before;
 use crate::weights::weight;
-use behaviour_tree::{CorrelationSet, Execution, Reason};
+use behaviour_tree::{CorrelationSet, Execution, Reason, numbered};
 use correlation::{Rows, Sought};
 use jolie_trees::{Root, Tree};
 use message_types::conforms;
@@ -81,7 +81,7 @@ impl Office {
             ≡ spec.to_one (setting_of self.now) (past_in self.now) (asked_view asked.entry)) }
     {
         match asked.service.execution {
-            Execution::Single => self.to_single(asked.number),
+            Execution::Single => Ok(self.to_single(asked.number)),
             Execution::Concurrent => match self.named_session(asked)? {
                 Some(session) => Ok(self.into_box(session)),
                 None => Ok(self.to_new(asked)),
@@ -90,21 +90,21 @@ impl Office {
     }
 
     /// The one session of a single service, while it lives.
-    fn to_single(&self, service: u32) -> Result<Way, AllocError>
+    fn to_single(&self, service: u32) -> Way
         requires { self.now.spent ≡ false }
-        ensures { IfOk result (λ way. way_view way ≡ spec.to_single (setting_of self.now) (past_in self.now)
-            (keys.session_of (setting_of self.now) (past_in self.now) service (λ s. true))) }
+        ensures { way_view result ≡ spec.to_single (setting_of self.now) (past_in self.now)
+            (keys.session_of (setting_of self.now) (past_in self.now) service (λ s. true)) }
     {
         let Some(place) = place_of(self.kept.sessions.as_slice(), service) else {
-            return Ok(Way::Refused(Reason::Correlation));
+            return Way::Refused(Reason::Correlation);
         };
         let Some(row) = self.kept.sessions.get(place) else {
-            return Ok(Way::Refused(Reason::Correlation));
+            return Way::Refused(Reason::Correlation);
         };
         if row.ended {
-            return Ok(Way::Refused(Reason::Correlation));
+            return Way::Refused(Reason::Correlation);
         }
-        Ok(self.into_box(numbered(place)?))
+        self.into_box(numbered(place))
     }
 
     /// A session for a message that names none: a new one, where the operation starts one.
@@ -142,13 +142,13 @@ impl Office {
             ≡ spec.named_session (setting_of self.now) (past_in self.now) (asked_view asked.entry)) }
         ensures lives { IfOk result (λ s. IfSome s (λ n. has_ended (past_in self.now) n ≡ false)) }
     {
-        let mut number = sets_before(&self.program, asked.number)?;
+        let mut number = sets_before(&self.program, asked.number);
         for set in &asked.service.sets {
             let named = self.named_in(asked, set, number)?;
             if named.is_some() {
                 return Ok(named);
             }
-            number = sum(number, 1)?;
+            number = sum(number, 1);
         }
         Ok(None)
     }

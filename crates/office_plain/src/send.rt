@@ -36,7 +36,8 @@ impl Office {
         requires acts { is_acting (setting_of self.old) (past_in self.old) session ≡ true }
         requires next { call ≡ next_call (past_in self.old) session }
         ensures added { OnOk result (Adds
-            (replied_entry (setting_of self.old) (past_in self.old) session (act.Send call port op value wants at.Out))
+            (replied_entry (setting_of self.old) (past_in self.old) session
+            (act.Send call port op value wants at.Out))
             self.old self.new) }
         ensures ready { OnOk result (self.new.spent ≡ false) }
         ensures able { OnOk result (self.old.out_of_memory ≡ false) }
@@ -117,7 +118,8 @@ impl Office {
     ) -> Result<Option<Posted>, AllocError>
         requires { self.now.spent ≡ false }
         ensures { (k : ℕ) (wants : Bool) → IfOk result (λ q. q
-            ≡ handed_in (setting_of self.now) (past_in self.now) session (act.Send k port op value.now wants at.Out)) }
+            ≡ handed_in (setting_of self.now) (past_in self.now) session
+            (act.Send k port op value.now wants at.Out)) }
     {
         match self.port_of(session, port) {
             Some(port) => passed_on(&self.program, port, op, value),
@@ -171,7 +173,7 @@ fn passed_on(
 ) -> Result<Option<Posted>, AllocError>
     ensures { IfOk result (λ q. q ≡ passed_on (parts_of program.now) (port_view port.now) op value.now) }
 {
-    match service_behind(program, port.location.as_str())? {
+    match service_behind(program, port.location.as_str()) {
         Some(service) => passed_to(program.parts(), port, op, value, service),
         None => Ok(None),
     }

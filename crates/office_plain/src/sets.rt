@@ -1,8 +1,9 @@
 //! The correlation sets of services, numbered over the whole program.
 
-ghost use Rattle.std.specs.Prelude.{◌≡◌, ◌≤◌, ◌-◌, ◌++◌, IfOk, OnOk, length, map, sum_by, take};
+ghost use Rattle.std.specs.Prelude.{◌≡◌, ◌≤◌, ◌<◌, ◌+◌, ◌-◌, ◌^◌, ◌++◌, IfOk, OnOk, Some, length, map, slice_get, take};
 ghost use Rattle.std.specs.List.{range_with_len};
 ghost use Rattle.behaviour_tree.specs.Data.{ServicePart};
+ghost use Rattle.behaviour_tree.specs.FormedNumbers.{count_sets as count_of_sets, count_variables};
 ghost use Rattle.behaviour_tree.specs.PartsView.{parts_of, service_view, set_view};
 ghost use Rattle.office_core.specs.Keys.{sets_from};
 ghost use Rattle.office_plain.specs.SetNumbers as spec;
@@ -14,12 +15,13 @@ use correlation::{SetOf, Variables};
 use std::alloc::{AllocError, Global};
 
 /// How many sets the services before one have.
-pub fn sets_before(program: &Program, service: u32) -> Result<u32, AllocError>
-    ensures { IfOk result (λ n. n ≡ spec.sets_before (parts_of program.now) service) }
+pub fn sets_before(program: &Program, service: u32) -> u32
+    ensures count { result ≡ spec.sets_before (parts_of program.now) service }
+    ensures few { (d : ServicePart) → slice_get (parts_of program.now).services service ≡ Some d
+        → result + length d.sets < 2 ^ 32 }
 {
     let first = first_services(services_of(program), service as usize);
-    let count = count_sets(first)?;
-    Ok(count)
+    count_sets(first)
 }
 
 /// The first services, as many as there are up to a number.
@@ -34,14 +36,15 @@ fn first_services(services: &[Service], count: usize) -> &[Service]
 }
 
 /// How many sets services have.
-fn count_sets(services: &[Service]) -> Result<u32, AllocError>
-    ensures { IfOk result (λ n. n ≡ sum_by (λ (s : ServicePart). length s.sets) (map service_view services.now)) }
+fn count_sets(services: &[Service]) -> u32
+    requires { count_of_sets (map service_view services.now) < 2 ^ 32 }
+    ensures { result ≡ count_of_sets (map service_view services.now) }
 {
     let mut count = 0;
     for service in services {
-        count = sum(count, service.sets.len())?;
+        count = sum(count, service.sets.len());
     }
-    Ok(count)
+    count
 }
 
 /// The sets of a service that have a variable, numbered over the whole program.
@@ -55,7 +58,7 @@ pub fn numbered_sets(
     let Some(part) = program.parts().services.get(service as usize) else {
         return Ok(Vec::new(alloc));
     };
-    let first = sets_before(program, service)?;
+    let first = sets_before(program, service);
     let sets = numbered_from(alloc, first, &part.sets)?;
     Ok(sets)
 }
@@ -66,15 +69,17 @@ fn numbered_from(
     first: u32,
     sets: &[CorrelationSet],
 ) -> Result<Vec<SetOf>, AllocError>
+    requires sets { first + length sets.now < 2 ^ 32 }
+    requires variables { count_variables (map set_view sets.now) < 2 ^ 32 }
     ensures { IfOk result (λ list. list.items ≡ spec.numbered_from first (sets_from 0 (map set_view sets.now))) }
 {
     let mut list = Vec::new(alloc);
     let mut number = first;
     let mut variable = 0;
     for set in sets {
-        let next = sum(variable, set.variables.len())?;
+        let next = sum(variable, set.variables.len());
         push_set(alloc, &mut list, number, variable, next)?;
-        number = sum(number, 1)?;
+        number = sum(number, 1);
         variable = next;
     }
     Ok(list)

@@ -1,8 +1,9 @@
 //! What the message that starts a session writes into its variables.
 
-ghost use Rattle.std.specs.Prelude.{◌≡◌, ◌+◌, [], true, flat_map, map, length, IfOk, OnOk};
+ghost use Rattle.std.specs.Prelude.{◌≡◌, ◌+◌, ◌<◌, ◌^◌, [], true, flat_map, map, length, IfOk, OnOk};
 ghost use Rattle.std.specs.List.{cons_option, filter_map};
 ghost use Rattle.std.specs.Option.{option_copied};
+ghost use Rattle.behaviour_tree.specs.FormedNumbers.{count_variables};
 ghost use Rattle.behaviour_tree.specs.PartsView.{operation_view, parts_of, set_view, variable_view};
 ghost use Rattle.behaviour_tree.specs.View.{type_view};
 ghost use Rattle.correlation.specs.Sessions.{changed, is_live, write};
@@ -38,7 +39,9 @@ pub(crate) fn write_first(
 
 /// The sets of the service of a number.
 fn sets_of(program: &Program, service: u32) -> &[CorrelationSet]
-    ensures { flat_map (λ vs. vs) (sets_from 0 (map set_view result.now)) ≡ variables_of (parts_of program.now) service }
+    ensures variables { flat_map (λ vs. vs) (sets_from 0 (map set_view result.now))
+        ≡ variables_of (parts_of program.now) service }
+    ensures few { count_variables (map set_view result.now) < 2 ^ 32 }
 {
     match program.parts().services.get(service as usize) {
         Some(service) => service.sets.as_slice(),
@@ -53,7 +56,8 @@ fn write_sets(
     ty: &TypeDef,
     message: &Message,
 ) -> Result<(), AllocError>
-    requires { is_live (sessions_of rows.old) message.now.session ≡ true }
+    requires live { is_live (sessions_of rows.old) message.now.session ≡ true }
+    requires few { count_variables (map set_view sets.now) < 2 ^ 32 }
     ensures { OnOk result (sessions_of rows.new ≡ changed message.now.session
         (write_all (filter_map (written_by (type_view ty.now) message.now.value)
         (flat_map (λ vs. vs) (sets_from 0 (map set_view sets.now))))) (sessions_of rows.old)) }
@@ -73,7 +77,8 @@ fn write_set(
     ty: &TypeDef,
     message: &Message,
 ) -> Result<u32, AllocError>
-    requires { is_live (sessions_of rows.old) message.now.session ≡ true }
+    requires live { is_live (sessions_of rows.old) message.now.session ≡ true }
+    requires few { first + length variables.now < 2 ^ 32 }
     ensures next { IfOk result (λ n. n ≡ first + length variables.now) }
     ensures live { OnOk result (is_live (sessions_of rows.new) message.now.session ≡ true) }
     ensures rows { OnOk result (sessions_of rows.new ≡ changed message.now.session
@@ -84,7 +89,7 @@ fn write_set(
     for variable in variables {
         let value = value_of(variable, ty, &message.value);
         write_value(rows, message.session, number, value)?;
-        number = sum(number, 1)?;
+        number = sum(number, 1);
     }
     Ok(number)
 }

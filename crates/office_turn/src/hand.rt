@@ -58,7 +58,8 @@ impl<N: Naming> SharedOffice<N> {
     ) -> Result<Option<Mail>, AllocError>
         requires table { seat.old.table_id ≡ N.table }
         requires hand { HasOffice (parts_by N.program) seat.old.me }
-        requires acts { is_acting (run_of (parts_by N.program)) (past_in_hand (parts_by N.program) seat.old.me) number ≡ true }
+        requires acts { is_acting (run_of (parts_by N.program)) (past_in_hand (parts_by N.program) seat.old.me)
+            number ≡ true }
         ensures table { seat.new.table_id ≡ seat.old.table_id }
         ensures view { seat.new.me.0 ≡ seat.old.me.0 }
         ensures reply { IfOk result
@@ -79,13 +80,16 @@ impl<N: Naming> SharedOffice<N> {
     ) -> Result<Option<Outcome>, AllocError>
         requires table { seat.old.table_id ≡ N.table }
         requires hand { HasOffice (parts_by N.program) seat.old.me }
-        requires acts { is_acting (run_of (parts_by N.program)) (past_in_hand (parts_by N.program) seat.old.me) number ≡ true }
+        requires acts { is_acting (run_of (parts_by N.program)) (past_in_hand (parts_by N.program) seat.old.me)
+            number ≡ true }
         requires wanted { is_wanted (past_in_hand (parts_by N.program) seat.old.me) number call ≡ true }
         ensures table { seat.new.table_id ≡ seat.old.table_id }
         ensures view { seat.new.me.0 ≡ seat.old.me.0 }
         ensures reply { IfOk result
-            (λ x. x ≡ calls.result (run_of (parts_by N.program)) (past_in_hand (parts_by N.program) seat.old.me) number call) }
-        ensures did { IfOk result (λ x. Did (parts_by N.program) (answer_entry number call x) seat.old.me seat.new.me) }
+            (λ x. x ≡ calls.result (run_of (parts_by N.program)) (past_in_hand (parts_by N.program) seat.old.me)
+            number call) }
+        ensures did { IfOk result
+            (λ x. Did (parts_by N.program) (answer_entry number call x) seat.old.me seat.new.me) }
         ensures err { OnErr result (Did (parts_by N.program) None seat.old.me seat.new.me) }
     {
         let office = seat.slot_mut(&self.table.shared, 0);
@@ -102,14 +106,18 @@ impl<N: Naming> SharedOffice<N> {
     ) -> Result<BindReply, AllocError>
         requires table { seat.old.table_id ≡ N.table }
         requires hand { HasOffice (parts_by N.program) seat.old.me }
-        requires acts { is_acting (run_of (parts_by N.program)) (past_in_hand (parts_by N.program) seat.old.me) number ≡ true }
-        requires has { has_variable (run_of (parts_by N.program)) (past_in_hand (parts_by N.program) seat.old.me) number variable ≡ true }
+        requires acts { is_acting (run_of (parts_by N.program)) (past_in_hand (parts_by N.program) seat.old.me)
+            number ≡ true }
+        requires has { has_variable (run_of (parts_by N.program)) (past_in_hand (parts_by N.program) seat.old.me)
+            number variable ≡ true }
         ensures table { seat.new.table_id ≡ seat.old.table_id }
         ensures view { seat.new.me.0 ≡ seat.old.me.0 }
         ensures reply { IfOk result
-            (λ x. Some x ≡ bound (run_of (parts_by N.program)) (past_in_hand (parts_by N.program) seat.old.me) number variable value) }
+            (λ x. Some x ≡ bound (run_of (parts_by N.program)) (past_in_hand (parts_by N.program) seat.old.me) number
+            variable value) }
         ensures did { IfOk result
-            (λ x. Did (parts_by N.program) (Some (entry number (act.Bind variable value x))) seat.old.me seat.new.me) }
+            (λ x. Did (parts_by N.program) (Some (entry number (act.Bind variable value x))) seat.old.me
+            seat.new.me) }
         ensures err { OnErr result (Did (parts_by N.program) None seat.old.me seat.new.me) }
     {
         let office = seat.slot_mut(&self.table.shared, 0);
@@ -126,9 +134,11 @@ impl<N: Naming> SharedOffice<N> {
     ) -> Result<(), AllocError>
         requires table { seat.old.table_id ≡ N.table }
         requires hand { HasOffice (parts_by N.program) seat.old.me }
-        requires acts { is_acting (run_of (parts_by N.program)) (past_in_hand (parts_by N.program) seat.old.me) number ≡ true }
+        requires acts { is_acting (run_of (parts_by N.program)) (past_in_hand (parts_by N.program) seat.old.me)
+            number ≡ true }
         requires took { took (past_in_hand (parts_by N.program) seat.old.me) number message ≡ true }
-        requires open { is_open (run_of (parts_by N.program)) (past_in_hand (parts_by N.program) seat.old.me) message ≡ true }
+        requires open { is_open (run_of (parts_by N.program)) (past_in_hand (parts_by N.program) seat.old.me) message
+            ≡ true }
         ensures table { seat.new.table_id ≡ seat.old.table_id }
         ensures view { seat.new.me.0 ≡ seat.old.me.0 }
         ensures did { OnOk result (Did (parts_by N.program)
@@ -153,12 +163,14 @@ impl<N: Naming> SharedOffice<N> {
     ) -> Result<(), AllocError>
         requires table { seat.old.table_id ≡ N.table }
         requires hand { HasOffice (parts_by N.program) seat.old.me }
-        requires acts { is_acting (run_of (parts_by N.program)) (past_in_hand (parts_by N.program) seat.old.me) number ≡ true }
+        requires acts { is_acting (run_of (parts_by N.program)) (past_in_hand (parts_by N.program) seat.old.me)
+            number ≡ true }
         requires next { nat_eq call (next_call (past_in_hand (parts_by N.program) seat.old.me) number) ≡ true }
         ensures table { seat.new.table_id ≡ seat.old.table_id }
         ensures view { seat.new.me.0 ≡ seat.old.me.0 }
         ensures did { OnOk result (Did (parts_by N.program)
-            (replied_entry (run_of (parts_by N.program)) (past_in_hand (parts_by N.program) seat.old.me) number (act.Send call port op value wants at.Out))
+            (replied_entry (run_of (parts_by N.program)) (past_in_hand (parts_by N.program) seat.old.me) number
+            (act.Send call port op value wants at.Out))
             seat.old.me seat.new.me) }
         ensures err { OnErr result (Did (parts_by N.program) None seat.old.me seat.new.me) }
     {
@@ -170,7 +182,8 @@ impl<N: Naming> SharedOffice<N> {
     pub(crate) fn end_in_hand(&self, seat: &mut Chair, number: u32) -> Result<(), AllocError>
         requires table { seat.old.table_id ≡ N.table }
         requires hand { HasOffice (parts_by N.program) seat.old.me }
-        requires acts { is_acting (run_of (parts_by N.program)) (past_in_hand (parts_by N.program) seat.old.me) number ≡ true }
+        requires acts { is_acting (run_of (parts_by N.program)) (past_in_hand (parts_by N.program) seat.old.me)
+            number ≡ true }
         ensures table { seat.new.table_id ≡ seat.old.table_id }
         ensures view { seat.new.me.0 ≡ seat.old.me.0 }
         ensures did { OnOk result (Did (parts_by N.program) (Some (entry number act.End)) seat.old.me seat.new.me) }
@@ -195,7 +208,8 @@ impl<N: Naming> SharedOffice<N> {
         ensures table { seat.new.table_id ≡ seat.old.table_id }
         ensures view { seat.new.me.0 ≡ seat.old.me.0 }
         ensures reply { IfOk result
-            (λ x. x ≡ post_reply (past_in_hand (parts_by N.program) seat.old.me) (route (run_of (parts_by N.program)) (past_in_hand (parts_by N.program) seat.old.me) posted)) }
+            (λ x. x ≡ post_reply (past_in_hand (parts_by N.program) seat.old.me)
+            (route (run_of (parts_by N.program)) (past_in_hand (parts_by N.program) seat.old.me) posted)) }
         ensures did { IfOk result
             (λ x. Did (parts_by N.program) (post_entry number origin posted x) seat.old.me seat.new.me) }
         ensures err { OnErr result (Did (parts_by N.program) None seat.old.me seat.new.me) }
@@ -218,7 +232,8 @@ impl<N: Naming> SharedOffice<N> {
         ensures table { seat.new.table_id ≡ seat.old.table_id }
         ensures view { seat.new.me.0 ≡ seat.old.me.0 }
         ensures reply { IfOk result
-            (λ x. x ≡ first (answers (run_of (parts_by N.program)) (past_in_hand (parts_by N.program) seat.old.me) message)) }
+            (λ x. x ≡ first (answers (run_of (parts_by N.program)) (past_in_hand (parts_by N.program) seat.old.me)
+            message)) }
         ensures did { IfOk result
             (λ x. Did (parts_by N.program) (collect_entry number message x) seat.old.me seat.new.me) }
         ensures err { OnErr result (Did (parts_by N.program) None seat.old.me seat.new.me) }
@@ -240,7 +255,8 @@ impl<N: Naming> SharedOffice<N> {
         ensures table { seat.new.table_id ≡ seat.old.table_id }
         ensures view { seat.new.me.0 ≡ seat.old.me.0 }
         ensures reply { IfOk result
-            (λ x. x ≡ next_outgoing (run_of (parts_by N.program)) (past_in_hand (parts_by N.program) seat.old.me) kind) }
+            (λ x. x ≡ next_outgoing (run_of (parts_by N.program)) (past_in_hand (parts_by N.program) seat.old.me)
+            kind) }
         ensures did { IfOk result (λ x. Did (parts_by N.program) (fetch_entry number x) seat.old.me seat.new.me) }
         ensures err { OnErr result (Did (parts_by N.program) None seat.old.me seat.new.me) }
     {
@@ -279,7 +295,8 @@ impl<N: Naming> SharedOffice<N> {
         requires works { is_at_work (past_in_hand (parts_by N.program) seat.old.me) number ≡ true }
         ensures table { seat.new.table_id ≡ seat.old.table_id }
         ensures view { seat.new.me.0 ≡ seat.old.me.0 }
-        ensures did { Did (parts_by N.program) (closing_entry (past_in_hand (parts_by N.program) seat.old.me) number) seat.old.me seat.new.me }
+        ensures did { Did (parts_by N.program) (closing_entry (past_in_hand (parts_by N.program) seat.old.me) number)
+            seat.old.me seat.new.me }
     {
         let office = seat.slot_mut(&self.table.shared, 0);
         office.close(number);
@@ -294,7 +311,8 @@ impl<N: Naming> SharedOffice<N> {
     ) -> Result<bool, AllocError>
         requires table { seat.old.table_id ≡ N.table }
         requires hand { HasOffice (parts_by N.program) seat.old.me }
-        requires acts { is_acting (run_of (parts_by N.program)) (past_in_hand (parts_by N.program) seat.old.me) number ≡ true }
+        requires acts { is_acting (run_of (parts_by N.program)) (past_in_hand (parts_by N.program) seat.old.me)
+            number ≡ true }
         ensures table { seat.new.table_id ≡ seat.old.table_id }
         ensures same { seat.new.me ≡ seat.old.me }
         ensures found { IfOk result
@@ -316,12 +334,14 @@ impl<N: Naming> SharedOffice<N> {
     ) -> Result<bool, AllocError>
         requires table { seat.old.table_id ≡ N.table }
         requires hand { HasOffice (parts_by N.program) seat.old.me }
-        requires acts { is_acting (run_of (parts_by N.program)) (past_in_hand (parts_by N.program) seat.old.me) number ≡ true }
+        requires acts { is_acting (run_of (parts_by N.program)) (past_in_hand (parts_by N.program) seat.old.me)
+            number ≡ true }
         requires wanted { is_wanted (past_in_hand (parts_by N.program) seat.old.me) number call ≡ true }
         ensures table { seat.new.table_id ≡ seat.old.table_id }
         ensures same { seat.new.me ≡ seat.old.me }
         ensures found { IfOk result
-            (λ b. b ≡ is_some (calls.result (run_of (parts_by N.program)) (past_in_hand (parts_by N.program) seat.old.me) number call)) }
+            (λ b. b ≡ is_some (calls.result (run_of (parts_by N.program))
+            (past_in_hand (parts_by N.program) seat.old.me) number call)) }
     {
         let office = seat.slot_mut(&self.table.shared, 0);
         match office.ready() {

@@ -36,7 +36,8 @@ impl<N: Naming> SharedOffice<N> {
         requires idle { seat.old.me.1 ≡ [] }
         requires calls { seat.old.me.0.may_call ≡ true }
         ensures table { seat.new.table_id ≡ seat.old.table_id }
-        ensures turn { MatchBool result (HasTaken (parts_by N.program) seat.old.me seat.new.me) (seat.new.me ≡ seat.old.me) }
+        ensures turn { MatchBool result (HasTaken (parts_by N.program) seat.old.me seat.new.me)
+            (seat.new.me ≡ seat.old.me) }
     {
         self.table
             .shared

@@ -52,7 +52,8 @@ impl<N: Naming> SharedOffice<N> {
     ) -> Result<Option<Outcome>, AllocError>
         requires calls { pass.old.may_call ≡ true }
         requires worker { nat_le first_worker pass.old.number ≡ true }
-        requires collectable { Stays (parts_by N.program) pass.old (λ w past. is_collectable past pass.old.number message) }
+        requires collectable { Stays (parts_by N.program) pass.old
+            (λ w past. is_collectable past pass.old.number message) }
         ensures told { IfOk result (λ x. Called (parts_by N.program) pass.old pass.new
             (λ w past. x ≡ first (answers w past message))
             (λ w past. collect_entry pass.old.number message x)) }
@@ -99,7 +100,8 @@ impl<N: Naming> SharedOffice<N> {
     ) -> Result<(), AllocError>
         requires calls { pass.old.may_call ≡ true }
         requires worker { nat_le first_worker pass.old.number ≡ true }
-        requires fetched { Stays (parts_by N.program) pass.old (λ w past. is_fetched past pass.old.number session call) }
+        requires fetched { Stays (parts_by N.program) pass.old
+            (λ w past. is_fetched past pass.old.number session call) }
         ensures told { OnOk result (Made (parts_by N.program) pass.old pass.new
             (λ w past. Some (entry pass.old.number (act.Answered session call outcome)))) }
         ensures err { OnErr result (Saw (parts_by N.program) pass.old pass.new) }

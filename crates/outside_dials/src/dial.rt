@@ -27,5 +27,6 @@ pub trait Dial {
     fn back(&mut self, wire: Self::W)
         ensures dialled { (told self.new).dialled ≡ (told self.old).dialled }
         ensures last { Tells (told self.new).last (traffic (Self.W.told wire)) }
-        ensures counts { CountsWire ((Self.W.told wire).read_failed || (Self.W.told wire).write_failed) (told self.old).faults (told self.new).faults };
+        ensures counts { CountsWire ((Self.W.told wire).read_failed || (Self.W.told wire).write_failed)
+            (told self.old).faults (told self.new).faults };
 }

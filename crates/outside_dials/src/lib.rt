@@ -1,6 +1,8 @@
-//! The way to a wire of one's own to a location, as a trait with a written meaning: each wire that a dialler gives comes back to it once its user is through with it.
-//! A dialler has a count of faults, which rises where a call fails or a wire comes back that had failed, and stands still else. It may tell the locations that it dialled, and what was done with the last wire that came back.
-//! Beside the trait stand diallers in memory for tests, scripted to fail or unfailed.
+//! The way to a wire of one's own to a location, as a trait with a written meaning: each wire that a dialler gives
+//! comes back to it once its user is through with it. A dialler has a count of faults, which rises where a call fails
+//! or a wire comes back that had failed, and stands still else. It may tell the locations that it dialled, and what was
+//! done with the last wire that came back. Beside the trait stand diallers in memory for tests, scripted to fail or
+//! unfailed.
 #![tactic(auto)]
 
 mod coming;

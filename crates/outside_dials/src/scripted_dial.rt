@@ -9,7 +9,8 @@ use outside_traits::{Failed, ScriptedWire, Wire};
 use std::alloc::Global;
 use std::marker::Model;
 
-/// A dialler in memory, which gives wires in order or fails, as its script says of each call, whatever is dialled. It fails behind the last of the script too, and where a wire that had failed comes back.
+/// A dialler in memory, which gives wires in order or fails, as its script says of each call, whatever is dialled. It
+/// fails behind the last of the script too, and where a wire that had failed comes back.
 #[derive(Drop)]
 pub struct ScriptedDial {
     coming: Coming<Option<ScriptedWire>>,

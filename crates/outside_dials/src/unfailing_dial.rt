@@ -9,7 +9,8 @@ use outside_traits::{Failed, UnfailingWire, Wire};
 use std::alloc::Global;
 use std::marker::Model;
 
-/// A dialler in memory, which gives wires in order, whatever is dialled. It fails only behind the last of them, and where a wire that had failed comes back.
+/// A dialler in memory, which gives wires in order, whatever is dialled. It fails only behind the last of them, and
+/// where a wire that had failed comes back.
 #[derive(Drop)]
 pub struct UnfailingDial {
     coming: Coming<UnfailingWire>,

@@ -86,10 +86,12 @@ impl<W: Wire + Drop> Book<W> {
 
     /// A wire came back.
     pub fn wire_back(&mut self, wire: CountedWire<W>)
-        ensures tally { self.new.tally ≡ with_wire (record (W.told wire.wire) { door = Some wire.door }) self.old.tally }
+        ensures tally { self.new.tally ≡ with_wire (record (W.told wire.wire) { door = Some wire.door })
+            self.old.tally }
         ensures faults { self.new.faults ≡ self.old.faults }
         ensures tries { self.new.tries ≡ self.old.tries }
-        ensures returned { Lists self.old.returned self.new.returned (shut (record (W.told wire.wire) { door = Some wire.door }) ∷ []) }
+        ensures returned { Lists self.old.returned self.new.returned
+            (shut (record (W.told wire.wire) { door = Some wire.door }) ∷ []) }
         ensures returned_doors { self.new.returned_doors ≡ self.old.returned_doors }
     {
         self.counts

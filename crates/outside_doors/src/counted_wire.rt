@@ -5,8 +5,8 @@ ghost use Rattle.outside_doors.specs.Returns.{placed};
 use outside_traits::{Failed, Wire};
 use std::marker::Model;
 
-/// A wire that tells at which door it came, and keeps what is counted of it once it is taken back: whether a read failed,
-/// whether a write did, and whether it ended.
+/// A wire that tells at which door it came, and keeps what is counted of it once it is taken back: whether a read
+/// failed, whether a write did, and whether it ended.
 #[derive(Drop)]
 pub struct CountedWire<W: Wire> {
     wire: W,

@@ -33,7 +33,8 @@ pub trait Door {
         ensures stays { IsTrue (told self.old).closed → result ≡ Ok Accept.Closed }
         ensures cause { HasCause (told self.old).faults (told self.new).faults result };
 
-    /// Waits for a while where nobody has come yet. A real door waits for at most 1,000 ms, and one in memory not at all.
+    /// Waits for a while where nobody has come yet. A real door waits for at most 1,000 ms, and one in memory not at
+    /// all.
     fn rest(&mut self)
         ensures { told self.new ≡ rested (told self.old) };
 }
@@ -50,7 +51,8 @@ pub trait Doors {
         ensures untried { IfOk result (λ door. Self.D.told door ≡ untried (told self.old).tally.opened) }
         ensures opened { IfOk result (λ _. (told self.new).tally ≡ with_opened (told self.old).tally) }
         ensures unopened { OnErr result ((told self.new).tally ≡ (told self.old).tally) }
-        ensures listed { Lists (told self.old).tries (told self.new).tries (try_told location.now (is_ok result) ∷ []) }
+        ensures listed { Lists (told self.old).tries (told self.new).tries
+            (try_told location.now (is_ok result) ∷ []) }
         ensures returned { (told self.new).returned ≡ (told self.old).returned }
         ensures returned_doors { (told self.new).returned_doors ≡ (told self.old).returned_doors }
         ensures cause { HasCause (told self.old).faults (told self.new).faults result };

@@ -1,6 +1,6 @@
-//! The way to services elsewhere, as a trait with a written meaning: a trip takes a text to a location and brings bytes back.
-//! A link counts the trips that failed, one for each, and may tell the trips that it made and what the next ones bring.
-//! Beside the trait stand links in memory for tests, scripted to fail or unfailed, and one that reaches nobody.
+//! The way to services elsewhere, as a trait with a written meaning: a trip takes a text to a location and brings bytes
+//! back. A link counts the trips that failed, one for each, and may tell the trips that it made and what the next ones
+//! bring. Beside the trait stand links in memory for tests, scripted to fail or unfailed, and one that reaches nobody.
 #![tactic(auto)]
 
 mod coming;

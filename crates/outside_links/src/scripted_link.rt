@@ -9,7 +9,8 @@ use outside_traits::CallError;
 use std::alloc::Global;
 use std::marker::Model;
 
-/// A link in memory, whose trips bring back bytes or fail, as its script says of each. Behind the last of it they bring no bytes.
+/// A link in memory, whose trips bring back bytes or fail, as its script says of each. Behind the last of it they bring
+/// no bytes.
 #[derive(Drop)]
 pub struct ScriptedLink {
     alloc: Global,
@@ -55,12 +56,16 @@ impl Link for ScriptedLink {
 
     fn trip(&mut self, location: &str, text: &[u8]) -> Result<Vec<u8>, CallError>
         ensures scripted { IsOkUnless result CallError.Failed }
-        ensures back { IfOk result (λ bytes. Lists self.old.trips self.new.trips (there_and_back location.now text.now bytes.items ∷ [])) }
-        ensures alone { IsErrOf result CallError.Failed → Lists self.old.trips self.new.trips (there_alone location.now text.now ∷ []) }
+        ensures back { IfOk result
+            (λ bytes. Lists self.old.trips self.new.trips (there_and_back location.now text.now bytes.items ∷ [])) }
+        ensures alone { IsErrOf result CallError.Failed
+            → Lists self.old.trips self.new.trips (there_alone location.now text.now ∷ []) }
         ensures unmade { IsErrOf result (CallError.Memory alloc_error) → Lists self.old.trips self.new.trips [] }
-        ensures brought { IfOk result (λ bytes. Brings (Some self.old.coming) (Some self.new.coming) (Some bytes.items)) }
+        ensures brought { IfOk result
+            (λ bytes. Brings (Some self.old.coming) (Some self.new.coming) (Some bytes.items)) }
         ensures failed { IsErrOf result CallError.Failed → Brings (Some self.old.coming) (Some self.new.coming) None }
-        ensures wanted { IsErrOf result (CallError.Memory alloc_error) → StaysTold (Some self.old.coming) (Some self.new.coming) }
+        ensures wanted { IsErrOf result (CallError.Memory alloc_error)
+            → StaysTold (Some self.old.coming) (Some self.new.coming) }
         ensures faults { self.new.faults ≡ faults_after result self.old.faults }
     {
         let Some(bytes) = next_reply(self.alloc, &mut self.coming) else {
@@ -75,7 +80,8 @@ impl Link for ScriptedLink {
 
 /// What comes next, none where the trip fails: behind the last no bytes.
 fn next_reply(alloc: Global, coming: &mut Coming<Option<Vec<u8>>>) -> Option<Vec<u8>>
-    ensures { Brings (Some (map (option_map (λ v. v.items)) coming.old)) (Some (map (option_map (λ v. v.items)) coming.new))
+    ensures { Brings (Some (map (option_map (λ v. v.items)) coming.old))
+        (Some (map (option_map (λ v. v.items)) coming.new))
         (option_map (λ v. v.items) result) }
 {
     match coming.next() {

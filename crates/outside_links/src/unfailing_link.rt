@@ -53,12 +53,16 @@ impl Link for UnfailingLink {
 
     fn trip(&mut self, location: &str, text: &[u8]) -> Result<Vec<u8>, CallError>
         ensures unfailed { IsOk result }
-        ensures back { IfOk result (λ bytes. Lists self.old.trips self.new.trips (there_and_back location.now text.now bytes.items ∷ [])) }
-        ensures alone { IsErrOf result CallError.Failed → Lists self.old.trips self.new.trips (there_alone location.now text.now ∷ []) }
+        ensures back { IfOk result
+            (λ bytes. Lists self.old.trips self.new.trips (there_and_back location.now text.now bytes.items ∷ [])) }
+        ensures alone { IsErrOf result CallError.Failed
+            → Lists self.old.trips self.new.trips (there_alone location.now text.now ∷ []) }
         ensures unmade { IsErrOf result (CallError.Memory alloc_error) → Lists self.old.trips self.new.trips [] }
-        ensures brought { IfOk result (λ bytes. Brings (Some self.old.coming) (Some self.new.coming) (Some bytes.items)) }
+        ensures brought { IfOk result
+            (λ bytes. Brings (Some self.old.coming) (Some self.new.coming) (Some bytes.items)) }
         ensures failed { IsErrOf result CallError.Failed → Brings (Some self.old.coming) (Some self.new.coming) None }
-        ensures wanted { IsErrOf result (CallError.Memory alloc_error) → StaysTold (Some self.old.coming) (Some self.new.coming) }
+        ensures wanted { IsErrOf result (CallError.Memory alloc_error)
+            → StaysTold (Some self.old.coming) (Some self.new.coming) }
         ensures faults { self.new.faults ≡ faults_after result self.old.faults }
     {
         let bytes = next_bytes(self.alloc, &mut self.coming);
@@ -69,7 +73,8 @@ impl Link for UnfailingLink {
 
 /// The bytes that come next, none behind the last.
 fn next_bytes(alloc: Global, coming: &mut Coming<Vec<u8>>) -> Vec<u8>
-    ensures { Brings (Some (map (λ v. Some v.items) coming.old)) (Some (map (λ v. Some v.items) coming.new)) (Some result.items) }
+    ensures { Brings (Some (map (λ v. Some v.items) coming.old)) (Some (map (λ v. Some v.items) coming.new))
+        (Some result.items) }
 {
     match coming.next() {
         None => Vec::new(alloc),

@@ -1,4 +1,5 @@
-//! Doors in memory, for tests: scripted to fail, or unfailed. They give their connections in order, and keep what was opened at them and what came back.
+//! Doors in memory, for tests: scripted to fail, or unfailed. They give their connections in order, and keep what was
+//! opened at them and what came back.
 #![tactic(auto)]
 
 mod new_wire;

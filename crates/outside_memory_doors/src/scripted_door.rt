@@ -13,7 +13,8 @@ use outside_traits::{Failed, Script, ScriptedWire};
 use std::alloc::{AllocError, Global};
 use std::marker::Model;
 
-/// A door in memory that follows a script: what each try comes to, in order, and behind the last of them nobody any more.
+/// A door in memory that follows a script: what each try comes to, in order, and behind the last of them nobody any
+/// more.
 #[derive(Drop)]
 pub struct ScriptedDoor {
     alloc: Global,
@@ -41,7 +42,8 @@ impl ScriptedDoor {
         }
     }
 
-    /// Has a connection come next, on which these bytes come in, `room` bytes go out in all, at most `piece` a call either way, and the calls of these numbers fail.
+    /// Has a connection come next, on which these bytes come in, `room` bytes go out in all, at most `piece` a call
+    /// either way, and the calls of these numbers fail.
     pub fn expect(
         &mut self,
         bytes: &[u8],
@@ -50,7 +52,8 @@ impl ScriptedDoor {
         failing: &[u64],
     ) -> Result<(), AllocError>
         requires { 0 < piece }
-        ensures more { OnOk result (self.new.visits ≡ self.old.visits ++ Comes (scripted_line failing.now piece bytes.now room) ∷ []) }
+        ensures more { OnOk result (self.new.visits ≡ self.old.visits
+            ++ Comes (scripted_line failing.now piece bytes.now room) ∷ []) }
         ensures same { OnErr result (self.new.visits ≡ self.old.visits) }
         ensures told { self.new.told ≡ self.old.told }
     {

@@ -12,7 +12,8 @@ use outside_traits::{Failed, ScriptedWire};
 use std::alloc::{AllocError, Global};
 use std::marker::Model;
 
-/// Doors in memory that follow a script: those that were handed in open in order, or fail where it says so, and behind the last of them come doors at which nobody comes.
+/// Doors in memory that follow a script: those that were handed in open in order, or fail where it says so, and behind
+/// the last of them come doors at which nobody comes.
 #[derive(Drop)]
 pub struct ScriptedDoors {
     alloc: Global,

@@ -11,7 +11,8 @@ use outside_traits::{Failed, UnfailingWire};
 use std::alloc::{AllocError, Global};
 use std::marker::Model;
 
-/// A door in memory that never fails: a connection comes at each try until none is left, then nobody for so many tries, and then nobody any more.
+/// A door in memory that never fails: a connection comes at each try until none is left, then nobody for so many tries,
+/// and then nobody any more.
 #[derive(Drop)]
 pub struct UnfailingDoor {
     alloc: Global,

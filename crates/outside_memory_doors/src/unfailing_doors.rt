@@ -12,7 +12,8 @@ use outside_traits::{Failed, UnfailingWire};
 use std::alloc::{AllocError, Global};
 use std::marker::Model;
 
-/// Doors in memory that never fail to open: those that were handed in, in order, and behind the last of them doors at which nobody comes.
+/// Doors in memory that never fail to open: those that were handed in, in order, and behind the last of them doors at
+/// which nobody comes.
 #[derive(Drop)]
 pub struct UnfailingDoors {
     alloc: Global,

@@ -9,8 +9,8 @@ use outside_traits::{Failed, Wire};
 use std::alloc::{AllocError, Global};
 use std::marker::Model;
 
-/// A wire that does not wait, over one that does, for tests: while it is open its calls of some numbers come too early, and
-/// each other call is one of the wire in it.
+/// A wire that does not wait, over one that does, for tests: while it is open its calls of some numbers come too early,
+/// and each other call is one of the wire in it.
 #[derive(Drop)]
 pub struct EarlyWire<W: Wire + Drop> {
     wire: W,
@@ -64,7 +64,8 @@ impl<W: Wire + Drop> EarlyWire<W> {
     /// Whether the call at hand comes too early, which is counted then. Of a closed wire none does.
     fn comes_early(&mut self) -> bool
         ensures wire { self.new.wire ≡ self.old.wire }
-        ensures early { IsTrue result ↔ (((W.told self.old.wire).closed ≡ false) × Contains self.old.early self.old.calls) }
+        ensures early { IsTrue result ↔ (((W.told self.old.wire).closed ≡ false)
+            × Contains self.old.early self.old.calls) }
         ensures waits { result ≡ true → self.new.waits ≡ once_more self.old.waits }
         ensures stays { result ≡ false → self.new.waits ≡ self.old.waits }
         ensures called { (W.told self.old.wire).closed ≡ false → IsCalled self.old self.new }
@@ -86,7 +87,8 @@ impl<W: Wire + Drop> PollWire for EarlyWire<W> {
     ghost told = { λ w. record { wire = W.told w.wire; waits = w.waits } };
 
     fn try_read(&mut self, into: &mut [u8]) -> Result<Ready, Failed>
-        ensures early { result ≡ Ok NotYet ↔ (((W.told self.old.wire).closed ≡ false) × Contains self.old.early self.old.calls) }
+        ensures early { result ≡ Ok NotYet ↔
+            (((W.told self.old.wire).closed ≡ false) × Contains self.old.early self.old.calls) }
         ensures called { (W.told self.old.wire).closed ≡ false → IsCalled self.old self.new }
         ensures bound { ReadsAtMost (done result) into.new }
         ensures reads { Polls result
@@ -102,7 +104,8 @@ impl<W: Wire + Drop> PollWire for EarlyWire<W> {
     }
 
     fn try_write(&mut self, from: &[u8]) -> Result<Ready, Failed>
-        ensures early { result ≡ Ok NotYet ↔ (((W.told self.old.wire).closed ≡ false) × Contains self.old.early self.old.calls) }
+        ensures early { result ≡ Ok NotYet ↔
+            (((W.told self.old.wire).closed ≡ false) × Contains self.old.early self.old.calls) }
         ensures called { (W.told self.old.wire).closed ≡ false → IsCalled self.old self.new }
         ensures bound { WritesAtMost (done result) from.now }
         ensures writes { Polls result

@@ -11,8 +11,8 @@ pub enum Ready {
     NotYet,
 }
 
-/// A connection whose calls do not wait: bytes come in and go out on it, until it is closed. A closed wire answers as every
-/// wire does, and at once.
+/// A connection whose calls do not wait: bytes come in and go out on it, until it is closed. A closed wire answers as
+/// every wire does, and at once.
 pub trait PollWire {
     /// What the wire tells.
     ghost told: { Self → PollTold };
@@ -20,7 +20,8 @@ pub trait PollWire {
     /// The next bytes, if some have come or none come any more.
     fn try_read(&mut self, into: &mut [u8]) -> Result<Ready, Failed>
         ensures bound { ReadsAtMost (done result) into.new }
-        ensures reads { Polls result (told self.old) (told self.new) (λ answer. ReadsWire (length into.old) into.new answer) };
+        ensures reads { Polls result (told self.old) (told self.new)
+            (λ answer. ReadsWire (length into.old) into.new answer) };
 
     /// Takes a front of the bytes, if there is room for some.
     fn try_write(&mut self, from: &[u8]) -> Result<Ready, Failed>

@@ -1,6 +1,7 @@
-//! What a program reaches outside itself, as traits with a written meaning.
-//! Each object tells of its failures, a wire whether a read or a write has failed, any other by a count of faults, which rises where a call answers `Failed` and stands still else. It may tell the bytes that it holds.
-//! Beside the traits stand objects in memory for tests, scripted to fail or unfailed, and the adapters to the real world.
+//! What a program reaches outside itself, as traits with a written meaning. Each object tells of its failures, a wire
+//! whether a read or a write has failed, any other by a count of faults, which rises where a call answers `Failed` and
+//! stands still else. It may tell the bytes that it holds. Beside the traits stand objects in memory for tests,
+//! scripted to fail or unfailed, and the adapters to the real world.
 #![tactic(auto)]
 
 mod calls;

@@ -60,7 +60,8 @@ impl Source for ScriptedSource {
 
     fn read(&mut self, into: &mut [u8]) -> Result<usize, Failed>
         ensures scripted { IsErr result ↔ Contains self.old.script.failing self.old.script.call }
-        ensures count { IfOk result (λ count. count ≡ min (length self.old.left) (min self.old.piece (length into.old))) }
+        ensures count { IfOk result
+            (λ count. count ≡ min (length self.old.left) (min self.old.piece (length into.old))) }
         ensures script { IsNext self.old.script self.new.script }
         ensures piece { self.new.piece ≡ self.old.piece }
         ensures bound { ReadsAtMost result into.new }
@@ -74,7 +75,8 @@ impl Source for ScriptedSource {
     }
 }
 
-/// A sink in memory that takes pieces, with the failures of a script. It fails too, which it counts, where the room that it was made with is used up.
+/// A sink in memory that takes pieces, with the failures of a script. It fails too, which it counts, where the room
+/// that it was made with is used up.
 #[derive(Drop)]
 pub struct ScriptedSink {
     script: Script,
@@ -128,8 +130,10 @@ impl Sink for ScriptedSink {
 
     fn write(&mut self, from: &[u8]) -> Result<usize, Failed>
         ensures scripted { Contains self.old.script.failing self.old.script.call → IsErr result }
-        ensures full { IsErr result → Contains self.old.script.failing self.old.script.call ⊎ ((room_left self.old.shelf ≡ 0) × (0 < length from.now)) }
-        ensures count { IfOk result (λ count. count ≡ min (room_left self.old.shelf) (min self.old.piece (length from.now))) }
+        ensures full { IsErr result → Contains self.old.script.failing self.old.script.call
+            ⊎ ((room_left self.old.shelf ≡ 0) × (0 < length from.now)) }
+        ensures count { IfOk result
+            (λ count. count ≡ min (room_left self.old.shelf) (min self.old.piece (length from.now))) }
         ensures room { self.new.shelf.room ≡ self.old.shelf.room }
         ensures script { IsNext self.old.script self.new.script }
         ensures piece { self.new.piece ≡ self.old.piece }

@@ -16,7 +16,8 @@ use crate::traits::Wire;
 use std::alloc::{AllocError, Global};
 use std::marker::Model;
 
-/// A wire in memory on which bytes come and go in pieces, with the failures of a script. A write fails too where the room that it was made with is used up or it is closed.
+/// A wire in memory on which bytes come and go in pieces, with the failures of a script. A write fails too where the
+/// room that it was made with is used up or it is closed.
 #[derive(Drop)]
 pub struct ScriptedWire {
     script: Script,
@@ -52,7 +53,8 @@ impl Model for ScriptedWire {
 }
 
 impl ScriptedWire {
-    /// A wire on which these bytes come in, `room` bytes go out in all, and at most `piece` a call either way. The script counts reads and writes together.
+    /// A wire on which these bytes come in, `room` bytes go out in all, and at most `piece` a call either way. The
+    /// script counts reads and writes together.
     pub fn new(
         alloc: Global,
         bytes: &[u8],
@@ -157,14 +159,18 @@ impl Wire for ScriptedWire {
 
     // A closed wire does nothing with its script.
     fn read(&mut self, into: &mut [u8]) -> Result<usize, Failed>
-        ensures scripted { self.old.closed ≡ false → (IsErr result ↔ Contains self.old.script.failing self.old.script.call) }
-        ensures count { IfOk result (λ count. count ≡ min (length (readable self.old.closed self.old.tape)) (min self.old.piece (length into.old))) }
+        ensures scripted { self.old.closed ≡ false
+            → (IsErr result ↔ Contains self.old.script.failing self.old.script.call) }
+        ensures count { IfOk result
+            (λ count. count ≡ min (length (readable self.old.closed self.old.tape))
+            (min self.old.piece (length into.old))) }
         ensures script { self.old.closed ≡ false → IsNext self.old.script self.new.script }
         ensures kept { IsTrue self.old.closed → self.new ≡ record self.old { calls = self.new.calls } }
         ensures shelf { self.new.shelf ≡ self.old.shelf }
         ensures piece { self.new.piece ≡ self.old.piece }
         ensures bound { ReadsAtMost result into.new }
-        ensures bytes { ReadConsumes (Some (readable self.old.closed self.old.tape)) (Some (readable self.new.closed self.new.tape)) result into.new }
+        ensures bytes { ReadConsumes (Some (readable self.old.closed self.old.tape))
+            (Some (readable self.new.closed self.new.tape)) result into.new }
         ensures read { WriteAppends (Some self.old.tape.given) (Some self.new.tape.given) result into.new }
         ensures written { Some self.new.shelf.taken ≡ Some self.old.shelf.taken }
         ensures calls { Lists self.old.calls self.new.calls (Read (moved result) ∷ []) }
@@ -193,7 +199,8 @@ impl Wire for ScriptedWire {
         ensures scripted { Contains self.old.script.failing self.old.script.call → IsErr result }
         ensures full { IsErr result → (IsTrue self.old.closed ⊎ Contains self.old.script.failing self.old.script.call)
             ⊎ ((room_left self.old.shelf ≡ 0) × (0 < length from.now)) }
-        ensures count { IfOk result (λ count. count ≡ min (room_left self.old.shelf) (min self.old.piece (length from.now))) }
+        ensures count { IfOk result
+            (λ count. count ≡ min (room_left self.old.shelf) (min self.old.piece (length from.now))) }
         ensures room { self.new.shelf.room ≡ self.old.shelf.room }
         ensures script { self.old.closed ≡ false → IsNext self.old.script self.new.script }
         ensures piece { self.new.piece ≡ self.old.piece }
@@ -201,13 +208,15 @@ impl Wire for ScriptedWire {
         ensures some { IfOk result (λ count. 0 < length from.now → 0 < count) }
         ensures bytes { WriteAppends (Some self.old.shelf.taken) (Some self.new.shelf.taken) result from.now }
         ensures read { Some self.new.tape.given ≡ Some self.old.tape.given }
-        ensures unread { Some (readable self.new.closed self.new.tape) ≡ Some (readable self.old.closed self.old.tape) }
+        ensures unread { Some (readable self.new.closed self.new.tape)
+            ≡ Some (readable self.old.closed self.old.tape) }
         ensures calls { Lists self.old.calls self.new.calls (Wrote (moved result) ∷ []) }
         ensures closed { self.new.closed ≡ self.old.closed }
         ensures ended { self.new.ended ≡ self.old.ended }
         ensures shut { IsTrue self.old.closed → IsErr result }
         ensures read_failed { self.new.lost ≡ self.old.lost }
-        ensures write_failed { MatchResult result (λ _. self.new.cut ≡ self.old.cut) (λ _. self.new.cut ≡ (self.old.cut || not self.old.closed)) }
+        ensures write_failed { MatchResult result (λ _. self.new.cut ≡ self.old.cut)
+            (λ _. self.new.cut ≡ (self.old.cut || not self.old.closed)) }
     {
         if self.closed || self.script.fails() {
             return self.note_failed_write();

@@ -14,7 +14,8 @@ pub trait Files {
     /// The bytes of the file of a name, where they are told.
     ghost held: { Self → List ℕ → Option (List ℕ) };
 
-    /// What the files tell. A name counts as asked for whether or not the read failed, and the faults rise with each read that fails, and stand else.
+    /// What the files tell. A name counts as asked for whether or not the read failed, and the faults rise with each
+    /// read that fails, and stand else.
     ghost told: { Self → FilesTold };
 
     /// The first `most` bytes of the file, or all of it where it has fewer.
@@ -51,7 +52,8 @@ pub trait Sink {
         ensures cause { HasCause (told self.old).faults (told self.new).faults result };
 }
 
-/// A connection: bytes come in and go out on it, until it is closed. A closed wire answers a read as at the end of input, and a write with a failure, which is none of the wire.
+/// A connection: bytes come in and go out on it, until it is closed. A closed wire answers a read as at the end of
+/// input, and a write with a failure, which is none of the wire.
 pub trait Wire {
     /// What the wire tells.
     ghost told: { Self → WireTold };
@@ -65,7 +67,8 @@ pub trait Wire {
         ensures written { (told self.new).written ≡ (told self.old).written }
         ensures calls { Lists (told self.old).calls (told self.new).calls (Read (moved result) ∷ []) }
         ensures closed { (told self.new).closed ≡ (told self.old).closed }
-        ensures ended { (told self.new).ended ≡ ((told self.old).ended || tells_end (told self.old).closed (length into.old) result) }
+        ensures ended { (told self.new).ended
+            ≡ ((told self.old).ended || tells_end (told self.old).closed (length into.old) result) }
         ensures shut { IsTrue (told self.old).closed → result ≡ Ok 0 }
         ensures read_failed { MatchResult result
             (λ _. (told self.new).read_failed ≡ (told self.old).read_failed)

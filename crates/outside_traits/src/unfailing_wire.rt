@@ -15,7 +15,8 @@ use crate::traits::Wire;
 use std::alloc::{AllocError, Global};
 use std::marker::Model;
 
-/// A wire in memory. Its reads never fail, and its writes only where the room that it was made with is used up or it is closed.
+/// A wire in memory. Its reads never fail, and its writes only where the room that it was made with is used up or it is
+/// closed.
 #[derive(Drop)]
 pub struct UnfailingWire {
     tape: Tape,
@@ -119,7 +120,8 @@ impl Wire for UnfailingWire {
         ensures count { result ≡ Ok (min (length (readable self.old.closed self.old.tape)) (length into.old)) }
         ensures shelf { self.new.shelf ≡ self.old.shelf }
         ensures bound { ReadsAtMost result into.new }
-        ensures bytes { ReadConsumes (Some (readable self.old.closed self.old.tape)) (Some (readable self.new.closed self.new.tape)) result into.new }
+        ensures bytes { ReadConsumes (Some (readable self.old.closed self.old.tape))
+            (Some (readable self.new.closed self.new.tape)) result into.new }
         ensures read { WriteAppends (Some self.old.tape.given) (Some self.new.tape.given) result into.new }
         ensures written { Some self.new.shelf.taken ≡ Some self.old.shelf.taken }
         ensures calls { Lists self.old.calls self.new.calls (Read (moved result) ∷ []) }
@@ -139,19 +141,22 @@ impl Wire for UnfailingWire {
     }
 
     fn write(&mut self, from: &[u8]) -> Result<usize, Failed>
-        ensures full { IsErr result ↔ (IsTrue self.old.closed ⊎ ((room_left self.old.shelf ≡ 0) × (0 < length from.now))) }
+        ensures full { IsErr result ↔ (IsTrue self.old.closed
+            ⊎ ((room_left self.old.shelf ≡ 0) × (0 < length from.now))) }
         ensures count { IfOk result (λ count. count ≡ min (room_left self.old.shelf) (length from.now)) }
         ensures room { self.new.shelf.room ≡ self.old.shelf.room }
         ensures bound { WritesAtMost result from.now }
         ensures some { IfOk result (λ count. 0 < length from.now → 0 < count) }
         ensures bytes { WriteAppends (Some self.old.shelf.taken) (Some self.new.shelf.taken) result from.now }
         ensures read { Some self.new.tape.given ≡ Some self.old.tape.given }
-        ensures unread { Some (readable self.new.closed self.new.tape) ≡ Some (readable self.old.closed self.old.tape) }
+        ensures unread { Some (readable self.new.closed self.new.tape)
+            ≡ Some (readable self.old.closed self.old.tape) }
         ensures calls { Lists self.old.calls self.new.calls (Wrote (moved result) ∷ []) }
         ensures closed { self.new.closed ≡ self.old.closed }
         ensures ended { self.new.ended ≡ self.old.ended }
         ensures shut { IsTrue self.old.closed → IsErr result }
-        ensures write_failed { MatchResult result (λ _. self.new.cut ≡ self.old.cut) (λ _. self.new.cut ≡ (self.old.cut || not self.old.closed)) }
+        ensures write_failed { MatchResult result (λ _. self.new.cut ≡ self.old.cut)
+            (λ _. self.new.cut ≡ (self.old.cut || not self.old.closed)) }
     {
         if self.closed {
             return self.fail();

@@ -61,7 +61,8 @@ impl Boxes {
 
     /// Puts a message into the box of a session, behind all that wait there.
     pub fn put(&mut self, session: u32, op: u32, message: u32) -> Result<(), PutError>
-        ensures put { OnOk result (ChangesOnly session (box_of self.old session ++ waiting op message ∷ []) self.old self.new) }
+        ensures put { OnOk result (ChangesOnly session (box_of self.old session ++ waiting op message ∷ []) self.old
+            self.new) }
         ensures room { OnOk result (HasRoom (box_of self.old session)) }
         ensures refused { IfErr result (λ e. Refuses (box_of self.old session) e) }
         ensures unchanged { OnErr result (AreSame self.old self.new) }

@@ -4,14 +4,15 @@ ghost use Rattle.behaviour_tree.specs.PartsView.{parts_of};
 ghost use Rattle.run_theorem.specs.Calls.{After, most_postings};
 ghost use Rattle.run_theorem.specs.Exchange.{Exchange};
 ghost use Rattle.run_sweep.specs.Courses.{Goes};
-ghost use Rattle.run_cells.specs.RunStates.{AtWork, state_of};
+ghost use Rattle.run_cells.specs.RunStates.{AtWork};
+ghost use Rattle.run_cells.specs.View.{run_state, state};
 ghost use Rattle.run_posts.specs.CallStates.{waits};
 ghost use Rattle.run_sweep.specs.Swept.{CompletedCallsBy};
 ghost use Rattle.run_alone.specs.Between.{Answered, Between, Brings};
 
 use office_core::Posting;
 use outside_links::Link;
-use run_cells::{Cells, HasRunState};
+use run_cells::Cells;
 use run_posts::Pendings;
 use run_sweep::sweep;
 use run_theorem::Front;
@@ -35,34 +36,28 @@ impl<S: Seating> Alone<'_, S> {
         link: &mut L,
         posting: &Posting,
     ) -> Result<bool, AllocError>
-        requires work { AtWork (⟦<Cells<'static, S> as HasRunState>⟧.run_state self.old.cells) }
-        requires between { Between (state_of (⟦<Cells<'static, S> as HasRunState>⟧.run_state self.old.cells))
-            (waits self.old.pendings) self.old.pendings.postings true }
+        requires work { AtWork (run_state S.Session self.old.cells) }
+        requires between { Between (state S.Session self.old.cells) (waits self.old.pendings)
+            self.old.pendings.postings true }
         requires room { self.old.pendings.postings < most_postings }
         ensures program { self.new.cells.program ≡ self.old.cells.program }
-        ensures budget { OnOk result ((state_of
-            (⟦<Cells<'static, S> as HasRunState>⟧.run_state self.new.cells)).budget
-            ≡ (state_of (⟦<Cells<'static, S> as HasRunState>⟧.run_state self.old.cells)).budget) }
-        ensures work { OnOk result (AtWork (⟦<Cells<'static, S> as HasRunState>⟧.run_state self.new.cells)) }
-        ensures goes { OnOk result (Goes (state_of (⟦<Cells<'static, S> as HasRunState>⟧.run_state self.old.cells))
-            (state_of (⟦<Cells<'static, S> as HasRunState>⟧.run_state self.new.cells))) }
+        ensures budget { OnOk result ((state S.Session self.new.cells).budget
+            ≡ (state S.Session self.old.cells).budget) }
+        ensures work { OnOk result (AtWork (run_state S.Session self.new.cells)) }
+        ensures goes { OnOk result (Goes (state S.Session self.old.cells) (state S.Session self.new.cells)) }
         ensures count { OnOk result (self.new.pendings.postings ≡ suc self.old.pendings.postings) }
-        ensures between { IfOk result (Between
-            (state_of (⟦<Cells<'static, S> as HasRunState>⟧.run_state self.new.cells)) (waits self.new.pendings)
+        ensures between { IfOk result (Between (state S.Session self.new.cells) (waits self.new.pendings)
             self.new.pendings.postings) }
-        ensures completed { OnOk result (CompletedCallsBy
-            (state_of (⟦<Cells<'static, S> as HasRunState>⟧.run_state self.old.cells)).setting
-            (state_of (⟦<Cells<'static, S> as HasRunState>⟧.run_state self.old.cells)).history
-            (state_of (⟦<Cells<'static, S> as HasRunState>⟧.run_state self.new.cells)).history (L.told link.old)
+        ensures completed { OnOk result (CompletedCallsBy (state S.Session self.old.cells).setting
+            (state S.Session self.old.cells).history (state S.Session self.new.cells).history (L.told link.old)
             (L.told link.new)) }
         ensures passed { IfOk result
             (λ unfailed. (first : F) (before : Exchange)
             → F.exchanged (parts_of self.old.cells.program) first front.old before
-            → Brings (state_of (⟦<Cells<'static, S> as HasRunState>⟧.run_state self.old.cells))
-            (waits self.old.pendings) self.old.pendings.postings posting.now before
-            → After (F.exchanged (parts_of self.old.cells.program) first front.new)
-            (Answered (state_of (⟦<Cells<'static, S> as HasRunState>⟧.run_state self.new.cells))
-            (waits self.new.pendings) self.new.pendings.postings unfailed before)) }
+            → Brings (state S.Session self.old.cells) (waits self.old.pendings) self.old.pendings.postings posting.now
+            before → After (F.exchanged (parts_of self.old.cells.program) first front.new)
+            (Answered (state S.Session self.new.cells) (waits self.new.pendings) self.new.pendings.postings unfailed
+            before)) }
     {
         self.pendings.post(&mut self.cells, posting)?;
         let unfailed = sweep(self.alloc, &mut self.cells, front, link)?;

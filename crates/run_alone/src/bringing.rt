@@ -4,7 +4,8 @@ ghost use Rattle.behaviour_tree.specs.PartsView.{parts_of};
 ghost use Rattle.run_theorem.specs.Calls.{After};
 ghost use Rattle.run_theorem.specs.Exchange.{Exchange, IsNew};
 ghost use Rattle.run_sweep.specs.Courses.{Goes};
-ghost use Rattle.run_cells.specs.RunStates.{AtWork, state_of};
+ghost use Rattle.run_cells.specs.RunStates.{AtWork};
+ghost use Rattle.run_cells.specs.View.{run_state, state};
 ghost use Rattle.run_posts.specs.CallStates.{waits};
 ghost use Rattle.run_sweep.specs.Swept.{CompletedCallsBy};
 ghost use Rattle.run_alone.specs.Between.{Between, Closed, Passed};
@@ -12,7 +13,6 @@ ghost use Rattle.run_alone.specs.Overs.{LeavesNone, asks};
 
 use crate::alone::Alone;
 use outside_links::Link;
-use run_cells::{Cells, HasRunState};
 use run_theorem::{Front, Next};
 use session_turn::Seating;
 use std::alloc::AllocError;
@@ -29,34 +29,26 @@ impl<S: Seating> Alone<'_, S> {
         link: &mut L,
     ) -> Result<bool, AllocError>
         requires some { 0 < length (parts_of self.old.cells.program).services }
-        requires work { AtWork (⟦<Cells<'static, S> as HasRunState>⟧.run_state self.old.cells) }
-        requires between { Between (state_of (⟦<Cells<'static, S> as HasRunState>⟧.run_state self.old.cells))
-            (waits self.old.pendings) self.old.pendings.postings true }
+        requires work { AtWork (run_state S.Session self.old.cells) }
+        requires between { Between (state S.Session self.old.cells) (waits self.old.pendings)
+            self.old.pendings.postings true }
         ensures program { self.new.cells.program ≡ self.old.cells.program }
-        ensures budget { OnOk result ((state_of
-            (⟦<Cells<'static, S> as HasRunState>⟧.run_state self.new.cells)).budget
-            ≡ (state_of (⟦<Cells<'static, S> as HasRunState>⟧.run_state self.old.cells)).budget) }
-        ensures work { OnOk result (AtWork (⟦<Cells<'static, S> as HasRunState>⟧.run_state self.new.cells)) }
-        ensures goes { OnOk result (Goes (state_of (⟦<Cells<'static, S> as HasRunState>⟧.run_state self.old.cells))
-            (state_of (⟦<Cells<'static, S> as HasRunState>⟧.run_state self.new.cells))) }
-        ensures between { IfOk result (Between
-            (state_of (⟦<Cells<'static, S> as HasRunState>⟧.run_state self.new.cells)) (waits self.new.pendings)
+        ensures budget { OnOk result ((state S.Session self.new.cells).budget
+            ≡ (state S.Session self.old.cells).budget) }
+        ensures work { OnOk result (AtWork (run_state S.Session self.new.cells)) }
+        ensures goes { OnOk result (Goes (state S.Session self.old.cells) (state S.Session self.new.cells)) }
+        ensures between { IfOk result (Between (state S.Session self.new.cells) (waits self.new.pendings)
             self.new.pendings.postings) }
-        ensures completed { OnOk result (CompletedCallsBy
-            (state_of (⟦<Cells<'static, S> as HasRunState>⟧.run_state self.old.cells)).setting
-            (state_of (⟦<Cells<'static, S> as HasRunState>⟧.run_state self.old.cells)).history
-            (state_of (⟦<Cells<'static, S> as HasRunState>⟧.run_state self.new.cells)).history (L.told link.old)
+        ensures completed { OnOk result (CompletedCallsBy (state S.Session self.old.cells).setting
+            (state S.Session self.old.cells).history (state S.Session self.new.cells).history (L.told link.old)
             (L.told link.new)) }
         ensures passed { IfOk result
             (λ unfailed. (first : F) (before : Exchange)
-            → F.exchanged (parts_of self.old.cells.program) first front.old before
-            → IsNew before
-            → Passed (state_of (⟦<Cells<'static, S> as HasRunState>⟧.run_state self.old.cells))
-            (waits self.old.pendings) self.old.pendings.postings before
+            → F.exchanged (parts_of self.old.cells.program) first front.old before → IsNew before
+            → Passed (state S.Session self.old.cells) (waits self.old.pendings) self.old.pendings.postings before
             → After (F.exchanged (parts_of self.old.cells.program) first front.new)
-            (λ now. Closed (state_of (⟦<Cells<'static, S> as HasRunState>⟧.run_state self.new.cells))
-            (waits self.new.pendings) self.new.pendings.postings unfailed now
-            × LeavesNone before now)) }
+            (λ now. Closed (state S.Session self.new.cells) (waits self.new.pendings) self.new.pendings.postings
+            unfailed now × LeavesNone before now)) }
     {
         let mut looks = 0;
         let mut unfailed = true;

@@ -5,7 +5,8 @@ ghost use Rattle.behaviour_tree.specs.PartsView.{parts_of};
 ghost use Rattle.office_core.specs.Legal.{IsLegal};
 ghost use Rattle.run_theorem.specs.Calls.{After};
 ghost use Rattle.run_theorem.specs.Exchange.{Exchange};
-ghost use Rattle.run_cells.specs.RunStates.{AtWork, IsOurs, events_of, state_of};
+ghost use Rattle.run_cells.specs.RunStates.{AtWork, IsOurs, events_of};
+ghost use Rattle.run_cells.specs.View.{run_state, state};
 ghost use Rattle.run_posts.specs.CallStates.{waits};
 ghost use Rattle.run_sweep.specs.Swept.{CompletedCallsBy};
 ghost use Rattle.run_alone.specs.Between.{Between, Closed, GoesTo, IsLeft, LeftQuiet, Rested};
@@ -17,7 +18,7 @@ use crate::alone::Alone;
 use crate::worker::Finished;
 use jolie_trees::Bytes;
 use outside_links::Link;
-use run_cells::{Cells, HasRunState};
+use run_cells::Cells;
 use run_record::Record;
 use run_sweep::sweep;
 use run_theorem::Front;
@@ -34,30 +35,25 @@ impl<S: Seating> Alone<'_, S> {
         text: &[u8],
         unfailed: bool,
     ) -> Result<Finished, AllocError>
-        requires work { AtWork (⟦<Cells<'static, S> as HasRunState>⟧.run_state self.cells) }
-        requires between { Between (state_of (⟦<Cells<'static, S> as HasRunState>⟧.run_state self.cells))
-            (waits self.pendings) self.pendings.postings unfailed }
+        requires work { AtWork (run_state S.Session self.cells) }
+        requires between { Between (state S.Session self.cells) (waits self.pendings) self.pendings.postings unfailed }
         ensures ran { IfOk result
             (λ finished. (first : F) (new before : Exchange)
             → F.exchanged (parts_of self.entry.cells.program) first front.old before
-            → Closed (state_of (⟦<Cells<'static, S> as HasRunState>⟧.run_state self.entry.cells))
+            → Closed (state S.Session self.entry.cells)
             (waits self.entry.pendings) self.entry.pendings.postings unfailed before
             → LeavesNone new before
             → After (F.exchanged (parts_of self.entry.cells.program) first front.new)
             (λ d. Ran (record {
-              setting = (state_of
-                  (⟦<Cells<'static, S> as HasRunState>⟧.run_state self.entry.cells)).setting;
-              budget = (state_of (⟦<Cells<'static, S> as HasRunState>⟧.run_state self.entry.cells)).budget;
+              setting = (state S.Session self.entry.cells).setting;
+              budget = (state S.Session self.entry.cells).budget;
             }) text.now
             new d finished)) }
-        ensures goes { IfOk result
-            (λ finished. GoesTo (state_of (⟦<Cells<'static, S> as HasRunState>⟧.run_state self.entry.cells))
-            finished.report) }
+        ensures goes { IfOk result (λ finished. GoesTo (state S.Session self.entry.cells) finished.report) }
         ensures completed { IfOk result
-            (λ finished. CompletedCallsBy
-            (state_of (⟦<Cells<'static, S> as HasRunState>⟧.run_state self.entry.cells)).setting
-            (state_of (⟦<Cells<'static, S> as HasRunState>⟧.run_state self.entry.cells)).history
-            finished.report.history.entries.items (L.told link.old) (L.told link.new)) }
+            (λ finished. CompletedCallsBy (state S.Session self.entry.cells).setting
+            (state S.Session self.entry.cells).history finished.report.history.entries.items (L.told link.old)
+            (L.told link.new)) }
     {
         match self.quit(front, link, unfailed) {
             Ok(spent) => {
@@ -79,34 +75,30 @@ impl<S: Seating> Alone<'_, S> {
         link: &mut L,
         unfailed: bool,
     ) -> Result<bool, AllocError>
-        requires work { AtWork (⟦<Cells<'static, S> as HasRunState>⟧.run_state self.old.cells) }
-        requires between { Between (state_of (⟦<Cells<'static, S> as HasRunState>⟧.run_state self.old.cells))
-            (waits self.old.pendings) self.old.pendings.postings unfailed }
-        ensures ours { OnOk result (IsOurs (⟦<Cells<'static, S> as HasRunState>⟧.run_state self.new.cells)) }
+        requires work { AtWork (run_state S.Session self.old.cells) }
+        requires between { Between (state S.Session self.old.cells) (waits self.old.pendings)
+            self.old.pendings.postings unfailed }
+        ensures ours { OnOk result (IsOurs (run_state S.Session self.new.cells)) }
         ensures ran { IfOk result
             (λ spent. (text : List ℕ) (left : Left)
-            → IsLeft text spent (state_of (⟦<Cells<'static, S> as HasRunState>⟧.run_state self.new.cells)) left
+            → IsLeft text spent (state S.Session self.new.cells) left
             → (first : F) (new before : Exchange)
             → F.exchanged (parts_of self.old.cells.program) first front.old before
-            → Closed (state_of (⟦<Cells<'static, S> as HasRunState>⟧.run_state self.old.cells))
+            → Closed (state S.Session self.old.cells)
             (waits self.old.pendings) self.old.pendings.postings unfailed before
             → LeavesNone new before
             → After (F.exchanged (parts_of self.old.cells.program) first front.new)
             (λ d. Ran (record {
-              setting = (state_of
-                  (⟦<Cells<'static, S> as HasRunState>⟧.run_state self.old.cells)).setting;
-              budget = (state_of (⟦<Cells<'static, S> as HasRunState>⟧.run_state self.old.cells)).budget;
+              setting = (state S.Session self.old.cells).setting;
+              budget = (state S.Session self.old.cells).budget;
             }) text new d
             left)) }
         ensures goes { IfOk result
-            (λ spent. (text : List ℕ) (left : Left)
-            → IsLeft text spent (state_of (⟦<Cells<'static, S> as HasRunState>⟧.run_state self.new.cells)) left
-            → GoesTo (state_of (⟦<Cells<'static, S> as HasRunState>⟧.run_state self.old.cells)) left.report) }
+            (λ spent. (text : List ℕ) (left : Left) → IsLeft text spent (state S.Session self.new.cells) left
+            → GoesTo (state S.Session self.old.cells) left.report) }
         ensures completed { IfOk result
-            (λ spent. (text : List ℕ) (left : Left)
-            → IsLeft text spent (state_of (⟦<Cells<'static, S> as HasRunState>⟧.run_state self.new.cells)) left
-            → CompletedCallsBy (state_of (⟦<Cells<'static, S> as HasRunState>⟧.run_state self.old.cells)).setting
-            (state_of (⟦<Cells<'static, S> as HasRunState>⟧.run_state self.old.cells)).history
+            (λ spent. (text : List ℕ) (left : Left) → IsLeft text spent (state S.Session self.new.cells) left
+            → CompletedCallsBy (state S.Session self.old.cells).setting (state S.Session self.old.cells).history
             left.report.history.entries.items (L.told link.old) (L.told link.new)) }
     {
         self.rest(front, link, unfailed)?;
@@ -125,27 +117,22 @@ impl<S: Seating> Alone<'_, S> {
         link: &mut L,
         unfailed: bool,
     ) -> Result<(), AllocError>
-        requires work { AtWork (⟦<Cells<'static, S> as HasRunState>⟧.run_state self.old.cells) }
-        requires between { Between (state_of (⟦<Cells<'static, S> as HasRunState>⟧.run_state self.old.cells))
-            (waits self.old.pendings) self.old.pendings.postings unfailed }
+        requires work { AtWork (run_state S.Session self.old.cells) }
+        requires between { Between (state S.Session self.old.cells) (waits self.old.pendings)
+            self.old.pendings.postings unfailed }
         ensures program { self.new.cells.program ≡ self.old.cells.program }
         ensures pendings { self.new.pendings ≡ self.old.pendings }
-        ensures work { OnOk result (AtWork (⟦<Cells<'static, S> as HasRunState>⟧.run_state self.new.cells)) }
-        ensures rested { OnOk result (Rested unfailed
-            (state_of (⟦<Cells<'static, S> as HasRunState>⟧.run_state self.old.cells))
-            (state_of (⟦<Cells<'static, S> as HasRunState>⟧.run_state self.new.cells))) }
-        ensures completed { OnOk result (CompletedCallsBy
-            (state_of (⟦<Cells<'static, S> as HasRunState>⟧.run_state self.old.cells)).setting
-            (state_of (⟦<Cells<'static, S> as HasRunState>⟧.run_state self.old.cells)).history
-            (state_of (⟦<Cells<'static, S> as HasRunState>⟧.run_state self.new.cells)).history (L.told link.old)
+        ensures work { OnOk result (AtWork (run_state S.Session self.new.cells)) }
+        ensures rested { OnOk result (Rested unfailed (state S.Session self.old.cells)
+            (state S.Session self.new.cells)) }
+        ensures completed { OnOk result (CompletedCallsBy (state S.Session self.old.cells).setting
+            (state S.Session self.old.cells).history (state S.Session self.new.cells).history (L.told link.old)
             (L.told link.new)) }
         ensures noted { OnOk result ((parts : ProgramParts) (first : F) (before : Exchange)
             → F.exchanged parts first front.old before
-            → Closed (state_of (⟦<Cells<'static, S> as HasRunState>⟧.run_state self.old.cells))
-            (waits self.old.pendings) self.old.pendings.postings unfailed before
-            → After (F.exchanged parts first front.new)
-            (LeftQuiet (state_of (⟦<Cells<'static, S> as HasRunState>⟧.run_state self.old.cells))
-            (state_of (⟦<Cells<'static, S> as HasRunState>⟧.run_state self.new.cells)) before)) }
+            → Closed (state S.Session self.old.cells) (waits self.old.pendings) self.old.pendings.postings unfailed
+            before → After (F.exchanged parts first front.new)
+            (LeftQuiet (state S.Session self.old.cells) (state S.Session self.new.cells) before)) }
     {
         let halted = front.halted();
         let stopped = is_stopped(unfailed, halted);
@@ -170,17 +157,12 @@ fn record_of<S: Seating>(
     text: &[u8],
     cells: Cells<'_, S>,
 ) -> Result<Record, AllocError>
-    requires ours { IsOurs (⟦<Cells<'static, S> as HasRunState>⟧.run_state cells) }
+    requires ours { IsOurs (run_state S.Session cells) }
     ensures program { IfOk result (λ report. report.program ≡ text.now) }
-    ensures history { IfOk result
-        (λ report. report.history.entries.items
-        ≡ (state_of (⟦<Cells<'static, S> as HasRunState>⟧.run_state cells.entry)).history) }
-    ensures sessions { IfOk result
-        (λ report. report.sessions ≡ events_of (⟦<Cells<'static, S> as HasRunState>⟧.run_state cells.entry).stands) }
+    ensures history { IfOk result (λ report. report.history.entries.items ≡ (state S.Session cells.entry).history) }
+    ensures sessions { IfOk result (λ report. report.sessions ≡ events_of (run_state S.Session cells.entry).stands) }
     ensures traffic { IfOk result (λ report. report.traffic ≡ []) }
-    ensures legal { OnOk result (IsLegal (state_of
-        (⟦<Cells<'static, S> as HasRunState>⟧.run_state cells.entry)).setting
-        (state_of (⟦<Cells<'static, S> as HasRunState>⟧.run_state cells.entry)).history) }
+    ensures legal { OnOk result (IsLegal (state S.Session cells.entry).setting (state S.Session cells.entry).history) }
 {
     let (history, sessions) = cells.into_parts()?;
     let program = Bytes::from_slice(alloc, text)?;

@@ -61,7 +61,7 @@ service-runs : (parts : ProgramParts) (n : ℕ) (s : ServicePart) → is_well_fo
     → runs_well parts s ≡ true
 unfolding is_well_formed
 service-runs parts n s h e =
-    let each = (and_parts _ _ (and_parts _ _ h).1).1 in
+    let each = (and_parts _ _ (and_parts _ _ (and_parts _ _ h).0).1).1 in
     let well = at-place (is_service parts (input_locations parts.services)) parts.services n s each e in
     (and_parts _ _ (and_parts _ _ (and_parts _ _ well).0).0).1
 

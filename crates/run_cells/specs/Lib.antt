@@ -1,4 +1,5 @@
 pub mod RunStates
+pub mod View
 pub mod Turns
 pub mod Rounds
 pub mod Visits

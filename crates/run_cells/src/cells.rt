@@ -1,7 +1,8 @@
-ghost use Rattle.std.specs.Prelude.{◌≡◌, ◌<◌, [], ◌∷◌, ◌++◌, true, IfOk, OnOk, length, map};
+ghost use Rattle.std.specs.Prelude.{◌≡◌, ◌<◌, [], ◌∷◌, ◌++◌, true, IfOk, OnOk, length};
 ghost use Rattle.behaviour_tree.specs.PartsView.{parts_of};
 ghost use Rattle.office_core.specs.Limits.{run_of};
-ghost use Rattle.run_cells.specs.RunStates.{AtWork, RunState, run_state_by, stand_by, state_of, with_unended};
+ghost use Rattle.run_cells.specs.RunStates.{AtWork};
+ghost use Rattle.run_cells.specs.View.{run_state, state};
 ghost use Rattle.run_cells.specs.Turns.{Adopts, fresh};
 
 use behaviour_tree::{Events, Program};
@@ -32,16 +33,6 @@ pub struct Cells<'p, S: Session> {
     pub(crate) picks: &'p [u32],
 }
 
-/// What proofs see of the sessions of a run.
-pub trait HasRunState {
-    ghost run_state: { Self → RunState };
-}
-
-impl<S: Session> HasRunState for Cells<'_, S> {
-    ghost run_state = { λ c. with_unended c.unended.items (run_state_by c.program c.office c.budget
-        (map (λ d. stand_by (S.service_of d.session) (S.config_of d.session) d.events) c.cells.items) c.picks.now) };
-}
-
 impl<'p, S: Seating> Cells<'p, S> {
     /// Before the first call.
     pub fn new(
@@ -51,7 +42,7 @@ impl<'p, S: Seating> Cells<'p, S> {
         picks: &'p [u32],
     ) -> Result<Cells<'p, S>, AllocError>
         ensures program { IfOk result (λ c. parts_of c.program ≡ parts_of program) }
-        ensures begun { IfOk result (λ c. state_of (⟦<Cells<'static, S> as HasRunState>⟧.run_state c)
+        ensures begun { IfOk result (λ c. state S.Session c
             ≡ record {
               setting = run_of (parts_of program);
               budget = budget;
@@ -59,7 +50,7 @@ impl<'p, S: Seating> Cells<'p, S> {
               stands = [];
               picks = picks.now;
             }) }
-        ensures work { IfOk result (λ c. AtWork (⟦<Cells<'static, S> as HasRunState>⟧.run_state c)) }
+        ensures work { IfOk result (λ c. AtWork (run_state S.Session c)) }
     {
         let copy = program.again()?;
         let office = Office::new(alloc, copy)?;
@@ -85,14 +76,13 @@ impl<'p, S: Seating> Cells<'p, S> {
 
     /// Adopts the next session, if it was born.
     pub(crate) fn adopt_next(&mut self) -> Result<bool, AllocError>
-        requires work { AtWork (⟦<Cells<'static, S> as HasRunState>⟧.run_state self.old) }
+        requires work { AtWork (run_state S.Session self.old) }
         ensures program { self.new.program ≡ self.old.program }
-        ensures adopts { IfOk result (Adopts (state_of (⟦<Cells<'static, S> as HasRunState>⟧.run_state self.old))
-            (state_of (⟦<Cells<'static, S> as HasRunState>⟧.run_state self.new))) }
+        ensures adopts { IfOk result (Adopts (state S.Session self.old) (state S.Session self.new)) }
         ensures unended { IfOk result
             (λ adopted. adopted ≡ true → self.new.unended.items ≡ self.old.unended.items
             ++ length self.old.cells.items ∷ []) }
-        ensures work { OnOk result (AtWork (⟦<Cells<'static, S> as HasRunState>⟧.run_state self.new)) }
+        ensures work { OnOk result (AtWork (run_state S.Session self.new)) }
     {
         let count = self.cells.len();
         let number = count as u32;
@@ -111,8 +101,7 @@ impl<'p, S: Seating> Cells<'p, S> {
         ensures office { self.new.office ≡ self.old.office }
         ensures budget { self.new.budget ≡ self.old.budget }
         ensures picks { self.new.picks.now ≡ self.old.picks.now }
-        ensures stands { OnOk result ((⟦<Cells<'static, S> as HasRunState>⟧.run_state self.new).stands
-            ≡ (⟦<Cells<'static, S> as HasRunState>⟧.run_state self.old).stands
+        ensures stands { OnOk result ((run_state S.Session self.new).stands ≡ (run_state S.Session self.old).stands
             ++ fresh (run_of (parts_of self.old.program)) birth.service ∷ []) }
         ensures unended { OnOk result (self.new.unended.items ≡ self.old.unended.items ++ number ∷ []) }
     {

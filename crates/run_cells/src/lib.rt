@@ -8,5 +8,5 @@ mod rounds;
 mod turns;
 mod worker;
 
-pub use cells::{Cell, Cells, HasRunState};
+pub use cells::{Cell, Cells};
 pub use worker::WORKER;

@@ -6,10 +6,11 @@ ghost use Rattle.session_turn.specs.Passes.{IsReady};
 ghost use Rattle.office_plain.specs.View.{entries_of};
 ghost use Rattle.run_record.specs.Quiet.{CanAct};
 ghost use Rattle.session_turn.specs.Lives.{Kept, moment};
-ghost use Rattle.run_cells.specs.RunStates.{AtWork, seat_at, state_of};
+ghost use Rattle.run_cells.specs.RunStates.{AtWork, seat_at};
+ghost use Rattle.run_cells.specs.View.{run_state, state};
 ghost use Rattle.run_cells.specs.Rounds.{CouldAct, HasSpent};
 
-use crate::cells::{Cell, Cells, HasRunState};
+use crate::cells::{Cell, Cells};
 use office_plain::Office;
 use session_turn::{PlainDesk, Player, Seating, Session, may_act};
 use std::alloc::AllocError;
@@ -17,14 +18,11 @@ use std::alloc::AllocError;
 impl<S: Seating> Cells<'_, S> {
     /// Whether a session used its whole budget and could act all the same.
     pub fn is_spent(&mut self) -> Result<bool, AllocError>
-        requires work { AtWork (⟦<Cells<'static, S> as HasRunState>⟧.run_state self.old) }
+        requires work { AtWork (run_state S.Session self.old) }
         ensures program { self.new.program ≡ self.old.program }
-        ensures same { OnOk result (state_of (⟦<Cells<'static, S> as HasRunState>⟧.run_state self.new)
-            ≡ state_of (⟦<Cells<'static, S> as HasRunState>⟧.run_state self.old)) }
-        ensures exact { IfOk result
-            (λ spent. (spent ≡ true) ↔ HasSpent
-            (state_of (⟦<Cells<'static, S> as HasRunState>⟧.run_state self.old))) }
-        ensures work { OnOk result (AtWork (⟦<Cells<'static, S> as HasRunState>⟧.run_state self.new)) }
+        ensures same { OnOk result (state S.Session self.new ≡ state S.Session self.old) }
+        ensures exact { IfOk result (λ spent. (spent ≡ true) ↔ HasSpent (state S.Session self.old)) }
+        ensures work { OnOk result (AtWork (run_state S.Session self.new)) }
     {
         let count = self.cells.len();
         for number in 0..count {
@@ -38,15 +36,12 @@ impl<S: Seating> Cells<'_, S> {
 
     /// Whether the session of this number used its whole budget and could act all the same.
     fn could_act(&mut self, number: usize) -> Result<bool, AllocError>
-        requires work { AtWork (⟦<Cells<'static, S> as HasRunState>⟧.run_state self.old) }
+        requires work { AtWork (run_state S.Session self.old) }
         requires there { number < length self.old.cells.items }
         ensures program { self.new.program ≡ self.old.program }
-        ensures same { OnOk result (state_of (⟦<Cells<'static, S> as HasRunState>⟧.run_state self.new)
-            ≡ state_of (⟦<Cells<'static, S> as HasRunState>⟧.run_state self.old)) }
-        ensures exact { IfOk result
-            (λ could. (could ≡ true) ↔ CouldAct (state_of (⟦<Cells<'static, S> as HasRunState>⟧.run_state self.old))
-            number) }
-        ensures work { OnOk result (AtWork (⟦<Cells<'static, S> as HasRunState>⟧.run_state self.new)) }
+        ensures same { OnOk result (state S.Session self.new ≡ state S.Session self.old) }
+        ensures exact { IfOk result (λ could. (could ≡ true) ↔ CouldAct (state S.Session self.old) number) }
+        ensures work { OnOk result (AtWork (run_state S.Session self.new)) }
     {
         let cell = &self.cells[number];
         let count = cell.events.len();

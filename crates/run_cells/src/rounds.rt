@@ -1,11 +1,12 @@
 //! Rounds: each session has its turns.
 ghost use Rattle.std.specs.Prelude.{◌≡◌, ℕ, ◌+◌, ◌≤◌, ◌<◌, ◌||◌, true, IfOk, IfSome, OnOk, Some, length, slice_get, unwrap_or};
-ghost use Rattle.run_cells.specs.RunStates.{AtWork, state_of};
+ghost use Rattle.run_cells.specs.RunStates.{AtWork};
+ghost use Rattle.run_cells.specs.View.{run_state, state};
 ghost use Rattle.run_cells.specs.Turns.{CameTo};
 ghost use Rattle.run_cells.specs.Rounds.{Adopted, Went};
 ghost use Rattle.run_cells.specs.Visits.{ArePassed, IsNext, Skips};
 
-use crate::cells::{Cell, Cells, HasRunState};
+use crate::cells::{Cell, Cells};
 use crate::turns::picks_behind;
 use session_turn::{Seating, Session};
 use std::alloc::AllocError;
@@ -14,11 +15,10 @@ impl<S: Seating> Cells<'_, S> {
     /// Gives each session, in order of number, its turns; one that was not adopted yet is adopted first. It says
     /// whether one did something.
     pub fn all_turns(&mut self) -> Result<bool, AllocError>
-        requires work { AtWork (⟦<Cells<'static, S> as HasRunState>⟧.run_state self.old) }
+        requires work { AtWork (run_state S.Session self.old) }
         ensures program { self.new.program ≡ self.old.program }
-        ensures went { IfOk result (Went (state_of (⟦<Cells<'static, S> as HasRunState>⟧.run_state self.old))
-            (state_of (⟦<Cells<'static, S> as HasRunState>⟧.run_state self.new))) }
-        ensures work { OnOk result (AtWork (⟦<Cells<'static, S> as HasRunState>⟧.run_state self.new)) }
+        ensures went { IfOk result (Went (state S.Session self.old) (state S.Session self.new)) }
+        ensures work { OnOk result (AtWork (run_state S.Session self.new)) }
     {
         let mut moved = false;
         let mut place = 0;
@@ -40,14 +40,13 @@ impl<S: Seating> Cells<'_, S> {
     /// The number of the session that is visited at a place, or else of the one that is born next. Those from a number
     /// on to it have ended: the picks for their turns are dropped.
     fn skip(&mut self, place: usize, number: usize) -> usize
-        requires work { AtWork (⟦<Cells<'static, S> as HasRunState>⟧.run_state self.old) }
-        requires passed { ArePassed place number (⟦<Cells<'static, S> as HasRunState>⟧.run_state self.old) }
+        requires work { AtWork (run_state S.Session self.old) }
+        requires passed { ArePassed place number (run_state S.Session self.old) }
         ensures program { self.new.program ≡ self.old.program }
-        ensures next { IsNext (⟦<Cells<'static, S> as HasRunState>⟧.run_state self.new) place result }
-        ensures skipped { Skips number result (state_of (⟦<Cells<'static, S> as HasRunState>⟧.run_state self.old))
-            (state_of (⟦<Cells<'static, S> as HasRunState>⟧.run_state self.new)) }
+        ensures next { IsNext (run_state S.Session self.new) place result }
+        ensures skipped { Skips number result (state S.Session self.old) (state S.Session self.new) }
         ensures within { result ≤ length self.new.cells.items }
-        ensures work { AtWork (⟦<Cells<'static, S> as HasRunState>⟧.run_state self.new) }
+        ensures work { AtWork (run_state S.Session self.new) }
     {
         let next = self.number_at(place);
         let count = next - number;
@@ -68,15 +67,14 @@ impl<S: Seating> Cells<'_, S> {
     /// Leaves the session that is visited at a place for the next one, whose place it gives. One that has ended is not
     /// visited again: that is for speed alone, and no clause says it.
     fn leave(&mut self, place: usize, number: usize) -> usize
-        requires work { AtWork (⟦<Cells<'static, S> as HasRunState>⟧.run_state self.old) }
+        requires work { AtWork (run_state S.Session self.old) }
         requires there { number < length self.old.cells.items }
         requires place { place < length self.old.unended.items }
         requires visited { slice_get self.old.unended.items place ≡ Some number }
         ensures program { self.new.program ≡ self.old.program }
-        ensures same { state_of (⟦<Cells<'static, S> as HasRunState>⟧.run_state self.new)
-            ≡ state_of (⟦<Cells<'static, S> as HasRunState>⟧.run_state self.old) }
-        ensures passed { ArePassed result (number + 1) (⟦<Cells<'static, S> as HasRunState>⟧.run_state self.new) }
-        ensures work { AtWork (⟦<Cells<'static, S> as HasRunState>⟧.run_state self.new) }
+        ensures same { state S.Session self.new ≡ state S.Session self.old }
+        ensures passed { ArePassed result (number + 1) (run_state S.Session self.new) }
+        ensures work { AtWork (run_state S.Session self.new) }
     {
         let cell = &self.cells[number];
         let ended = has_ended(cell);
@@ -89,17 +87,14 @@ impl<S: Seating> Cells<'_, S> {
 
     /// Whether there is a session of a number; one that was born is adopted.
     fn comes(&mut self, number: usize) -> Result<bool, AllocError>
-        requires work { AtWork (⟦<Cells<'static, S> as HasRunState>⟧.run_state self.old) }
+        requires work { AtWork (run_state S.Session self.old) }
         requires within { number ≤ length self.old.cells.items }
         ensures program { self.new.program ≡ self.old.program }
-        ensures came { IfOk result (CameTo number
-            (state_of (⟦<Cells<'static, S> as HasRunState>⟧.run_state self.old))
-            (state_of (⟦<Cells<'static, S> as HasRunState>⟧.run_state self.new))) }
+        ensures came { IfOk result (CameTo number (state S.Session self.old) (state S.Session self.new)) }
         ensures unended { IfOk result
-            (λ came. came ≡ true → (place : ℕ)
-            → IsNext (⟦<Cells<'static, S> as HasRunState>⟧.run_state self.old) place number
+            (λ came. came ≡ true → (place : ℕ) → IsNext (run_state S.Session self.old) place number
             → slice_get self.new.unended.items place ≡ Some number) }
-        ensures work { OnOk result (AtWork (⟦<Cells<'static, S> as HasRunState>⟧.run_state self.new)) }
+        ensures work { OnOk result (AtWork (run_state S.Session self.new)) }
     {
         let count = self.cells.len();
         if number < count {
@@ -110,11 +105,10 @@ impl<S: Seating> Cells<'_, S> {
 
     /// Adopts all sessions that were born.
     pub fn adopt_all(&mut self) -> Result<(), AllocError>
-        requires work { AtWork (⟦<Cells<'static, S> as HasRunState>⟧.run_state self.old) }
+        requires work { AtWork (run_state S.Session self.old) }
         ensures program { self.new.program ≡ self.old.program }
-        ensures adopted { OnOk result (Adopted (state_of (⟦<Cells<'static, S> as HasRunState>⟧.run_state self.old))
-            (state_of (⟦<Cells<'static, S> as HasRunState>⟧.run_state self.new))) }
-        ensures work { OnOk result (AtWork (⟦<Cells<'static, S> as HasRunState>⟧.run_state self.new)) }
+        ensures adopted { OnOk result (Adopted (state S.Session self.old) (state S.Session self.new)) }
+        ensures work { OnOk result (AtWork (run_state S.Session self.new)) }
     {
         'adoptions: loop {
             let adopted = self.adopt_next()?;

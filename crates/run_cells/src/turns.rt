@@ -5,10 +5,11 @@ ghost use Rattle.office_core.specs.Limits.{run_of};
 ghost use Rattle.session_turn.specs.Passes.{IsReady};
 ghost use Rattle.office_plain.specs.View.{entries_of};
 ghost use Rattle.session_turn.specs.Lives.{Kept, moment};
-ghost use Rattle.run_cells.specs.RunStates.{AtWork, seat_at, stand_by, state_of};
+ghost use Rattle.run_cells.specs.RunStates.{AtWork, seat_at, stand_by};
+ghost use Rattle.run_cells.specs.View.{run_state, state};
 ghost use Rattle.run_cells.specs.Turns.{IsTurn, Turned, TurnsOf, is_did as did, position};
 
-use crate::cells::{Cell, Cells, HasRunState};
+use crate::cells::{Cell, Cells};
 use office_plain::Office;
 use session_turn::{PlainDesk, Player, Seating, Session, Turn, turn_of};
 use std::alloc::AllocError;
@@ -16,14 +17,12 @@ use std::alloc::AllocError;
 impl<S: Seating> Cells<'_, S> {
     /// Gives a session turns until one does nothing; it says whether one did something.
     pub(crate) fn turns_of(&mut self, number: usize) -> Result<bool, AllocError>
-        requires work { AtWork (⟦<Cells<'static, S> as HasRunState>⟧.run_state self.old) }
+        requires work { AtWork (run_state S.Session self.old) }
         requires there { number < length self.old.cells.items }
         ensures program { self.new.program ≡ self.old.program }
         ensures unended { self.new.unended.items ≡ self.old.unended.items }
-        ensures turns { IfOk result (TurnsOf number
-            (state_of (⟦<Cells<'static, S> as HasRunState>⟧.run_state self.old))
-            (state_of (⟦<Cells<'static, S> as HasRunState>⟧.run_state self.new))) }
-        ensures work { OnOk result (AtWork (⟦<Cells<'static, S> as HasRunState>⟧.run_state self.new)) }
+        ensures turns { IfOk result (TurnsOf number (state S.Session self.old) (state S.Session self.new)) }
+        ensures work { OnOk result (AtWork (run_state S.Session self.new)) }
     {
         let mut moved = false;
         'turns: loop {
@@ -38,14 +37,12 @@ impl<S: Seating> Cells<'_, S> {
 
     /// Gives a session one turn, for the next pick.
     fn turn(&mut self, number: usize) -> Result<Turn, AllocError>
-        requires work { AtWork (⟦<Cells<'static, S> as HasRunState>⟧.run_state self.old) }
+        requires work { AtWork (run_state S.Session self.old) }
         requires there { number < length self.old.cells.items }
         ensures program { self.new.program ≡ self.old.program }
         ensures unended { self.new.unended.items ≡ self.old.unended.items }
-        ensures turn { IfOk result (IsTurn number
-            (state_of (⟦<Cells<'static, S> as HasRunState>⟧.run_state self.old))
-            (state_of (⟦<Cells<'static, S> as HasRunState>⟧.run_state self.new))) }
-        ensures work { OnOk result (AtWork (⟦<Cells<'static, S> as HasRunState>⟧.run_state self.new)) }
+        ensures turn { IfOk result (IsTurn number (state S.Session self.old) (state S.Session self.new)) }
+        ensures work { OnOk result (AtWork (run_state S.Session self.new)) }
     {
         let pick = first_pick(self.picks);
         self.picks = picks_behind(self.picks, 1);

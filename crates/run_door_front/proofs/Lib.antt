@@ -17,3 +17,4 @@ pub mod OneByOne
 pub mod InTurn
 pub mod Asking
 pub mod FirstReading
+pub mod Owing

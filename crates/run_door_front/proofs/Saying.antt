@@ -1,11 +1,11 @@
 -- What passed between a front over doors and its run, as answers are told to it and texts are noted.
 use Rattle.std.proofs.Common.{◌≡◌, ◌≢◌, ◌⊎◌, inl, inr, refl, sym, ap, ap₂, subst, ◌∙◌, ℕ, zero, suc, ◌+◌, ◌-◌, ◌^◌, ◌<◌, ◌≤◌, min, nat_lt, Bool, true, false, ◌&&◌, ◌||◌, arith, List, [], ◌∷◌, ◌++◌, length, map, take, Option, None, Some, true≢false}
 use Rattle.run_door_front.proofs.Requests.{same_door}
-use Rattle.std.proofs.Common.{length-append, append-nil, append_assoc, Result, Ok, Err, MatchResult, IfOk, OnErr}
+use Rattle.std.proofs.Common.{length-append, append-nil, append_assoc, Result, Ok, Err, MatchResult, IfOk}
 use Rattle.std.specs.Prelude.{nat_eq, nat_le, slice_get, slice_set, count_by, sum_by, option_map, option_and_then}
 use Rattle.std.specs.List.{list_all, list_any}
 use Rattle.std.proofs.lemmas.Bool.{and_from, or_from, lt-ltb}
-use Rattle.std.proofs.lemmas.List.{take-append-le, length-map, length-set}
+use Rattle.std.proofs.lemmas.List.{take-append-le, length-set}
 use Rattle.std.proofs.lemmas.List.Sums.{sum_by-cons}
 use Rattle.std.proofs.KnownBytes.{Appends-nil}
 use Rattle.std.proofs.lemmas.List.Folds.{list_all-append, list_any-append}
@@ -17,7 +17,7 @@ use Rattle.behaviour_tree.specs.declared.words.Outcome.{Outcome}
 use Rattle.jsonrpc_text.specs.declared.message.Read.{Read}
 use Rattle.run_theorem.specs.Exchange.{Asked, Told, Received, Sent, Exchange, IsNew}
 use Rattle.run_theorem.specs.Calls.{After, Halts, IsDue, Tells, Notes, is_of, most_postings}
-use Rattle.run_theorem.specs.Texts.{Came, posting_of}
+use Rattle.run_theorem.specs.Texts.{Came}
 use Rattle.run_theorem.specs.Lines.{IsPrefix}
 use Rattle.jsonrpc_postings.specs.Told.{came_for, response_told}
 use Rattle.run_theorem.specs.RunConnections.{RunConnection, came_with, came_of, came_at, AreTaken}
@@ -30,9 +30,10 @@ use Rattle.run_door_front.specs.Keeping.{is_led, leads_of, lead_of, ListenerTold
 use Rattle.outside_traits.specs.Told.{SinkTold}
 use Rattle.outside_writing.specs.Sinks.{Takes}
 use Rattle.run_door_front.specs.Exchanged.{Sides, sides_of, OwesAt, IsClient, AreClients, IsHeard, IsPending, AreHeard, HadNoAnswer, CameInTurn, WasBusy, WereBusy, HaveWaited, HadNone, most_open, entire, HasExchanged, HasRunOut, MayHaveExchanged}
-use Rattle.run_door_front.specs.AnswerSteps.{told_of, HasTold, HasAnswered}
+use Rattle.run_door_front.specs.AnswerSteps.{told_of, Awaits, HasTold, HasAnswered}
 use Rattle.run_door_front.proofs.Changing.{eq_true, eq_false, not_eq, same_of, none_not_some, set_here, set_other, set_cases, list_all-set, slice_get-front, slice_get-last, map_alike, slice_get-mapped}
 use Rattle.run_door_front.proofs.Leading.{led-set, led-new}
+use Rattle.run_door_front.proofs.Owing.{given_before, due_awaits}
 use Rattle.run_door_front.proofs.OneByOne.{one_by_one-longer, heard_by-longer}
 use Rattle.run_door_front.proofs.InTurn.{seen_within, in_turn-told, over_set, asked_within, in_turn-on}
 use Rattle.run_door_front.proofs.Notes.{halts_still, halts_unknown, NotesSo, sent_told, sent_cut, sent_noted}
@@ -203,15 +204,6 @@ module _ (IsMade : WireTold → Type 0) (parts : ProgramParts) (first : Sides) (
 
   abbrev now_exchanged : Exchange
   now_exchanged = record { received = d.received; sent = record d.sent { told = d.sent.told ++ told_of place outcomes ∷ [] } }
-
-  -- the place was given
-  given_before : place < length h.all.asked
-  given_before =
-      let inside : place < length d.received.given = slice_get_within d.received.given place due.posting due.given in
-      let postings : length d.received.given ≡ length h.all.came = ap length h.given ∙ length-map h.all.came posting_of in
-      let requests : length h.all.came ≡ length h.all.asked =
-      sym (length-map h.all.came Some) ∙ sym (ap length h.came) ∙ length-map h.all.asked (came_at h.connections) in
-      omega arith
 
   -- its posting is a request of the connection
   of_connection : (q : Asked) → slice_get h.all.asked place ≡ Some q → q.traffic ≡ a.number
@@ -392,7 +384,7 @@ module _ (IsMade : WireTold → Type 0) (parts : ProgramParts) (first : Sides) (
         places =
             list_all-append (λ (t : Told). nat_lt t.place (length h.all.asked)) h.heard (told_of place outcomes ∷ [])
             ∙ and_from (list_all (λ (t : Told). nat_lt t.place (length h.all.asked)) h.heard) (nat_lt place (length h.all.asked) && true) h.places
-            (and_from (nat_lt place (length h.all.asked)) true (lt-ltb place (length h.all.asked) given_before) refl);
+            (and_from (nat_lt place (length h.all.asked)) true (lt-ltb place (length h.all.asked) (given_before IsMade parts first old notes d place outcomes h due)) refl);
         answers = all_heard;
         one_by_one = one_by_one-longer d now_exchanged.sent (told_of place outcomes ∷ []) refl h.one_by_one;
         in_turn = subst (CameInTurn now_exchanged) (sym a.links) in_turn_now;
@@ -550,12 +542,14 @@ module _ (IsMade : WireTold → Type 0) (parts : ProgramParts) (A B : Type 0) (a
 
   -- it is told of a place, or memory ran out
   pub told-so : {T E : Type 0} (r : Result T E) (new : Keeping) (place : ℕ) (outcomes : List Outcome) → old.spent ≡ false → old.halted ≡ false
-      → IsDue place outcomes d → IfOk r (λ _. HasAnswered parts (told_of place outcomes) old new) → OnErr r (new.spent ≡ true) → new.halted ≡ old.halted
+      → IsDue place outcomes d → ((n : ℕ) → Awaits place n old → IfOk r (λ _. HasAnswered parts (told_of place outcomes) old new))
+      → MatchResult r (λ _. old.spent ≡ false → new.spent ≡ false) (λ _. new.spent ≡ true) → new.halted ≡ old.halted
       → MatchResult r (λ _. After (Same (sides_of new was)) (Tells place outcomes d)) (λ _. Same (sides_of new was) d)
   told-so (Ok v) new place outcomes lasts running due answered out halted =
-      let t : Told = told_of place outcomes in (
+      let t : Told = told_of place outcomes in
+      let at = due_awaits IsMade parts first old was d place outcomes (exchanged_yet lasts) due in (
         record { received = d.received; sent = record d.sent { told = d.sent.told ++ t ∷ [] } },
-        (a, b, inr (exchanged_now IsMade parts first old new was d place outcomes (exchanged_yet lasts) due answered running)),
+        (a, b, inr (exchanged_now IsMade parts first old new was d place outcomes (exchanged_yet lasts) due (answered at.0 at.1) running)),
         record { told = refl; noted = refl; notes_failed = refl; halts = halts_still d.sent (record d.sent { told = d.sent.told ++ t ∷ [] }) refl refl; received = refl },
       )
   told-so (Err e) new place outcomes lasts running due answered out halted =

@@ -1,6 +1,5 @@
 -- How the connection of a place is told a text, and what want of memory leaves.
 use Rattle.std.proofs.Common.{◌≡◌, ℕ, List, [], ◌∷◌, ◌++◌, Bool, true, false, Option, Some, Result, Ok, Err, MatchResult, IfOk}
-use Rattle.std.specs.Prelude.{OnErr}
 use Rattle.std.specs.Prelude.{slice_get, slice_set}
 use Rattle.behaviour_tree.specs.Data.{ProgramParts}
 use Rattle.run_theorem.specs.Exchange.{Told}
@@ -51,8 +50,7 @@ memory-asked (Ok v) before now P h = (h.0, h.1)
 memory-asked (Err e) before now P h = h
 
 -- where a connection was told, or memory ran out
-pub memory-told : {T E : Type 0} (r : Result T E) (parts : ProgramParts) (t : Told) (before now : Keeping) → before.spent ≡ false
-    → IfOk r (λ _. HasAnswered parts t before now) → OnErr r (now.spent ≡ true)
-    → MatchResult r (λ _. (before.spent ≡ false) × (now.spent ≡ false)) (λ _. now.spent ≡ true)
-memory-told (Ok v) parts t before now ready answered wanting = (ready, answered.spent)
-memory-told (Err e) parts t before now ready answered wanting = wanting
+pub memory-told : {T E : Type 0} (r : Result T E) (before now : Bool) → before ≡ false → MatchResult r (λ _. before ≡ false → now ≡ false) (λ _. now ≡ true)
+    → MatchResult r (λ _. (before ≡ false) × (now ≡ false)) (λ _. now ≡ true)
+memory-told (Ok v) before now ready lasts = (ready, lasts ready)
+memory-told (Err e) before now ready wanting = wanting

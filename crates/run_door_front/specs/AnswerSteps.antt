@@ -1,18 +1,66 @@
 -- These definitions serve the proofs alone: no promise speaks of them.
 -- What a front over doors does where an answer is told to it or a text is noted.
-use Rattle.std.specs.Prelude.{◌≡◌, ℕ, false, List, ◌∷◌, [], ◌++◌}
+use Rattle.std.specs.Prelude.{◌≡◌, ℕ, Bool, true, false, ◌&&◌, if◌then◌else◌, nat_eq, List, ◌∷◌, [], ◌++◌}
 use Rattle.std.specs.Prelude.{Option, None, Some, slice_get, slice_set}
 use Rattle.behaviour_tree.specs.Data.{ProgramParts}
 use Rattle.behaviour_tree.specs.declared.words.Outcome.{Outcome}
 use Rattle.jsonrpc_text.specs.declared.message.Read.{Read}
 use Rattle.run_theorem.specs.Exchange.{Told}
 use Rattle.jsonrpc_postings.specs.Told.{came_for, response_told}
+use Rattle.http_connection.specs.declared.stage.Stage.{Stage}
 use Rattle.http_connection.specs.declared.stage.Stage.TheVariants as Stages
 use Rattle.http_connection.specs.Stages.{stage_of, IsBehindTelling}
 use Rattle.outside_traits.specs.Told.{WireTold}
 use Rattle.http_connection.specs.Seen.{Seen}
 use Rattle.http_connection.specs.Talking.{IsTalking}
+use Rattle.run_door_front.specs.declared.link.PendingReply.{PendingReply}
 use Rattle.run_door_front.specs.Keeping.{ClientTold, Keeping}
+use Rattle.run_door_front.specs.NextSteps.{stage_at}
+
+-- ---- who owes an answer
+
+-- an answer is owed at this stage
+abbrev pub owes_at : Stage → Bool
+owes_at Stages.Reads = false
+owes_at Stages.Owes = true
+owes_at Stages.Ended = false
+owes_at Stages.Closed = false
+owes_at Stages.ReadFailed = false
+owes_at Stages.WriteFailed = false
+owes_at Stages.Spent = false
+
+-- the request that has no answer yet is that of the posting of a place
+abbrev pub is_pending : ℕ → Option PendingReply → Bool
+is_pending place None = false
+is_pending place (Some pending) = nat_eq pending.place place
+
+-- a connection owes the answer of the posting of a place
+abbrev pub owes : ℕ → ClientTold → Bool
+owes place link = owes_at (stage_at link) && is_pending place link.pending
+
+-- the number of a connection, where it owes the answer of the posting of a place
+abbrev pub awaited_at : ℕ → ℕ → Option ClientTold → Option ℕ
+awaited_at place number None = None
+awaited_at place number (Some link) = if owes place link then Some number else None
+
+-- the same of the connection of a number, where there is one
+abbrev pub awaited_by : ℕ → List ClientTold → Option ℕ → Option ℕ
+awaited_by place links None = None
+awaited_by place links (Some number) = awaited_at place number (slice_get links number)
+
+-- which connection has the posting of a place and owes its answer
+abbrev pub awaited : ℕ → List ClientTold → List ℕ → Option ℕ
+awaited place links traffics = awaited_by place links (slice_get traffics place)
+
+-- The posting of a place is of the connection of a number, which owes its answer.
+abbrev pub Awaits : ℕ → ℕ → Keeping → Type 0
+Awaits place number kept = awaited place kept.links kept.traffics ≡ Some number
+
+-- no connection owes the answer of the posting of a place
+abbrev pub AwaitsNone : ℕ → Keeping → Type 0
+AwaitsNone place kept = awaited place kept.links kept.traffics ≡ None
+
+-- ---- what is told
 
 -- what was told of a place
 abbrev pub told_of : ℕ → List Outcome → Told

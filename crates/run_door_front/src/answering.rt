@@ -1,9 +1,12 @@
 //! How the answer of a posting goes out on its connection.
 
-ghost use Rattle.std.specs.Prelude.{◌≡◌, true, IfOk, OnErr, Some, option_copied, slice_get};
+ghost use Rattle.std.specs.Prelude.{◌≡◌, true, false, ℕ, Ok, IfOk, MatchResult, option_copied, slice_get};
 ghost use Rattle.behaviour_tree.specs.PartsView.{parts_of};
+ghost use Rattle.http_connection.specs.declared.stage.Stage.TheVariants as Stages;
 ghost use Rattle.http_connection.specs.Seen.{seen};
-ghost use Rattle.run_door_front.specs.AnswerSteps.{told_of, IsTextOf, TellsText, HasTold, HasAnswered};
+ghost use Rattle.http_connection.specs.Stages.{stage_of};
+ghost use Rattle.run_door_front.specs.AnswerSteps.{told_of, owes as owing, is_pending as pending_at, awaited, awaited_at as one_awaited, Awaits, AwaitsNone};
+ghost use Rattle.run_door_front.specs.AnswerSteps.{IsTextOf, TellsText, HasTold, HasAnswered};
 
 use crate::kept::Kept;
 use crate::link::Client;
@@ -16,7 +19,8 @@ use outside_traits::Wire;
 use std::alloc::{AllocError, Global};
 
 impl<D: Door + Drop> Kept<D> {
-    /// Tells what the calls of the posting of a place came to on its connection.
+    /// Tells what the calls of the posting of a place came to on its connection. Where no connection owes its answer,
+    /// which comes in no run, nothing is told.
     pub(crate) fn answer(
         &mut self,
         alloc: Global,
@@ -24,62 +28,93 @@ impl<D: Door + Drop> Kept<D> {
         place: u32,
         outcomes: &[Outcome],
     ) -> Result<(), AllocError>
-        ensures answered { IfOk result
-            (λ _. HasAnswered (parts_of program.now) (told_of place outcomes.now) self.old self.new) }
-        ensures spent { OnErr result (self.new.spent ≡ true) }
+        ensures answered { (number : ℕ) → Awaits place number self.old
+            → IfOk result (λ _. HasAnswered (parts_of program.now) (told_of place outcomes.now) self.old self.new) }
+        ensures nobody { AwaitsNone place self.old → (result ≡ Ok tt) × (self.new ≡ self.old) }
+        ensures spent { MatchResult result (λ _. self.old.spent ≡ false → self.new.spent ≡ false)
+            (λ _. self.new.spent ≡ true) }
         ensures halted { self.new.halted ≡ self.old.halted }
     {
+        let Some(number) = awaited(&self.traffics, &self.links, place) else {
+            return Ok(());
+        };
         self.spent = true;
-        let number = number_at(&self.traffics, place)?;
-        if number >= self.links.len() {
-            return Err(AllocError);
-        }
-        self.links[number].answer(alloc, program, place, outcomes)?;
+        self.links[number].answer(alloc, program, outcomes)?;
         self.spent = false;
         Ok(())
     }
 }
 
 impl<W: Wire + Drop> Client<W> {
-    /// Tells what the calls of the posting of a place came to. The connection must owe the answer of just this one.
-    pub(crate) fn answer(
+    /// Whether the connection owes the answer of the posting of a place.
+    fn owes(&self, place: u32) -> bool
+        ensures { result ≡ owing place self.now }
+    {
+        self.connection.stage() == Stage::Owes && self.is_pending(place)
+    }
+
+    /// Whether the request that has no answer yet is that of the posting of a place.
+    fn is_pending(&self, place: u32) -> bool
+        ensures { result ≡ pending_at place self.now.pending }
+    {
+        match &self.pending {
+            Some(pending) => pending.place == place as usize,
+            None => false,
+        }
+    }
+
+    /// Tells what the calls of the posting came to whose answer the connection owes.
+    fn answer(
         &mut self,
         alloc: Global,
         program: &Program,
-        place: u32,
         outcomes: &[Outcome],
     ) -> Result<(), AllocError>
-        ensures { IfOk result (λ _. HasTold (parts_of program.now) (told_of place outcomes.now) self.old self.new) }
+        requires { (place : ℕ) × (owing place self.old ≡ true) }
+        ensures { (place : ℕ) → owing place self.old ≡ true
+            → IfOk result (λ _. HasTold (parts_of program.now) (told_of place outcomes.now) self.old self.new) }
     {
-        let text = self.text_of(alloc, program, place, outcomes)?;
+        let text = self.text_of(alloc, program, outcomes)?;
         self.pending = None;
         tell(&mut self.connection, bytes_of(&text))
     }
 
-    /// The text that answers the request which the connection owes.
+    /// The text that answers the request whose answer the connection owes.
     fn text_of(
         &self,
         alloc: Global,
         program: &Program,
-        place: u32,
         outcomes: &[Outcome],
     ) -> Result<Option<Text>, AllocError>
-        ensures { IfOk result (λ text. IsTextOf (parts_of program.now) (told_of place outcomes.now) self.now text) }
+        requires { (place : ℕ) × (owing place self.now ≡ true) }
+        ensures { (place : ℕ) → owing place self.now ≡ true
+            → IfOk result (λ text. IsTextOf (parts_of program.now) (told_of place outcomes.now) self.now text) }
     {
         match &self.pending {
-            Some(pending) if pending.place == place as usize => {
-                response_to(alloc, program, self.service, &pending.read, outcomes)
-            }
-            _ => Err(AllocError),
+            Some(pending) => response_to(alloc, program, self.service, &pending.read, outcomes),
+            None => unreachable!(),
         }
     }
 }
 
-/// Which connection has the posting of a place.
-fn number_at(traffics: &[usize], place: u32) -> Result<usize, AllocError>
-    ensures { IfOk result (λ number. slice_get traffics.now place ≡ Some number) }
+/// Which connection has the posting of a place and owes its answer.
+fn awaited<W: Wire + Drop>(traffics: &[usize], links: &[Client<W>], place: u32) -> Option<usize>
+    ensures { result ≡ awaited place links.now traffics.now }
 {
-    traffics.get(place as usize).copied().ok_or(AllocError)
+    match traffics.get(place as usize) {
+        Some(number) => awaited_at(links, *number, place),
+        None => None,
+    }
+}
+
+/// The number of a connection, where it owes the answer of the posting of a place.
+fn awaited_at<W: Wire + Drop>(links: &[Client<W>], number: usize, place: u32) -> Option<usize>
+    ensures { result ≡ one_awaited place number (slice_get links.now number) }
+{
+    match links.get(number) {
+        Some(link) if link.owes(place) => Some(number),
+        _ => None,
+    }
 }
 
 /// The bytes of a text, where there is one.
@@ -94,12 +129,10 @@ fn bytes_of(text: &Option<Text>) -> Option<&[u8]>
 
 /// Tells a text to a connection that owes an answer.
 fn tell<W: Wire>(connection: &mut Connection<W>, text: Option<&[u8]>) -> Result<(), AllocError>
+    requires { stage_of connection.old.kept.next ≡ Stages.Owes }
     ensures { IfOk result (λ _. TellsText (option_copied text.entry)
         (seen connection.old.kept (W.told connection.old.wire))
         (seen connection.new.kept (W.told connection.new.wire))) }
 {
-    match connection.stage() {
-        Stage::Owes => connection.answer(text),
-        _ => Err(AllocError),
-    }
+    connection.answer(text)
 }

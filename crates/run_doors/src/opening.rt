@@ -4,7 +4,7 @@ ghost use Rattle.behaviour_tree.specs.PartsView.{parts_of, port_view, service_vi
 ghost use Rattle.run_theorem.specs.Ports.{doors_of, is_door as is_door_part};
 ghost use Rattle.run_doors.specs.Steps.{Opens, doors_at, opened_by};
 
-use behaviour_tree::{Port as PortOf, Program, Service};
+use behaviour_tree::{Port as PortOf, Program, Service, numbered};
 use outside_doors::{Door, Doors};
 use program_locations::is_socket;
 use run_door_front::Listener;
@@ -31,8 +31,9 @@ pub(crate) fn open_doors<D: Doors>(
         ports: Vec::new(alloc),
         failed: false,
     };
-    for (place, service) in program.parts().services.iter().enumerate() {
-        let number = u32::try_from(place).map_err(|_| AllocError)?;
+    let services = program.services();
+    for (place, service) in services.iter().enumerate() {
+        let number = numbered(place);
         open_service(doors, number, service, &mut opening)?;
     }
     Ok(opening)

@@ -2,7 +2,8 @@
 
 ghost use Rattle.std.specs.Prelude.{◌≡◌, ◌∷◌, [], IfOk, OnOk, map};
 ghost use Rattle.run_order_laws.specs.Uncollected.{AreUncollected};
-ghost use Rattle.run_cells.specs.RunStates.{AtWork, IsOurs, Stays, past_in, state_of};
+ghost use Rattle.run_cells.specs.RunStates.{AtWork, IsOurs, Stays, past_in};
+ghost use Rattle.run_cells.specs.View.{run_state, state};
 ghost use Rattle.run_posts.specs.CallStates.{
   all_collected,
   collected,
@@ -16,26 +17,26 @@ ghost use Rattle.run_posts.specs.CallStates.{
   waits,
 };
 
-use crate::counter::Counter;
 use crate::pending::{CallState, Pending, Pendings};
 use behaviour_tree::Outcome;
+use run_cells::Cells;
+use session_turn::Seating;
 use std::alloc::{AllocError, Global};
 use std::mem;
 
 impl Pendings {
     /// Collects the answers that are there. After want of memory the postings that waited are gone.
-    pub fn collect_all<C: Counter>(&mut self, cells: &mut C) -> Result<(), AllocError>
-        requires ours { IsOurs (C.run_state cells.old) }
-        requires collectable { AreUncollected (past_in (state_of (C.run_state cells.old)))
-            (messages_of (waits self.old)) }
-        ensures program { (C.run_state cells.new).program ≡ (C.run_state cells.old).program }
-        ensures ours { IsOurs (C.run_state cells.new) }
-        ensures work { AtWork (C.run_state cells.old) → OnOk result (AtWork (C.run_state cells.new)) }
-        ensures collected { OnOk result (Stays (state_of (C.run_state cells.old)) (state_of (C.run_state cells.new))
-            (all_collected (state_of (C.run_state cells.old)).setting (past_in (state_of (C.run_state cells.old)))
+    pub fn collect_all<S: Seating>(&mut self, cells: &mut Cells<'_, S>) -> Result<(), AllocError>
+        requires ours { IsOurs (run_state S.Session cells.old) }
+        requires collectable { AreUncollected (past_in (state S.Session cells.old)) (messages_of (waits self.old)) }
+        ensures program { cells.new.program ≡ cells.old.program }
+        ensures ours { IsOurs (run_state S.Session cells.new) }
+        ensures work { AtWork (run_state S.Session cells.old) → OnOk result (AtWork (run_state S.Session cells.new)) }
+        ensures collected { OnOk result (Stays (state S.Session cells.old) (state S.Session cells.new)
+            (all_collected (state S.Session cells.old).setting (past_in (state S.Session cells.old))
             (waits self.old))) }
         ensures waiting { OnOk result (waits self.new
-            ≡ map (settled_in (state_of (C.run_state cells.old)).setting (past_in (state_of (C.run_state cells.old))))
+            ≡ map (settled_in (state S.Session cells.old).setting (past_in (state S.Session cells.old)))
             (waits self.old)) }
         ensures postings { self.new.postings ≡ self.old.postings }
     {
@@ -46,22 +47,23 @@ impl Pendings {
 }
 
 /// Collects the answers of postings, as far as they are there.
-fn gather<C: Counter>(
+fn gather<S: Seating>(
     alloc: Global,
-    cells: &mut C,
+    cells: &mut Cells<'_, S>,
     waiting: Vec<Pending>,
 ) -> Result<Vec<Pending>, AllocError>
-    requires ours { IsOurs (C.run_state cells.old) }
-    requires collectable { AreUncollected (past_in (state_of (C.run_state cells.old))) (messages_of
-        (map wait_of waiting.items)) }
-    ensures program { (C.run_state cells.new).program ≡ (C.run_state cells.old).program }
-    ensures ours { IsOurs (C.run_state cells.new) }
-    ensures work { AtWork (C.run_state cells.old) → OnOk result (AtWork (C.run_state cells.new)) }
-    ensures collected { OnOk result (Stays (state_of (C.run_state cells.old)) (state_of (C.run_state cells.new))
-        (all_collected (state_of (C.run_state cells.old)).setting (past_in (state_of (C.run_state cells.old)))
+    requires ours { IsOurs (run_state S.Session cells.old) }
+    requires collectable { AreUncollected (past_in (state S.Session cells.old))
+        (messages_of (map wait_of waiting.items)) }
+    ensures program { cells.new.program ≡ cells.old.program }
+    ensures ours { IsOurs (run_state S.Session cells.new) }
+    ensures work { AtWork (run_state S.Session cells.old) → OnOk result (AtWork (run_state S.Session cells.new)) }
+    ensures collected { OnOk result (Stays (state S.Session cells.old) (state S.Session cells.new)
+        (all_collected (state S.Session cells.old).setting (past_in (state S.Session cells.old))
         (map wait_of waiting.items))) }
-    ensures settled { IfOk result (λ all. map wait_of all.items
-        ≡ map (settled_in (state_of (C.run_state cells.old)).setting (past_in (state_of (C.run_state cells.old))))
+    ensures settled { IfOk result
+        (λ all. map wait_of all.items ≡ map
+        (settled_in (state S.Session cells.old).setting (past_in (state S.Session cells.old)))
         (map wait_of waiting.items)) }
 {
     let mut all = Vec::new(alloc);
@@ -74,22 +76,20 @@ fn gather<C: Counter>(
 }
 
 /// Collects the answers of the messages of a posting, as far as they are there.
-fn settle_all<C: Counter>(
+fn settle_all<S: Seating>(
     alloc: Global,
-    cells: &mut C,
+    cells: &mut Cells<'_, S>,
     call_states: Vec<CallState>,
 ) -> Result<Vec<CallState>, AllocError>
-    requires ours { IsOurs (C.run_state cells.old) }
-    requires collectable { AreUncollected (past_in (state_of (C.run_state cells.old)))
-        (messages_in call_states.items) }
-    ensures program { (C.run_state cells.new).program ≡ (C.run_state cells.old).program }
-    ensures ours { IsOurs (C.run_state cells.new) }
-    ensures work { AtWork (C.run_state cells.old) → OnOk result (AtWork (C.run_state cells.new)) }
-    ensures collected { OnOk result (Stays (state_of (C.run_state cells.old)) (state_of (C.run_state cells.new))
-        (collected_in (state_of (C.run_state cells.old)).setting (past_in (state_of (C.run_state cells.old)))
-        call_states.items)) }
-    ensures settled { IfOk result (λ all. all.items
-        ≡ map (settled (state_of (C.run_state cells.old)).setting (past_in (state_of (C.run_state cells.old))))
+    requires ours { IsOurs (run_state S.Session cells.old) }
+    requires collectable { AreUncollected (past_in (state S.Session cells.old)) (messages_in call_states.items) }
+    ensures program { cells.new.program ≡ cells.old.program }
+    ensures ours { IsOurs (run_state S.Session cells.new) }
+    ensures work { AtWork (run_state S.Session cells.old) → OnOk result (AtWork (run_state S.Session cells.new)) }
+    ensures collected { OnOk result (Stays (state S.Session cells.old) (state S.Session cells.new)
+        (collected_in (state S.Session cells.old).setting (past_in (state S.Session cells.old)) call_states.items)) }
+    ensures settled { IfOk result
+        (λ all. all.items ≡ map (settled (state S.Session cells.old).setting (past_in (state S.Session cells.old)))
         call_states.items) }
 {
     let mut all = Vec::new(alloc);
@@ -102,18 +102,19 @@ fn settle_all<C: Counter>(
 
 /// Collects the answer of a message, if it is there.
 #[tactic(auto, using(crate::proofs::Settling::collected_one, crate::proofs::Settling::settled_one, crate::proofs::Settling::collects_it))]
-fn settle<C: Counter>(cells: &mut C, call_state: CallState) -> Result<CallState, AllocError>
-    requires ours { IsOurs (C.run_state cells.old) }
-    requires collectable { AreUncollected (past_in (state_of (C.run_state cells.old)))
-        (messages_in (call_state ∷ [])) }
-    ensures program { (C.run_state cells.new).program ≡ (C.run_state cells.old).program }
-    ensures ours { IsOurs (C.run_state cells.new) }
-    ensures work { AtWork (C.run_state cells.old) → OnOk result (AtWork (C.run_state cells.new)) }
-    ensures collected { OnOk result (Stays (state_of (C.run_state cells.old)) (state_of (C.run_state cells.new))
-        (collected (state_of (C.run_state cells.old)).setting (past_in (state_of (C.run_state cells.old)))
-        call_state)) }
-    ensures settled { IfOk result (λ now. now ≡ settled (state_of (C.run_state cells.old)).setting (past_in (state_of
-        (C.run_state cells.old))) call_state) }
+fn settle<S: Seating>(
+    cells: &mut Cells<'_, S>,
+    call_state: CallState,
+) -> Result<CallState, AllocError>
+    requires ours { IsOurs (run_state S.Session cells.old) }
+    requires collectable { AreUncollected (past_in (state S.Session cells.old)) (messages_in (call_state ∷ [])) }
+    ensures program { cells.new.program ≡ cells.old.program }
+    ensures ours { IsOurs (run_state S.Session cells.new) }
+    ensures work { AtWork (run_state S.Session cells.old) → OnOk result (AtWork (run_state S.Session cells.new)) }
+    ensures collected { OnOk result (Stays (state S.Session cells.old) (state S.Session cells.new)
+        (collected (state S.Session cells.old).setting (past_in (state S.Session cells.old)) call_state)) }
+    ensures settled { IfOk result
+        (λ now. now ≡ settled (state S.Session cells.old).setting (past_in (state S.Session cells.old)) call_state) }
 {
     match call_state {
         CallState::Message(message) => {

@@ -2,12 +2,9 @@
 //! calls has its outcome.
 #![tactic(auto)]
 
-mod cells;
 mod collecting;
-mod counter;
 mod pending;
 mod posting;
 mod telling;
 
-pub use counter::Counter;
 pub use pending::{CallState, Pending, Pendings};

@@ -5,40 +5,39 @@ ghost use Rattle.behaviour_tree.specs.PartsView.{parts_of};
 ghost use Rattle.office_core.specs.declared.outgoing.OutKind.TheVariants as kind;
 ghost use Rattle.outside_traits.specs.Told.{Lists};
 ghost use Rattle.outside_links.specs.Trips.{Made};
-ghost use Rattle.run_cells.specs.RunStates.{AtWork, state_of};
+ghost use Rattle.run_cells.specs.RunStates.{AtWork};
+ghost use Rattle.run_cells.specs.View.{run_state, state};
 ghost use Rattle.run_trip_laws.specs.Going.{AreSettled, IsHeard, NotedSoFar};
 ghost use Rattle.run_sweep.specs.Swept.{Cleared, CompletedCallsBy};
 ghost use Rattle.run_theorem.specs.Trips.{HasCounted};
 
-use crate::sessions::Sessions;
 use behaviour_tree::{Outcome, Program};
 use jsonrpc_calls::{call_text, location_called, nothing_heard, outcome_heard};
 use office_core::{OutKind, Outgoing};
 use outside_links::Link;
 use outside_traits::CallError;
+use run_cells::Cells;
+use session_turn::Seating;
 use std::alloc::{AllocError, Global};
 
 /// Makes the trips of all calls to services elsewhere that wait; it says whether there was any.
-pub(crate) fn trip_all<C: Sessions, L: Link>(
+pub(crate) fn trip_all<S: Seating, L: Link>(
     alloc: Global,
-    cells: &mut C,
+    cells: &mut Cells<'_, S>,
     link: &mut L,
 ) -> Result<bool, AllocError>
-    requires work { AtWork (C.run_state cells.old) }
-    requires settled { AreSettled (state_of (C.run_state cells.old)).setting
-        (state_of (C.run_state cells.old)).history }
-    ensures program { (C.run_state cells.new).program ≡ (C.run_state cells.old).program }
-    ensures work { OnOk result (AtWork (C.run_state cells.new)) }
+    requires work { AtWork (run_state S.Session cells.old) }
+    requires settled { AreSettled (state S.Session cells.old).setting (state S.Session cells.old).history }
+    ensures program { cells.new.program ≡ cells.old.program }
+    ensures work { OnOk result (AtWork (run_state S.Session cells.new)) }
     ensures cleared { IfOk result
-        (λ moved. Cleared (state_of (C.run_state cells.old)).setting kind.Remote (state_of (C.run_state cells.old))
-        (state_of (C.run_state cells.new)) moved) }
-    ensures completed { OnOk result
-        (CompletedCallsBy (state_of (C.run_state cells.old)).setting (state_of (C.run_state cells.old)).history
-        (state_of (C.run_state cells.new)).history (L.told link.old) (L.told link.new)) }
-    ensures noted { OnOk result
-        ((noted : List ℕ) → NotedSoFar (state_of (C.run_state cells.old)).setting
-        (state_of (C.run_state cells.old)).history noted
-        → NotedSoFar (state_of (C.run_state cells.old)).setting (state_of (C.run_state cells.new)).history noted) }
+        (λ moved. Cleared (state S.Session cells.old).setting kind.Remote (state S.Session cells.old)
+        (state S.Session cells.new) moved) }
+    ensures completed { OnOk result (CompletedCallsBy (state S.Session cells.old).setting
+        (state S.Session cells.old).history (state S.Session cells.new).history (L.told link.old) (L.told link.new)) }
+    ensures noted { OnOk result ((noted : List ℕ)
+        → NotedSoFar (state S.Session cells.old).setting (state S.Session cells.old).history noted
+        → NotedSoFar (state S.Session cells.old).setting (state S.Session cells.new).history noted) }
 {
     let mut moved = false;
     while let Some(out) = cells.fetch(OutKind::Remote)? {

@@ -3,8 +3,6 @@
 
 mod console;
 mod elsewhere;
-mod sessions;
 mod sweeping;
 
-pub use sessions::Sessions;
 pub use sweeping::sweep;

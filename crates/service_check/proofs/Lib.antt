@@ -1,3 +1,4 @@
+pub mod AllNumbered
 pub mod Emptied
 pub mod FileNames
 pub mod FileRefusals

@@ -1,5 +1,5 @@
 -- The law: the program of a file of which nothing is refused is well formed.
-use Rattle.std.proofs.Common.{◌≡◌, ◌≤◌, ℕ, ◌+◌, true, false, arith, List, [], ◌∷◌, map, flat_map, sum_by, Option, None, Some, refl, ap, ◌∙◌}
+use Rattle.std.proofs.Common.{◌≡◌, ◌≤◌, ℕ, ◌+◌, true, false, arith, List, [], ◌∷◌, map, flat_map, sum_by, Option, None, Some, refl, ap, sym, ◌∙◌}
 use Rattle.std.specs.Prelude.{◌&&◌, nat_le, option_map}
 use Rattle.std.specs.List.{filter_map, list_all}
 use Rattle.std.proofs.lemmas.Bool.{and_from, and_parts}
@@ -22,6 +22,7 @@ use Rattle.behaviour_tree.specs.Distinct.{is_some_list, texts_differ}
 use Rattle.behaviour_tree.specs.FormedTypes.{are_types}
 use Rattle.behaviour_tree.specs.FormedSets.{are_sets}
 use Rattle.behaviour_tree.specs.FormedBehaviours.{is_behaviour, parallel_members}
+use Rattle.behaviour_tree.specs.FormedNumbers.{are_numbered}
 use Rattle.behaviour_tree.specs.FormedServices.{are_ports, has_few_members, has_start, is_init, is_service, runs_well}
 use Rattle.behaviour_tree.specs.WellFormed.{are_interfaces, are_names, are_services, is_well_formed}
 use Rattle.check_base.specs.declared.refusal.Refusal.{Refusal}
@@ -189,17 +190,26 @@ program_services file none shape bound =
 
 -- ---- the law
 
--- The program of a file of which nothing is refused is well formed.
-pub program_formed : (file : List Definition) → refusal_of file ≡ None → is_formed file ≡ true → count.parallel_members file ≤ most_members → is_well_formed (program_of file) ≡ true
+-- The program of a file of which nothing is refused is well formed, where it is numbered.
+pub program_formed : (file : List Definition) → refusal_of file ≡ None → is_formed file ≡ true
+    → count.parallel_members file ≤ most_members → are_numbered (program_of file) ≡ true
+    → is_well_formed (program_of file) ≡ true
 unfolding is_well_formed
-program_formed file e shape bound =
+program_formed file e shape bound numbered =
     let none : NothingRefused file = part_by_part file e in
-    and_from (are_names (program_of file).names && are_types (program_of file).types && are_interfaces (program_of file)) (are_services (program_of file))
+    and_from
+    (are_names (program_of file).names && are_types (program_of file).types && are_interfaces (program_of file)
+    && are_services (program_of file))
+    (are_numbered (program_of file))
+    (and_from (are_names (program_of file).names && are_types (program_of file).types && are_interfaces (program_of file)) (are_services (program_of file))
     (and_from (are_names (program_of file).names && are_types (program_of file).types) (are_interfaces (program_of file))
     (and_from (are_names (program_of file).names) (are_types (program_of file).types) (program_names file) (program_types file none))
     (program_interfaces file none))
-    (program_services file none shape bound)
+    (program_services file none shape bound))
+    numbered
 
--- Parts that are those of a file of which nothing is refused are well formed.
-pub parts_formed : (file : List Definition) (parts : ProgramParts) → refusal_of file ≡ None → is_formed file ≡ true → count.parallel_members file ≤ most_members → parts ≡ program_of file → is_well_formed parts ≡ true
-parts_formed file parts e shape bound same = ap is_well_formed same ∙ program_formed file e shape bound
+-- Parts that are those of a file of which nothing is refused, and numbered, are well formed.
+pub parts_formed : (file : List Definition) (parts : ProgramParts) → refusal_of file ≡ None → is_formed file ≡ true
+    → count.parallel_members file ≤ most_members → parts ≡ program_of file → are_numbered parts ≡ true
+    → is_well_formed parts ≡ true
+parts_formed file parts e shape bound same numbered = ap is_well_formed same ∙ program_formed file e shape bound (ap are_numbered (sym same) ∙ numbered)

@@ -1,5 +1,6 @@
 ghost use Rattle.service_check.specs.Answers.{Checks};
 
+use crate::counted::all_numbered;
 use crate::program::parts_of_file;
 use crate::refusals::first_refusal;
 use behaviour_tree::Program;
@@ -18,5 +19,6 @@ pub fn check(alloc: Global, ast: &Ast) -> Result<Program, CheckError>
         return Err(CheckError::Refused(refusal.name, refusal.at));
     }
     let parts = parts_of_file(alloc, file)?;
+    all_numbered(&parts)?;
     Ok(Program::new(alloc, parts)?)
 }

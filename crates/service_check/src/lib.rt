@@ -2,6 +2,7 @@
 #![tactic(auto)]
 
 mod checking;
+mod counted;
 mod file_names;
 mod files;
 mod mentioned;

@@ -21,7 +21,7 @@ named_so : (k : ℕ) (s : List ℕ) → slice_get standard_names k ≡ Some s �
 unfolding is_well_formed
 named_so k s e parts h =
     ap (λ (o : Option (List ℕ)). unwrap_or o [])
-    (begins_so standard_names parts.names k s (and_parts _ _ (and_parts _ _ (and_parts _ _ (and_parts _ _ h).0).0).0).0 e)
+    (begins_so standard_names parts.names k s (and_parts _ _ (and_parts _ _ (and_parts _ _ (and_parts _ _ (and_parts _ _ h).0).0).0).0).0 e)
 
 -- what stands among the standard names is named so
 pub is_named : (coded number : ℕ) (text : List ℕ) → coded ≡ number → slice_get standard_names number ≡ Some text → IsNamed coded number text

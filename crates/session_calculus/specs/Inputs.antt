@@ -1,6 +1,7 @@
 -- In: a message comes to a choice.
 use Rattle.std.specs.Prelude.{ℕ, suc, List, Option, None, Some, if◌then◌else◌, nat_eq}
 use Rattle.jolie_trees.specs.Data.{Tree}
+use Rattle.jolie_trees.specs.Limits.{in_u32}
 use Rattle.behaviour_tree.specs.declared.words.Kind.TheVariants as kind
 use Rattle.behaviour_tree.specs.declared.words.Need.TheVariants as need
 use Rattle.behaviour_tree.specs.declared.words.Given.TheVariants as given
@@ -23,9 +24,9 @@ pub record Coming : Type 0 where
 abbrev pub past : Coming → Coming
 past m = record m { branch = suc m.branch }
 
--- what a message makes where it is taken
+-- what a message makes where it is taken; its event tells the branch as far as 32 bits hold its number
 abbrev pub taken : Seen → Coming → Made
-taken s m = unchanged s (event_of s kind.In m.message m.branch 0) (need.Take m.ops)
+taken s m = unchanged s (event_of s kind.In m.message (in_u32 m.branch) 0) (need.Take m.ops)
 
 -- the behaviour of a branch starts once the target has the value. Where that passes a limit of the store, the target is
 -- not set, and StoreTooLarge stands in the place of the behaviour

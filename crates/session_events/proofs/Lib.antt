@@ -1,7 +1,6 @@
 pub mod Asking
 pub mod Binding
 pub mod Branches
-pub mod Counted
 pub mod Faulting
 pub mod Finishing
 pub mod Giftless

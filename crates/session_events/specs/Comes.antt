@@ -1,6 +1,7 @@
 -- These definitions serve the proofs alone: no promise speaks of them.
 -- How a message comes to a branch.
 use Rattle.std.specs.Prelude.{ℕ, List, Option, None, Some}
+use Rattle.jolie_trees.specs.Limits.{in_u32}
 use Rattle.behaviour_tree.specs.declared.words.Event.{Event}
 use Rattle.behaviour_tree.specs.declared.words.Given.{Given}
 use Rattle.behaviour_tree.specs.declared.words.Given.TheVariants as given
@@ -18,9 +19,9 @@ use Rattle.session_events.specs.declared.choice.Mail.{Mail}
 abbrev pub mail_of : Mail → Given
 mail_of m = given.Mail m.message m.op m.value.now
 
--- the event of a message that is taken
+-- the event of a message that is taken at a place of the choice
 abbrev pub in_event : Actor → ℕ → ℕ → Event
-in_event a m place = record { strand = a.strand; kind = kind.In; number = m; place = place; fault = 0 }
+in_event a m place = record { strand = a.strand; kind = kind.In; number = m; place = in_u32 place; fault = 0 }
 
 -- the message with the operations that a choice takes, at a branch of it
 abbrev pub coming : Mail → List ℕ → ℕ → Coming

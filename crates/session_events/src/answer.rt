@@ -32,7 +32,12 @@ pub fn answer_came(
     installed: &mut Installed,
     memory: &mut Memory,
 ) -> Result<Moved, AllocError>
-    ensures event { IfOk result (λ m. moved_view m installed.new memory.new ≡ spec.answers (seen_by actor.entry (given.Answer outcome.now) installed.old memory.old) (call_of (as_sent call.now)) (option_map path_view call.now.target) (handlers_view call.now.handlers) (spec.read (seen_by actor.entry (given.Answer outcome.now) installed.old memory.old) (call_of (as_sent call.now)) outcome.now)) }
+    ensures event { IfOk result
+        (λ m. moved_view m installed.new memory.new
+        ≡ spec.answers (seen_by actor.entry (given.Answer outcome.now) installed.old memory.old)
+        (call_of (as_sent call.now)) (option_map path_view call.now.target) (handlers_view call.now.handlers)
+        (spec.read (seen_by actor.entry (given.Answer outcome.now) installed.old memory.old)
+        (call_of (as_sent call.now)) outcome.now)) }
     ensures name { installed.new.scope ≡ installed.old.scope }
 {
     match read_outcome(alloc, sent_of(call), outcome, actor)? {
@@ -59,7 +64,12 @@ pub fn killed_answer_came(
     actor: Actor<'_>,
     installed: &mut Installed,
 ) -> Result<Moved, AllocError>
-    ensures event { (k : Held) → IfOk result (λ m. moved_view m installed.new k ≡ spec.dead_answers (seen_by actor.entry (given.Answer outcome.now) installed.old k) (call_of (as_sent call.now)) (handlers_view call.now.handlers) (spec.read (seen_by actor.entry (given.Answer outcome.now) installed.old k) (call_of (as_sent call.now)) outcome.now)) }
+    ensures event { (k : Held) → IfOk result
+        (λ m. moved_view m installed.new k
+        ≡ spec.dead_answers (seen_by actor.entry (given.Answer outcome.now) installed.old k)
+        (call_of (as_sent call.now)) (handlers_view call.now.handlers)
+        (spec.read (seen_by actor.entry (given.Answer outcome.now) installed.old k) (call_of (as_sent call.now))
+        outcome.now)) }
     ensures name { installed.new.scope ≡ installed.old.scope }
 {
     match read_outcome(alloc, sent_of(call), outcome, actor)? {
@@ -105,8 +115,12 @@ fn answered(
 
 /// Installs handlers, and says whether they fit; where they do not, the table stays.
 fn installed_where_fit(handlers: &Handlers, installed: &mut Installed) -> Result<bool, AllocError>
-    ensures fit { IfOk result (λ fit. fit ≡ fits installed.old.scope (table_view installed.old.table) (handlers_view handlers.now)) }
-    ensures table { IfOk result (λ fit. table_view installed.new.table ≡ (if fit then plus installed.old.scope (table_view installed.old.table) (handlers_view handlers.now) else table_view installed.old.table)) }
+    ensures fit { IfOk result
+        (λ fit. fit ≡ fits installed.old.scope (table_view installed.old.table) (handlers_view handlers.now)) }
+    ensures table { IfOk result
+        (λ fit. table_view installed.new.table
+        ≡ (if fit then plus installed.old.scope (table_view installed.old.table) (handlers_view handlers.now)
+        else table_view installed.old.table)) }
     ensures name { installed.new.scope ≡ installed.old.scope }
 {
     match installed.table.install(handlers, installed.scope) {
@@ -126,7 +140,11 @@ fn value_came(
     installed: &mut Installed,
     memory: &mut Memory,
 ) -> Result<Box<Term>, AllocError>
-    ensures event { (g : Given) → IfOk result (λ t. moved_to (term_view t.value) (made_with installed.new memory.new (answer_event actor.entry call.now.number) (need.Answer call.now.number)) ≡ spec.value_comes (seen_by actor.entry g installed.old memory.old) (call_of (as_sent call.now)) (option_map path_view call.now.target) (handlers_view call.now.handlers) value) }
+    ensures event { (g : Given) → IfOk result
+        (λ t. moved_to (term_view t.value)
+        (made_with installed.new memory.new (answer_event actor.entry call.now.number) (need.Answer call.now.number))
+        ≡ spec.value_comes (seen_by actor.entry g installed.old memory.old) (call_of (as_sent call.now))
+        (option_map path_view call.now.target) (handlers_view call.now.handlers) value) }
     ensures name { installed.new.scope ≡ installed.old.scope }
 {
     if !installed_where_fit(&call.handlers, installed)? {

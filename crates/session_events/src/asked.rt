@@ -25,7 +25,9 @@ pub fn asked_of(
     installed: &Installed,
     memory: &Memory,
 ) -> Result<Option<Box<Need>>, AllocError>
-    ensures { (g : Given) → IfOk result (λ need. option_map (λ n. n.value) need ≡ spec.asked (seen_by actor.entry g installed.now memory.now) (behaviour_view place.now)) }
+    ensures { (g : Given) → IfOk result
+        (λ need. option_map (λ n. n.value) need
+        ≡ spec.asked (seen_by actor.entry g installed.now memory.now) (behaviour_view place.now)) }
 {
     asked_at(alloc, place, scene_of(actor, installed), memory)
 }
@@ -37,7 +39,9 @@ fn asked_at(
     scene: Scene<'_>,
     memory: &Memory,
 ) -> Result<Option<Box<Need>>, AllocError>
-    ensures { IfOk result (λ need. option_map (λ n. n.value) need ≡ spec.asked (seen_in scene.entry given.Nothing memory.now) (behaviour_view place.now)) }
+    ensures { IfOk result
+        (λ need. option_map (λ n. n.value) need
+        ≡ spec.asked (seen_in scene.entry given.Nothing memory.now) (behaviour_view place.now)) }
 {
     match place {
         Behaviour::Assign { .. } | Behaviour::Undef { .. } | Behaviour::Copy { .. } => {
@@ -82,7 +86,9 @@ fn asked(alloc: Global, need: Need) -> Result<Option<Box<Need>>, AllocError>
 
 /// A message of one of the operations of a choice.
 fn message_asked(alloc: Global, list: &[Branch]) -> Result<Option<Box<Need>>, AllocError>
-    ensures { IfOk result (λ n. option_map (λ b. b.value) n ≡ spec.one_of (branch_operations (branches_of (map branch_view list.now)))) }
+    ensures { IfOk result
+        (λ n. option_map (λ b. b.value) n
+        ≡ spec.one_of (branch_operations (branches_of (map branch_view list.now)))) }
 {
     if list.is_empty() {
         return Ok(None);
@@ -110,7 +116,11 @@ fn send_asked(
     scene: Scene<'_>,
     memory: &Memory,
 ) -> Result<Option<Box<Need>>, AllocError>
-    ensures { IfOk result (λ n. option_map (λ b. b.value) n ≡ option_map (λ v. need.Send memory.now.call sending.entry.port sending.entry.op v wants) (calls.message_value (seen_in scene.entry given.Nothing memory.now) sending.entry.port sending.entry.op (expr_view sending.entry.value.now))) }
+    ensures { IfOk result
+        (λ n. option_map (λ b. b.value) n
+        ≡ option_map (λ v. need.Send memory.now.call sending.entry.port sending.entry.op v wants)
+        (calls.message_value (seen_in scene.entry given.Nothing memory.now) sending.entry.port sending.entry.op
+        (expr_view sending.entry.value.now))) }
 {
     match message_of(alloc, sending, scene, memory)? {
         Message::Faults(_) => Ok(None),
@@ -134,7 +144,9 @@ fn bind_asked(
     expr: &Expr,
     memory: &Memory,
 ) -> Result<Option<Box<Need>>, AllocError>
-    ensures { IfOk result (λ n. option_map (λ b. b.value) n ≡ option_map (need.Bind variable) (faults.binding memory.now.store (expr_view expr.now))) }
+    ensures { IfOk result
+        (λ n. option_map (λ b. b.value) n
+        ≡ option_map (need.Bind variable) (faults.binding memory.now.store (expr_view expr.now))) }
 {
     match binding(alloc, expr, &memory.store)? {
         None => Ok(None),

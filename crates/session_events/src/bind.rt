@@ -23,7 +23,9 @@ pub fn bound(
     scene: Scene<'_>,
     memory: &Memory,
 ) -> Result<Acted, AllocError>
-    ensures { IfOk result (λ r. acted_in scene.entry given.now r memory.now ≡ comes_to (seen_in scene.entry given.now memory.now) (plain.bind variable (expr_view expr.now))) }
+    ensures { IfOk result
+        (λ r. acted_in scene.entry given.now r memory.now
+        ≡ comes_to (seen_in scene.entry given.now memory.now) (plain.bind variable (expr_view expr.now))) }
 {
     let Some(value) = binding(alloc, expr, &memory.store)? else {
         return Ok(Acted::Faulted(shared(alloc, standard::EXPR_FAULT)?));

@@ -16,7 +16,7 @@ use crate::asked::ops_of;
 use crate::event::{Acted, Moved, event_came, event_of, instead};
 use crate::scene::Scene;
 use crate::send::copied_path;
-use behaviour_tree::{Behaviour, Branch, Given, Kind, Need, Numbers, ReplyPart};
+use behaviour_tree::{Behaviour, Branch, Given, Kind, Need, Numbers, ReplyPart, in_u32};
 use jolie_trees::Tree;
 use session_forms::{Begun, Rest, Term, boxed, started};
 use session_values::{Actor, Memory, receive};
@@ -38,7 +38,10 @@ pub fn chosen(
     scene: Scene<'_>,
     memory: &mut Memory,
 ) -> Result<Acted, AllocError>
-    ensures { IfOk result (λ r. acted_in scene.entry given.now r memory.new ≡ comes_to (seen_in scene.entry given.now memory.old) (plain.choice (branches_of (map branch_view list.now)))) }
+    ensures { IfOk result
+        (λ r. acted_in scene.entry given.now r memory.new
+        ≡ comes_to (seen_in scene.entry given.now memory.old)
+        (plain.choice (branches_of (map branch_view list.now)))) }
 {
     match given {
         Given::Mail { message, op, value } => {
@@ -62,14 +65,18 @@ fn comes(
     scene: Scene<'_>,
     memory: &mut Memory,
 ) -> Result<Acted, AllocError>
-    ensures { IfOk result (λ r. acted_in scene.entry (mail_of mail.entry) r memory.new ≡ came (seen_in scene.entry (mail_of mail.entry) memory.old) None (spec.comes (seen_in scene.entry (mail_of mail.entry) memory.old) (coming mail.entry (branch_operations (branches_of (map branch_view list.now))) 0) (branches_of (map branch_view list.now)))) }
+    ensures { IfOk result
+        (λ r. acted_in scene.entry (mail_of mail.entry) r memory.new
+        ≡ came (seen_in scene.entry (mail_of mail.entry) memory.old) None
+        (spec.comes (seen_in scene.entry (mail_of mail.entry) memory.old)
+        (coming mail.entry (branch_operations (branches_of (map branch_view list.now))) 0)
+        (branches_of (map branch_view list.now)))) }
 {
     for i in 0..list.len() {
         let branch = &list[i];
         if branch.op == mail.op {
-            let place = u32::try_from(i).map_err(|_| AllocError)?;
             let ops = ops_of(alloc, list)?;
-            let arrived = arrived(alloc, branch, mail, place, ops, scene, memory)?;
+            let arrived = arrived(alloc, branch, mail, i, ops, scene, memory)?;
             return Ok(Acted::Moved(arrived));
         }
     }
@@ -81,12 +88,15 @@ fn arrived(
     alloc: Global,
     branch: &Branch,
     mail: Mail<'_>,
-    place: u32,
+    place: usize,
     ops: Numbers,
     scene: Scene<'_>,
     memory: &mut Memory,
 ) -> Result<Moved, AllocError>
-    ensures { IfOk result (λ m. moved_in scene.entry m memory.new ≡ arrives (seen_in scene.entry (mail_of mail.entry) memory.old) (coming mail.entry ops place) (branch_view branch.now)) }
+    ensures { IfOk result
+        (λ m. moved_in scene.entry m memory.new
+        ≡ arrives (seen_in scene.entry (mail_of mail.entry) memory.old) (coming mail.entry ops place)
+        (branch_view branch.now)) }
 {
     let fault = receive(alloc, &branch.target, mail.value.copied()?, memory)?;
     match &branch.reply {
@@ -107,7 +117,7 @@ fn taken(
     alloc: Global,
     form: Box<Term>,
     mail: Mail<'_>,
-    place: u32,
+    place: usize,
     ops: Numbers,
     actor: Actor<'_>,
 ) -> Result<Moved, AllocError>
@@ -115,7 +125,7 @@ fn taken(
     ensures event { IfOk result (λ m. m.event ≡ in_event actor.entry mail.entry.message place) }
     ensures need { IfOk result (λ m. m.need.value ≡ need.Take ops) }
 {
-    let event = event_of(actor, Kind::In, mail.message, place, 0);
+    let event = event_of(actor, Kind::In, mail.message, in_u32(place), 0);
     event_came(alloc, form, event, Need::Take { ops })
 }
 
@@ -126,7 +136,8 @@ fn gone_on(
     fault: Option<u32>,
     memory: &mut Memory,
 ) -> Result<Box<Term>, AllocError>
-    ensures form { IfOk result (λ t. begun (term_view t.value) memory.new.next ≡ goes fault (behaviour_view behaviour.now) memory.old.next) }
+    ensures form { IfOk result
+        (λ t. begun (term_view t.value) memory.new.next ≡ goes fault (behaviour_view behaviour.now) memory.old.next) }
     ensures store { memory.new.store ≡ memory.old.store }
     ensures call { memory.new.call ≡ memory.old.call }
 {
@@ -148,7 +159,9 @@ fn asked(
     after: &Behaviour,
     body: Box<Term>,
 ) -> Result<Box<Term>, AllocError>
-    ensures { IfOk result (λ t. term_view t.value ≡ asked_after mail.entry (reply_view reply.now).path (behaviour_view after.now) (term_view body.value)) }
+    ensures { IfOk result
+        (λ t. term_view t.value ≡ asked_after mail.entry (reply_view reply.now).path (behaviour_view after.now)
+        (term_view body.value)) }
 {
     let head = in_request(alloc, mail, reply, body)?;
     let rest = Rest::of_one(alloc, after)?;
@@ -162,7 +175,9 @@ fn in_request(
     reply: &ReplyPart,
     body: Box<Term>,
 ) -> Result<Box<Term>, AllocError>
-    ensures { IfOk result (λ t. term_view t.value ≡ terms.exec mail.entry.message mail.entry.op (reply_view reply.now).path (term_view body.value)) }
+    ensures { IfOk result
+        (λ t. term_view t.value ≡ terms.exec mail.entry.message mail.entry.op (reply_view reply.now).path
+        (term_view body.value)) }
 {
     let form = Term::Exec {
         message: mail.message,

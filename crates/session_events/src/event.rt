@@ -45,7 +45,13 @@ pub fn event_came(
 
 /// An event of the strand that acts.
 pub fn event_of(actor: Actor<'_>, kind: Kind, number: u32, place: u32, fault: u32) -> Event
-    ensures { result ≡ record { strand = actor.entry.strand; kind = kind; number = number; place = place; fault = fault } }
+    ensures { result ≡ record {
+      strand = actor.entry.strand;
+      kind = kind;
+      number = number;
+      place = place;
+      fault = fault;
+    } }
 {
     Event {
         strand: actor.strand,

@@ -26,7 +26,9 @@ pub fn fault_of(
     installed: &Installed,
     memory: &Memory,
 ) -> Result<Option<Fault>, AllocError>
-    ensures { (g : Given) → IfOk result (λ f. option_map fault_view f ≡ spec.fault_of (seen_by actor.entry g installed.now memory.now) (behaviour_view place.now)) }
+    ensures { (g : Given) → IfOk result
+        (λ f. option_map fault_view f ≡ spec.fault_of (seen_by actor.entry g installed.now memory.now)
+        (behaviour_view place.now)) }
 {
     fault_at(alloc, place, scene_of(actor, installed), memory)
 }
@@ -39,7 +41,9 @@ pub fn fault_at(
     scene: Scene<'_>,
     memory: &Memory,
 ) -> Result<Option<Fault>, AllocError>
-    ensures { IfOk result (λ f. option_map fault_view f ≡ spec.fault_of (seen_in scene.entry given.Nothing memory.now) (behaviour_view place.now)) }
+    ensures { IfOk result
+        (λ f. option_map fault_view f ≡ spec.fault_of (seen_in scene.entry given.Nothing memory.now)
+        (behaviour_view place.now)) }
 {
     match place {
         Behaviour::Assign { path, value } => {
@@ -108,7 +112,8 @@ fn fault_unless(alloc: Global, holds: bool, name: u32) -> Option<Fault>
 
 /// The fault of a throw: the one that it names, with the tree of its expression.
 pub fn thrown(alloc: Global, name: u32, expr: &Expr, memory: &Memory) -> Result<Fault, AllocError>
-    ensures { IfOk result (λ f. Some (fault_view f) ≡ spec.fault_of_throw name (value_of memory.now.store (expr_view expr.now))) }
+    ensures { IfOk result
+        (λ f. Some (fault_view f) ≡ spec.fault_of_throw name (value_of memory.now.store (expr_view expr.now))) }
 {
     match value(alloc, expr, &memory.store)? {
         None => Ok(bare(alloc, standard::EXPR_FAULT)),
@@ -119,7 +124,8 @@ pub fn thrown(alloc: Global, name: u32, expr: &Expr, memory: &Memory) -> Result<
 /// The fault of a test that is no bool.
 #[tactic(auto, using(crate::proofs::Faulting::missing))]
 fn fault_of_test(alloc: Global, test: &Expr, memory: &Memory) -> Result<Option<Fault>, AllocError>
-    ensures { IfOk result (λ f. option_map fault_view f ≡ spec.fault_of_missing (truth_of memory.now.store (expr_view test.now))) }
+    ensures { IfOk result
+        (λ f. option_map fault_view f ≡ spec.fault_of_missing (truth_of memory.now.store (expr_view test.now))) }
 {
     let truth = truth(alloc, test, &memory.store)?;
     Ok(fault_unless(alloc, truth.is_some(), standard::EXPR_FAULT))
@@ -132,7 +138,8 @@ fn fault_of_binding(
     expr: &Expr,
     memory: &Memory,
 ) -> Result<Option<Fault>, AllocError>
-    ensures { IfOk result (λ f. option_map fault_view f ≡ spec.fault_of_missing (spec.binding memory.now.store (expr_view expr.now))) }
+    ensures { IfOk result
+        (λ f. option_map fault_view f ≡ spec.fault_of_missing (spec.binding memory.now.store (expr_view expr.now))) }
 {
     let root = binding(alloc, expr, &memory.store)?;
     Ok(fault_unless(alloc, root.is_some(), standard::EXPR_FAULT))
@@ -145,7 +152,9 @@ fn fault_of_message(
     scene: Scene<'_>,
     memory: &Memory,
 ) -> Result<Option<Fault>, AllocError>
-    ensures { IfOk result (λ f. option_map fault_view f ≡ spec.fault_of_message (seen_in scene.entry given.Nothing memory.now) sending.entry.port sending.entry.op (value_of memory.now.store (expr_view sending.entry.value.now))) }
+    ensures { IfOk result
+        (λ f. option_map fault_view f ≡ spec.fault_of_message (seen_in scene.entry given.Nothing memory.now)
+        sending.entry.port sending.entry.op (value_of memory.now.store (expr_view sending.entry.value.now))) }
 {
     match message_of(alloc, sending, scene, memory)? {
         Message::Faults(name) => Ok(Some(bare(alloc, name))),

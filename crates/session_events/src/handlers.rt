@@ -25,7 +25,9 @@ pub fn installed(
     actor: Actor<'_>,
     scope: &mut Installed,
 ) -> Result<Acted, AllocError>
-    ensures event { (k : Held) → IfOk result (λ r. acted_view actor.entry given.Nothing r scope.new k ≡ comes_to (seen_by actor.entry given.Nothing scope.old k) (plain.install (handlers_view handlers.now))) }
+    ensures event { (k : Held) → IfOk result
+        (λ r. acted_view actor.entry given.Nothing r scope.new k
+        ≡ comes_to (seen_by actor.entry given.Nothing scope.old k) (plain.install (handlers_view handlers.now))) }
     ensures name { scope.new.scope ≡ scope.old.scope }
 {
     match scope.table.install(handlers, scope.scope) {
@@ -50,7 +52,9 @@ pub fn compensated(
     scope: &mut Installed,
     memory: &mut Memory,
 ) -> Result<Moved, AllocError>
-    ensures event { IfOk result (λ m. moved_view m scope.new memory.new ≡ spec.compensates (seen_by actor.entry given.Nothing scope.old memory.old) name) }
+    ensures event { IfOk result
+        (λ m. moved_view m scope.new memory.new
+        ≡ spec.compensates (seen_by actor.entry given.Nothing scope.old memory.old) name) }
     ensures name { scope.new.scope ≡ scope.old.scope }
 {
     let Begun { form, next } = handler_started(alloc, scope.table.scope(name), memory.next)?;
@@ -67,7 +71,8 @@ pub fn handler_started(
     handler: Option<&Behaviour>,
     next: u64,
 ) -> Result<Begun, AllocError>
-    ensures { IfOk result (λ b. begun_view b ≡ start (or_nothing (option_map behaviour_view (option_copied handler.entry))) next) }
+    ensures { IfOk result
+        (λ b. begun_view b ≡ start (or_nothing (option_map behaviour_view (option_copied handler.entry))) next) }
 {
     match handler {
         Some(handler) => started(alloc, handler, next),

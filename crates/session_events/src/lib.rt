@@ -1,5 +1,5 @@
-//! The events of a session: what fault a place has, what it asks of the office, and what its event makes; and the events
-//! of requests and calls that are answered.
+//! The events of a session: what fault a place has, what it asks of the office, and what its event makes; and the
+//! events of requests and calls that are answered.
 #![tactic(auto)]
 
 mod answer;

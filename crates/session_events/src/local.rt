@@ -28,7 +28,10 @@ pub fn assigned(
     scene: Scene<'_>,
     memory: &mut Memory,
 ) -> Result<Acted, AllocError>
-    ensures { IfOk result (λ r. acted_in scene.entry given.Nothing r memory.new ≡ comes_to (seen_in scene.entry given.Nothing memory.old) (plain.assign (path_view path.now) (expr_view expr.now))) }
+    ensures { IfOk result
+        (λ r. acted_in scene.entry given.Nothing r memory.new
+        ≡ comes_to (seen_in scene.entry given.Nothing memory.old)
+        (plain.assign (path_view path.now) (expr_view expr.now))) }
 {
     match assign(alloc, path, expr, memory)? {
         Some(name) => Ok(Acted::Faulted(shared(alloc, name)?)),
@@ -45,7 +48,10 @@ pub fn copied(
     scene: Scene<'_>,
     memory: &mut Memory,
 ) -> Result<Acted, AllocError>
-    ensures { IfOk result (λ r. acted_in scene.entry given.Nothing r memory.new ≡ comes_to (seen_in scene.entry given.Nothing memory.old) (plain.copy (path_view path.now) (expr_view expr.now))) }
+    ensures { IfOk result
+        (λ r. acted_in scene.entry given.Nothing r memory.new
+        ≡ comes_to (seen_in scene.entry given.Nothing memory.old)
+        (plain.copy (path_view path.now) (expr_view expr.now))) }
 {
     match copy(alloc, path, expr, memory)? {
         Some(name) => Ok(Acted::Faulted(shared(alloc, name)?)),
@@ -61,7 +67,9 @@ pub fn taken_away(
     scene: Scene<'_>,
     memory: &mut Memory,
 ) -> Result<Acted, AllocError>
-    ensures { IfOk result (λ r. acted_in scene.entry given.Nothing r memory.new ≡ comes_to (seen_in scene.entry given.Nothing memory.old) (plain.undef (path_view path.now))) }
+    ensures { IfOk result
+        (λ r. acted_in scene.entry given.Nothing r memory.new
+        ≡ comes_to (seen_in scene.entry given.Nothing memory.old) (plain.undef (path_view path.now))) }
 {
     match take_away(alloc, path, memory)? {
         Some(name) => Ok(Acted::Faulted(shared(alloc, name)?)),
@@ -78,7 +86,10 @@ pub fn tested(
     scene: Scene<'_>,
     memory: &mut Memory,
 ) -> Result<Acted, AllocError>
-    ensures { IfOk result (λ r. acted_in scene.entry given.Nothing r memory.new ≡ comes_to (seen_in scene.entry given.Nothing memory.old) (plain.choose (expr_view test.now) (behaviour_view then.now) (behaviour_view other.now))) }
+    ensures { IfOk result
+        (λ r. acted_in scene.entry given.Nothing r memory.new
+        ≡ comes_to (seen_in scene.entry given.Nothing memory.old)
+        (plain.choose (expr_view test.now) (behaviour_view then.now) (behaviour_view other.now))) }
 {
     match truth(alloc, test, &memory.store)? {
         None => Ok(Acted::Faulted(shared(alloc, standard::EXPR_FAULT)?)),
@@ -98,7 +109,10 @@ pub fn repeated(
     memory: &mut Memory,
 ) -> Result<Acted, AllocError>
     requires { behaviour_view whole.now ≡ plain.repeat (expr_view test.now) (behaviour_view body.now) }
-    ensures { IfOk result (λ r. acted_in scene.entry given.Nothing r memory.new ≡ comes_to (seen_in scene.entry given.Nothing memory.old) (plain.repeat (expr_view test.now) (behaviour_view body.now))) }
+    ensures { IfOk result
+        (λ r. acted_in scene.entry given.Nothing r memory.new
+        ≡ comes_to (seen_in scene.entry given.Nothing memory.old)
+        (plain.repeat (expr_view test.now) (behaviour_view body.now))) }
 {
     match truth(alloc, test, &memory.store)? {
         None => Ok(Acted::Faulted(shared(alloc, standard::EXPR_FAULT)?)),
@@ -118,7 +132,10 @@ fn started_locally(
     scene: Scene<'_>,
     memory: &mut Memory,
 ) -> Result<Moved, AllocError>
-    ensures { IfOk result (λ m. moved_in scene.entry m memory.new ≡ moves.starts (behaviour_view behaviour.now) (moves.quietly (seen_in scene.entry given.Nothing memory.old) kind.Local)) }
+    ensures { IfOk result
+        (λ m. moved_in scene.entry m memory.new
+        ≡ moves.starts (behaviour_view behaviour.now)
+        (moves.quietly (seen_in scene.entry given.Nothing memory.old) kind.Local)) }
 {
     let begun = started(alloc, behaviour, memory.next)?;
     let moved = begun_locally(alloc, begun, scene, memory)?;
@@ -132,7 +149,12 @@ fn begun_locally(
     scene: Scene<'_>,
     memory: &mut Memory,
 ) -> Result<Moved, AllocError>
-    ensures { IfOk result (λ m. moved_in scene.entry m memory.new ≡ moves.moved_to (begun_view begun).form (record (moves.quietly (seen_in scene.entry given.Nothing memory.old) kind.Local) { next = (begun_view begun).next })) }
+    ensures { IfOk result
+        (λ m. moved_in scene.entry m memory.new
+        ≡ moves.moved_to (begun_view begun).form
+        (record (moves.quietly (seen_in scene.entry given.Nothing memory.old) kind.Local) {
+          next = (begun_view begun).next;
+        })) }
 {
     let Begun { form, next } = begun;
     memory.next = next;

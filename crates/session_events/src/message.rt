@@ -36,8 +36,13 @@ pub fn message_of(
     scene: Scene<'_>,
     memory: &Memory,
 ) -> Result<Message, AllocError>
-    ensures fault { IfOk result (λ m. option_map terms.bare (fault_number m) ≡ faults.fault_of_message (seen_in scene.entry given.Nothing memory.now) sending.entry.port sending.entry.op (value_of memory.now.store (expr_view sending.entry.value.now))) }
-    ensures value { IfOk result (λ m. value_in m ≡ calls.message_value (seen_in scene.entry given.Nothing memory.now) sending.entry.port sending.entry.op (expr_view sending.entry.value.now)) }
+    ensures fault { IfOk result
+        (λ m. option_map terms.bare (fault_number m)
+        ≡ faults.fault_of_message (seen_in scene.entry given.Nothing memory.now) sending.entry.port sending.entry.op
+        (value_of memory.now.store (expr_view sending.entry.value.now))) }
+    ensures value { IfOk result
+        (λ m. value_in m ≡ calls.message_value (seen_in scene.entry given.Nothing memory.now) sending.entry.port
+        sending.entry.op (expr_view sending.entry.value.now)) }
 {
     let Some(value) = value(alloc, sending.value, &memory.store)? else {
         return Ok(Message::Faults(standard::EXPR_FAULT));

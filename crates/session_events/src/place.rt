@@ -30,7 +30,9 @@ pub fn acted(
     installed: &mut Installed,
     memory: &mut Memory,
 ) -> Result<Acted, AllocError>
-    ensures event { IfOk result (λ r. acted_view actor.entry given.now r installed.new memory.new ≡ comes_to (seen_by actor.entry given.now installed.old memory.old) (behaviour_view place.now)) }
+    ensures event { IfOk result
+        (λ r. acted_view actor.entry given.now r installed.new memory.new
+        ≡ comes_to (seen_by actor.entry given.now installed.old memory.old) (behaviour_view place.now)) }
     ensures name { installed.new.scope ≡ installed.old.scope }
 {
     match place {
@@ -71,7 +73,9 @@ fn acted_or_looked(
     memory: &mut Memory,
 ) -> Result<Acted, AllocError>
     requires { wants_nothing (behaviour_view place.now) ≡ true }
-    ensures event { IfOk result (λ r. acted_view actor.entry given.now r installed.new memory.new ≡ comes_to (seen_by actor.entry given.now installed.old memory.old) (behaviour_view place.now)) }
+    ensures event { IfOk result
+        (λ r. acted_view actor.entry given.now r installed.new memory.new
+        ≡ comes_to (seen_by actor.entry given.now installed.old memory.old) (behaviour_view place.now)) }
     ensures name { installed.new.scope ≡ installed.old.scope }
 {
     if matches!(given, Given::Nothing) {
@@ -90,7 +94,9 @@ fn acted_alone(
     memory: &mut Memory,
 ) -> Result<Acted, AllocError>
     requires { wants_nothing (behaviour_view place.now) ≡ true }
-    ensures event { IfOk result (λ r. acted_view actor.entry given.Nothing r installed.new memory.new ≡ comes_to (seen_by actor.entry given.Nothing installed.old memory.old) (behaviour_view place.now)) }
+    ensures event { IfOk result
+        (λ r. acted_view actor.entry given.Nothing r installed.new memory.new
+        ≡ comes_to (seen_by actor.entry given.Nothing installed.old memory.old) (behaviour_view place.now)) }
     ensures name { installed.new.scope ≡ installed.old.scope }
 {
     match place {
@@ -123,7 +129,9 @@ fn acted_in_place(
     memory: &mut Memory,
 ) -> Result<Acted, AllocError>
     requires { leaves_handlers (behaviour_view place.now) ≡ true }
-    ensures { IfOk result (λ r. acted_in scene.entry given.Nothing r memory.new ≡ comes_to (seen_in scene.entry given.Nothing memory.old) (behaviour_view place.now)) }
+    ensures { IfOk result
+        (λ r. acted_in scene.entry given.Nothing r memory.new
+        ≡ comes_to (seen_in scene.entry given.Nothing memory.old) (behaviour_view place.now)) }
 {
     match place {
         Behaviour::Assign { path, value } => assigned(alloc, path, value, scene, memory),
@@ -175,7 +183,10 @@ fn looked(
     scene: Scene<'_>,
     memory: &Memory,
 ) -> Result<Acted, AllocError>
-    ensures { IfOk result (λ r. acted_in scene.entry given.now r memory.now ≡ came (seen_in scene.entry given.now memory.now) (spec_fault (seen_in scene.entry given.now memory.now) (behaviour_view place.now)) None) }
+    ensures { IfOk result
+        (λ r. acted_in scene.entry given.now r memory.now
+        ≡ came (seen_in scene.entry given.now memory.now)
+        (spec_fault (seen_in scene.entry given.now memory.now) (behaviour_view place.now)) None) }
 {
     match fault_at(alloc, place, scene, memory)? {
         None => Ok(Acted::Stuck),

@@ -68,7 +68,7 @@ fn read_named(
 ) -> Result<Fault, AllocError>
     ensures { IfOk result (λ f. fault_view f ≡ spec.read_named (seen_of actor.entry) (call_of sent) name.now value) }
 {
-    match number_of(actor.program, name)? {
+    match number_of(actor.program, name) {
         None => Ok(bare(alloc, standard::UNDECLARED_FAULT)),
         Some(name) => read_fault(alloc, sent, Fault { name, value }, actor),
     }
@@ -81,7 +81,8 @@ fn read_fault(
     fault: Fault,
     actor: Actor<'_>,
 ) -> Result<Fault, AllocError>
-    ensures { IfOk result (λ f. fault_view f ≡ spec.read_fault (seen_of actor.entry) (call_of sent) (fault_view fault)) }
+    ensures { IfOk result
+        (λ f. fault_view f ≡ spec.read_fault (seen_of actor.entry) (call_of sent) (fault_view fault)) }
 {
     let name = fault.name;
     match fault_taken(actor, sent.port, sent.op, name, fault.value.copied()?) {

@@ -25,7 +25,11 @@ pub fn replied(
     scene: Scene<'_>,
     memory: &Memory,
 ) -> Result<Moved, AllocError>
-    ensures { IfOk result (λ m. moved_in scene.entry m memory.now ≡ spec.replies (seen_in scene.entry given.Nothing memory.now) message (spec.reply_of (seen_in scene.entry given.Nothing memory.now) op (option_map path_view path.now)) terms.done) }
+    ensures { IfOk result
+        (λ m. moved_in scene.entry m memory.now
+        ≡ spec.replies (seen_in scene.entry given.Nothing memory.now) message
+        (spec.reply_of (seen_in scene.entry given.Nothing memory.now) op (option_map path_view path.now))
+        terms.done) }
 {
     let form = boxed(alloc, Term::Done)?;
     let outcome = reply_of(alloc, op, path, scene, memory)?;
@@ -42,7 +46,10 @@ pub fn failure_told(
     body: Box<Term>,
     scene: Scene<'_>,
 ) -> Result<Moved, AllocError>
-    ensures { (k : Held) → IfOk result (λ m. moved_in scene.entry m k ≡ spec.replies (seen_in scene.entry given.Nothing k) message (spec.outcome_of_fault (parts_of scene.entry.actor.program.now) (fault_view fault.now)) (term_view body.value)) }
+    ensures { (k : Held) → IfOk result
+        (λ m. moved_in scene.entry m k ≡ spec.replies (seen_in scene.entry given.Nothing k) message
+        (spec.outcome_of_fault (parts_of scene.entry.actor.program.now) (fault_view fault.now))
+        (term_view body.value)) }
 {
     let outcome = outcome_of_fault(alloc, fault.name, fault.value.copied()?, scene.actor)?;
     let event = event_of(scene.actor, Kind::Reply, message, 0, 0);
@@ -58,7 +65,8 @@ fn reply_of(
     scene: Scene<'_>,
     memory: &Memory,
 ) -> Result<Outcome, AllocError>
-    ensures { IfOk result (λ o. o ≡ spec.reply_of (seen_in scene.entry given.Nothing memory.now) op (option_map path_view path.now)) }
+    ensures { IfOk result
+        (λ o. o ≡ spec.reply_of (seen_in scene.entry given.Nothing memory.now) op (option_map path_view path.now)) }
 {
     let value = reply_value(alloc, path, &memory.store)?;
     match reply_taken(scene.actor, op, value) {
@@ -92,7 +100,8 @@ fn outcome_of_fault(
     value: Tree,
     actor: Actor<'_>,
 ) -> Result<Outcome, AllocError>
-    ensures { IfOk result (λ o. o ≡ spec.outcome_of_fault (parts_of actor.entry.program.now) (record { name = name; value = value })) }
+    ensures { IfOk result
+        (λ o. o ≡ spec.outcome_of_fault (parts_of actor.entry.program.now) (record { name = name; value = value })) }
 {
     let name = name_at(alloc, actor.program, name)?;
     Ok(Outcome::Fault { name, value })

@@ -1,12 +1,10 @@
-ghost use Rattle.std.specs.Prelude.{◌≡◌, [], ◌∷◌, length, option_map, IfOk, IfNone, None};
+ghost use Rattle.std.specs.Prelude.{◌≡◌, [], ◌∷◌, option_map, IfOk, IfNone, None};
 ghost use Rattle.behaviour_tree.specs.PartsView.{parts_of};
 ghost use Rattle.behaviour_tree.specs.Values.{stepped};
-ghost use Rattle.behaviour_tree.specs.View.{handlers_view};
 ghost use Rattle.behaviour_tree.specs.declared.words.Given.TheVariants as given;
 ghost use Rattle.session_calculus.specs.Names as names;
 ghost use Rattle.session_calculus.specs.Scopes as spec;
 ghost use Rattle.session_calculus.specs.Terms as terms;
-ghost use Rattle.handler_table.specs.Entries.{entries_in};
 ghost use Rattle.handler_table.specs.View.{table_view};
 ghost use Rattle.session_events.specs.Seen.{moved_in, moved_view, seen_by, seen_in};
 ghost use Rattle.session_values.specs.declared.memory.Memory.{Memory as Held};
@@ -15,7 +13,7 @@ ghost use Rattle.session_forms.specs.View.{fault_view, state_view, term_view};
 use crate::event::{Moved, event_came, event_of};
 use crate::handlers::handler_started;
 use crate::scene::{Scene, scene_of};
-use behaviour_tree::{Handlers, Kind, Need};
+use behaviour_tree::{Kind, Need};
 use handler_table::Table;
 use jolie_trees::{Path, Step};
 use session_forms::{Begun, Fault, Installed, ScopeState, Term, boxed};
@@ -35,7 +33,10 @@ pub fn scope_acts(
     around: &mut Installed,
     memory: &mut Memory,
 ) -> Result<Option<Moved>, AllocError>
-    ensures event { IfOk result (λ r. option_map (λ m. moved_view m around.new memory.new) r ≡ spec.scope_acts (seen_by actor.entry given.Nothing around.old memory.old) own.old.scope (table_view own.old.table) (state_view state.now)) }
+    ensures event { IfOk result
+        (λ r. option_map (λ m. moved_view m around.new memory.new) r
+        ≡ spec.scope_acts (seen_by actor.entry given.Nothing around.old memory.old) own.old.scope
+        (table_view own.old.table) (state_view state.now)) }
     ensures name { around.new.scope ≡ around.old.scope }
     ensures own { IfOk result (λ r. IfNone r (own.new ≡ own.old)) }
     ensures around { IfOk result (λ r. IfNone r (around.new ≡ around.old)) }
@@ -62,26 +63,17 @@ fn ended(
     actor: Actor<'_>,
     around: &mut Installed,
 ) -> Result<Moved, AllocError>
-    ensures event { (k : Held) → IfOk result (λ m. moved_view m around.new k ≡ spec.ends (seen_by actor.entry given.Nothing around.old k) own.old.scope (table_view own.old.table)) }
+    ensures event { (k : Held) → IfOk result
+        (λ m. moved_view m around.new k ≡ spec.ends (seen_by actor.entry given.Nothing around.old k) own.old.scope
+        (table_view own.old.table)) }
     ensures name { around.new.scope ≡ around.old.scope }
 {
     let completed = taken(alloc, own).completed();
-    around.table.reserve(count_of(&completed)?)?;
+    around.table.reserve_for(&completed)?;
     around.table.merge(completed);
     let form = boxed(alloc, Term::Done)?;
     let event = event_of(actor, Kind::EndScope, 0, own.scope, 0);
     event_came(alloc, form, event, Need::Nothing)
-}
-
-/// How many handlers there are.
-#[tactic(auto, using(crate::proofs::Counted::entries_counted))]
-fn count_of(handlers: &Handlers) -> Result<u32, AllocError>
-    ensures { IfOk result (λ n. n ≡ length (entries_in (handlers_view handlers.now))) }
-{
-    match u32::try_from(handlers.list.len()) {
-        Ok(count) => Ok(count),
-        Err(_) => Err(AllocError),
-    }
 }
 
 /// The handlers of a scope, which keeps none.
@@ -100,7 +92,10 @@ fn fault_handled(
     scene: Scene<'_>,
     memory: &mut Memory,
 ) -> Result<Moved, AllocError>
-    ensures { IfOk result (λ m. moved_in scene.entry m memory.new ≡ spec.handles_fault (seen_in scene.entry given.Nothing memory.old) own.old.scope (table_view own.old.table) (fault_view fault.now)) }
+    ensures { IfOk result
+        (λ m. moved_in scene.entry m memory.new
+        ≡ spec.handles_fault (seen_in scene.entry given.Nothing memory.old) own.old.scope (table_view own.old.table)
+        (fault_view fault.now)) }
 {
     note(alloc, own.scope, fault, scene, memory)?;
     let Begun { form, next } = handler_started(alloc, own.table.fault(fault.name), memory.next)?;
@@ -119,7 +114,9 @@ fn end_handled(
     scene: Scene<'_>,
     memory: &mut Memory,
 ) -> Result<Moved, AllocError>
-    ensures { IfOk result (λ m. moved_in scene.entry m memory.new ≡ spec.handles_end (seen_in scene.entry given.Nothing memory.old) own.old.scope (table_view own.old.table)) }
+    ensures { IfOk result
+        (λ m. moved_in scene.entry m memory.new
+        ≡ spec.handles_end (seen_in scene.entry given.Nothing memory.old) own.old.scope (table_view own.old.table)) }
 {
     let Begun { form, next } = handler_started(alloc, own.table.scope(own.scope), memory.next)?;
     drop(own.table.spend(own.scope));
@@ -137,7 +134,9 @@ fn in_scope(
     body: Box<Term>,
     state: ScopeState,
 ) -> Result<Box<Term>, AllocError>
-    ensures { IfOk result (λ t. term_view t.value ≡ terms.in_scope own.old.scope (term_view body.value) (table_view own.old.table) (state_view state)) }
+    ensures { IfOk result
+        (λ t. term_view t.value ≡ terms.in_scope own.old.scope (term_view body.value) (table_view own.old.table)
+        (state_view state)) }
 {
     let table = taken(alloc, own);
     let scope = own.scope;
@@ -160,7 +159,9 @@ fn note(
     scene: Scene<'_>,
     memory: &mut Memory,
 ) -> Result<(), AllocError>
-    ensures store { IfOk result (λ _. memory.new.store ≡ spec.noted (seen_in scene.entry given.Nothing memory.old) scope (fault_view fault.now)) }
+    ensures store { IfOk result
+        (λ _. memory.new.store ≡ spec.noted (seen_in scene.entry given.Nothing memory.old) scope
+        (fault_view fault.now)) }
     ensures next { memory.new.next ≡ memory.old.next }
     ensures call { memory.new.call ≡ memory.old.call }
 {
@@ -176,7 +177,9 @@ fn place_of_fault(
     fault: u32,
     actor: Actor<'_>,
 ) -> Result<Path, AllocError>
-    ensures { IfOk result (λ p. p.steps ≡ stepped (names.name_at (parts_of actor.entry.program.now) scope) None ∷ stepped (names.name_at (parts_of actor.entry.program.now) fault) None ∷ []) }
+    ensures { IfOk result
+        (λ p. p.steps ≡ stepped (names.name_at (parts_of actor.entry.program.now) scope) None ∷ stepped
+        (names.name_at (parts_of actor.entry.program.now) fault) None ∷ []) }
 {
     let mut steps = Items::new(alloc);
     steps.push(step_of(alloc, scope, actor)?)?;

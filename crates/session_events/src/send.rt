@@ -22,7 +22,10 @@ pub fn notified(
     scene: Scene<'_>,
     memory: &mut Memory,
 ) -> Result<Acted, AllocError>
-    ensures { IfOk result (λ r. acted_in scene.entry given.Nothing r memory.new ≡ comes_to (seen_in scene.entry given.Nothing memory.old) (plain.notify sending.entry.port sending.entry.op (expr_view sending.entry.value.now))) }
+    ensures { IfOk result
+        (λ r. acted_in scene.entry given.Nothing r memory.new
+        ≡ comes_to (seen_in scene.entry given.Nothing memory.old)
+        (plain.notify sending.entry.port sending.entry.op (expr_view sending.entry.value.now))) }
 {
     match message_of(alloc, sending, scene, memory)? {
         Message::Faults(name) => Ok(Acted::Faulted(shared(alloc, name)?)),
@@ -51,7 +54,11 @@ pub fn solicited(
     scene: Scene<'_>,
     memory: &mut Memory,
 ) -> Result<Acted, AllocError>
-    ensures { IfOk result (λ r. acted_in scene.entry given.Nothing r memory.new ≡ comes_to (seen_in scene.entry given.Nothing memory.old) (plain.solicit sending.entry.port sending.entry.op (expr_view sending.entry.value.now) (option_map path_view target.now) (handlers_view handlers.now))) }
+    ensures { IfOk result
+        (λ r. acted_in scene.entry given.Nothing r memory.new
+        ≡ comes_to (seen_in scene.entry given.Nothing memory.old)
+        (plain.solicit sending.entry.port sending.entry.op (expr_view sending.entry.value.now)
+        (option_map path_view target.now) (handlers_view handlers.now))) }
 {
     match message_of(alloc, sending, scene, memory)? {
         Message::Faults(name) => Ok(Acted::Faulted(shared(alloc, name)?)),
@@ -91,7 +98,9 @@ fn waiting(
     target: &Option<PathExpr>,
     handlers: &Handlers,
 ) -> Result<Box<Term>, AllocError>
-    ensures { IfOk result (λ t. term_view t.value ≡ terms.wait number sending.entry.port sending.entry.op (option_map path_view target.now) (handlers_view handlers.now)) }
+    ensures { IfOk result
+        (λ t. term_view t.value ≡ terms.wait number sending.entry.port sending.entry.op
+        (option_map path_view target.now) (handlers_view handlers.now)) }
 {
     let target = copied_path(target)?;
     let call = Call {

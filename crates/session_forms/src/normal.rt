@@ -72,7 +72,8 @@ fn tidy(form: &mut Box<Term>)
 /// Brings a form to normal form after an event, innermost first. It gives the next strand.
 #[cycle(normal)]
 pub fn normalize(alloc: Global, form: &mut Box<Term>, next: u64) -> Result<u64, AllocError>
-    ensures { IfOk result (λ n. spec.begun (term_view form.new.value) n ≡ spec.normal (term_view form.old.value) next) }
+    ensures { IfOk result
+        (λ n. spec.begun (term_view form.new.value) n ≡ spec.normal (term_view form.old.value) next) }
 {
     match &mut **form {
         Term::Seq { head, rest } => {
@@ -112,7 +113,9 @@ pub fn normalize(alloc: Global, form: &mut Box<Term>, next: u64) -> Result<u64, 
 /// Brings the members of a parallel to normal form.
 #[cycle(normal)]
 fn normalize_strands(alloc: Global, strands: &mut Vec<Strand>, next: u64) -> Result<u64, AllocError>
-    ensures { IfOk result (λ n. spec.begun (members_view strands.new.items) n ≡ spec.normal_members (members_view strands.old.items) next) }
+    ensures { IfOk result
+        (λ n. spec.begun (members_view strands.new.items) n
+        ≡ spec.normal_members (members_view strands.old.items) next) }
 {
     normalize_members(alloc, strands.as_mut_slice(), next)
 }
@@ -120,7 +123,8 @@ fn normalize_strands(alloc: Global, strands: &mut Vec<Strand>, next: u64) -> Res
 /// Brings members to normal form, from left to right.
 #[cycle(normal)]
 fn normalize_members(alloc: Global, strands: &mut [Strand], next: u64) -> Result<u64, AllocError>
-    ensures { IfOk result (λ n. spec.begun (members_view strands.new) n ≡ spec.normal_members (members_view strands.old) next) }
+    ensures { IfOk result
+        (λ n. spec.begun (members_view strands.new) n ≡ spec.normal_members (members_view strands.old) next) }
 {
     let mut after = next;
     for strand in strands.iter_mut() {
@@ -142,7 +146,8 @@ pub fn begin(alloc: Global, behaviour: &Behaviour, next: u64) -> Result<Begun, A
 /// The first of the rests begins, and the next where it is done at once.
 #[cycle(normal)]
 pub fn begin_rest(alloc: Global, rest: Rest, next: u64) -> Result<Begun, AllocError>
-    ensures { IfOk result (λ b. begun_view b ≡ spec.begin_rest (procs_of (map behaviour_view (rest_items rest))) next) }
+    ensures { IfOk result
+        (λ b. begun_view b ≡ spec.begin_rest (procs_of (map behaviour_view (rest_items rest))) next) }
 {
     let mut after = next;
     for i in 0..rest.as_slice().len() {
@@ -166,7 +171,9 @@ pub fn begin_both(
     second: &Behaviour,
     next: u64,
 ) -> Result<Begun, AllocError>
-    ensures { IfOk result (λ b. begun_view b ≡ spec.begin (sequence (proc (behaviour_view first.now) (proc (behaviour_view second.now) no_procs))) next) }
+    ensures { IfOk result
+        (λ b. begun_view b ≡ spec.begin (sequence
+        (proc (behaviour_view first.now) (proc (behaviour_view second.now) no_procs))) next) }
 {
     let Begun { mut form, next } = started_both(alloc, first, second, next)?;
     let next = normalize(alloc, &mut form, next)?;

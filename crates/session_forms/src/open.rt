@@ -56,8 +56,10 @@ impl Held {
     /// Adds what a form holds.
     #[cycle(held)]
     fn add(&mut self, term: &Term) -> Result<(), AllocError>
-        ensures requests { IfOk result (λ _. self.new.requests.items ≡ self.old.requests.items ++ spec.open_requests (term_view term.now)) }
-        ensures calls { IfOk result (λ _. self.new.calls.items ≡ self.old.calls.items ++ spec.waiting (term_view term.now)) }
+        ensures requests { IfOk result
+            (λ _. self.new.requests.items ≡ self.old.requests.items ++ spec.open_requests (term_view term.now)) }
+        ensures calls { IfOk result
+            (λ _. self.new.calls.items ≡ self.old.calls.items ++ spec.waiting (term_view term.now)) }
     {
         match term {
             Term::Exec { message, body, .. } => {
@@ -81,8 +83,12 @@ impl Held {
     /// Adds what members hold.
     #[cycle(held)]
     fn add_among(&mut self, strands: &[Strand]) -> Result<(), AllocError>
-        ensures requests { IfOk result (λ _. self.new.requests.items ≡ self.old.requests.items ++ spec.held_among spec.only spec.none (members_view strands.now)) }
-        ensures calls { IfOk result (λ _. self.new.calls.items ≡ self.old.calls.items ++ spec.held_among spec.none spec.only (members_view strands.now)) }
+        ensures requests { IfOk result
+            (λ _. self.new.requests.items ≡ self.old.requests.items
+            ++ spec.held_among spec.only spec.none (members_view strands.now)) }
+        ensures calls { IfOk result
+            (λ _. self.new.calls.items ≡ self.old.calls.items
+            ++ spec.held_among spec.none spec.only (members_view strands.now)) }
     {
         for member in strands {
             self.add(&member.form)?;

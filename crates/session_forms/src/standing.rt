@@ -11,7 +11,8 @@ use std::alloc::{AllocError, Global};
 /// The strands of a form that runs in the strand `own`: that one first, then the members of its parallels.
 pub fn strands_of(alloc: Global, term: &Term, own: u64) -> Result<Strands, AllocError>
     ensures exact { IfOk result (λ strands. strands ≡ spec.strands_in own (term_view term.now)) }
-    ensures all { IfOk result (λ strands. (n : ℕ) → (stands_in n own (term_view term.now) ≡ true) ↔ Contains strands n) }
+    ensures all { IfOk result
+        (λ strands. (n : ℕ) → (stands_in n own (term_view term.now) ≡ true) ↔ Contains strands n) }
 {
     let mut strands = Vec::new(alloc);
     strands.push(own)?;

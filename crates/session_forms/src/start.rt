@@ -21,7 +21,8 @@ use std::alloc::{AllocError, Global};
 
 /// A head with the forms that begin after it.
 pub fn in_sequence(alloc: Global, head: Box<Term>, rest: Rest) -> Result<Box<Term>, AllocError>
-    ensures { IfOk result (λ t. term_view t.value ≡ seq_of (term_view head.value) (procs_of (map behaviour_view (rest_items rest)))) }
+    ensures { IfOk result
+        (λ t. term_view t.value ≡ seq_of (term_view head.value) (procs_of (map behaviour_view (rest_items rest)))) }
 {
     if rest.as_slice().is_empty() {
         return Ok(head);
@@ -120,7 +121,10 @@ fn started_head(alloc: Global, list: &[Behaviour], next: u64) -> Result<Begun, A
 /// The members of a parallel have their numbers, and start in order.
 #[cycle(start)]
 fn started_parallel(alloc: Global, list: &[Behaviour], next: u64) -> Result<Begun, AllocError>
-    ensures { IfOk result (λ b. begun_view b ≡ spec.around par (spec.start_members (procs_of (map behaviour_view list.now)) next (next + count_of (procs_of (map behaviour_view list.now))))) }
+    ensures { IfOk result
+        (λ b. begun_view b ≡ spec.around par
+        (spec.start_members (procs_of (map behaviour_view list.now)) next
+        (next + count_of (procs_of (map behaviour_view list.now))))) }
 {
     let mut after = next.checked_add(list.len() as u64).ok_or(AllocError)?;
     let mut strands = Vec::new(alloc);
@@ -144,7 +148,9 @@ pub fn started_both(
     second: &Behaviour,
     next: u64,
 ) -> Result<Begun, AllocError>
-    ensures { IfOk result (λ b. begun_view b ≡ spec.start (sequence (proc (behaviour_view first.now) (proc (behaviour_view second.now) no_procs))) next) }
+    ensures { IfOk result
+        (λ b. begun_view b ≡ spec.start (sequence
+        (proc (behaviour_view first.now) (proc (behaviour_view second.now) no_procs))) next) }
 {
     let Begun { form, next } = started(alloc, first, next)?;
     let rest = Rest::of_one(alloc, second)?;

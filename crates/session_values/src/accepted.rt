@@ -39,7 +39,8 @@ pub fn request_taken(
     op: u32,
     value: Tree,
 ) -> Option<Tree>
-    ensures { result ≡ spec.accepted (parts_of actor.entry.program.now).types (spec.request_sent (parts_of actor.entry.program.now) actor.entry.service port op) value }
+    ensures { result ≡ spec.accepted (parts_of actor.entry.program.now).types
+        (spec.request_sent (parts_of actor.entry.program.now) actor.entry.service port op) value }
 {
     match operation_sent(actor, port, op) {
         None => None,
@@ -56,7 +57,8 @@ pub fn response_taken(
     op: u32,
     value: Tree,
 ) -> Option<Tree>
-    ensures { result ≡ spec.accepted (parts_of actor.entry.program.now).types (spec.response_sent (parts_of actor.entry.program.now) actor.entry.service port op) value }
+    ensures { result ≡ spec.accepted (parts_of actor.entry.program.now).types
+        (spec.response_sent (parts_of actor.entry.program.now) actor.entry.service port op) value }
 {
     match operation_sent(actor, port, op) {
         None => None,
@@ -70,7 +72,9 @@ pub fn response_taken(
 
 /// A value as an operation of a port takes it for a fault.
 pub fn fault_taken(actor: Actor<'_>, port: u32, op: u32, fault: u32, value: Tree) -> Option<Tree>
-    ensures { result ≡ spec.accepted (parts_of actor.entry.program.now).types (spec.type_thrown (spec.throws_sent (parts_of actor.entry.program.now) actor.entry.service port op) fault) value }
+    ensures { result ≡ spec.accepted (parts_of actor.entry.program.now).types
+        (spec.type_thrown (spec.throws_sent (parts_of actor.entry.program.now) actor.entry.service port op) fault)
+        value }
 {
     match operation_sent(actor, port, op) {
         None => None,
@@ -84,7 +88,8 @@ pub fn fault_taken(actor: Actor<'_>, port: u32, op: u32, fault: u32, value: Tree
 
 /// A value as an operation of the service takes it for its answer.
 pub fn reply_taken(actor: Actor<'_>, op: u32, value: Tree) -> Option<Tree>
-    ensures { result ≡ spec.accepted (parts_of actor.entry.program.now).types (spec.response_of (parts_of actor.entry.program.now) actor.entry.service op) value }
+    ensures { result ≡ spec.accepted (parts_of actor.entry.program.now).types
+        (spec.response_of (parts_of actor.entry.program.now) actor.entry.service op) value }
 {
     match actor.program.operation(actor.service, op) {
         None => None,

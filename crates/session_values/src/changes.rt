@@ -32,8 +32,11 @@ pub fn assign(
     expr: &Expr,
     memory: &mut Memory,
 ) -> Result<Option<u32>, AllocError>
-    ensures fault { IfOk result (λ f. f ≡ fault_in (spec.effect_of memory.old.store (path_view path.now) (expr_view expr.now))) }
-    ensures store { IfOk result (λ f. memory.new.store ≡ left_by (spec.effect_of memory.old.store (path_view path.now) (expr_view expr.now)) memory.old.store) }
+    ensures fault { IfOk result
+        (λ f. f ≡ fault_in (spec.effect_of memory.old.store (path_view path.now) (expr_view expr.now))) }
+    ensures store { IfOk result
+        (λ f. memory.new.store ≡ left_by (spec.effect_of memory.old.store (path_view path.now) (expr_view expr.now))
+        memory.old.store) }
     ensures kept { Keeps memory.old memory.new }
 {
     match placed_value(alloc, path, expr, &memory.store)? {
@@ -53,8 +56,11 @@ pub fn copy(
     expr: &Expr,
     memory: &mut Memory,
 ) -> Result<Option<u32>, AllocError>
-    ensures fault { IfOk result (λ f. f ≡ fault_in (spec.copied memory.old.store (path_view path.now) (expr_view expr.now))) }
-    ensures store { IfOk result (λ f. memory.new.store ≡ left_by (spec.copied memory.old.store (path_view path.now) (expr_view expr.now)) memory.old.store) }
+    ensures fault { IfOk result
+        (λ f. f ≡ fault_in (spec.copied memory.old.store (path_view path.now) (expr_view expr.now))) }
+    ensures store { IfOk result
+        (λ f. memory.new.store ≡ left_by (spec.copied memory.old.store (path_view path.now) (expr_view expr.now))
+        memory.old.store) }
     ensures kept { Keeps memory.old memory.new }
 {
     match placed_value(alloc, path, expr, &memory.store)? {
@@ -71,7 +77,9 @@ pub fn take_away(
     memory: &mut Memory,
 ) -> Result<Option<u32>, AllocError>
     ensures fault { IfOk result (λ f. f ≡ fault_in (spec.effect_of_undef memory.old.store (path_view path.now))) }
-    ensures store { IfOk result (λ f. memory.new.store ≡ left_by (spec.effect_of_undef memory.old.store (path_view path.now)) memory.old.store) }
+    ensures store { IfOk result
+        (λ f. memory.new.store ≡ left_by (spec.effect_of_undef memory.old.store (path_view path.now))
+        memory.old.store) }
     ensures kept { Keeps memory.old memory.new }
 {
     match steps_of(alloc, path, &memory.store)? {
@@ -91,8 +99,11 @@ pub fn receive(
     value: Tree,
     memory: &mut Memory,
 ) -> Result<Option<u32>, AllocError>
-    ensures fault { IfOk result (λ f. f ≡ fault_in (spec.received memory.old.store (option_map path_view target.now) value)) }
-    ensures store { IfOk result (λ f. memory.new.store ≡ left_by (spec.received memory.old.store (option_map path_view target.now) value) memory.old.store) }
+    ensures fault { IfOk result
+        (λ f. f ≡ fault_in (spec.received memory.old.store (option_map path_view target.now) value)) }
+    ensures store { IfOk result
+        (λ f. memory.new.store ≡ left_by (spec.received memory.old.store (option_map path_view target.now) value)
+        memory.old.store) }
     ensures kept { Keeps memory.old memory.new }
 {
     match target {

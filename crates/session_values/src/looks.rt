@@ -22,7 +22,8 @@ pub fn fault_of_assign(
     expr: &Expr,
     memory: &Memory,
 ) -> Result<Option<u32>, AllocError>
-    ensures { IfOk result (λ f. f ≡ fault_in (spec.effect_of memory.now.store (path_view path.now) (expr_view expr.now))) }
+    ensures { IfOk result
+        (λ f. f ≡ fault_in (spec.effect_of memory.now.store (path_view path.now) (expr_view expr.now))) }
 {
     match placed_value(alloc, path, expr, &memory.store)? {
         None => Ok(Some(standard::EXPR_FAULT)),
@@ -38,7 +39,8 @@ pub fn fault_of_copy(
     expr: &Expr,
     memory: &Memory,
 ) -> Result<Option<u32>, AllocError>
-    ensures { IfOk result (λ f. f ≡ fault_in (spec.copied memory.now.store (path_view path.now) (expr_view expr.now))) }
+    ensures { IfOk result
+        (λ f. f ≡ fault_in (spec.copied memory.now.store (path_view path.now) (expr_view expr.now))) }
 {
     match placed_value(alloc, path, expr, &memory.store)? {
         None => Ok(Some(standard::EXPR_FAULT)),

@@ -22,7 +22,9 @@ impl Memory {
     #[tactic(auto, using(crate::proofs::Limits::large, crate::proofs::Limits::deep, crate::proofs::Limits::within))]
     pub fn put(&mut self, path: &Path, value: Tree) -> Result<bool, AllocError>
         ensures done { IfOk result (λ done. done ≡ is_store (spec.set path.now.steps value self.old.store)) }
-        ensures store { IfOk result (λ done. self.new.store ≡ (if done then spec.set path.now.steps value self.old.store else self.old.store)) }
+        ensures store { IfOk result
+            (λ done. self.new.store ≡ (if done then spec.set path.now.steps value self.old.store
+            else self.old.store)) }
         ensures kept { Keeps self.old self.new }
     {
         match self.store.set(path, value) {
@@ -37,7 +39,9 @@ impl Memory {
     #[tactic(auto, using(crate::proofs::Limits::large, crate::proofs::Limits::deep, crate::proofs::Limits::within))]
     pub fn put_root(&mut self, path: &Path, root: Root) -> Result<bool, AllocError>
         ensures done { IfOk result (λ done. done ≡ is_store (spec.set_root path.now.steps root self.old.store)) }
-        ensures store { IfOk result (λ done. self.new.store ≡ (if done then spec.set_root path.now.steps root self.old.store else self.old.store)) }
+        ensures store { IfOk result
+            (λ done. self.new.store ≡ (if done then spec.set_root path.now.steps root self.old.store
+            else self.old.store)) }
         ensures kept { Keeps self.old self.new }
     {
         match self.store.set_root(path, root) {

@@ -1,10 +1,10 @@
-ghost use Rattle.std.specs.Prelude.{◌≡◌, IfOk, bytes_eq};
+ghost use Rattle.std.specs.Prelude.{◌≡◌, ◌<◌, ◌^◌, IfOk, bytes_eq, length};
 ghost use Rattle.std.specs.List.{position_from};
 ghost use Rattle.behaviour_tree.specs.PartsView.{parts_of};
 ghost use Rattle.session_calculus.specs.Answers as answers;
 ghost use Rattle.session_calculus.specs.Names as names;
 
-use behaviour_tree::Program;
+use behaviour_tree::{Program, numbered};
 use jolie_trees::Text;
 use std::alloc::{AllocError, Global};
 
@@ -19,25 +19,20 @@ pub fn name_at(alloc: Global, program: &Program, name: u32) -> Result<Text, Allo
 }
 
 /// The number of a name, where the program has it.
-pub fn number_of(program: &Program, name: &Text) -> Result<Option<u32>, AllocError>
-    ensures { IfOk result (λ number. number ≡ answers.number_of (parts_of program.now) name.now) }
+pub fn number_of(program: &Program, name: &Text) -> Option<u32>
+    ensures { result ≡ answers.number_of (parts_of program.now) name.now }
 {
-    match place_of(program.parts().names.as_slice(), name) {
-        None => Ok(None),
-        Some(place) => match u32::try_from(place) {
-            Ok(number) => Ok(Some(number)),
-            Err(_) => Err(AllocError),
-        },
-    }
+    place_of(program.names(), name)
 }
 
-/// The place of a name.
-fn place_of(names: &[Text], name: &Text) -> Option<usize>
+/// The number of a name among names.
+fn place_of(names: &[Text], name: &Text) -> Option<u32>
+    requires { length names.now < 2 ^ 32 }
     ensures { result ≡ position_from (bytes_eq name.now) 0 names.now }
 {
     for (place, text) in names.iter().enumerate() {
         if *name == *text {
-            return Some(place);
+            return Some(numbered(place));
         }
     }
     None

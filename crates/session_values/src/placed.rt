@@ -22,7 +22,9 @@ pub fn placed_value(
     expr: &Expr,
     store: &Tree,
 ) -> Result<Option<Placed>, AllocError>
-    ensures { IfOk result (λ p. option_map placed_view p ≡ together (values.steps_of store.now (path_view path.now)) (values.value store.now (expr_view expr.now))) }
+    ensures { IfOk result
+        (λ p. option_map placed_view p ≡ together (values.steps_of store.now (path_view path.now))
+        (values.value store.now (expr_view expr.now))) }
 {
     let Some(path) = steps_of(alloc, path, store)? else {
         return Ok(None);

@@ -17,7 +17,8 @@ pub enum Sent<'a> {
 
 /// The operation of a number of a port of a service.
 pub fn operation_sent<'a>(actor: Actor<'a>, port: u32, op: u32) -> Option<Sent<'a>>
-    ensures { option_map sent_view result ≡ spec.operation_sent (parts_of actor.entry.program.now) actor.entry.service port op }
+    ensures { option_map sent_view result
+        ≡ spec.operation_sent (parts_of actor.entry.program.now) actor.entry.service port op }
 {
     let parts = actor.program.parts();
     match parts.services.get(actor.service as usize) {
@@ -28,7 +29,8 @@ pub fn operation_sent<'a>(actor: Actor<'a>, port: u32, op: u32) -> Option<Sent<'
 
 /// The operation of a number of one of some ports, behind which stands the one that every service has.
 fn operation_of<'a>(parts: &'a Parts, ports: &[Port], port: u32, op: u32) -> Option<Sent<'a>>
-    ensures { option_map sent_view result ≡ operation_at_port (map (sent_to (parts_view parts.now).interfaces) (map port_view ports.now)) port op }
+    ensures { option_map sent_view result
+        ≡ operation_at_port (map (sent_to (parts_view parts.now).interfaces) (map port_view ports.now)) port op }
 {
     let port = port as usize;
     if port < ports.len() {
@@ -42,7 +44,8 @@ fn operation_of<'a>(parts: &'a Parts, ports: &[Port], port: u32, op: u32) -> Opt
 
 /// The operation of a number that can be sent to a port.
 fn declared<'a>(parts: &'a Parts, port: &Port, op: u32) -> Option<Sent<'a>>
-    ensures { option_map sent_view result ≡ slice_get (sent_to (parts_view parts.now).interfaces (port_view port.now)) op }
+    ensures { option_map sent_view result
+        ≡ slice_get (sent_to (parts_view parts.now).interfaces (port_view port.now)) op }
 {
     match behaviour_tree::operation_sent(parts, port, op) {
         None => None,

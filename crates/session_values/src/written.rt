@@ -21,7 +21,9 @@ pub fn written_path(alloc: Global, path: &PathExpr) -> Result<Path, AllocError>
 
 /// A step whose index is written as a number.
 fn written_step(step: &PathStep) -> Result<Step, AllocError>
-    ensures { IfOk result (λ s. (p : PathTree) → spec.written_steps (step_of (step_view step.now).name (step_view step.now).index p) ≡ s ∷ spec.written_steps p) }
+    ensures { IfOk result
+        (λ s. (p : PathTree) → spec.written_steps (step_of (step_view step.now).name (step_view step.now).index p)
+        ≡ s ∷ spec.written_steps p) }
 {
     let name = step.name.copied()?;
     match &step.index {

@@ -67,7 +67,7 @@ fn sent(kept: &Kept, session: u32, call: u32) -> Option<&Call>
     ensures { option_copied result ≡ option_and_then (slice_get kept.now.calls) (place_of kept.now session call) }
 {
     match kept.place(session, call) {
-        Some(place) => kept.calls.get(place as usize),
+        Some(place) => kept.calls.get(place),
         None => None,
     }
 }

@@ -1,5 +1,5 @@
-//! Bytes of connections: what a reader gives of them, and how they are served; whole, cut at each place and byte by byte; a
-//! long one, whole and byte by byte.
+//! Bytes of connections: what a reader gives of them, and how they are served; whole, cut at each place and byte by
+//! byte; a long one, whole and byte by byte.
 
 mod answers;
 mod served;

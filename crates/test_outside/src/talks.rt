@@ -1,5 +1,5 @@
-//! Connections whose answers come late: what is asked, when what is written, how the wire is called, and how each ends; in
-//! pieces of each size, beside another connection, and with a wire that fails at each of its calls.
+//! Connections whose answers come late: what is asked, when what is written, how the wire is called, and how each ends;
+//! in pieces of each size, beside another connection, and with a wire that fails at each of its calls.
 
 mod alone;
 mod beside;

@@ -1,5 +1,5 @@
-//! Trips over HTTP with diallers in memory: what is written and what comes of a response, whole, cut at each place and byte by
-//! byte, and with one fault at each call of the wire; and several trips of one link.
+//! Trips over HTTP with diallers in memory: what is written and what comes of a response, whole, cut at each place and
+//! byte by byte, and with one fault at each call of the wire; and several trips of one link.
 
 mod links;
 mod peer;

@@ -48,7 +48,8 @@ impl Tree {
     #[cycle(growth)]
     fn vector_with(&self, step: &Step, rest: &[Step], inner: Extent) -> Extent
         ensures { (f : Plain → Plain) → inner ≡ extent_of (f (at_or_void rest.now (spec.child step.now self.now)))
-            → result ≡ trees_extent (spec.change_nth (spec.index_of step.now) (spec.change rest.now f) (spec.under step.now.name (children_of self.now))) }
+            → result ≡ trees_extent (spec.change_nth (spec.index_of step.now) (spec.change rest.now f)
+            (spec.under step.now.name (children_of self.now))) }
     {
         match self.children.get(&step.name) {
             Some(members) => members.extent_with(step.place(), rest, inner),

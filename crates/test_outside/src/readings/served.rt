@@ -17,7 +17,8 @@ struct Served {
     calls: String,
 }
 
-/// What the row expects: how serving ends, what is asked and what is written; and in which order the wire is called, where it says so.
+/// What the row expects: how serving ends, what is asked and what is written; and in which order the wire is called,
+/// where it says so.
 pub(crate) fn expected(alloc: Global, row: &Row<'_>) -> Result<String, TableError> {
     let end = row.text(alloc, "end")?;
     let asked = row.text(alloc, "asked")?;

@@ -4,7 +4,8 @@ use crate::talks::talk::finished;
 use std::alloc::{AllocError, Global};
 use test_rows::{Row, TableError};
 
-/// What the connection comes to in pieces of each size; or step by step, where the row says how many bytes are in a piece; or so where the wire fails; or how the wire is called.
+/// What the connection comes to in pieces of each size; or step by step, where the row says how many bytes are in a
+/// piece; or so where the wire fails; or how the wire is called.
 pub(crate) fn given(alloc: Global, row: &Row<'_>) -> Result<String, TableError> {
     let stream = row.bytes(alloc, "bytes")?;
     let says = row.text(alloc, "says")?;

@@ -1,10 +1,17 @@
 -- What the reader gives is taken up.
 use Rattle.std.proofs.Common.{refl, sym, ◌∙◌, subst}
+use Rattle.http_port.specs.Feeding.{Feeds}
 use Rattle.http_connection.specs.Seen.{seen}
 use Rattle.http_connection.specs.Steps.{IsFed}
 use Rattle.http_connection.proofs.Passing.{carried_on, spent_talks, fed_now, interim_fed}
 use Rattle.http_connection.proofs.Calls.{writes_alike, writes_nothing}
+use Rattle.http_connection.proofs.Reading.{invited_then}
 use Rattle.http_connection.proofs.turn.go_on.Goals as goal
+
+pub invite-requires-clause-invited : goal.invite-requires-clause-invited
+invite-requires-clause-invited g c =
+    invited_then c.args.kept.now.reader c.feed.new.self.reader c.args.piece.now
+    (subst (λ f. Feeds c.args.kept.now.reader c.args.piece.now f c.feed.new.self.reader) (interim_fed c.in_ok-fed.fed (sym c.is_interim.ensures ∙ c.if-is_interim.true)) c.in_ok-fed.ensures.gives)
 
 pub returns-in_err-fed-clause-talks : goal.returns-in_err-fed-clause-talks
 returns-in_err-fed-clause-talks g c = λ first bodies texts h.

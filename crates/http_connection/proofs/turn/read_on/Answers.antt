@@ -1,13 +1,13 @@
 -- What a read brings is carried along.
-use Rattle.std.proofs.Common.{rules, ◌≡◌, refl, ◌∙◌, subst, [], ◌∷◌, take}
+use Rattle.std.proofs.Common.{rules, ◌≡◌, ◌+◌, refl, ap, ◌∙◌, subst, arith, [], ◌∷◌, ◌++◌, length, length-append, take}
 use Rattle.std.specs.Io.KnownBytes.{Appends, Consumes}
 use Rattle.outside_traits.specs.Told.{Lists}
 use Rattle.outside_traits.specs.declared.calls.WireCall.TheVariants.{Read}
 use Rattle.http_connection.specs.Talking.{log}
-use Rattle.http_connection.specs.Stages.{stage_of, IsBehindTelling}
+use Rattle.http_connection.specs.declared.stage.Ending.TheVariants as Ends
 use Rattle.http_connection.specs.declared.stage.Standing.TheVariants as Stands
 use Rattle.http_connection.specs.Seen.{seen}
-use Rattle.http_connection.proofs.Passing.{waiting_spent, waiting_fed, read_going, read_ended, read_failed, err_only}
+use Rattle.http_connection.proofs.Passing.{waiting_spent, waiting_fed, read_going, read_ended, read_failed, not_waiting, over_hand_out, hands_behind}
 use Rattle.http_connection.proofs.Words.{done_so}
 use Rattle.http_connection.proofs.Ends.{spent_unended, failed_unended, going_unended, read_tells}
 use Rattle.http_connection.proofs.Calls.{called_nothing, called_on, called_read, called_writes}
@@ -77,8 +77,32 @@ returns-in-Err-clause-talks g c = λ first bodies texts h.
     })
     c.finish-in-Err.ensures.finishes
 
+pub returns-in-Ok-eq0-clause-next : goal.returns-in-Ok-eq0-clause-next
+returns-in-Ok-eq0-clause-next g c = λ held. over_hand_out c.finish.new.kept.next Ends.Ended c.finish.ensures.finishes.next
+
+pub returns-in-Err-clause-next : goal.returns-in-Err-clause-next
+returns-in-Err-clause-next g c = λ held. over_hand_out c.finish-in-Err.new.kept.next Ends.ReadFailed c.finish-in-Err.ensures.finishes.next
+
 pub returns-in-Ok-clause-next : goal.returns-in-Ok-clause-next
-returns-in-Ok-clause-next g c = err_only c.go_on.result (λ _. IsBehindTelling (stage_of c.go_on.new.kept.next)) (c.go_on.new.kept.next ≡ Stands.Spent) c.go_on.ensures.next
+returns-in-Ok-clause-next g c = hands_behind c.go_on.result c.go_on.new.kept.next c.go_on.ensures.next
+
+pub returns-in_err-reserve-clause-further : goal.returns-in_err-reserve-clause-further
+returns-in_err-reserve-clause-further g c = λ waits. absurd (not_waiting c.stand.new.self.next Stands.Spent c.stand.ensures.next refl waits)
+
+pub returns-in-Ok-eq0-clause-further : goal.returns-in-Ok-eq0-clause-further
+returns-in-Ok-eq0-clause-further g c = λ waits. absurd (not_waiting c.finish.new.kept.next (Stands.Over Ends.Ended) c.finish.ensures.finishes.next refl waits)
+
+pub returns-in-Err-clause-further : goal.returns-in-Err-clause-further
+returns-in-Err-clause-further g c = λ waits. absurd (not_waiting c.finish-in-Err.new.kept.next (Stands.Over Ends.ReadFailed) c.finish-in-Err.ensures.finishes.next refl waits)
+
+pub returns-in-Ok-clause-further : goal.returns-in-Ok-clause-further
+returns-in-Ok-clause-further g c = λ waits.
+    let piece = take c.in-Ok.count c.read.new.into in
+    let whole : c.extend_from_slice.new.self.items ≡ c.args.kept.now.read.items ++ piece = search rules in
+    let longer : length c.extend_from_slice.new.self.items ≡ length c.args.kept.now.read.items + length piece = ap length whole ∙ length-append c.args.kept.now.read.items piece in
+    let count : c.in-Ok.count ≡ length piece = c.in-Ok.ensures.bound.1 in
+    let same : length c.go_on.new.kept.read.items ≡ length c.extend_from_slice.new.self.items = ap length c.go_on.ensures.read in
+    omega (arith, longer, count, same, c.in-Ok.count-test)
 
 pub returns-in_err-reserve-clause-called : goal.returns-in_err-reserve-clause-called
 returns-in_err-reserve-clause-called g c = λ first bodies texts h.

@@ -9,10 +9,9 @@ use Rattle.http_port.specs.Serving.{cut_behind}
 use Rattle.http_port.proofs.TurnLemmas.{turn_unlost}
 use Rattle.http_port.proofs.ServingLemmas.{Told, Turned, ReadOn, going_first, go_on, read_on, finish_turn, finish_read}
 use Rattle.http_port.proofs.serving.serve_each.Goals as goal
-use Rattle.http_port.proofs.serving.serve_each.Goals.{in-GoesOn, in-Waits+in-Ok}
 
-pub loop-init : goal.loop-init
-loop-init g c = record {
+pub loop-pieces-init : goal.loop-pieces-init
+loop-pieces-init g c = record {
   asks = c.asks_where_given.ensures;
   within = omega arith;
   going = going_first c.args.reader.now (record { given = (g.W.Wire.told c.args.wire.now).read; left = (g.W.Wire.told c.args.wire.now).unread; taken = (g.W.Wire.told c.args.wire.now).written; calls = (g.W.Wire.told c.args.wire.now).calls; heard = g.S.Serve.heard c.args.serve.now; said = g.S.Serve.said c.args.serve.now });
@@ -24,10 +23,10 @@ loop-init g c = record {
 pub returns-in-Ends-clause-serves : goal.returns-in-Ends-clause-serves
 returns-in-Ends-clause-serves g c =
     let before : Told = record { given = (g.W.Wire.told c.args.wire.now).read; left = (g.W.Wire.told c.args.wire.now).unread; taken = (g.W.Wire.told c.args.wire.now).written; calls = (g.W.Wire.told c.args.wire.now).calls; heard = g.S.Serve.heard c.args.serve.now; said = g.S.Serve.said c.args.serve.now } in
-    let at : Told = record { given = (g.W.Wire.told c.loop.wire).read; left = (g.W.Wire.told c.loop.wire).unread; taken = (g.W.Wire.told c.loop.wire).written; calls = (g.W.Wire.told c.loop.wire).calls; heard = g.S.Serve.heard c.loop.serve; said = g.S.Serve.said c.loop.serve } in
+    let at : Told = record { given = (g.W.Wire.told c.loop-pieces.wire).read; left = (g.W.Wire.told c.loop-pieces.wire).unread; taken = (g.W.Wire.told c.loop-pieces.wire).written; calls = (g.W.Wire.told c.loop-pieces.wire).calls; heard = g.S.Serve.heard c.loop-pieces.serve; said = g.S.Serve.said c.loop-pieces.serve } in
     let turned : Told = record { given = (g.W.Wire.told c.take_turn.new.wire).read; left = (g.W.Wire.told c.take_turn.new.wire).unread; taken = (g.W.Wire.told c.take_turn.new.wire).written; calls = (g.W.Wire.told c.take_turn.new.wire).calls; heard = g.S.Serve.heard c.take_turn.new.serve; said = g.S.Serve.said c.take_turn.new.serve } in
     let turn = c.in_ok-take_turn.ensures.reacts in
-    let t : Turned c.loop.reader at (take c.loop.count c.loop.chunk) c.take_turn.new.reader turned = record {
+    let t : Turned c.loop-pieces.reader at (take c.loop-pieces.count c.loop-pieces.chunk) c.take_turn.new.reader turned = record {
       fed = turn.0;
       said = turn.1;
       went = turn.2;
@@ -40,27 +39,27 @@ returns-in-Ends-clause-serves g c =
       heard = turn.7;
       told = turn.8;
     } in
-    finish_turn c.args.reader.now c.loop.invariant.asks before c.loop.reader at (take c.loop.count c.loop.chunk) c.loop.invariant.going c.take_turn.new.reader turned t c.in-Ends.end
+    finish_turn c.args.reader.now c.loop-pieces.invariant.asks before c.loop-pieces.reader at (take c.loop-pieces.count c.loop-pieces.chunk) c.loop-pieces.invariant.going c.take_turn.new.reader turned t c.in-Ends.end
     (subst (Reacts turn.0 turn.1 turn.2) c.in-Ends.is turn.4)
 
 pub returns-in-Ends-clause-lost : goal.returns-in-Ends-clause-lost
 returns-in-Ends-clause-lost g c =
     let turn = c.in_ok-take_turn.ensures.reacts in
-    c.in_ok-take_turn.ensures.lost ∙ c.loop.invariant.lost
+    c.in_ok-take_turn.ensures.lost ∙ c.loop-pieces.invariant.lost
     ∙ sym (turn_unlost turn.0 turn.1 turn.2 c.in-Ends.end (subst (Reacts turn.0 turn.1 turn.2) c.in-Ends.is turn.4) (g.W.Wire.told c.args.wire.now).read_failed)
 
 pub returns-in-Ends-clause-cut : goal.returns-in-Ends-clause-cut
 returns-in-Ends-clause-cut g c =
-    c.in_ok-take_turn.ensures.cut ∙ ap (λ e. cut_by e (g.W.Wire.told c.loop.wire).closed (g.W.Wire.told c.loop.wire).write_failed) c.in-Ends.is
-    ∙ ap₂ (λ (closed cut : Bool). cut_behind c.in-Ends.end closed cut) c.loop.invariant.closed c.loop.invariant.cut
+    c.in_ok-take_turn.ensures.cut ∙ ap (λ e. cut_by e (g.W.Wire.told c.loop-pieces.wire).closed (g.W.Wire.told c.loop-pieces.wire).write_failed) c.in-Ends.is
+    ∙ ap₂ (λ (closed cut : Bool). cut_behind c.in-Ends.end closed cut) c.loop-pieces.invariant.closed c.loop-pieces.invariant.cut
 
 pub returns-in-Ok-eq0-clause-serves : goal.returns-in-Ok-eq0-clause-serves
 returns-in-Ok-eq0-clause-serves g c =
     let before : Told = record { given = (g.W.Wire.told c.args.wire.now).read; left = (g.W.Wire.told c.args.wire.now).unread; taken = (g.W.Wire.told c.args.wire.now).written; calls = (g.W.Wire.told c.args.wire.now).calls; heard = g.S.Serve.heard c.args.serve.now; said = g.S.Serve.said c.args.serve.now } in
-    let at : Told = record { given = (g.W.Wire.told c.loop.wire).read; left = (g.W.Wire.told c.loop.wire).unread; taken = (g.W.Wire.told c.loop.wire).written; calls = (g.W.Wire.told c.loop.wire).calls; heard = g.S.Serve.heard c.loop.serve; said = g.S.Serve.said c.loop.serve } in
+    let at : Told = record { given = (g.W.Wire.told c.loop-pieces.wire).read; left = (g.W.Wire.told c.loop-pieces.wire).unread; taken = (g.W.Wire.told c.loop-pieces.wire).written; calls = (g.W.Wire.told c.loop-pieces.wire).calls; heard = g.S.Serve.heard c.loop-pieces.serve; said = g.S.Serve.said c.loop-pieces.serve } in
     let turned : Told = record { given = (g.W.Wire.told c.take_turn.new.wire).read; left = (g.W.Wire.told c.take_turn.new.wire).unread; taken = (g.W.Wire.told c.take_turn.new.wire).written; calls = (g.W.Wire.told c.take_turn.new.wire).calls; heard = g.S.Serve.heard c.take_turn.new.serve; said = g.S.Serve.said c.take_turn.new.serve } in
     let turn = c.in_ok-take_turn.ensures.reacts in
-    let t : Turned c.loop.reader at (take c.loop.count c.loop.chunk) c.take_turn.new.reader turned = record {
+    let t : Turned c.loop-pieces.reader at (take c.loop-pieces.count c.loop-pieces.chunk) c.take_turn.new.reader turned = record {
       fed = turn.0;
       said = turn.1;
       went = turn.2;
@@ -81,17 +80,17 @@ returns-in-Ok-eq0-clause-serves g c =
       heard = refl;
       told = refl;
     } in
-    finish_read c.args.reader.now c.loop.invariant.asks before c.loop.reader at (take c.loop.count c.loop.chunk) c.loop.invariant.going c.take_turn.new.reader turned t
+    finish_read c.args.reader.now c.loop-pieces.invariant.asks before c.loop-pieces.reader at (take c.loop-pieces.count c.loop-pieces.chunk) c.loop-pieces.invariant.going c.take_turn.new.reader turned t
     (subst (Reacts turn.0 turn.1 turn.2) c.in-Waits.is turn.4) (ap goes c.in-Waits.is) after read
     (subst (λ n. Lists turned.calls after.calls (Read n ∷ [])) c.in-Ok-eq0.field-0-test c.in-Ok-eq0.ensures.calls) Ends.Ended tt
 
 pub returns-in-Err-clause-serves : goal.returns-in-Err-clause-serves
 returns-in-Err-clause-serves g c =
     let before : Told = record { given = (g.W.Wire.told c.args.wire.now).read; left = (g.W.Wire.told c.args.wire.now).unread; taken = (g.W.Wire.told c.args.wire.now).written; calls = (g.W.Wire.told c.args.wire.now).calls; heard = g.S.Serve.heard c.args.serve.now; said = g.S.Serve.said c.args.serve.now } in
-    let at : Told = record { given = (g.W.Wire.told c.loop.wire).read; left = (g.W.Wire.told c.loop.wire).unread; taken = (g.W.Wire.told c.loop.wire).written; calls = (g.W.Wire.told c.loop.wire).calls; heard = g.S.Serve.heard c.loop.serve; said = g.S.Serve.said c.loop.serve } in
+    let at : Told = record { given = (g.W.Wire.told c.loop-pieces.wire).read; left = (g.W.Wire.told c.loop-pieces.wire).unread; taken = (g.W.Wire.told c.loop-pieces.wire).written; calls = (g.W.Wire.told c.loop-pieces.wire).calls; heard = g.S.Serve.heard c.loop-pieces.serve; said = g.S.Serve.said c.loop-pieces.serve } in
     let turned : Told = record { given = (g.W.Wire.told c.take_turn.new.wire).read; left = (g.W.Wire.told c.take_turn.new.wire).unread; taken = (g.W.Wire.told c.take_turn.new.wire).written; calls = (g.W.Wire.told c.take_turn.new.wire).calls; heard = g.S.Serve.heard c.take_turn.new.serve; said = g.S.Serve.said c.take_turn.new.serve } in
     let turn = c.in_ok-take_turn.ensures.reacts in
-    let t : Turned c.loop.reader at (take c.loop.count c.loop.chunk) c.take_turn.new.reader turned = record {
+    let t : Turned c.loop-pieces.reader at (take c.loop-pieces.count c.loop-pieces.chunk) c.take_turn.new.reader turned = record {
       fed = turn.0;
       said = turn.1;
       went = turn.2;
@@ -112,16 +111,16 @@ returns-in-Err-clause-serves g c =
       heard = refl;
       told = refl;
     } in
-    finish_read c.args.reader.now c.loop.invariant.asks before c.loop.reader at (take c.loop.count c.loop.chunk) c.loop.invariant.going c.take_turn.new.reader turned t
+    finish_read c.args.reader.now c.loop-pieces.invariant.asks before c.loop-pieces.reader at (take c.loop-pieces.count c.loop-pieces.chunk) c.loop-pieces.invariant.going c.take_turn.new.reader turned t
     (subst (Reacts turn.0 turn.1 turn.2) c.in-Waits.is turn.4) (ap goes c.in-Waits.is) after read c.in-Err.ensures.calls Ends.ReadFailed tt
 
-pub loop-preserved : goal.loop-preserved
-loop-preserved g c =
+pub loop-pieces-preserved-in-GoesOn : goal.loop-pieces-preserved-in-GoesOn
+loop-pieces-preserved-in-GoesOn g c =
     let before : Told = record { given = (g.W.Wire.told c.args.wire.now).read; left = (g.W.Wire.told c.args.wire.now).unread; taken = (g.W.Wire.told c.args.wire.now).written; calls = (g.W.Wire.told c.args.wire.now).calls; heard = g.S.Serve.heard c.args.serve.now; said = g.S.Serve.said c.args.serve.now } in
-    let at : Told = record { given = (g.W.Wire.told c.loop.wire).read; left = (g.W.Wire.told c.loop.wire).unread; taken = (g.W.Wire.told c.loop.wire).written; calls = (g.W.Wire.told c.loop.wire).calls; heard = g.S.Serve.heard c.loop.serve; said = g.S.Serve.said c.loop.serve } in
+    let at : Told = record { given = (g.W.Wire.told c.loop-pieces.wire).read; left = (g.W.Wire.told c.loop-pieces.wire).unread; taken = (g.W.Wire.told c.loop-pieces.wire).written; calls = (g.W.Wire.told c.loop-pieces.wire).calls; heard = g.S.Serve.heard c.loop-pieces.serve; said = g.S.Serve.said c.loop-pieces.serve } in
     let turned : Told = record { given = (g.W.Wire.told c.take_turn.new.wire).read; left = (g.W.Wire.told c.take_turn.new.wire).unread; taken = (g.W.Wire.told c.take_turn.new.wire).written; calls = (g.W.Wire.told c.take_turn.new.wire).calls; heard = g.S.Serve.heard c.take_turn.new.serve; said = g.S.Serve.said c.take_turn.new.serve } in
     let turn = c.in_ok-take_turn.ensures.reacts in
-    let t : Turned c.loop.reader at (take c.loop.count c.loop.chunk) c.take_turn.new.reader turned = record {
+    let t : Turned c.loop-pieces.reader at (take c.loop-pieces.count c.loop-pieces.chunk) c.take_turn.new.reader turned = record {
       fed = turn.0;
       said = turn.1;
       went = turn.2;
@@ -134,36 +133,52 @@ loop-preserved g c =
       heard = turn.7;
       told = turn.8;
     } in
-    elim c.match-branch-2.branch [
-      | in-GoesOn w ↦
-          let reacts = subst (Reacts turn.0 turn.1 turn.2) w.in-GoesOn.is turn.4 in
-          let uncut = c.in_ok-take_turn.ensures.cut ∙ ap (λ e. cut_by e (g.W.Wire.told c.loop.wire).closed (g.W.Wire.told c.loop.wire).write_failed) w.in-GoesOn.is in
-          rw (w.wire-is, w.count-is) (record {
-            asks = c.loop.invariant.asks;
-            within = omega arith;
-            going = go_on c.args.reader.now before c.loop.reader at (take c.loop.count c.loop.chunk) c.loop.invariant.going c.take_turn.new.reader turned t reacts (ap goes w.in-GoesOn.is);
-            lost = c.in_ok-take_turn.ensures.lost ∙ c.loop.invariant.lost;
-            cut = uncut ∙ c.loop.invariant.cut;
-            closed = c.in_ok-take_turn.ensures.closed ∙ c.loop.invariant.closed;
-          })
-      | in-Waits+in-Ok w ↦
-          let reacts = subst (Reacts turn.0 turn.1 turn.2) w.in-Waits.is turn.4 in
-          let uncut = c.in_ok-take_turn.ensures.cut ∙ ap (λ e. cut_by e (g.W.Wire.told c.loop.wire).closed (g.W.Wire.told c.loop.wire).write_failed) w.in-Waits.is in
-          let after : Told = record { given = (g.W.Wire.told w.read.new.self).read; left = (g.W.Wire.told w.read.new.self).unread; taken = (g.W.Wire.told w.read.new.self).written; calls = (g.W.Wire.told w.read.new.self).calls; heard = g.S.Serve.heard c.take_turn.new.serve; said = g.S.Serve.said c.take_turn.new.serve } in
-          let read : ReadOn turned after (take w.in-Ok.read w.read.new.into) = record {
-            given = w.in-Ok.ensures.read;
-            left = w.in-Ok.ensures.bytes.0;
-            taken = w.in-Ok.ensures.written;
-            heard = refl;
-            told = refl;
-          } in
-          rw (w.wire-is, w.count-is, w.chunk-is) (record {
-            asks = c.loop.invariant.asks;
-            within = w.in-Ok.ensures.bound.0;
-            going = read_on c.args.reader.now c.loop.invariant.asks before c.loop.reader at (take c.loop.count c.loop.chunk) c.loop.invariant.going c.take_turn.new.reader turned t reacts (ap goes w.in-Waits.is) after (take w.in-Ok.read w.read.new.into) read
-                w.in-Ok.read w.in-Ok.ensures.calls w.in-Ok.ensures.bound.1 (omega (arith, w.in-Ok.read-test));
-            lost = w.in-Ok.ensures.read_failed ∙ c.in_ok-take_turn.ensures.lost ∙ c.loop.invariant.lost;
-            cut = w.in-Ok.ensures.write_failed ∙ uncut ∙ c.loop.invariant.cut;
-            closed = w.in-Ok.ensures.closed ∙ c.in_ok-take_turn.ensures.closed ∙ c.loop.invariant.closed;
-          })
-    ]
+    let reacts = subst (Reacts turn.0 turn.1 turn.2) c.in-GoesOn.is turn.4 in
+    let uncut = c.in_ok-take_turn.ensures.cut ∙ ap (λ e. cut_by e (g.W.Wire.told c.loop-pieces.wire).closed (g.W.Wire.told c.loop-pieces.wire).write_failed) c.in-GoesOn.is in
+    record {
+      asks = c.loop-pieces.invariant.asks;
+      within = omega arith;
+      going = go_on c.args.reader.now before c.loop-pieces.reader at (take c.loop-pieces.count c.loop-pieces.chunk) c.loop-pieces.invariant.going c.take_turn.new.reader turned t reacts (ap goes c.in-GoesOn.is);
+      lost = c.in_ok-take_turn.ensures.lost ∙ c.loop-pieces.invariant.lost;
+      cut = uncut ∙ c.loop-pieces.invariant.cut;
+      closed = c.in_ok-take_turn.ensures.closed ∙ c.loop-pieces.invariant.closed;
+    }
+
+pub loop-pieces-preserved : goal.loop-pieces-preserved
+loop-pieces-preserved g c =
+    let before : Told = record { given = (g.W.Wire.told c.args.wire.now).read; left = (g.W.Wire.told c.args.wire.now).unread; taken = (g.W.Wire.told c.args.wire.now).written; calls = (g.W.Wire.told c.args.wire.now).calls; heard = g.S.Serve.heard c.args.serve.now; said = g.S.Serve.said c.args.serve.now } in
+    let at : Told = record { given = (g.W.Wire.told c.loop-pieces.wire).read; left = (g.W.Wire.told c.loop-pieces.wire).unread; taken = (g.W.Wire.told c.loop-pieces.wire).written; calls = (g.W.Wire.told c.loop-pieces.wire).calls; heard = g.S.Serve.heard c.loop-pieces.serve; said = g.S.Serve.said c.loop-pieces.serve } in
+    let turned : Told = record { given = (g.W.Wire.told c.take_turn.new.wire).read; left = (g.W.Wire.told c.take_turn.new.wire).unread; taken = (g.W.Wire.told c.take_turn.new.wire).written; calls = (g.W.Wire.told c.take_turn.new.wire).calls; heard = g.S.Serve.heard c.take_turn.new.serve; said = g.S.Serve.said c.take_turn.new.serve } in
+    let turn = c.in_ok-take_turn.ensures.reacts in
+    let t : Turned c.loop-pieces.reader at (take c.loop-pieces.count c.loop-pieces.chunk) c.take_turn.new.reader turned = record {
+      fed = turn.0;
+      said = turn.1;
+      went = turn.2;
+      whole = goes c.in_ok-take_turn.field-0;
+      feeds = turn.3;
+      given = c.in_ok-take_turn.ensures.given;
+      left = c.in_ok-take_turn.ensures.left;
+      taken = turn.5;
+      written = turn.6;
+      heard = turn.7;
+      told = turn.8;
+    } in
+    let reacts = subst (Reacts turn.0 turn.1 turn.2) c.in-Waits.is turn.4 in
+    let uncut = c.in_ok-take_turn.ensures.cut ∙ ap (λ e. cut_by e (g.W.Wire.told c.loop-pieces.wire).closed (g.W.Wire.told c.loop-pieces.wire).write_failed) c.in-Waits.is in
+    let after : Told = record { given = (g.W.Wire.told c.read.new.self).read; left = (g.W.Wire.told c.read.new.self).unread; taken = (g.W.Wire.told c.read.new.self).written; calls = (g.W.Wire.told c.read.new.self).calls; heard = g.S.Serve.heard c.take_turn.new.serve; said = g.S.Serve.said c.take_turn.new.serve } in
+    let read : ReadOn turned after (take c.in-Ok.read c.read.new.into) = record {
+      given = c.in-Ok.ensures.read;
+      left = c.in-Ok.ensures.bytes.0;
+      taken = c.in-Ok.ensures.written;
+      heard = refl;
+      told = refl;
+    } in
+    record {
+      asks = c.loop-pieces.invariant.asks;
+      within = c.in-Ok.ensures.bound.0;
+      going = read_on c.args.reader.now c.loop-pieces.invariant.asks before c.loop-pieces.reader at (take c.loop-pieces.count c.loop-pieces.chunk) c.loop-pieces.invariant.going c.take_turn.new.reader turned t reacts (ap goes c.in-Waits.is) after (take c.in-Ok.read c.read.new.into) read
+          c.in-Ok.read c.in-Ok.ensures.calls c.in-Ok.ensures.bound.1 (omega (arith, c.in-Ok.read-test));
+      lost = c.in-Ok.ensures.read_failed ∙ c.in_ok-take_turn.ensures.lost ∙ c.loop-pieces.invariant.lost;
+      cut = c.in-Ok.ensures.write_failed ∙ uncut ∙ c.loop-pieces.invariant.cut;
+      closed = c.in-Ok.ensures.closed ∙ c.in_ok-take_turn.ensures.closed ∙ c.loop-pieces.invariant.closed;
+    }

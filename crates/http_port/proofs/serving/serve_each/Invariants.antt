@@ -1,10 +1,10 @@
-use Rattle.std.proofs.Common.{◌≡◌, ◌≤◌, length, take}
+use Rattle.std.proofs.Common.{◌≡◌, ◌-◌, ◌^◌, ◌≤◌, length, take}
 use Rattle.http_port.specs.Walks.{AsksWhereGiven}
 use Rattle.http_port.proofs.ServingLemmas.{Going}
 use Rattle.http_port.proofs.serving.serve_each.Given as goal
 
-abbrev pub invariant-loop : goal.invariant-loop
-invariant-loop g l = record {
+abbrev pub invariant-loop-pieces : goal.invariant-loop-pieces
+invariant-loop-pieces g l = record {
   asks : AsksWhereGiven l.fn.reader;
   within : l.count ≤ length l.chunk;
   going : Going l.fn.reader
@@ -16,3 +16,7 @@ invariant-loop g l = record {
   cut : (g.W.Wire.told l.wire).write_failed ≡ (g.W.Wire.told l.fn.wire).write_failed;
   closed : (g.W.Wire.told l.wire).closed ≡ (g.W.Wire.told l.fn.wire).closed;
 }
+
+-- Each turn notes how long its piece was, and memory has an end.
+abbrev pub decreases-loop-pieces : goal.decreases-loop-pieces
+decreases-loop-pieces g l = 2 ^ 63 - length l.pieces.items

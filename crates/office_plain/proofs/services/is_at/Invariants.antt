@@ -1,4 +1,4 @@
-use Rattle.std.proofs.Common.{◌≡◌, Bool, false, map, drop}
+use Rattle.std.proofs.Common.{◌≡◌, false, map, drop}
 use Rattle.std.specs.Prelude.{bytes_eq, if◌then◌else◌}
 use Rattle.std.specs.List.{list_any}
 use Rattle.behaviour_tree.specs.Data.{PortPart}

@@ -12,4 +12,4 @@ returns c =
     c.in_ok-write_sets.ensures
     ∙ ap (λ vs. changed m.session
     (write_all (filter_map (written_by (operation_view c.args.operation.now).request m.value) vs))
-    (sessions_of c.args.rows.now)) c.sets_of-sets.ensures
+    (sessions_of c.args.rows.now)) c.sets_of-sets.ensures.variables

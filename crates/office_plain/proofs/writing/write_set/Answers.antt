@@ -11,11 +11,11 @@ loop-variable-preserved c =
       number = omega arith;
       live = live_written m.session _ _ _ c.in_ok-write_value.ensures c.loop-variable.invariant.live;
       rest =
-          variable_turn m.session c.loop-variable.number c.in_ok-number.number c.loop-variable.variable-index
+          variable_turn m.session c.loop-variable.number c.sum-number.result c.loop-variable.variable-index
           (type_view c.args.ty.now) m.value c.args.variables.now c.variable-item.result
           (option_copied c.value_of-value.result) _ _ _
           c.loop-variable-test.true c.variable-item.is c.value_of-value.ensures c.in_ok-write_value.ensures
-          c.in_ok-number.ensures
+          c.sum-number.ensures
           c.loop-variable.invariant.rest;
     }
 

@@ -1,12 +1,28 @@
+use Rattle.std.proofs.Common.{length, ap, arith}
 use Rattle.behaviour_tree.specs.View.{type_view}
+use Rattle.office_plain.proofs.Counts.{next_variables}
 use Rattle.office_plain.proofs.Writes.{set_turn, sets_end}
 use Rattle.office_plain.proofs.writing.write_sets.Goals as goal
+
+pub write_set-requires-clause-few : goal.write_set-requires-clause-few
+write_set-requires-clause-few c =
+    let next = next_variables c.args.sets.now c.loop-set.set-index c.set-item.result c.loop-set-test.true c.set-item.is in
+    omega (arith, next, c.loop-set.invariant.few, c.requires.few, ap length c.deref.ensures.value)
 
 pub loop-set-preserved : goal.loop-set-preserved
 loop-set-preserved c =
     let m = c.args.message.now in
+    let next = next_variables c.args.sets.now c.loop-set.set-index c.set-item.result c.loop-set-test.true c.set-item.is in
     record {
       live = c.in_ok-number.ensures.live;
+      few =
+          omega (
+            arith,
+            next,
+            c.loop-set.invariant.few,
+            c.in_ok-number.ensures.next,
+            ap length c.deref.ensures.value,
+          );
       rest =
           set_turn m.session c.loop-set.number c.in_ok-number.number c.loop-set.set-index
           (type_view c.args.ty.now) m.value

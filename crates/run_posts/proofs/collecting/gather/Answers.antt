@@ -3,7 +3,8 @@ use Rattle.std.proofs.Common.{◌≡◌, ◌∙◌, [], length, map, List, refl,
 use Rattle.std.proofs.lemmas.List.{nil_from_length}
 use Rattle.std.specs.Vec.Iter.{into_iter_items}
 use Rattle.run_order_laws.specs.Uncollected.{AreUncollected}
-use Rattle.run_cells.specs.RunStates.{past_in, state_of}
+use Rattle.run_cells.specs.RunStates.{past_in}
+use Rattle.run_cells.specs.View.{state}
 use Rattle.run_posts.specs.declared.pending.Pending.{Pending}
 use Rattle.run_posts.specs.CallStates.{messages_of, wait_of}
 use Rattle.run_posts.proofs.Settling.{IsGathering, front_of, gathering_added, gathering_starts}
@@ -12,7 +13,7 @@ use Rattle.run_posts.proofs.collecting.gather.Goals as goal
 
 pub loop-pending-init : goal.loop-pending-init
 loop-pending-init g c =
-    let s = state_of (g.C.Counter.run_state c.args.cells.now) in
+    let s = state g.S.Session c.args.cells.now in
     let all = map wait_of c.args.waiting.items in
     record {
       program = refl;
@@ -31,16 +32,16 @@ settle_all-requires-clause-ours g c = c.loop-pending.invariant.ours
 
 pub settle_all-requires-clause-collectable : goal.settle_all-requires-clause-collectable
 settle_all-requires-clause-collectable g c =
-    let mid = state_of (g.C.Counter.run_state c.loop-pending.cells) in
+    let mid = state g.S.Session c.loop-pending.cells in
     front_of (past_in mid) (wait_of c.in-Some.pending) (map wait_of (into_iter_items c.next.new.self))
     (subst (λ (l : List Pending). AreUncollected (past_in mid) (messages_of (map wait_of l))) c.in-Some.ensures.steps.0
     c.loop-pending.invariant.gathering.open_yet)
 
 pub loop-pending-preserved : goal.loop-pending-preserved
 loop-pending-preserved g c =
-    let s = state_of (g.C.Counter.run_state c.args.cells.now) in
-    let mid = state_of (g.C.Counter.run_state c.loop-pending.cells) in
-    let new = state_of (g.C.Counter.run_state c.settle_all.new.cells) in
+    let s = state g.S.Session c.args.cells.now in
+    let mid = state g.S.Session c.loop-pending.cells in
+    let new = state g.S.Session c.settle_all.new.cells in
     let at = c.loop-pending in
     let all = map wait_of c.args.waiting.items in
     record {
@@ -60,22 +61,22 @@ loop-pending-preserved g c =
 
 pub returns-clause-collected : goal.returns-clause-collected
 returns-clause-collected g c =
-    let s = state_of (g.C.Counter.run_state c.args.cells.now) in
+    let s = state g.S.Session c.args.cells.now in
     let at = c.loop-pending in
     let all = map wait_of c.args.waiting.items in
     let empty : into_iter_items at.pending-iterator ≡ [] =
     nil_from_length (into_iter_items at.pending-iterator) (sym at.invariant.left ∙ c.in-None.ensures.steps.0) in
-    gathering_added s (state_of (g.C.Counter.run_state at.cells)) all (map wait_of at.all.items)
-    (subst (λ (l : List Pending). IsGathering s (state_of (g.C.Counter.run_state at.cells)) all (map wait_of l)
+    gathering_added s (state g.S.Session at.cells) all (map wait_of at.all.items)
+    (subst (λ (l : List Pending). IsGathering s (state g.S.Session at.cells) all (map wait_of l)
     (map wait_of at.all.items)) empty at.invariant.gathering)
 
 pub returns-clause-settled : goal.returns-clause-settled
 returns-clause-settled g c =
-    let s = state_of (g.C.Counter.run_state c.args.cells.now) in
+    let s = state g.S.Session c.args.cells.now in
     let at = c.loop-pending in
     let all = map wait_of c.args.waiting.items in
     let empty : into_iter_items at.pending-iterator ≡ [] =
     nil_from_length (into_iter_items at.pending-iterator) (sym at.invariant.left ∙ c.in-None.ensures.steps.0) in
-    gathering_waits s (state_of (g.C.Counter.run_state at.cells)) all (map wait_of at.all.items)
-    (subst (λ (l : List Pending). IsGathering s (state_of (g.C.Counter.run_state at.cells)) all (map wait_of l)
+    gathering_waits s (state g.S.Session at.cells) all (map wait_of at.all.items)
+    (subst (λ (l : List Pending). IsGathering s (state g.S.Session at.cells) all (map wait_of l)
     (map wait_of at.all.items)) empty at.invariant.gathering)

@@ -3,7 +3,8 @@ use Rattle.std.proofs.Common.{◌≡◌, ◌∙◌, [], length, List, refl, sym,
 use Rattle.std.proofs.lemmas.List.{nil_from_length}
 use Rattle.std.specs.Vec.Iter.{into_iter_items}
 use Rattle.run_order_laws.specs.Uncollected.{AreUncollected}
-use Rattle.run_cells.specs.RunStates.{past_in, state_of}
+use Rattle.run_cells.specs.RunStates.{past_in}
+use Rattle.run_cells.specs.View.{state}
 use Rattle.run_posts.specs.declared.pending.CallState.{CallState}
 use Rattle.run_posts.specs.CallStates.{messages_in}
 use Rattle.run_posts.proofs.Settling.{IsSettling, head_of, settling_added, settling_call_states, settling_pushed}
@@ -12,7 +13,7 @@ use Rattle.run_posts.proofs.collecting.settle_all.Goals as goal
 
 pub loop-call_state-init : goal.loop-call_state-init
 loop-call_state-init g c =
-    let s = state_of (g.C.Counter.run_state c.args.cells.now) in
+    let s = state g.S.Session c.args.cells.now in
     record {
       program = refl;
       ours = c.requires.ours;
@@ -31,16 +32,16 @@ settle-requires-clause-ours g c = c.loop-call_state.invariant.ours
 
 pub settle-requires-clause-collectable : goal.settle-requires-clause-collectable
 settle-requires-clause-collectable g c =
-    let mid = state_of (g.C.Counter.run_state c.loop-call_state.cells) in
+    let mid = state g.S.Session c.loop-call_state.cells in
     head_of (past_in mid) c.in-Some.call_state (into_iter_items c.next.new.self)
     (subst (λ (l : List CallState). AreUncollected (past_in mid) (messages_in l)) c.in-Some.ensures.steps.0
     c.loop-call_state.invariant.settling.open_yet)
 
 pub loop-call_state-preserved : goal.loop-call_state-preserved
 loop-call_state-preserved g c =
-    let s = state_of (g.C.Counter.run_state c.args.cells.now) in
-    let mid = state_of (g.C.Counter.run_state c.loop-call_state.cells) in
-    let new = state_of (g.C.Counter.run_state c.settle.new.cells) in
+    let s = state g.S.Session c.args.cells.now in
+    let mid = state g.S.Session c.loop-call_state.cells in
+    let new = state g.S.Session c.settle.new.cells in
     let at = c.loop-call_state in
     let rest = into_iter_items c.next.new.self in
     record {
@@ -61,22 +62,22 @@ loop-call_state-preserved g c =
 
 pub returns-clause-collected : goal.returns-clause-collected
 returns-clause-collected g c =
-    let s = state_of (g.C.Counter.run_state c.args.cells.now) in
+    let s = state g.S.Session c.args.cells.now in
     let at = c.loop-call_state in
     let empty : into_iter_items at.call_state-iterator ≡ [] =
     nil_from_length (into_iter_items at.call_state-iterator) (sym at.invariant.left ∙ c.in-None.ensures.steps.0) in
-    settling_added s (state_of (g.C.Counter.run_state at.cells)) c.args.call_states.items at.all.items
+    settling_added s (state g.S.Session at.cells) c.args.call_states.items at.all.items
     (subst (λ (l : List CallState). IsSettling s
-    (state_of (g.C.Counter.run_state at.cells)) c.args.call_states.items l at.all.items) empty
+    (state g.S.Session at.cells) c.args.call_states.items l at.all.items) empty
     at.invariant.settling)
 
 pub returns-clause-settled : goal.returns-clause-settled
 returns-clause-settled g c =
-    let s = state_of (g.C.Counter.run_state c.args.cells.now) in
+    let s = state g.S.Session c.args.cells.now in
     let at = c.loop-call_state in
     let empty : into_iter_items at.call_state-iterator ≡ [] =
     nil_from_length (into_iter_items at.call_state-iterator) (sym at.invariant.left ∙ c.in-None.ensures.steps.0) in
-    settling_call_states s (state_of (g.C.Counter.run_state at.cells)) c.args.call_states.items at.all.items
+    settling_call_states s (state g.S.Session at.cells) c.args.call_states.items at.all.items
     (subst (λ (l : List CallState). IsSettling s
-    (state_of (g.C.Counter.run_state at.cells)) c.args.call_states.items l at.all.items) empty
+    (state g.S.Session at.cells) c.args.call_states.items l at.all.items) empty
     at.invariant.settling)

@@ -1,13 +1,13 @@
 -- Call by call: what the next adds is its post.
 use Rattle.std.proofs.Common.{◌∙◌, ◌+◌, List, refl, sym, ap, subst}
-use Rattle.run_cells.specs.RunStates.{state_of}
+use Rattle.run_cells.specs.View.{state}
 use Rattle.run_posts.specs.declared.pending.CallState.{CallState}
 use Rattle.run_posts.proofs.Added.{IsPosting, posting_added, posting_call_states, posting_pushed, posting_starts}
 use Rattle.run_posts.proofs.posting.post_calls.Goals as goal
 
 pub loop-call-init : goal.loop-call-init
 loop-call-init g c =
-    let s = state_of (g.C.Counter.run_state c.args.cells.now) in
+    let s = state g.S.Session c.args.cells.now in
     record {
       program = refl;
       work = c.requires.work;
@@ -20,9 +20,9 @@ loop-call-init g c =
 
 pub loop-call-preserved : goal.loop-call-preserved
 loop-call-preserved g c =
-    let s = state_of (g.C.Counter.run_state c.args.cells.now) in
-    let mid = state_of (g.C.Counter.run_state c.loop-call.cells) in
-    let new = state_of (g.C.Counter.run_state c.post_call.new.cells) in
+    let s = state g.S.Session c.args.cells.now in
+    let mid = state g.S.Session c.loop-call.cells in
+    let new = state g.S.Session c.post_call.new.cells in
     let at = c.loop-call in
     record {
       program = c.post_call.ensures.program ∙ at.invariant.program;
@@ -37,14 +37,14 @@ loop-call-preserved g c =
 
 pub returns-clause-posted : goal.returns-clause-posted
 returns-clause-posted g c =
-    let s = state_of (g.C.Counter.run_state c.args.cells.now) in
+    let s = state g.S.Session c.args.cells.now in
     let at = c.loop-call in
-    posting_added s (state_of (g.C.Counter.run_state at.cells)) c.args.posting at.call-index c.args.calls.now at.call_states.items
+    posting_added s (state g.S.Session at.cells) c.args.posting at.call-index c.args.calls.now at.call_states.items
     c.loop-call-test.false at.invariant.posting
 
 pub returns-clause-call_states : goal.returns-clause-call_states
 returns-clause-call_states g c =
-    let s = state_of (g.C.Counter.run_state c.args.cells.now) in
+    let s = state g.S.Session c.args.cells.now in
     let at = c.loop-call in
-    posting_call_states s (state_of (g.C.Counter.run_state at.cells)) c.args.posting at.call-index c.args.calls.now at.call_states.items
+    posting_call_states s (state g.S.Session at.cells) c.args.posting at.call-index c.args.calls.now at.call_states.items
     c.loop-call-test.false at.invariant.posting

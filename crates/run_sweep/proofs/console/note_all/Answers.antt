@@ -5,7 +5,7 @@ use Rattle.behaviour_tree.specs.declared.words.Outcome.TheVariants as outcome
 use Rattle.office_core.specs.declared.outgoing.OutKind.TheVariants as kind
 use Rattle.run_theorem.specs.Calls.{Notes}
 use Rattle.jsonrpc_calls.specs.Console.{console_line}
-use Rattle.run_cells.specs.RunStates.{state_of}
+use Rattle.run_cells.specs.View.{state}
 use Rattle.run_sweep.specs.Swept.{NotesBy, NotesMore, PassedOn, CompletedCallsBy}
 use Rattle.run_sweep.proofs.Errands.{errands_none, errands_more, errand_of, fetched_of, fetched_some, fetched_none}
 use Rattle.run_sweep.proofs.Errands.{cleared_of, less_of, same_history, noted_more, completed_same}
@@ -14,7 +14,7 @@ use Rattle.run_sweep.proofs.console.note_all.Goals as goal
 
 pub loop-out-init : goal.loop-out-init
 loop-out-init g c =
-    let s = state_of (g.C.Sessions.run_state c.args.cells.now) in
+    let s = state g.S.Session c.args.cells.now in
     record {
       program = refl;
       work = c.requires.work;
@@ -26,9 +26,9 @@ loop-out-init g c =
 
 pub note-requires-clause-fetched : goal.note-requires-clause-fetched
 note-requires-clause-fetched g c =
-    let s = state_of (g.C.Sessions.run_state c.args.cells.now) in
-    let mid = state_of (g.C.Sessions.run_state c.loop-out.cells) in
-    let one = state_of (g.C.Sessions.run_state c.fetch.new.self) in
+    let s = state g.S.Session c.args.cells.now in
+    let mid = state g.S.Session c.loop-out.cells in
+    let one = state g.S.Session c.fetch.new.self in
     let out = c.in-Some.out in
     let i = c.loop-out.invariant in
     let f = fetched_some kind.Console mid one _ out c.in-Some.is c.in_ok-out.ensures.call c.in_ok-out.ensures.added in
@@ -36,10 +36,10 @@ note-requires-clause-fetched g c =
 
 pub loop-out-preserved : goal.loop-out-preserved
 loop-out-preserved g c =
-    let s = state_of (g.C.Sessions.run_state c.args.cells.now) in
-    let mid = state_of (g.C.Sessions.run_state c.loop-out.cells) in
-    let one = state_of (g.C.Sessions.run_state c.fetch.new.self) in
-    let new = state_of (g.C.Sessions.run_state c.note.new.cells) in
+    let s = state g.S.Session c.args.cells.now in
+    let mid = state g.S.Session c.loop-out.cells in
+    let one = state g.S.Session c.fetch.new.self in
+    let new = state g.S.Session c.note.new.cells in
     let out = c.in-Some.out in
     let i = c.loop-out.invariant in
     let f = fetched_some kind.Console mid one _ out c.in-Some.is c.in_ok-out.ensures.call c.in_ok-out.ensures.added in
@@ -60,10 +60,10 @@ loop-out-preserved g c =
 
 pub loop-out-smaller : goal.loop-out-smaller
 loop-out-smaller g c =
-    let s = state_of (g.C.Sessions.run_state c.args.cells.now) in
-    let mid = state_of (g.C.Sessions.run_state c.loop-out.cells) in
-    let one = state_of (g.C.Sessions.run_state c.fetch.new.self) in
-    let new = state_of (g.C.Sessions.run_state c.note.new.cells) in
+    let s = state g.S.Session c.args.cells.now in
+    let mid = state g.S.Session c.loop-out.cells in
+    let one = state g.S.Session c.fetch.new.self in
+    let new = state g.S.Session c.note.new.cells in
     let out = c.in-Some.out in
     let i = c.loop-out.invariant in
     let f = fetched_some kind.Console mid one _ out c.in-Some.is c.in_ok-out.ensures.call c.in_ok-out.ensures.added in
@@ -78,27 +78,27 @@ returns-clause-program g c = c.fetch.ensures.program ∙ c.loop-out.invariant.pr
 
 pub returns-clause-cleared : goal.returns-clause-cleared
 returns-clause-cleared g c =
-    let s = state_of (g.C.Sessions.run_state c.args.cells.now) in
-    let mid = state_of (g.C.Sessions.run_state c.loop-out.cells) in
-    let new = state_of (g.C.Sessions.run_state c.fetch.new.self) in
+    let s = state g.S.Session c.args.cells.now in
+    let mid = state g.S.Session c.loop-out.cells in
+    let new = state g.S.Session c.fetch.new.self in
     let i = c.loop-out.invariant in
     let n = fetched_none kind.Console mid new _ c.in_default.is c.in_ok-out.ensures.call c.in_ok-out.ensures.added in
     cleared_of kind.Console s mid new c.loop-out.moved i.errands n.next n.stays c.in_ok-out.ensures.work.team
 
 pub returns-clause-completed : goal.returns-clause-completed
 returns-clause-completed g c =
-    let s = state_of (g.C.Sessions.run_state c.args.cells.now) in
-    let mid = state_of (g.C.Sessions.run_state c.loop-out.cells) in
-    let new = state_of (g.C.Sessions.run_state c.fetch.new.self) in
+    let s = state g.S.Session c.args.cells.now in
+    let mid = state g.S.Session c.loop-out.cells in
+    let new = state g.S.Session c.fetch.new.self in
     let n = fetched_none kind.Console mid new _ c.in_default.is c.in_ok-out.ensures.call c.in_ok-out.ensures.added in
     λ now. subst (λ h. CompletedCallsBy s.setting s.history h now now) (sym (same_history mid new n.stays))
     (c.loop-out.invariant.completed now)
 
 pub returns-clause-noted : goal.returns-clause-noted
 returns-clause-noted g c =
-    let s = state_of (g.C.Sessions.run_state c.args.cells.now) in
-    let mid = state_of (g.C.Sessions.run_state c.loop-out.cells) in
-    let new = state_of (g.C.Sessions.run_state c.fetch.new.self) in
+    let s = state g.S.Session c.args.cells.now in
+    let mid = state g.S.Session c.loop-out.cells in
+    let new = state g.S.Session c.fetch.new.self in
     let n = fetched_none kind.Console mid new _ c.in_default.is c.in_ok-out.ensures.call c.in_ok-out.ensures.added in
     subst (λ h. PassedOn g.F.Front.exchanged c.args.front.now c.loop-out.front (NotesBy s.setting s.history h))
     (sym (same_history mid new n.stays)) c.loop-out.invariant.noted
@@ -108,8 +108,8 @@ returns-in_err-out-clause-program g c = c.fetch.ensures.program ∙ c.loop-out.i
 
 pub returns-in_err-out-clause-noted : goal.returns-in_err-out-clause-noted
 returns-in_err-out-clause-noted g c =
-    let s = state_of (g.C.Sessions.run_state c.args.cells.now) in
-    let mid = state_of (g.C.Sessions.run_state c.loop-out.cells) in
+    let s = state g.S.Session c.args.cells.now in
+    let mid = state g.S.Session c.loop-out.cells in
     failing _ _ c.from_residual.result c.from_residual.ensures.1
     (passed_as g.F.Front.exchanged c.args.front.now c.loop-out.front (NotesBy s.setting s.history mid.history) NotesMore
     c.loop-out.invariant.noted (λ a b n. n.0))
@@ -120,8 +120,8 @@ returns-in_err-note-clause-program g c =
 
 pub returns-in_err-note-clause-noted : goal.returns-in_err-note-clause-noted
 returns-in_err-note-clause-noted g c =
-    let s = state_of (g.C.Sessions.run_state c.args.cells.now) in
-    let mid = state_of (g.C.Sessions.run_state c.loop-out.cells) in
+    let s = state g.S.Session c.args.cells.now in
+    let mid = state g.S.Session c.loop-out.cells in
     failing _ _ c.from_residual-in_err-note.result c.from_residual-in_err-note.ensures.1
     (passed_on g.F.Front.exchanged c.args.front.now c.loop-out.front c.note.new.front
     (NotesBy s.setting s.history mid.history) NotesMore NotesMore c.loop-out.invariant.noted c.in_err-note.ensures.noted

@@ -2,7 +2,7 @@
 use Rattle.std.proofs.Common.{◌∙◌, refl, subst, sym, true≢false}
 use Rattle.behaviour_tree.specs.PartsView.{parts_of}
 use Rattle.office_core.specs.declared.outgoing.OutKind.TheVariants as kind
-use Rattle.run_cells.specs.RunStates.{state_of}
+use Rattle.run_cells.specs.View.{state}
 use Rattle.run_trip_laws.specs.Going.{IsHeard, NotedSoFar}
 use Rattle.run_sweep.specs.Swept.{CompletedCallsBy}
 use Rattle.run_sweep.proofs.Errands.{errands_none, errands_more, errand_of, fetched_of, fetched_some, fetched_none}
@@ -11,7 +11,7 @@ use Rattle.run_sweep.proofs.elsewhere.trip_all.Goals as goal
 
 pub loop-out-init : goal.loop-out-init
 loop-out-init g c =
-    let s = state_of (g.C.Sessions.run_state c.args.cells.now) in
+    let s = state g.S.Session c.args.cells.now in
     record {
       program = refl;
       work = c.requires.work;
@@ -22,9 +22,9 @@ loop-out-init g c =
 
 pub answered-requires-clause-fetched : goal.answered-requires-clause-fetched
 answered-requires-clause-fetched g c =
-    let s = state_of (g.C.Sessions.run_state c.args.cells.now) in
-    let mid = state_of (g.C.Sessions.run_state c.loop-out.cells) in
-    let one = state_of (g.C.Sessions.run_state c.fetch.new.self) in
+    let s = state g.S.Session c.args.cells.now in
+    let mid = state g.S.Session c.loop-out.cells in
+    let one = state g.S.Session c.fetch.new.self in
     let out = c.in-Some.out in
     let i = c.loop-out.invariant in
     let f = fetched_some kind.Remote mid one _ out c.in-Some.is c.in_ok-out.ensures.call c.in_ok-out.ensures.added in
@@ -32,10 +32,10 @@ answered-requires-clause-fetched g c =
 
 pub loop-out-preserved : goal.loop-out-preserved
 loop-out-preserved g c =
-    let s = state_of (g.C.Sessions.run_state c.args.cells.now) in
-    let mid = state_of (g.C.Sessions.run_state c.loop-out.cells) in
-    let one = state_of (g.C.Sessions.run_state c.fetch.new.self) in
-    let new = state_of (g.C.Sessions.run_state c.answered.new.self) in
+    let s = state g.S.Session c.args.cells.now in
+    let mid = state g.S.Session c.loop-out.cells in
+    let one = state g.S.Session c.fetch.new.self in
+    let new = state g.S.Session c.answered.new.self in
     let out = c.in-Some.out in
     let i = c.loop-out.invariant in
     let f = fetched_some kind.Remote mid one _ out c.in-Some.is c.in_ok-out.ensures.call c.in_ok-out.ensures.added in
@@ -58,10 +58,10 @@ loop-out-preserved g c =
 
 pub loop-out-smaller : goal.loop-out-smaller
 loop-out-smaller g c =
-    let s = state_of (g.C.Sessions.run_state c.args.cells.now) in
-    let mid = state_of (g.C.Sessions.run_state c.loop-out.cells) in
-    let one = state_of (g.C.Sessions.run_state c.fetch.new.self) in
-    let new = state_of (g.C.Sessions.run_state c.answered.new.self) in
+    let s = state g.S.Session c.args.cells.now in
+    let mid = state g.S.Session c.loop-out.cells in
+    let one = state g.S.Session c.fetch.new.self in
+    let new = state g.S.Session c.answered.new.self in
     let out = c.in-Some.out in
     let i = c.loop-out.invariant in
     let f = fetched_some kind.Remote mid one _ out c.in-Some.is c.in_ok-out.ensures.call c.in_ok-out.ensures.added in
@@ -77,27 +77,27 @@ returns-clause-program g c = c.fetch.ensures.program ∙ c.loop-out.invariant.pr
 
 pub returns-clause-cleared : goal.returns-clause-cleared
 returns-clause-cleared g c =
-    let s = state_of (g.C.Sessions.run_state c.args.cells.now) in
-    let mid = state_of (g.C.Sessions.run_state c.loop-out.cells) in
-    let new = state_of (g.C.Sessions.run_state c.fetch.new.self) in
+    let s = state g.S.Session c.args.cells.now in
+    let mid = state g.S.Session c.loop-out.cells in
+    let new = state g.S.Session c.fetch.new.self in
     let i = c.loop-out.invariant in
     let n = fetched_none kind.Remote mid new _ c.in_default.is c.in_ok-out.ensures.call c.in_ok-out.ensures.added in
     cleared_of kind.Remote s mid new c.loop-out.moved i.errands n.next n.stays c.in_ok-out.ensures.work.team
 
 pub returns-clause-completed : goal.returns-clause-completed
 returns-clause-completed g c =
-    let s = state_of (g.C.Sessions.run_state c.args.cells.now) in
-    let mid = state_of (g.C.Sessions.run_state c.loop-out.cells) in
-    let new = state_of (g.C.Sessions.run_state c.fetch.new.self) in
+    let s = state g.S.Session c.args.cells.now in
+    let mid = state g.S.Session c.loop-out.cells in
+    let new = state g.S.Session c.fetch.new.self in
     let n = fetched_none kind.Remote mid new _ c.in_default.is c.in_ok-out.ensures.call c.in_ok-out.ensures.added in
     subst (λ h. CompletedCallsBy s.setting s.history h (g.L.Link.told c.args.link.now) (g.L.Link.told c.loop-out.link))
     (sym (same_history mid new n.stays)) c.loop-out.invariant.completed
 
 pub returns-clause-noted : goal.returns-clause-noted
 returns-clause-noted g c =
-    let s = state_of (g.C.Sessions.run_state c.args.cells.now) in
-    let mid = state_of (g.C.Sessions.run_state c.loop-out.cells) in
-    let new = state_of (g.C.Sessions.run_state c.fetch.new.self) in
+    let s = state g.S.Session c.args.cells.now in
+    let mid = state g.S.Session c.loop-out.cells in
+    let new = state g.S.Session c.fetch.new.self in
     let n = fetched_none kind.Remote mid new _ c.in_default.is c.in_ok-out.ensures.call c.in_ok-out.ensures.added in
     λ noted so. subst (λ h. NotedSoFar s.setting h noted) (sym (same_history mid new n.stays))
     (c.loop-out.invariant.noted noted so)

@@ -1,6 +1,6 @@
 -- A round: the sessions have their turns, then calls go out and come back.
 use Rattle.std.proofs.Common.{◌∙◌, refl, sym, true≢false}
-use Rattle.run_cells.specs.RunStates.{state_of}
+use Rattle.run_cells.specs.View.{state}
 use Rattle.run_sweep.specs.Swept.{NotesBy, NotesMore}
 use Rattle.run_sweep.proofs.Notes.{failing, notes_none, passed_none, passed_as}
 use Rattle.run_sweep.proofs.Rounds.{settled_one, settled_two, half_swept, half_completed_calls, half_notes, still_half, round_of}
@@ -24,16 +24,16 @@ returns-then-halted-clause-swept g c =
 
 pub returns-then-halted-clause-completed : goal.returns-then-halted-clause-completed
 returns-then-halted-clause-completed g c =
-    let two = state_of (g.C.Sessions.run_state c.note_all.new.cells) in
+    let two = state g.S.Session c.note_all.new.cells in
     let now = g.L.Link.told c.args.link.now in
     half_completed_calls two.history now c.in_ok-turned.ensures.went c.in_ok-turned.ensures.work.team c.requires.settled
     c.requires.received (c.in_ok-noted.ensures.completed now)
 
 pub returns-then-halted-clause-noted : goal.returns-then-halted-clause-noted
 returns-then-halted-clause-noted g c =
-    let old = state_of (g.C.Sessions.run_state c.args.cells.now) in
-    let one = state_of (g.C.Sessions.run_state c.all_turns.new.self) in
-    let two = state_of (g.C.Sessions.run_state c.note_all.new.cells) in
+    let old = state g.S.Session c.args.cells.now in
+    let one = state g.S.Session c.all_turns.new.self in
+    let two = state g.S.Session c.note_all.new.cells in
     passed_as g.F.Front.exchanged c.args.front.now c.note_all.new.front (NotesBy one.setting one.history two.history)
     (NotesBy old.setting old.history two.history) c.in_ok-noted.ensures.noted
     (half_notes two.history c.in_ok-turned.ensures.went c.in_ok-turned.ensures.work.team c.requires.settled
@@ -64,7 +64,7 @@ returns-clause-swept g c =
 
 pub returns-clause-completed : goal.returns-clause-completed
 returns-clause-completed g c =
-    let two = state_of (g.C.Sessions.run_state c.note_all.new.cells) in
+    let two = state g.S.Session c.note_all.new.cells in
     let now = g.L.Link.told c.args.link.now in
     let went = c.in_ok-turned.ensures.went in
     let team = c.in_ok-turned.ensures.work.team in
@@ -76,10 +76,10 @@ returns-clause-completed g c =
 
 pub returns-clause-noted : goal.returns-clause-noted
 returns-clause-noted g c =
-    let old = state_of (g.C.Sessions.run_state c.args.cells.now) in
-    let one = state_of (g.C.Sessions.run_state c.all_turns.new.self) in
-    let two = state_of (g.C.Sessions.run_state c.note_all.new.cells) in
-    let three = state_of (g.C.Sessions.run_state c.trip_all.new.cells) in
+    let old = state g.S.Session c.args.cells.now in
+    let one = state g.S.Session c.all_turns.new.self in
+    let two = state g.S.Session c.note_all.new.cells in
+    let three = state g.S.Session c.trip_all.new.cells in
     let went = c.in_ok-turned.ensures.went in
     let team = c.in_ok-turned.ensures.work.team in
     let r = round_of went team c.requires.settled c.requires.received c.in_ok-noted.ensures.cleared
@@ -139,8 +139,8 @@ returns-in_err-travelled-clause-program g c =
 
 pub returns-in_err-travelled-clause-noted : goal.returns-in_err-travelled-clause-noted
 returns-in_err-travelled-clause-noted g c =
-    let one = state_of (g.C.Sessions.run_state c.all_turns.new.self) in
-    let two = state_of (g.C.Sessions.run_state c.note_all.new.cells) in
+    let one = state g.S.Session c.all_turns.new.self in
+    let two = state g.S.Session c.note_all.new.cells in
     failing _ _ c.from_residual-in_err-travelled.result c.from_residual-in_err-travelled.ensures.1
     (passed_as g.F.Front.exchanged c.args.front.now c.note_all.new.front
     (NotesBy one.setting one.history two.history) NotesMore

@@ -1,6 +1,6 @@
 -- The rounds follow one another until one does nothing or the front halts.
 use Rattle.std.proofs.Common.{◌∙◌, refl, subst, sym}
-use Rattle.run_cells.specs.RunStates.{state_of}
+use Rattle.run_cells.specs.View.{state}
 use Rattle.run_trip_laws.specs.Going.{AreSettled}
 use Rattle.run_sweep.specs.Swept.{NotesBy, NotesMore}
 use Rattle.run_sweep.proofs.Notes.{failing, notes_none, notes_on, notes_mute, passed_none, passed_on}
@@ -9,7 +9,7 @@ use Rattle.run_sweep.proofs.sweeping.sweep.Goals as goal
 
 pub loop-init : goal.loop-init
 loop-init g c =
-    let s = state_of (g.C.Sessions.run_state c.args.cells.now) in
+    let s = state g.S.Session c.args.cells.now in
     record {
       program = refl;
       work = c.requires.work;
@@ -24,14 +24,14 @@ loop-init g c =
 pub go_round-requires-clause-settled : goal.go_round-requires-clause-settled
 go_round-requires-clause-settled g c =
     let i = c.loop.invariant in
-    let mid = state_of (g.C.Sessions.run_state c.loop.cells) in
+    let mid = state g.S.Session c.loop.cells in
     subst (λ w. AreSettled w mid.history) (sym i.swept.setting) i.swept.settled
 
 pub loop-preserved : goal.loop-preserved
 loop-preserved g c =
-    let s = state_of (g.C.Sessions.run_state c.args.cells.now) in
-    let mid = state_of (g.C.Sessions.run_state c.loop.cells) in
-    let new = state_of (g.C.Sessions.run_state c.go_round.new.cells) in
+    let s = state g.S.Session c.args.cells.now in
+    let mid = state g.S.Session c.loop.cells in
+    let new = state g.S.Session c.go_round.new.cells in
     let i = c.loop.invariant in
     let did = c.in_ok-go_round.ensures in
     record {
@@ -56,16 +56,16 @@ loop-smaller g c = (c.in_ok-go_round.ensures.again c.in-Again.is).1
 
 pub returns-in-Idle-clause-swept : goal.returns-in-Idle-clause-swept
 returns-in-Idle-clause-swept g c =
-    let s = state_of (g.C.Sessions.run_state c.args.cells.now) in
-    let mid = state_of (g.C.Sessions.run_state c.loop.cells) in
-    let new = state_of (g.C.Sessions.run_state c.go_round.new.cells) in
+    let s = state g.S.Session c.args.cells.now in
+    let mid = state g.S.Session c.loop.cells in
+    let new = state g.S.Session c.go_round.new.cells in
     swept_on s mid new c.loop.invariant.swept c.in_ok-go_round.ensures.swept
 
 pub returns-in-Idle-clause-completed : goal.returns-in-Idle-clause-completed
 returns-in-Idle-clause-completed g c =
-    let s = state_of (g.C.Sessions.run_state c.args.cells.now) in
-    let mid = state_of (g.C.Sessions.run_state c.loop.cells) in
-    let new = state_of (g.C.Sessions.run_state c.go_round.new.cells) in
+    let s = state g.S.Session c.args.cells.now in
+    let mid = state g.S.Session c.loop.cells in
+    let new = state g.S.Session c.go_round.new.cells in
     let i = c.loop.invariant in
     completed_calls_then s mid new (g.L.Link.told c.args.link.now) (g.L.Link.told c.loop.link)
     (g.L.Link.told c.go_round.new.link)
@@ -73,9 +73,9 @@ returns-in-Idle-clause-completed g c =
 
 pub returns-in-Idle-clause-noted : goal.returns-in-Idle-clause-noted
 returns-in-Idle-clause-noted g c =
-    let s = state_of (g.C.Sessions.run_state c.args.cells.now) in
-    let mid = state_of (g.C.Sessions.run_state c.loop.cells) in
-    let new = state_of (g.C.Sessions.run_state c.go_round.new.cells) in
+    let s = state g.S.Session c.args.cells.now in
+    let mid = state g.S.Session c.loop.cells in
+    let new = state g.S.Session c.go_round.new.cells in
     let i = c.loop.invariant in
     passed_on g.F.Front.exchanged c.args.front.now c.loop.front c.go_round.new.front
     (NotesBy s.setting s.history mid.history) (NotesBy mid.setting mid.history new.history)
@@ -90,24 +90,24 @@ returns-in-Idle-clause-heeded g c = λ _. c.in_ok-go_round.ensures.heeded (unfai
 
 pub returns-in-Idle-clause-still : goal.returns-in-Idle-clause-still
 returns-in-Idle-clause-still g c =
-    let s = state_of (g.C.Sessions.run_state c.args.cells.now) in
-    let mid = state_of (g.C.Sessions.run_state c.loop.cells) in
-    let new = state_of (g.C.Sessions.run_state c.go_round.new.cells) in
+    let s = state g.S.Session c.args.cells.now in
+    let mid = state g.S.Session c.loop.cells in
+    let new = state g.S.Session c.go_round.new.cells in
     let i = c.loop.invariant in
     still_then s mid new i.swept i.still (λ q. (c.in_ok-go_round.ensures.still q).1 q)
 
 pub returns-in-Halted-clause-swept : goal.returns-in-Halted-clause-swept
 returns-in-Halted-clause-swept g c =
-    let s = state_of (g.C.Sessions.run_state c.args.cells.now) in
-    let mid = state_of (g.C.Sessions.run_state c.loop.cells) in
-    let new = state_of (g.C.Sessions.run_state c.go_round.new.cells) in
+    let s = state g.S.Session c.args.cells.now in
+    let mid = state g.S.Session c.loop.cells in
+    let new = state g.S.Session c.go_round.new.cells in
     swept_on s mid new c.loop.invariant.swept c.in_ok-go_round.ensures.swept
 
 pub returns-in-Halted-clause-completed : goal.returns-in-Halted-clause-completed
 returns-in-Halted-clause-completed g c =
-    let s = state_of (g.C.Sessions.run_state c.args.cells.now) in
-    let mid = state_of (g.C.Sessions.run_state c.loop.cells) in
-    let new = state_of (g.C.Sessions.run_state c.go_round.new.cells) in
+    let s = state g.S.Session c.args.cells.now in
+    let mid = state g.S.Session c.loop.cells in
+    let new = state g.S.Session c.go_round.new.cells in
     let i = c.loop.invariant in
     completed_calls_then s mid new (g.L.Link.told c.args.link.now) (g.L.Link.told c.loop.link)
     (g.L.Link.told c.go_round.new.link)
@@ -115,9 +115,9 @@ returns-in-Halted-clause-completed g c =
 
 pub returns-in-Halted-clause-noted : goal.returns-in-Halted-clause-noted
 returns-in-Halted-clause-noted g c =
-    let s = state_of (g.C.Sessions.run_state c.args.cells.now) in
-    let mid = state_of (g.C.Sessions.run_state c.loop.cells) in
-    let new = state_of (g.C.Sessions.run_state c.go_round.new.cells) in
+    let s = state g.S.Session c.args.cells.now in
+    let mid = state g.S.Session c.loop.cells in
+    let new = state g.S.Session c.go_round.new.cells in
     let i = c.loop.invariant in
     passed_on g.F.Front.exchanged c.args.front.now c.loop.front c.go_round.new.front
     (NotesBy s.setting s.history mid.history) (NotesBy mid.setting mid.history new.history)
@@ -129,9 +129,9 @@ returns-in-Halted-clause-halted g c = λ _. c.in_ok-go_round.ensures.halted c.in
 
 pub returns-in-Halted-clause-still : goal.returns-in-Halted-clause-still
 returns-in-Halted-clause-still g c =
-    let s = state_of (g.C.Sessions.run_state c.args.cells.now) in
-    let mid = state_of (g.C.Sessions.run_state c.loop.cells) in
-    let new = state_of (g.C.Sessions.run_state c.go_round.new.cells) in
+    let s = state g.S.Session c.args.cells.now in
+    let mid = state g.S.Session c.loop.cells in
+    let new = state g.S.Session c.go_round.new.cells in
     let i = c.loop.invariant in
     still_then s mid new i.swept i.still (λ q. (c.in_ok-go_round.ensures.still q).1 q)
 
@@ -148,8 +148,8 @@ returns-in_err-go_round-clause-program g c = c.go_round.ensures.program ∙ c.lo
 
 pub returns-in_err-go_round-clause-noted : goal.returns-in_err-go_round-clause-noted
 returns-in_err-go_round-clause-noted g c =
-    let s = state_of (g.C.Sessions.run_state c.args.cells.now) in
-    let mid = state_of (g.C.Sessions.run_state c.loop.cells) in
+    let s = state g.S.Session c.args.cells.now in
+    let mid = state g.S.Session c.loop.cells in
     failing _ _ c.from_residual.result c.from_residual.ensures.1
     (passed_on g.F.Front.exchanged c.args.front.now c.loop.front c.go_round.new.front
     (NotesBy s.setting s.history mid.history) NotesMore NotesMore c.loop.invariant.noted c.in_err-go_round.ensures.noted

@@ -1,5 +1,5 @@
 -- A branch of another operation is passed by, and the first of the operation takes the message.
-use Rattle.std.proofs.Common.{◌≡◌, ◌∙◌, ap, map, sym, None, Some, refl, rules}
+use Rattle.std.proofs.Common.{◌≡◌, ◌∙◌, ap, map, sym, None, Some, refl}
 use Rattle.std.proofs.lemmas.List.{drop_all}
 use Rattle.behaviour_tree.specs.View.{branch_view, branches_of}
 use Rattle.behaviour_tree.specs.FormedBehaviours.{branch_operations}
@@ -27,9 +27,8 @@ returns-then-branch-mail c =
     let its : branch.op ≡ mail.op = sym (branch_op c.index-list-i.result) ∙ c.if-branch-mail.true in
     let first = arrives_first s mail ops c.args.list.now i c.index-list-i.result c.loop-i-test.true c.index-list-i.is its in
     let found : Some (arrives s (coming mail ops i) branch) ≡ comes s (coming mail ops 0) all = first ∙ c.loop-i.invariant.0 s in
-    let place : c.in_ok-place.place ≡ i = search rules in
     let came_so : moved_in c.args.scene c.in_ok-arrived.arrived c.arrived.new.memory ≡ arrives s (coming mail ops i) branch =
-    c.in_ok-arrived.ensures ∙ rw (c.loop-i.invariant.1, c.in_ok-ops.ensures, place) refl in
+    c.in_ok-arrived.ensures ∙ rw (c.loop-i.invariant.1, c.in_ok-ops.ensures) refl in
     rw (← found) (ap moved came_so)
 
 pub returns : goal.returns

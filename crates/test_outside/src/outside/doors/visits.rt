@@ -7,7 +7,9 @@ use std::alloc::AllocError;
 /// How many reads there are of a connection at most.
 const READS: u32 = 20;
 
-/// Opens a door at each location, knocks at it so often, answers each connection with `ok`, and gives all back. It says what it met: `>` and the bytes of a connection, `.` where nobody had come, `#` where nobody comes any more, and `!` of what failed.
+/// Opens a door at each location, knocks at it so often, answers each connection with `ok`, and gives all back. It says
+/// what it met: `>` and the bytes of a connection, `.` where nobody had come, `#` where nobody comes any more, and `!`
+/// of what failed.
 pub fn visit_all<D: Doors>(
     doors: &mut D,
     locations: &str,

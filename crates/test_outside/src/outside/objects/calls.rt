@@ -4,7 +4,8 @@ use outside_traits::WireCall;
 use std::alloc::{AllocError, Global};
 use test_rows::{Row, TableError};
 
-/// The counts that calls gave, the numbers of those that failed, the bytes that came or went, and what is told of the calls.
+/// The counts that calls gave, the numbers of those that failed, the bytes that came or went, and what is told of the
+/// calls.
 #[derive(Drop)]
 pub struct Calls {
     alloc: Global,

@@ -4,7 +4,7 @@ use Rattle.std.specs.Prelude.{Option}
 use Rattle.std.proofs.lemmas.Result.{err_from_is_err_and}
 use Rattle.http_connection.specs.Seen.{seen}
 use Rattle.http_connection.specs.Talking.{log, IsTalking, handed}
-use Rattle.http_connection.proofs.Passing.{hands_out, stands_then, at_error, waits_where}
+use Rattle.http_connection.proofs.Passing.{hands_out, stands_then, at_error, waits_where, may_hand_out}
 use Rattle.http_connection.proofs.Calls.{called_nothing, called_on, is_prompt}
 use Rattle.http_connection.specs.Stages.{stage_of}
 use Rattle.http_connection.proofs.Ends.{asked_unended, ended_before}
@@ -17,6 +17,9 @@ returns-then-not-waits-clause-talks g c = λ first bodies texts h.
 
 pub returns-then-not-waits-clause-stage : goal.returns-then-not-waits-clause-stage
 returns-then-not-waits-clause-stage g c = stands_then c.args.self.now.kept.next c.hand_out.new.self.next c.hand_out.result c.hand_out.ensures.handed
+
+pub hand_out-requires : goal.hand_out-requires
+hand_out-requires g c = may_hand_out c.args.self.now.kept.next c.requires (sym c.waits.ensures ∙ c.if-not-waits.true)
 
 pub settle-requires : goal.settle-requires
 settle-requires g c = waits_where c.args.self.now.kept.next (sym c.waits.ensures ∙ c.if-not-waits.false)

@@ -5,9 +5,9 @@ use Rattle.office_plain.proofs.kept.Kept.accept.Goals as goal
 
 pub returns : goal.returns
 returns c =
-    let next : c.in_ok-number.number ≡ length c.args.self.now.messages = search rules in
+    let next : c.numbered-number.result ≡ length c.args.self.now.messages = search rules in
     let note = c.in_ok-note.ensures in
     accepts_all (parts_of c.args.program.now) (operation_view c.args.operation.now) c.args.message c.args.self.now
-    c.start.new.self c.note.new.book c.put.new.boxes c.in_ok-number.number _ _ next
+    c.start.new.self c.note.new.book c.put.new.boxes c.numbered-number.result _ _ next
     (record { noted = note.noted; others = note.origins }) (record { changed = note.standing; others = note.standings })
     c.in_ok-start.ensures c.in_ok-put.ensures (search rules) c.in_ok-push.ensures.ok

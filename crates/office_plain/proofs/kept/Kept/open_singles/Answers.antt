@@ -4,10 +4,10 @@ use Rattle.office_plain.proofs.Singles.{first_singles, next_unborn, opens_none, 
 use Rattle.office_plain.proofs.kept.Kept.open_singles.Goals as goal
 
 pub loop-number-init : goal.loop-number-init
-loop-number-init c = opens_none (parts_of c.args.program.now) _ c.requires
+loop-number-init c = opens_none (parts_of c.args.program.now) _ c.requires.empty
 
-pub open_single-requires : goal.open_single-requires
-open_single-requires c =
+pub open_single-requires-clause-unborn : goal.open_single-requires-clause-unborn
+open_single-requires-clause-unborn c =
     next_unborn (parts_of c.args.program.now)
     (first_singles (map service_view (take c.loop-number.number c.args.services.now)))
     _ _ c.loop-number.invariant

@@ -1,4 +1,3 @@
-use Rattle.std.proofs.Common.{ap, sym, ◌∙◌}
 use Rattle.behaviour_tree.specs.PartsView.{operation_view, parts_of}
 use Rattle.office_plain.proofs.Assembled.{starts_none, starts_one, opened_lives}
 use Rattle.office_plain.proofs.kept.Kept.start.Goals as goal

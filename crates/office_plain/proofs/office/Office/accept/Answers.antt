@@ -1,4 +1,4 @@
-use Rattle.std.proofs.Common.{◌≡◌, ap, subst, sym, ◌∙◌, Some}
+use Rattle.std.proofs.Common.{◌≡◌, ◌<◌, ◌^◌, ap, subst, sym, ◌∙◌, Some}
 use Rattle.behaviour_tree.specs.Operations.{operation_at}
 use Rattle.office_core.specs.Accepted.{message_of, message_to}
 use Rattle.office_core.specs.Past.{some_entry, stops}
@@ -7,6 +7,7 @@ use Rattle.office_plain.specs.Accepting.{with_accepted}
 use Rattle.office_plain.specs.Ties.{Ties}
 use Rattle.office_plain.proofs.Accepted.{ties_accepted, fresh_number, unborn_session}
 use Rattle.office_plain.proofs.Acting.{not_true}
+use Rattle.office_plain.proofs.Few.{few_messages}
 use Rattle.office_plain.specs.Views.{asked_view}
 use Rattle.office_plain.specs.View.{setting_of, past_in, entries_of}
 use Rattle.office_plain.proofs.Posting.{leads, leads_to, asks, conforming, message_goes}
@@ -24,6 +25,12 @@ message_to-requires c =
     conforming (setting_of o) (past_in o) c.args.posted.now (asked_view c.in-Some.asked)
     (ap leads c.requires.way ∙ leads_to c.args.session c.args.starts) (sym c.in-Some.ensures)
 
+pub numbered-number-requires : goal.numbered-number-requires
+numbered-number-requires c =
+    let o = c.args.self.now in
+    let t = o.tied c.requires.ready in
+    subst (λ n. n < 2 ^ 32) (sym c.len.ensures) (few_messages o.kept.messages (past_in o).messages t.messages t.few)
+
 pub accept-requires : goal.accept-requires
 accept-requires c =
     let o = c.args.self.now in
@@ -31,7 +38,9 @@ accept-requires c =
     let becomes : message_of (setting_of o) (past_in o) c.args.origin c.args.posted.now ≡ Some m =
     message_goes (setting_of o) (past_in o) c.args.origin c.args.posted.now (asked_view c.in-Some.asked) c.args.session c.args.starts
     c.requires.way c.requires.next (sym c.in-Some.ensures) ∙ ap Some (sym c.in_ok-message.ensures) in
+    let t = o.tied c.requires.ready in
     record {
+      few = few_messages o.kept.messages (past_in o).messages t.messages t.few;
       fresh = fresh_number (setting_of o) (past_in o) o.kept (o.tied c.requires.ready);
       unborn = unborn_session (setting_of o) (past_in o) c.args.origin c.args.posted.now m o.kept (o.tied c.requires.ready) becomes;
     }

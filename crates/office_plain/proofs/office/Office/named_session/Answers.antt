@@ -12,6 +12,20 @@ use Rattle.office_plain.specs.View.{setting_of, past_in}
 use Rattle.office_plain.proofs.Routing.{named_here, named_end, is_none, first_is, lives_if}
 use Rattle.office_plain.proofs.office.Office.named_session.Goals as goal
 
+pub sum-number-requires : goal.sum-number-requires
+sum-number-requires c =
+    let items = c.args.asked.service.now.sets.items in
+    let few = c.sets_before-number.ensures.few (asked_view c.args.asked).service c.requires.asked.service in
+    omega (
+      arith,
+      few,
+      c.loop-set.invariant.number,
+      c.sets_before-number.ensures.count,
+      c.loop-set-test.true,
+      ap length c.deref-set-items.ensures.value,
+      length-map items set_view,
+    )
+
 pub loop-set-preserved : goal.loop-set-preserved
 loop-set-preserved c =
     let o = c.args.self.now in
@@ -27,7 +41,7 @@ loop-set-preserved c =
     c.requires.asked (o.tied c.requires.ready).keys there c.loop-set.invariant.number c.in_ok-named.ensures c.loop-set.invariant.named in
     let none : c.in_ok-named.named ≡ None = is_none c.in_ok-named.named (sym c.is_some.ensures ∙ c.if-is_some.false) in
     record {
-      number = omega (arith, c.in_ok-number-2.ensures, c.loop-set.invariant.number);
+      number = omega (arith, c.sum-number.ensures, c.loop-set.invariant.number);
       named = here ∙ ap (λ x. first (cons_option x rest)) none;
     }
 

@@ -1,19 +1,17 @@
-use Rattle.std.proofs.Common.{◌≡◌, ap, sym, subst, None, Some, IfOk, IfSome, false, ◌∙◌}
+use Rattle.std.proofs.Common.{◌≡◌, ap, sym, subst, None, Some, IfSome, false, ◌∙◌}
 use Rattle.behaviour_tree.specs.FormedSets.{is_concurrent}
 use Rattle.office_core.specs.Route.{named_session}
 use Rattle.office_core.specs.Sessions.{has_ended}
 use Rattle.office_plain.specs.Views.{asked_view}
 use Rattle.office_plain.specs.View.{setting_of, past_in}
-use Rattle.office_plain.specs.Ways.{way_view}
 use Rattle.office_plain.proofs.Routing.{one_single, one_named}
 use Rattle.office_plain.proofs.office.Office.to_one.Goals as goal
 
 pub returns-in-Single : goal.returns-in-Single
 returns-in-Single c =
     let o = c.args.self.now in
-    subst (λ r. IfOk c.to_single.result (λ way. way_view way ≡ r))
-    (one_single (setting_of o) (past_in o) (asked_view c.args.asked) (ap is_concurrent c.in-Single.is))
     c.to_single.ensures
+    ∙ one_single (setting_of o) (past_in o) (asked_view c.args.asked) (ap is_concurrent c.in-Single.is)
 
 pub into_box-requires-clause-lives : goal.into_box-requires-clause-lives
 into_box-requires-clause-lives c =

@@ -1,9 +1,9 @@
 -- The next session is adopted and seated, if it was born.
-use Rattle.std.proofs.Common.{◌∷◌, ◌++◌, [], ap, map, subst, sym, ◌∙◌}
+use Rattle.std.proofs.Common.{◌∷◌, ◌++◌, [], ap, subst, sym, ◌∙◌}
 use Rattle.std.proofs.lemmas.Bool.{false≢true}
 use Rattle.office_plain.specs.Entries.{adopt_entry}
 use Rattle.office_plain.specs.View.{Adds}
-use Rattle.run_cells.specs.RunStates.{run_state_by, stand_by, with_unended}
+use Rattle.run_cells.specs.View.{run_state}
 use Rattle.run_cells.specs.Turns.{one}
 use Rattle.run_cells.proofs.Looping.{count_is, seated_unended}
 use Rattle.run_cells.proofs.Offices.{count_fits, nobody_born, nobody_works, seat_known, somebody_born, somebody_works}
@@ -40,7 +40,7 @@ pub returns-clause-adopts : goal.returns-clause-adopts
 returns-clause-adopts g c =
     let count = c.len-count.result in
     one (somebody_born
-    (with_unended c.seat.new.self.unended.items (run_state_by c.seat.new.self.program c.seat.new.self.office c.seat.new.self.budget (map (λ d. stand_by (g.S.Session.service_of d.session) (g.S.Session.config_of d.session) d.events) c.seat.new.self.cells.items) c.seat.new.self.picks.now))
+    (run_state g.S.Session c.seat.new.self)
     c.in-Some.birth count c.adopt.new.self c.requires.work
     (record { program = c.seat.ensures.program; budget = c.seat.ensures.budget; picks = c.seat.ensures.picks; stands = c.in_ok-seat.ensures.stands; unended = seated_unended _ _ _ _ c.in_ok-seat.ensures.unended (c.len-count.ensures ∙ c.args.self.now.cells.ok.0) })
     (count_is _ c.args.self.now.cells.items count (c.len-count.ensures ∙ c.args.self.now.cells.ok.0)) c.seat.ensures.office
@@ -57,12 +57,12 @@ returns-clause-work g c =
     let count = c.len-count.result in
     let added = subst (λ b. Adds (adopt_entry count b) c.args.self.now.office c.adopt.new.self) c.in-Some.is c.in_ok-born.ensures.added in
     somebody_works
-    (with_unended c.seat.new.self.unended.items (run_state_by c.seat.new.self.program c.seat.new.self.office c.seat.new.self.budget (map (λ d. stand_by (g.S.Session.service_of d.session) (g.S.Session.config_of d.session) d.events) c.seat.new.self.cells.items) c.seat.new.self.picks.now))
+    (run_state g.S.Session c.seat.new.self)
     c.in-Some.birth count c.adopt.new.self c.requires.work
     (record { program = c.seat.ensures.program; budget = c.seat.ensures.budget; picks = c.seat.ensures.picks; stands = c.in_ok-seat.ensures.stands; unended = seated_unended _ _ _ _ c.in_ok-seat.ensures.unended (c.len-count.ensures ∙ c.args.self.now.cells.ok.0) })
     c.seat.ensures.office added c.in_ok-born.ensures.ready
     (somebody_born
-    (with_unended c.seat.new.self.unended.items (run_state_by c.seat.new.self.program c.seat.new.self.office c.seat.new.self.budget (map (λ d. stand_by (g.S.Session.service_of d.session) (g.S.Session.config_of d.session) d.events) c.seat.new.self.cells.items) c.seat.new.self.picks.now))
+    (run_state g.S.Session c.seat.new.self)
     c.in-Some.birth count c.adopt.new.self c.requires.work
     (record { program = c.seat.ensures.program; budget = c.seat.ensures.budget; picks = c.seat.ensures.picks; stands = c.in_ok-seat.ensures.stands; unended = seated_unended _ _ _ _ c.in_ok-seat.ensures.unended (c.len-count.ensures ∙ c.args.self.now.cells.ok.0) })
     (count_is _ c.args.self.now.cells.items count (c.len-count.ensures ∙ c.args.self.now.cells.ok.0)) c.seat.ensures.office added

@@ -1,5 +1,5 @@
 -- A collect adds the worker's entry, where an answer is there.
-use Rattle.std.specs.Prelude.{◌≡◌, IfOk, map}
+use Rattle.std.specs.Prelude.{◌≡◌, IfOk}
 use Rattle.std.proofs.Common.{sym, true}
 use Rattle.office_core.specs.Answers.{answers}
 use Rattle.office_core.specs.Keys.{first}
@@ -7,7 +7,7 @@ use Rattle.office_core.specs.Legal.{is_collectable}
 use Rattle.office_core.specs.Limits.{first_worker}
 use Rattle.office_plain.specs.Entries.{collect_entry}
 use Rattle.office_plain.specs.View.{entries_of}
-use Rattle.run_cells.specs.RunStates.{run_state_by, stand_by}
+use Rattle.run_cells.specs.View.{run_state}
 use Rattle.run_cells.proofs.Offices.{along, collect_goes, collect_own, ours_ok, stays_not, stays_ok, works_ok}
 use Rattle.run_cells.proofs.cells.Cells.collect.Goals as goal
 
@@ -23,18 +23,18 @@ returns-clause-answer g c =
 
 pub returns-clause-added : goal.returns-clause-added
 returns-clause-added g c = stays_ok
-    (run_state_by c.args.self.now.program c.args.self.now.office c.args.self.now.budget (map (λ d. stand_by (g.S.Session.service_of d.session) (g.S.Session.config_of d.session) d.events) c.args.self.now.cells.items) c.args.self.now.picks.now)
+    (run_state g.S.Session c.args.self.now)
     _ c.collect.result (collect_entry first_worker c.args.message) c.collect.ensures.added
 
 pub returns-clause-unchanged : goal.returns-clause-unchanged
 returns-clause-unchanged g c = stays_not
-    (run_state_by c.args.self.now.program c.args.self.now.office c.args.self.now.budget (map (λ d. stand_by (g.S.Session.service_of d.session) (g.S.Session.config_of d.session) d.events) c.args.self.now.cells.items) c.args.self.now.picks.now)
+    (run_state g.S.Session c.args.self.now)
     _ c.collect.result c.collect.ensures.unchanged
 
 pub returns-clause-ours : goal.returns-clause-ours
 returns-clause-ours g c =
     ours_ok
-    (run_state_by c.args.self.now.program c.args.self.now.office c.args.self.now.budget (map (λ d. stand_by (g.S.Session.service_of d.session) (g.S.Session.config_of d.session) d.events) c.args.self.now.cells.items) c.args.self.now.picks.now)
+    (run_state g.S.Session c.args.self.now)
     _ c.collect.result (collect_entry first_worker c.args.message) c.requires.ours c.collect.ensures.added
     c.collect.ensures.unchanged
 

@@ -2,7 +2,7 @@
 use Rattle.std.proofs.Common.{map, ◌∙◌}
 use Rattle.behaviour_tree.specs.PartsView.{parts_of}
 use Rattle.office_core.specs.Limits.{run_of}
-use Rattle.run_cells.specs.RunStates.{stand_by}
+use Rattle.run_cells.specs.View.{stand_in}
 use Rattle.run_cells.proofs.Offices.{works_begun}
 use Rattle.run_cells.proofs.cells.Cells.new.Goals as goal
 
@@ -11,7 +11,7 @@ returns-clause-begun g c = λ i. record {
   setting = run_of (parts_of c.args.program);
   budget = c.args.budget;
   history = c.in_ok-office.ensures.entries i;
-  stands = map (λ d. stand_by (g.S.Session.service_of d.session) (g.S.Session.config_of d.session) d.events) (c.new-cells.ensures.items i);
+  stands = map (stand_in g.S.Session) (c.new-cells.ensures.items i);
   picks = c.args.picks.now;
 }
 

@@ -2,7 +2,6 @@
 use Rattle.std.proofs.Common.{sym, ◌∙◌}
 use Rattle.behaviour_tree.specs.PartsView.{parts_of}
 use Rattle.run_door_front.proofs.Saying.{told_cut-so, told-so}
-use Rattle.run_door_front.specs.AnswerSteps.{told_of}
 use Rattle.run_door_front.proofs.Telling.{memory-told}
 use Rattle.run_door_front.proofs.front.DoorFrontFront.answer.Goals as goal
 
@@ -30,5 +29,4 @@ returns-then-halted-clause-memory g c = (sym c.spent.ensures ∙ c.if-spent.fals
 
 pub returns-clause-memory : goal.returns-clause-memory
 returns-clause-memory g c =
-    memory-told c.answer.result (parts_of c.args.program.now) (told_of c.args.place c.args.outcomes.now) c.args.self.now.kept.now c.answer.new.self
-    (sym c.spent.ensures ∙ c.if-spent.false) c.answer.ensures.answered c.answer.ensures.spent
+    memory-told c.answer.result c.args.self.now.kept.now.spent c.answer.new.self.spent (sym c.spent.ensures ∙ c.if-spent.false) c.answer.ensures.spent

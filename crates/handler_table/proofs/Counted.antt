@@ -1,5 +1,5 @@
 -- How many entries handlers are.
-use Rattle.std.proofs.Common.{◌≡◌, List, [], ◌∷◌, suc, length, map, refl, ap, ◌∙◌}
+use Rattle.std.proofs.Common.{◌≡◌, List, [], ◌∷◌, suc, length, map, refl, ap}
 use Rattle.std.proofs.lemmas.List.{length-map}
 use Rattle.behaviour_tree.specs.declared.behaviour.Handlers.{Handlers, out-Handlers}
 use Rattle.behaviour_tree.specs.View.{HandlerView, handler_view, handlers_of, handlers_view}

@@ -1,0 +1,25 @@
+-- What clauses see of the sessions of a run: their run state, and the state of the run.
+use Rattle.std.specs.Prelude.{map}
+use Rattle.session_turn.specs.declared.session.Session.{Ghosts}
+use Rattle.run_cells.specs.declared.cells.Cell.{Cell}
+use Rattle.run_cells.specs.declared.cells.Cells.{Cells}
+use Rattle.run_cells.specs.RunStates.{RunState, Stand, State, stand_by, state_of}
+
+-- where the session of a cell stands, by what its type tells of it
+abbrev pub stand_in : {S : Type 0} → Ghosts S → Cell S → Stand
+stand_in told d = stand_by (told.service_of d.session) (told.config_of d.session) d.events
+
+-- the run state of cells, by what the type of their sessions tells
+abbrev pub run_state : {S : Type 0} → Ghosts S → Cells S → RunState
+run_state told c = record {
+  program = c.program;
+  office = c.office;
+  budget = c.budget;
+  stands = map (stand_in told) c.cells.items;
+  picks = c.picks.now;
+  unended = c.unended.items;
+}
+
+-- the state of the run of cells
+abbrev pub state : {S : Type 0} → Ghosts S → Cells S → State
+state told c = state_of (run_state told c)
