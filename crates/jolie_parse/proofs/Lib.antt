@@ -26,3 +26,5 @@ pub mod Members
 pub mod Sizes
 pub mod Makes
 pub mod Formed
+pub mod Cuts
+pub mod LeftOut

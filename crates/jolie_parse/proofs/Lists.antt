@@ -41,12 +41,12 @@ fuel_next (got a r) f g h = h a r refl
 fuel_next (refused r) f g h = refl
 fuel_next (too_deep r) f g h = refl
 
-repeat_nil : {A : Type 0} (one : List Spelled → Outcome A) (ks : List Class) (j : ℕ) → repeat one ks j [] ≡ got [] []
+pub repeat_nil : {A : Type 0} (one : List Spelled → Outcome A) (ks : List Class) (j : ℕ) → repeat one ks j [] ≡ got [] []
 repeat_nil one ks zero = refl
 repeat_nil one ks (suc j) = refl
 
 -- the count of turns does not matter
-repeat_fuel : {A : Type 0} (one : List Spelled → Outcome A) (ks : List Class) → ((ts r : List Spelled) (v : A) → one ts ≡ got v r → length r < length ts)
+pub repeat_fuel : {A : Type 0} (one : List Spelled → Outcome A) (ks : List Class) → ((ts r : List Spelled) (v : A) → one ts ≡ got v r → length r < length ts)
     → (i j : ℕ) (r : List Spelled) → length r ≤ i → length r ≤ j → repeat one ks i r ≡ repeat one ks j r
 repeat_fuel one ks sh i j [] li lj = repeat_nil one ks i ∙ sym (repeat_nil one ks j)
 repeat_fuel one ks sh zero j (t ∷ r) li lj = let no : ⊥ = omega arith in absurd no

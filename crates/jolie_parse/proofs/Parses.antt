@@ -56,14 +56,14 @@ module _ (n : ℕ) (ts : List Spelled) where
   rest_is : (w v r q : List Spelled) → ts ≡ w ++ r → ts ≡ v ++ q → w ≡ v → r ≡ q
   rest_is w v r q a b e = append_cancel_left w r q (sym a ∙ b ∙ ap (λ z. z ++ q) (sym e))
 
-  not_a_file : (f : List Definition) (r : List Spelled) → IsFile n ts f → IsRefused n ts r → ⊥
+  pub not_a_file : (f : List Definition) (r : List Spelled) → IsFile n ts f → IsRefused n ts r → ⊥
   not_a_file f r d (w, e, begins, dead, none) = stop_at_one_place.never_both n f w r (subst (λ z. IsFile n z f) e d) (begins, dead)
 
-  one_refusal : (r q : List Spelled) → IsRefused n ts r → IsRefused n ts q → r ≡ q
+  pub one_refusal : (r q : List Spelled) → IsRefused n ts r → IsRefused n ts q → r ≡ q
   one_refusal r q (w, e, begins, dead, none) (v, g, begins2, dead2, none2) =
       rest_is w v r q e g (stop_at_one_place.one_place w r v q (sym e ∙ g) (begins, dead) (begins2, dead2))
 
-  not_deep : (r q : List Spelled) → IsRefused n ts r → IsTooDeep n ts q → ⊥
+  pub not_deep : (r q : List Spelled) → IsRefused n ts r → IsTooDeep n ts q → ⊥
   not_deep r q (w, e, begins, dead, none) (v, g, begins2, opens, none2) = none v q g opens
 
   -- the token that opens a level does so whatever follows it
@@ -82,7 +82,7 @@ module _ (n : ℕ) (ts : List Spelled) where
 
   -- ---- what is given
 
-  answer_at : (o : Outcome (List Definition)) → read_file n ts ≡ o → IsAnswer n ts o
+  pub answer_at : (o : Outcome (List Definition)) → read_file n ts ≡ o → IsAnswer n ts o
   answer_at o e = subst (IsAnswer n ts) e (answers n ts)
 
   module _ (end : ℕ) where

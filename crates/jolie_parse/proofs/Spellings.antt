@@ -17,7 +17,7 @@ use Rattle.jolie_tokens.specs.Signs.{sign_bytes}
 use Rattle.jolie_tokens.specs.Pieces as p
 use Rattle.jolie_tokens.specs.Pieces.{Piece, written, IsPiece, inside, kind_of}
 use Rattle.jolie_tokens.specs.Texts.{all_written, Stand, token_of, tokens_of, IsRead}
-use Rattle.jolie_parse.specs.Reads.{StandsIn}
+use Rattle.jolie_parse.specs.Classes.{StandsIn}
 
 -- ---- what tokens are written in is UTF-8
 

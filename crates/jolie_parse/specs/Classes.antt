@@ -1,6 +1,6 @@
 -- The classes of tokens: one for each sign and each word that counts, one for all other words, and one each for ints,
 -- longs and strings.
-use Rattle.std.specs.Prelude.{ℕ, Bool, true, false, ◌||◌, List, [], ◌∷◌, map, take, drop}
+use Rattle.std.specs.Prelude.{ℕ, ◌+◌, ◌≤◌, Bool, true, false, ◌||◌, List, [], ◌∷◌, length, map, take, drop, IsUtf8}
 use denote.Enum.Bare.{sameb}
 use Rattle.jolie_tokens.specs.declared.token.Token.{Token}
 use Rattle.jolie_tokens.specs.declared.token.TokenKind.{TokenKind}
@@ -25,6 +25,11 @@ spelled_one text t = record { token = t; spelling = take t.len (drop t.at text) 
 -- the tokens of a text with their bytes
 abbrev pub spelled : List ℕ → List Token → List Spelled
 spelled text tokens = map (spelled_one text) tokens
+
+-- the token stands in the text, in UTF-8
+pub record StandsIn (text : List ℕ) (t : Token) : Type 0 where
+  pub within : t.at + t.len ≤ length text
+  pub utf8 : IsUtf8 (take t.len (drop t.at text))
 
 -- where a token begins
 abbrev pub place : Spelled → ℕ

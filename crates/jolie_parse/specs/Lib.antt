@@ -12,4 +12,5 @@ pub mod Levels
 pub mod WholeFiles
 pub mod Answers
 pub mod Laws
+pub mod LeftOut
 pub mod Reads

@@ -1,19 +1,13 @@
 -- These definitions serve the proofs alone: no promise speaks of them.
 -- What a function that reads a phrase promises.
-use Rattle.std.specs.Prelude.{◌≡◌, ℕ, zero, suc, ◌+◌, ◌≤◌, List, [], ◌∷◌, ◌++◌, length, take, drop, IsUtf8}
+use Rattle.std.specs.Prelude.{◌≡◌, ℕ, zero, suc, List, [], ◌∷◌, ◌++◌}
 use Rattle.std.specs.Prelude.{Option, None, Some, Result, Ok, Err, if◌then◌else◌}
-use Rattle.jolie_tokens.specs.declared.token.Token.{Token}
 use Rattle.jolie_parse.specs.declared.class.Class.{Class}
 use Rattle.jolie_parse.specs.declared.stop.Stop.{Stop}
 use Rattle.jolie_parse.specs.declared.stop.Stop.TheVariants as stop
 use Rattle.jolie_parse.specs.Classes.{Spelled, class, begins}
 use Rattle.jolie_parse.specs.Syntax.{Syn, many}
 use Rattle.jolie_parse.specs.Reading.{Outcome, got, refused, too_deep, and_then, take_token, no_level, deepen, read}
-
--- the token stands in the text, in UTF-8
-pub record StandsIn (text : List ℕ) (t : Token) : Type 0 where
-  pub within : t.at + t.len ≤ length text
-  pub utf8 : IsUtf8 (take t.len (drop t.at text))
 
 -- the class of the next token
 abbrev pub next_class : List Spelled → Option Class

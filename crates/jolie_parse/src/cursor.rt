@@ -1,9 +1,9 @@
 ghost use Rattle.std.specs.Prelude.{◌≡◌, ◌+◌, ◌<◌, ◌↔◌, IsTrue, take, [], ◌∷◌, IfOk};
 ghost use Rattle.std.specs.List.{All};
-ghost use Rattle.jolie_parse.specs.Classes.{begins, spelled, spelled_one};
+ghost use Rattle.jolie_parse.specs.Classes.{begins, spelled, spelled_one, StandsIn};
 ghost use Rattle.jolie_parse.specs.Levels.{rest_place};
 ghost use Rattle.jolie_parse.specs.Reading.{Outcome, take_token};
-ghost use Rattle.jolie_parse.specs.Reads.{StandsIn, Reads, next_class, why, tail, after, opening_token, closed, closing};
+ghost use Rattle.jolie_parse.specs.Reads.{Reads, next_class, why, tail, after, opening_token, closed, closing};
 
 use crate::class::{Class, OPEN_BRACKETS};
 use crate::stop::Stop;
@@ -26,8 +26,8 @@ pub struct Cursor<'a> {
 impl<'a> Model for Cursor<'a> {
     ghost use Rattle.std.specs.Prelude.{List, ◌≡◌};
     ghost use Rattle.std.specs.List.{All};
-    ghost use Rattle.jolie_parse.specs.Classes.{Spelled, spelled};
-    ghost use Rattle.jolie_parse.specs.Reads.{StandsIn, next_class};
+    ghost use Rattle.jolie_parse.specs.Classes.{Spelled, spelled, StandsIn};
+    ghost use Rattle.jolie_parse.specs.Reads.{next_class};
 
     ghost Value = { List Spelled };
 

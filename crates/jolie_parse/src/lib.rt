@@ -4,9 +4,11 @@
 //! tokens, and as which tree, stands in `specs/Grammar.antt`, production by production; levels of nesting and where
 //! tokens are refused stand in `specs/Levels.antt`. That no tokens derive two trees is the law `tokens_have_one_tree`,
 //! and that tokens are a file or stop beginning one at one place is the law `tokens_stop_at_one_place`, and that with
-//! any nesting allowed they are a file or have one of the two refusals is the law `tokens_have_an_answer`.
+//! any nesting allowed they are a file or have one of the two refusals is the law `tokens_have_an_answer`. Which
+//! statements may be left out of what begins a file says the law `statements_may_be_left_out`.
 #![tactic(auto)]
 
+mod begun;
 mod class;
 mod cursor;
 mod expression;
@@ -23,6 +25,10 @@ mod taken;
 mod types;
 mod word;
 
-pub use laws::{tokens_have_an_answer, tokens_have_one_tree, tokens_stop_at_one_place};
+pub use begun::{Beginning, are_next_statements, begin_file};
+pub use laws::{
+    statements_may_be_left_out, tokens_have_an_answer, tokens_have_one_tree,
+    tokens_stop_at_one_place,
+};
 pub use parse_error::ParseError;
 pub use parsing::parse;

@@ -47,7 +47,7 @@ impl<'a> Cursor<'a> {
     }
 
     /// All tokens that are left, as a file.
-    fn file(&mut self, levels: u32) -> Result<Items<Definition>, Stop>
+    pub fn file(&mut self, levels: u32) -> Result<Items<Definition>, Stop>
         ensures { Reads (read_file levels self.old) result self.new }
     {
         let parts = self.file_parts(levels)?;

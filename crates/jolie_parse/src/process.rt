@@ -159,7 +159,7 @@ impl<'a> Cursor<'a> {
     }
 
     #[cycle(process)]
-    fn statement(&mut self, levels: u32) -> Result<Process, Stop>
+    pub fn statement(&mut self, levels: u32) -> Result<Process, Stop>
         ensures { Reads (read levels factored.one_statement self.old) result self.new }
     {
         if self.sees_word(Word::NullProcess) {

@@ -1,6 +1,6 @@
 use Rattle.std.proofs.Common.{sym, ap, subst, ◌∙◌}
 use Rattle.std.specs.List.{All}
-use Rattle.jolie_parse.specs.Reads.{StandsIn}
+use Rattle.jolie_parse.specs.Classes.{StandsIn}
 use Rattle.jolie_parse.specs.Classes.{spelled}
 use Rattle.jolie_parse.specs.WholeFiles.{read_file}
 use Rattle.jolie_parse.proofs.Parses.{members_fit, members_formed}
