@@ -10,10 +10,10 @@ use Rattle.jolie_ast.specs.declared.expression.Path.{Path, out-Path}
 use Rattle.jolie_ast.specs.declared.expression.Step.{Step, out-Step}
 use Rattle.jolie_ast.specs.declared.process.HandlerKey.{HandlerKey}
 use Rattle.jolie_ast.specs.declared.process.HandlerKey.TheVariants as key
-use Rattle.jolie_ast.specs.declared.process.Otherwise.TheOpen.{Input-F, Otherwise-F, Process-F}
+use Rattle.jolie_ast.specs.declared.process.Otherwise.TheOpen.{Input-F, Process-F}
 use Rattle.jolie_ast.specs.declared.process.Process.{Process}
 use Rattle.jolie_ast.specs.declared.process.Block.{Block}
-use Rattle.jolie_ast.specs.Folds.{ProcessResults, ProcessFold, all_are, fold_process, fold_block}
+use Rattle.jolie_ast.specs.Folds.{ProcessResults, ProcessFold, level, all_are, else_or, fold_process, fold_block}
 use Rattle.behaviour_tree.specs.Distinct.{is_in}
 use Rattle.check_base.specs.declared.refusal.CheckName.TheVariants.{DuplicateName, UnknownPort, UnknownOperation}
 use Rattle.check_base.specs.declared.refusal.CheckName.TheVariants.{WrongKind, Uncorrelated, CompOutsideHandler}
@@ -123,8 +123,7 @@ abbrev pub lacks_variable : Surroundings → ℕ → Name → List Refusal
 lacks_variable e at variable = refused_if (not (is_in variable.text e.variables)) Uncorrelated at
 
 -- one level of a process
-abbrev pub process_level : Surroundings
-    → Process-F Found Found Found Found InputFound HandlerFound Found InputFound Found → Found
+abbrev pub process_level : Surroundings → level findings Process-F → Found
 process_level e (Process-F.Correlate at variable value) h = lacks_variable e at variable
 process_level e (Process-F.If conditional) h = conditional h
 process_level e (Process-F.While at test body) h = body h
@@ -144,15 +143,8 @@ process_level e (Process-F.Sequence statements) h = each statements h
 process_level e (Process-F.Parallel members) h = each members h
 process_level e _ h = []
 
--- one level of what an `if` does where its test fails
-abbrev pub otherwise_level : Otherwise-F Found Found Found Found InputFound HandlerFound Found InputFound Found → Found
-otherwise_level Otherwise-F.«Otherwise::Nothing» h = []
-otherwise_level (Otherwise-F.ElseIf conditional) h = conditional h
-otherwise_level (Otherwise-F.Else block) h = block h
-
 -- one level of an input: the operation, with an answer where second parentheses are written, and its path
-abbrev pub input_level : Surroundings → Input-F Found Found Found Found InputFound HandlerFound Found InputFound Found
-    → InputFound
+abbrev pub input_level : Surroundings → level findings Input-F → InputFound
 input_level e i = record {
   operation = i.operation;
   found = λ h. used e.inputs i.operation (is_some i.reply) ++ wrong_if_written i.request ++ maybe i.reply h;
@@ -164,7 +156,7 @@ parts_refused e = record {
   process = process_level e;
   block = λ b h. maybe b.body h;
   conditional = λ i h. i.body h ++ i.otherwise h;
-  otherwise = otherwise_level;
+  otherwise = else_or (each []);
   input = input_level e;
   reply = λ r h. wrong_if_written r.path ++ r.body h;
   branch = λ b. record { operation = b.input.operation; found = λ h. b.input.found h ++ b.after h };

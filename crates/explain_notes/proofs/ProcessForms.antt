@@ -23,10 +23,11 @@ use Rattle.explain_notes.specs.declared.role.Role.TheVariants as role
 use Rattle.explain_notes.specs.Mentions.{Seen, mention, around_scope, in_role, kept_role, looped_role, turned_role}
 use Rattle.explain_notes.specs.Expressions.{expr_mentions, path_walked}
 use Rattle.explain_notes.specs.Statements.{assigned_mentions, begun_mentions, handler_mentions_of, if_written, received_mentions, request_mentions, stepped_mentions}
-use Rattle.explain_notes.specs.Processes.{process_level, otherwise_level, block_mentions, process_seen}
+use Rattle.explain_notes.specs.Processes.{process_level, block_mentions, process_seen}
 use Rattle.explain_notes.specs.Parts.{after_input, process_mentions, if_mentions, otherwise_mentions, input_mentions, reply_mentions, branch_mentions, answer_mentions, handler_mentions}
 use Rattle.explain_notes.proofs.Lists.{mapped_joined}
 use Rattle.jolie_ast.proofs.Folds.{process_rolls, block_rolls, conditional_rolls, otherwise_rolls, input_rolls, reply_rolls, branch_rolls, answer_rolls, handler_rolls}
+use Rattle.jolie_ast.specs.Folds.{else_or}
 
 -- ---- processes
 
@@ -94,7 +95,7 @@ parallel_is members = process_made (Process-F.Parallel members) (process.rolls-P
 -- ---- what an `if` does where its test fails
 
 otherwise_made : (x : Otherwise-F Otherwise Process Answer Block Branch Handler If Input Reply) {o : Otherwise} → roll-Otherwise x ≡ o
-    → otherwise_mentions o ≡ otherwise_level (map-Otherwise Otherwise Process Answer Block Branch Handler If Input Reply Seen Seen Seen Seen Seen Seen Seen (Seen → Seen) (Name → Seen → Seen) otherwise_mentions process_mentions answer_mentions block_mentions branch_mentions handler_mentions if_mentions input_mentions reply_mentions x)
+    → otherwise_mentions o ≡ else_or [] (map-Otherwise Otherwise Process Answer Block Branch Handler If Input Reply Seen Seen Seen Seen Seen Seen Seen (Seen → Seen) (Name → Seen → Seen) otherwise_mentions process_mentions answer_mentions block_mentions branch_mentions handler_mentions if_mentions input_mentions reply_mentions x)
 unfolding otherwise_mentions process_mentions answer_mentions block_mentions branch_mentions handler_mentions if_mentions input_mentions reply_mentions
 otherwise_made x made = ap otherwise_mentions (sym made) ∙ otherwise_rolls process_seen x
 

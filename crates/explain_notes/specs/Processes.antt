@@ -1,9 +1,9 @@
 -- What a process mentions.
 use Rattle.std.specs.Prelude.{[], ◌∷◌, ◌++◌, map, None, Some, unwrap_or}
 use Rattle.jolie_ast.specs.declared.name.Name.{Name}
-use Rattle.jolie_ast.specs.declared.process.Otherwise.TheOpen.{Input-F, Otherwise-F, Process-F}
+use Rattle.jolie_ast.specs.declared.process.Otherwise.TheOpen.{Input-F, Process-F}
 use Rattle.jolie_ast.specs.declared.process.Block.{Block}
-use Rattle.jolie_ast.specs.Folds.{ProcessResults, ProcessFold, all_are, fold_block}
+use Rattle.jolie_ast.specs.Folds.{ProcessResults, ProcessFold, level, all_are, else_or, fold_block}
 use Rattle.explain_notes.specs.declared.role.Role.TheVariants as role
 use Rattle.explain_notes.specs.Mentions.{Seen, mention, around_scope, in_role, kept_role, looped_role, turned_role}
 use Rattle.explain_notes.specs.Expressions.{expr_mentions, joined, path_walked}
@@ -16,7 +16,7 @@ abbrev pub process_results : ProcessResults
 process_results = record (all_are Seen) { input = Seen → Seen; reply = Name → Seen → Seen }
 
 -- one level of a process, with what its parts mention; nothing stands behind an input that stands alone
-abbrev pub process_level : Process-F Seen Seen Seen Seen Seen Seen Seen (Seen → Seen) (Name → Seen → Seen) → Seen
+abbrev pub process_level : level process_results Process-F → Seen
 process_level (Process-F.Assign path assignment) = assigned_mentions path assignment
 process_level (Process-F.Undef at path) = (path_walked path).indices
 process_level (Process-F.Correlate at variable value) = expr_mentions value
@@ -37,14 +37,8 @@ process_level (Process-F.Sequence statements) = joined statements
 process_level (Process-F.Parallel members) = joined members
 process_level _ = []
 
--- one level of what an `if` does where its test fails
-abbrev pub otherwise_level : Otherwise-F Seen Seen Seen Seen Seen Seen Seen (Seen → Seen) (Name → Seen → Seen) → Seen
-otherwise_level Otherwise-F.«Otherwise::Nothing» = []
-otherwise_level (Otherwise-F.ElseIf conditional) = conditional
-otherwise_level (Otherwise-F.Else block) = block
-
 -- one level of an input, with what stands behind it
-abbrev pub input_level : Input-F Seen Seen Seen Seen Seen Seen Seen (Seen → Seen) (Name → Seen → Seen) → Seen → Seen
+abbrev pub input_level : level process_results Input-F → Seen → Seen
 input_level i after = elim i.reply [
   | None ↦ received_mentions i.request ++ map (in_role kept_role) after
   | Some reply ↦ reply i.operation (received_mentions i.request) ++ after
@@ -56,7 +50,7 @@ process_seen = record {
   process = process_level;
   block = λ b. unwrap_or b.body [];
   conditional = λ i. expr_mentions i.test ++ (i.body ++ i.otherwise);
-  otherwise = otherwise_level;
+  otherwise = else_or [];
   input = input_level;
   reply = λ r operation taken. request_mentions operation r.path (taken ++ r.body);
   branch = λ b. b.input b.after;

@@ -33,8 +33,9 @@ use Rattle.jolie_ast.specs.declared.process.Reply.{Reply, roll-Reply}
 use Rattle.jolie_ast.specs.declared.process.Branch.{Branch, roll-Branch}
 use Rattle.jolie_ast.specs.declared.process.Answer.{Answer, roll-Answer}
 use Rattle.jolie_ast.specs.declared.process.Handler.{Handler, roll-Handler}
-use Rattle.jolie_ast.specs.Formed.{has_one, has_two, each, option_all, form_level, form_formed, expr_formed, factor_formed, term_formed, member_formed, path_formed, step_formed, assignment_formed, for_step_formed, process_level, otherwise_level, process_formed, block_formed, if_formed, otherwise_formed, input_formed, reply_formed, branch_formed, answer_formed, handler_formed, processes_formed, expressions_formed}
+use Rattle.jolie_ast.specs.Formed.{has_one, has_two, each, option_all, form_level, form_formed, expr_formed, factor_formed, term_formed, member_formed, path_formed, step_formed, assignment_formed, for_step_formed, process_level, process_formed, block_formed, if_formed, otherwise_formed, input_formed, reply_formed, branch_formed, answer_formed, handler_formed, processes_formed, expressions_formed}
 use Rattle.jolie_ast.proofs.Folds.{process_rolls, block_rolls, conditional_rolls, otherwise_rolls, input_rolls, reply_rolls, branch_rolls, answer_rolls, handler_rolls, form_rolls, expr_rolls, factor_rolls, term_rolls, member_rolls, path_rolls, step_rolls}
+use Rattle.jolie_ast.specs.Folds.{else_or}
 
 -- ---- lists
 
@@ -232,7 +233,7 @@ parallel_forms ps =
 
 -- whether what an `if` does where its test fails is formed, by the form that it is made of
 otherwise_made : (x : Otherwise-F Otherwise Process Answer Block Branch Handler If Input Reply) {o : Otherwise} → roll-Otherwise x ≡ o
-    → otherwise_formed o ≡ otherwise_level (map-Otherwise Otherwise Process Answer Block Branch Handler If Input Reply Bool Bool Bool Bool Bool Bool Bool Bool Bool otherwise_formed process_formed answer_formed block_formed branch_formed handler_formed if_formed input_formed reply_formed x)
+    → otherwise_formed o ≡ else_or true (map-Otherwise Otherwise Process Answer Block Branch Handler If Input Reply Bool Bool Bool Bool Bool Bool Bool Bool Bool otherwise_formed process_formed answer_formed block_formed branch_formed handler_formed if_formed input_formed reply_formed x)
 unfolding otherwise_formed process_formed answer_formed block_formed branch_formed handler_formed if_formed input_formed reply_formed
 otherwise_made x made = ap otherwise_formed (sym made) ∙ otherwise_rolls processes_formed x
 

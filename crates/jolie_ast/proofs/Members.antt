@@ -22,8 +22,9 @@ use Rattle.jolie_ast.specs.declared.process.Reply.{Reply, roll-Reply}
 use Rattle.jolie_ast.specs.declared.process.Branch.{Branch, roll-Branch}
 use Rattle.jolie_ast.specs.declared.process.Answer.{Answer, roll-Answer}
 use Rattle.jolie_ast.specs.declared.process.Handler.{Handler, roll-Handler}
-use Rattle.jolie_ast.specs.Members.{optional_count, process_level, otherwise_level, members, process_members, block_members, if_members, otherwise_members, input_members, reply_members, branch_members, answer_members, handler_members}
+use Rattle.jolie_ast.specs.Members.{optional_count, process_level, members, process_members, block_members, if_members, otherwise_members, input_members, reply_members, branch_members, answer_members, handler_members}
 use Rattle.jolie_ast.proofs.Folds.{process_rolls, block_rolls, conditional_rolls, otherwise_rolls, input_rolls, reply_rolls, branch_rolls, answer_rolls, handler_rolls}
+use Rattle.jolie_ast.specs.Folds.{else_or}
 
 -- ---- processes
 
@@ -101,7 +102,7 @@ parallel_counts ps =
 
 -- how many what an `if` does where its test fails has, by the form that it is made of
 otherwise_made : (x : Otherwise-F Otherwise Process Answer Block Branch Handler If Input Reply) {o : Otherwise} → roll-Otherwise x ≡ o
-    → otherwise_members o ≡ otherwise_level (map-Otherwise Otherwise Process Answer Block Branch Handler If Input Reply ℕ ℕ ℕ ℕ ℕ ℕ ℕ ℕ ℕ otherwise_members process_members answer_members block_members branch_members handler_members if_members input_members reply_members x)
+    → otherwise_members o ≡ else_or 0 (map-Otherwise Otherwise Process Answer Block Branch Handler If Input Reply ℕ ℕ ℕ ℕ ℕ ℕ ℕ ℕ ℕ otherwise_members process_members answer_members block_members branch_members handler_members if_members input_members reply_members x)
 unfolding otherwise_members process_members answer_members block_members branch_members handler_members if_members input_members reply_members
 otherwise_made x made = ap otherwise_members (sym made) ∙ otherwise_rolls members x
 

@@ -129,26 +129,22 @@ all_are A = record {
   handler = A;
 }
 
+-- one level of a part, with what is made of the parts in it
+abbrev pub level : ProcessResults
+    → (Type 0 → Type 0 → Type 0 → Type 0 → Type 0 → Type 0 → Type 0 → Type 0 → Type 0 → Type 0) → Type 0
+level r F = F r.otherwise r.process r.answer r.block r.branch r.handler r.conditional r.input r.reply
+
 -- how it is made of each part, from what is made of those in it
 pub record ProcessFold (r : ProcessResults) : Type 0 where
-  pub process : Process-F r.otherwise r.process r.answer r.block r.branch r.handler r.conditional r.input r.reply
-      → r.process
-  pub block : Block-F r.otherwise r.process r.answer r.block r.branch r.handler r.conditional r.input r.reply
-      → r.block
-  pub conditional : If-F r.otherwise r.process r.answer r.block r.branch r.handler r.conditional r.input r.reply
-      → r.conditional
-  pub otherwise : Otherwise-F r.otherwise r.process r.answer r.block r.branch r.handler r.conditional r.input r.reply
-      → r.otherwise
-  pub input : Input-F r.otherwise r.process r.answer r.block r.branch r.handler r.conditional r.input r.reply
-      → r.input
-  pub reply : Reply-F r.otherwise r.process r.answer r.block r.branch r.handler r.conditional r.input r.reply
-      → r.reply
-  pub branch : Branch-F r.otherwise r.process r.answer r.block r.branch r.handler r.conditional r.input r.reply
-      → r.branch
-  pub answer : Answer-F r.otherwise r.process r.answer r.block r.branch r.handler r.conditional r.input r.reply
-      → r.answer
-  pub handler : Handler-F r.otherwise r.process r.answer r.block r.branch r.handler r.conditional r.input r.reply
-      → r.handler
+  pub process : level r Process-F → r.process
+  pub block : level r Block-F → r.block
+  pub conditional : level r If-F → r.conditional
+  pub otherwise : level r Otherwise-F → r.otherwise
+  pub input : level r Input-F → r.input
+  pub reply : level r Reply-F → r.reply
+  pub branch : level r Branch-F → r.branch
+  pub answer : level r Answer-F → r.answer
+  pub handler : level r Handler-F → r.handler
 
 -- what a fold makes of a process
 abbrev pub fold_process : {r : ProcessResults} → ProcessFold r → Process → r.process
@@ -203,3 +199,9 @@ abbrev pub fold_handler : {r : ProcessResults} → ProcessFold r → Handler →
 fold_handler {r} f =
     fold-Handler r.otherwise r.process r.answer r.block r.branch r.handler r.conditional r.input r.reply
     f.otherwise f.process f.answer f.block f.branch f.handler f.conditional f.input f.reply
+
+-- what is made of what an `if` does where its test fails: that of its `if` or block, or this where it does nothing
+abbrev pub else_or : {O P N A R H I Y : Type 0} → A → Otherwise-F O P N A R H A I Y → A
+else_or none Otherwise-F.«Otherwise::Nothing» = none
+else_or none (Otherwise-F.ElseIf conditional) = conditional
+else_or none (Otherwise-F.Else block) = block

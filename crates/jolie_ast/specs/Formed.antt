@@ -14,7 +14,7 @@ use Rattle.jolie_ast.specs.declared.process.Assignment.{Assignment}
 use Rattle.jolie_ast.specs.declared.process.Assignment.TheVariants as assignment
 use Rattle.jolie_ast.specs.declared.process.ForStep.{ForStep}
 use Rattle.jolie_ast.specs.declared.process.ForStep.TheVariants as for_step
-use Rattle.jolie_ast.specs.declared.process.Otherwise.TheOpen.{Otherwise-F, Process-F}
+use Rattle.jolie_ast.specs.declared.process.Otherwise.TheOpen.{Process-F}
 use Rattle.jolie_ast.specs.declared.process.Process.{Process}
 use Rattle.jolie_ast.specs.declared.process.Block.{Block}
 use Rattle.jolie_ast.specs.declared.process.If.{If}
@@ -29,9 +29,9 @@ use Rattle.jolie_ast.specs.declared.service.Clause.TheVariants as clause
 use Rattle.jolie_ast.specs.declared.tree.Definition.{Definition}
 use Rattle.jolie_ast.specs.declared.tree.Definition.TheVariants as definition
 use Rattle.jolie_ast.specs.Folds.{ExprFold, exprs_are, fold_form, fold_expr, fold_factor, fold_term, fold_member}
-use Rattle.jolie_ast.specs.Folds.{fold_path, fold_step}
-use Rattle.jolie_ast.specs.Folds.{ProcessFold, all_are, fold_process, fold_block, fold_conditional, fold_otherwise}
-use Rattle.jolie_ast.specs.Folds.{fold_input, fold_reply, fold_branch, fold_answer, fold_handler}
+use Rattle.jolie_ast.specs.Folds.{fold_path, fold_step, ProcessFold, all_are, else_or, fold_process, fold_block}
+use Rattle.jolie_ast.specs.Folds.{fold_conditional, fold_otherwise, fold_input, fold_reply, fold_branch, fold_answer}
+use Rattle.jolie_ast.specs.Folds.{fold_handler}
 
 -- ---- lists and parts that may be missing
 
@@ -156,19 +156,13 @@ process_level (Process-F.Block part) = part
 process_level (Process-F.Sequence parts) = has_two parts && each parts
 process_level (Process-F.Parallel parts) = has_two parts && each parts
 
--- one level of what an `if` does where its test fails
-abbrev pub otherwise_level : Otherwise-F Bool Bool Bool Bool Bool Bool Bool Bool Bool → Bool
-otherwise_level Otherwise-F.«Otherwise::Nothing» = true
-otherwise_level (Otherwise-F.ElseIf part) = part
-otherwise_level (Otherwise-F.Else part) = part
-
 -- whether a part of a process is formed, from whether the parts in it are
 abbrev pub processes_formed : ProcessFold (all_are Bool)
 processes_formed = record {
   process = process_level;
   block = λ b. if_there b.body;
   conditional = λ i. expr_formed i.test && (i.body && i.otherwise);
-  otherwise = otherwise_level;
+  otherwise = else_or true;
   input = λ i. option_all path_formed i.request && if_there i.reply;
   reply = λ r. option_all path_formed r.path && r.body;
   branch = λ b. b.input && b.after;

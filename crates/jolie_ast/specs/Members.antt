@@ -1,6 +1,6 @@
 -- How many members the parallels of a file have in all, and how many they may have.
 use Rattle.std.specs.Prelude.{ℕ, ◌+◌, List, length, sum, sum_by, Option, Some, None}
-use Rattle.jolie_ast.specs.declared.process.Otherwise.TheOpen.{Otherwise-F, Process-F}
+use Rattle.jolie_ast.specs.declared.process.Otherwise.TheOpen.{Process-F}
 use Rattle.jolie_ast.specs.declared.process.Process.{Process}
 use Rattle.jolie_ast.specs.declared.process.Block.{Block}
 use Rattle.jolie_ast.specs.declared.process.If.{If}
@@ -14,8 +14,8 @@ use Rattle.jolie_ast.specs.declared.service.Clause.{Clause}
 use Rattle.jolie_ast.specs.declared.service.Clause.TheVariants as clause
 use Rattle.jolie_ast.specs.declared.tree.Definition.{Definition}
 use Rattle.jolie_ast.specs.declared.tree.Definition.TheVariants as definition
-use Rattle.jolie_ast.specs.Folds.{ProcessFold, all_are, fold_process, fold_block, fold_conditional, fold_otherwise}
-use Rattle.jolie_ast.specs.Folds.{fold_input, fold_reply, fold_branch, fold_answer, fold_handler}
+use Rattle.jolie_ast.specs.Folds.{ProcessFold, all_are, else_or, fold_process, fold_block, fold_conditional}
+use Rattle.jolie_ast.specs.Folds.{fold_otherwise, fold_input, fold_reply, fold_branch, fold_answer, fold_handler}
 
 -- the most members that the parallels of a file have in all
 abbrev pub most_members : ℕ
@@ -52,19 +52,13 @@ process_level (Process-F.Block n) = n
 process_level (Process-F.Sequence ns) = sum ns
 process_level (Process-F.Parallel ns) = length ns + sum ns
 
--- one level of what an `if` does where its test fails
-abbrev pub otherwise_level : Otherwise-F ℕ ℕ ℕ ℕ ℕ ℕ ℕ ℕ ℕ → ℕ
-otherwise_level Otherwise-F.«Otherwise::Nothing» = 0
-otherwise_level (Otherwise-F.ElseIf n) = n
-otherwise_level (Otherwise-F.Else n) = n
-
 -- how many members the parallels in a part have in all, from those of the parts in it
 abbrev pub members : ProcessFold (all_are ℕ)
 members = record {
   process = process_level;
   block = λ b. optional_count b.body;
   conditional = λ i. i.body + i.otherwise;
-  otherwise = otherwise_level;
+  otherwise = else_or 0;
   input = λ i. optional_count i.reply;
   reply = λ r. r.body;
   branch = λ b. b.input + b.after;

@@ -11,7 +11,7 @@ use Rattle.jolie_ast.specs.declared.process.ForStep.{ForStep}
 use Rattle.jolie_ast.specs.declared.process.ForStep.TheVariants as for_step
 use Rattle.jolie_ast.specs.declared.process.HandlerKey as ast_key
 use Rattle.jolie_ast.specs.declared.process.HandlerKey.TheVariants as key
-use Rattle.jolie_ast.specs.declared.process.Otherwise.TheOpen.{Input-F, Otherwise-F, Process-F}
+use Rattle.jolie_ast.specs.declared.process.Otherwise.TheOpen.{Input-F, Process-F}
 use Rattle.jolie_ast.specs.declared.process.Answer.{Answer}
 use Rattle.jolie_ast.specs.declared.process.Block.{Block}
 use Rattle.jolie_ast.specs.declared.process.Branch.{Branch}
@@ -21,8 +21,9 @@ use Rattle.jolie_ast.specs.declared.process.Input.{Input}
 use Rattle.jolie_ast.specs.declared.process.Otherwise.{Otherwise}
 use Rattle.jolie_ast.specs.declared.process.Process.{Process}
 use Rattle.jolie_ast.specs.declared.process.Reply.{Reply}
-use Rattle.jolie_ast.specs.Folds.{ProcessResults, ProcessFold, all_are, fold_process, fold_block, fold_conditional}
-use Rattle.jolie_ast.specs.Folds.{fold_otherwise, fold_input, fold_reply, fold_branch, fold_answer, fold_handler}
+use Rattle.jolie_ast.specs.Folds.{ProcessResults, ProcessFold, level, all_are, else_or, fold_process, fold_block}
+use Rattle.jolie_ast.specs.Folds.{fold_conditional, fold_otherwise, fold_input, fold_reply, fold_branch, fold_answer}
+use Rattle.jolie_ast.specs.Folds.{fold_handler}
 use Rattle.behaviour_tree.specs.declared.expr.SumOp.{SumOp}
 use Rattle.behaviour_tree.specs.declared.expr.SumOp.TheVariants.{Plus, Minus}
 use Rattle.behaviour_tree.specs.declared.behaviour.HandlerKey.{HandlerKey}
@@ -149,8 +150,7 @@ process_views = record (all_are Proc) {
 }
 
 -- one level of a process
-abbrev pub process_level : Numbering
-    → Process-F Proc Proc AnswerView Proc BranchView HandlerView Proc InputView ReplyView → Proc
+abbrev pub process_level : Numbering → level process_views Process-F → Proc
 process_level e (Process-F.«Process::Nothing» at) = plain.nothing
 process_level e (Process-F.Assign path a) = lowered_assignment (lowered_path path) a
 process_level e (Process-F.Undef at path) = plain.undef (lowered_path path)
@@ -174,16 +174,8 @@ process_level e (Process-F.Block body) = plain.block body
 process_level e (Process-F.Sequence statements) = plain.sequence (procs_of statements)
 process_level e (Process-F.Parallel members) = plain.parallel (procs_of members)
 
--- one level of what an `if` does where its test fails
-abbrev pub otherwise_level : Otherwise-F Proc Proc AnswerView Proc BranchView HandlerView Proc InputView ReplyView
-    → Proc
-otherwise_level Otherwise-F.«Otherwise::Nothing» = plain.nothing
-otherwise_level (Otherwise-F.ElseIf conditional) = conditional
-otherwise_level (Otherwise-F.Else b) = b
-
 -- one level of an input
-abbrev pub input_level : Numbering → Input-F Proc Proc AnswerView Proc BranchView HandlerView Proc InputView ReplyView
-    → InputView
+abbrev pub input_level : Numbering → level process_views Input-F → InputView
 input_level e i = record {
   op = place_in e.inputs i.operation.text;
   target = option_map lowered_path i.request;
@@ -196,7 +188,7 @@ lowering e = record {
   process = process_level e;
   block = λ b. unwrap_or b.body plain.nothing;
   conditional = λ i. plain.choose (lowered_expr i.test) i.body i.otherwise;
-  otherwise = otherwise_level;
+  otherwise = else_or plain.nothing;
   input = input_level e;
   reply = λ r. record { path = option_map lowered_path r.path; body = r.body };
   branch = λ b. branch_after b.input b.after;

@@ -8,7 +8,7 @@ use Rattle.jolie_ast.specs.declared.tree.Definition.{Definition}
 use Rattle.jolie_ast.specs.declared.tree.Definition.TheVariants as definition
 use Rattle.jolie_ast.specs.declared.process.HandlerKey.{HandlerKey}
 use Rattle.jolie_ast.specs.declared.process.HandlerKey.TheVariants as key
-use Rattle.jolie_ast.specs.declared.process.Otherwise.TheOpen.{Otherwise-F, Process-F}
+use Rattle.jolie_ast.specs.declared.process.Otherwise.TheOpen.{Process-F}
 use Rattle.jolie_ast.specs.declared.process.Answer.{Answer}
 use Rattle.jolie_ast.specs.declared.process.Block.{Block}
 use Rattle.jolie_ast.specs.declared.process.Branch.{Branch}
@@ -18,8 +18,8 @@ use Rattle.jolie_ast.specs.declared.process.Input.{Input}
 use Rattle.jolie_ast.specs.declared.process.Otherwise.{Otherwise}
 use Rattle.jolie_ast.specs.declared.process.Process.{Process}
 use Rattle.jolie_ast.specs.declared.process.Reply.{Reply}
-use Rattle.jolie_ast.specs.Folds.{ProcessFold, all_are, fold_process, fold_block, fold_conditional, fold_otherwise}
-use Rattle.jolie_ast.specs.Folds.{fold_input, fold_reply, fold_branch, fold_answer, fold_handler}
+use Rattle.jolie_ast.specs.Folds.{ProcessFold, all_are, else_or, fold_process, fold_block, fold_conditional}
+use Rattle.jolie_ast.specs.Folds.{fold_otherwise, fold_input, fold_reply, fold_branch, fold_answer, fold_handler}
 use Rattle.behaviour_tree.specs.WellFormed.{standard_names}
 use Rattle.check_base.specs.Repeated.{firsts, Texts}
 use Rattle.check_base.specs.Files.{Operation, operations_in}
@@ -50,19 +50,13 @@ process_level (Process-F.Sequence statements) = all statements
 process_level (Process-F.Parallel members) = all members
 process_level _ = []
 
--- one level of what an `if` does where its test fails
-abbrev pub otherwise_level : Otherwise-F Texts Texts Texts Texts Texts Texts Texts Texts Texts → Texts
-otherwise_level Otherwise-F.«Otherwise::Nothing» = []
-otherwise_level (Otherwise-F.ElseIf conditional) = conditional
-otherwise_level (Otherwise-F.Else block) = block
-
 -- what a part names, from what the parts in it name: a handler its key first
 abbrev pub mentioned : ProcessFold (all_are Texts)
 mentioned = record {
   process = process_level;
   block = λ b. unwrap_or b.body [];
   conditional = λ i. i.body ++ i.otherwise;
-  otherwise = otherwise_level;
+  otherwise = else_or [];
   input = λ i. unwrap_or i.reply [];
   reply = λ r. r.body;
   branch = λ b. b.input ++ b.after;
