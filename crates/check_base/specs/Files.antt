@@ -96,7 +96,7 @@ answering o = record { name = o.name; request = o.request; response = Some o.res
 abbrev pub silent : OneWay → Operation
 silent o = record { name = o.name; request = o.request; response = None; throws = [] }
 
--- the operations behind one word
+-- the operations after one word
 abbrev pub group_operations : OperationGroup → List Operation
 group_operations (group.RequestResponse at operations) = map answering operations
 group_operations (group.OneWay at operations) = map silent operations

@@ -110,7 +110,7 @@ pub fn main_of(clauses: &[Clause]) -> Option<&Block>
     None
 }
 
-/// Adds the texts of names behind the others.
+/// Adds the texts of names after the others.
 pub fn add_names<'a>(names: &'a [Name], texts: &mut Names<'a>) -> Result<(), AllocError>
     ensures { OnOk result (texts.new ≡ texts.old ++ map (λ (n : Name). n.text) names.now) }
 {

@@ -64,7 +64,7 @@ impl<'a> Names<'a> {
         self.place(text).is_some()
     }
 
-    /// Adds a text behind the others, and says whether it was there.
+    /// Adds a text after the others, and says whether it was there.
     pub fn add(&mut self, text: &'a str) -> Result<bool, AllocError>
         ensures added { OnOk result (self.new ≡ self.old ++ text.now ∷ []) }
         ensures kept { OnErr result (self.new ≡ self.old) }

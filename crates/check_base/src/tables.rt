@@ -79,7 +79,7 @@ impl<'a> Types<'a> {
         self.get(name).is_some()
     }
 
-    /// The types with one more behind them.
+    /// The types with one more after them.
     #[tactic(auto, using(crate::proofs::Found::references_more))]
     pub fn with(self, definition: &'a TypeDefinition) -> Result<Types<'a>, AllocError>
         ensures { IfOk result (λ types. types ≡ self.entry ++ definition.now ∷ []) }
@@ -150,7 +150,7 @@ impl<'a> Interfaces<'a> {
         self.get(name).is_some()
     }
 
-    /// The interfaces with one more behind them.
+    /// The interfaces with one more after them.
     #[tactic(auto, using(crate::proofs::Found::references_more))]
     pub fn with(self, definition: &'a Interface) -> Result<Interfaces<'a>, AllocError>
         ensures { IfOk result (λ interfaces. interfaces ≡ self.entry ++ definition.now ∷ []) }

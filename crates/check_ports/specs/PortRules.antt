@@ -35,7 +35,7 @@ answering_at at o = named o.name.text at
 abbrev pub silent_at : ℕ → OneWay → Name
 silent_at at o = named o.name.text at
 
--- the operations behind one word, at a place
+-- the operations after one word, at a place
 abbrev pub group_at : ℕ → OperationGroup → List Name
 group_at at g = map (operation_at at) (group_operations g)
 

@@ -15,7 +15,7 @@ abbrev pub first_alone : {A : Type 0} → List A → List A
 first_alone [] = []
 first_alone (a ∷ rest) = a ∷ []
 
--- the names of the operations behind one word
+-- the names of the operations after one word
 abbrev pub group_texts : OperationGroup → List (List ℕ)
 group_texts g = map (λ (o : Operation). o.name.text) (group_operations g)
 

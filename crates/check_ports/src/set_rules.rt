@@ -304,7 +304,7 @@ fn mention_names<'a>(names: &[&'a Name], mentions: &mut Vec<Mention<'a>>) -> Res
     Ok(())
 }
 
-/// Adds the texts of names behind the others.
+/// Adds the texts of names after the others.
 fn add_texts<'a>(names: &[&'a Name], texts: &mut Names<'a>) -> Result<(), AllocError>
     ensures { OnOk result (texts.new ≡ texts.old ++ map (λ (n : Name). n.text) (map (λ n. n.now) names.now)) }
 {

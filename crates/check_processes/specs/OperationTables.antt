@@ -24,7 +24,7 @@ does_answer o = is_some o.response
 abbrev pub answers_named : List Operation → List ℕ → Option Bool
 answers_named operations name = option_map does_answer (operation_named operations name)
 
--- operations, and behind them those of others whose names are new, each once
+-- operations, and after them those of others whose names are new, each once
 abbrev pub with_new : List Operation → List Operation → List Operation
 with_new known more = known ++ each_once_after (texts_of known) more
 

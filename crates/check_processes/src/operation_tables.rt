@@ -132,7 +132,7 @@ impl<'a> Operations<'a> {
         }
     }
 
-    /// The operations with one more behind them, if its name is new.
+    /// The operations with one more after them, if its name is new.
     #[tactic(auto, using(crate::proofs::OperationTables::known_name, crate::proofs::OperationTables::new_name, crate::proofs::OperationTables::names_more))]
     fn with(self, operation: Declared<'a>) -> Result<Operations<'a>, AllocError>
         ensures { IfOk result (λ more. more ≡ with_new self.entry (operation.entry ∷ [])) }
@@ -239,7 +239,7 @@ fn with_groups<'a>(
     Ok(operations)
 }
 
-/// Operations and those behind one word.
+/// Operations and those after one word.
 fn with_group<'a>(
     operations: Operations<'a>,
     group: &'a OperationGroup,

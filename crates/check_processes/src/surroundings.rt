@@ -105,7 +105,7 @@ impl<'a> Outlets<'a> {
         }
     }
 
-    /// The output ports with one more behind them.
+    /// The output ports with one more after them.
     #[tactic(auto, using(crate::proofs::OperationTables::outlet_names_more))]
     fn with(self, outlet: Outlet<'a>) -> Result<Outlets<'a>, AllocError>
         ensures { IfOk result (λ more. more ≡ self.entry ++ outlet.entry ∷ []) }

@@ -38,7 +38,7 @@ answering_refused types o = operation_refused types (answering o)
 abbrev pub silent_refused : List TypeDefinition → OneWay → List Refusal
 silent_refused types o = operation_refused types (silent o)
 
--- what is refused of the operations behind one word
+-- what is refused of the operations after one word
 abbrev pub group_refused : List TypeDefinition → OperationGroup → List Refusal
 group_refused types g = flat_map (operation_refused types) (group_operations g)
 

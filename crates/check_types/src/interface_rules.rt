@@ -35,7 +35,7 @@ fn groups_refused(
     Ok(())
 }
 
-/// What is refused of the operations behind one word.
+/// What is refused of the operations after one word.
 #[tactic(auto, using(crate::proofs::Operations::each_answering, crate::proofs::Operations::each_silent))]
 fn group_refused(
     alloc: Global,

@@ -16,12 +16,12 @@ abbrev pub is_rising : List KeyRow → Bool
 is_rising [] = true
 is_rising (r ∷ rs) = starts_after r.key rs && is_rising rs
 
--- a place behind another row
+-- a place after another row
 abbrev pub behind : Result ℕ ℕ → Result ℕ ℕ
 behind (Ok k) = Ok (suc k)
 behind (Err k) = Err (suc k)
 
--- a place behind n rows
+-- a place after n rows
 abbrev pub moved : ℕ → Result ℕ ℕ → Result ℕ ℕ
 moved n (Ok k) = Ok (n + k)
 moved n (Err k) = Err (n + k)

@@ -148,7 +148,7 @@ impl Values {
         }
     }
 
-    /// Notes a value behind the others.
+    /// Notes a value after the others.
     pub fn push(&mut self, written: Written) -> Result<(), AllocError>
         ensures ok { OnOk result (self.new ≡ self.old ++ written ∷ []) }
         ensures err { OnErr result (self.new ≡ self.old) }

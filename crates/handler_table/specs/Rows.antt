@@ -30,12 +30,12 @@ are_scopes (h ∷ hs) = is_scope h.key && are_scopes hs
 
 -- ---- where a number stands
 
--- a place behind another entry
+-- a place after another entry
 abbrev pub behind : Result ℕ ℕ → Result ℕ ℕ
 behind (Ok k) = Ok (suc k)
 behind (Err k) = Err (suc k)
 
--- a place behind n entries
+-- a place after n entries
 abbrev pub moved : ℕ → Result ℕ ℕ → Result ℕ ℕ
 moved n (Ok k) = Ok (n + k)
 moved n (Err k) = Err (n + k)

@@ -8,7 +8,7 @@ use Rattle.httparse.specs.Ascii.{crlf_bytes}
 abbrev pub scheme : List ℕ
 scheme = codes "socket://"
 
--- the address of a location: what stands behind `socket://`, or the whole of a text that does not begin so
+-- the address of a location: what stands after `socket://`, or the whole of a text that does not begin so
 abbrev pub address : List ℕ → List ℕ
 address location =
     if bytes_eq (take (length scheme) location) scheme then drop (length scheme) location else location

@@ -42,7 +42,7 @@ abbrev pub extent : ℕ → List Header → Extent
 extent status headers =
     if not (is_success status) then Refused else (if status == 204 then Sized 0 else extent_by_fields headers)
 
--- how far the body behind a head reaches
+-- how far the body after a head reaches
 abbrev pub extent_of : ResponseHead → Extent
 extent_of h = extent (status_code h) (map name_and_value h.fields)
 
@@ -55,7 +55,7 @@ HasBody ToEnd rest ended body = (ended ≡ true) × (length rest ≤ 65536) × (
 HasBody Refused rest ended body = ⊥
 
 -- The bytes begin with a whole response of this body: with a head part in their first 8,192, a head in front of that,
--- and the body behind the head. Ended says that no more bytes come.
+-- and the body after the head. Ended says that no more bytes come.
 pub record IsResponse (bytes : List ℕ) (ended : Bool) (body : List ℕ) : Type 0 where
   pub length_of_part : ℕ
   pub part : head_part bytes ≡ Some length_of_part

@@ -107,7 +107,7 @@ pub record Exchanged (before now : WireTraffic) (sent came : List ℕ) (ended : 
   pub bounded : length came ≤ most_read
   pub unfailed : IsUnfailed before now ended
 
--- the wire failed, behind a front of the request that is not all of it, or in a read behind all of it
+-- the wire failed, after a front of the request that is not all of it, or in a read after all of it
 pub data CutOff (before now : WireTraffic) (sent : List ℕ) : Type 0 where
   in_writing : (count : ℕ) (writes : List WireCall) → count < length sent
       → Appends before.written now.written (take count sent) → Appends before.read now.read []

@@ -82,11 +82,11 @@ pub record Answered (location text : List ℕ) (before now : Telling) (body : Li
 pub data Failing (sent : List ℕ) (before now : Telling) : Type 0 where
   -- the dialler failed
   unreached : now.last ≡ before.last → Rose before.faults now.faults → Failing sent before now
-  -- the open wire failed in a write, behind a front of the request that is not all of it, and came back
+  -- the open wire failed in a write, after a front of the request that is not all of it, and came back
   unsent : (went : List ℕ) (writes : List WireCall) → Shows now.blank now.last went [] writes → StartsWith sent went
       → length went < length sent → IsWritten (Some []) (Some writes) went false
       → IfSome now.last (TellsEnd false true false) → Rose before.faults now.faults → Failing sent before now
-  -- the wire failed in a read, behind the request, while what had come was no whole response yet, and came back
+  -- the wire failed in a read, after the request, while what had come was no whole response yet, and came back
   unheard : (came : List ℕ) (writes reads : List WireCall)
       → Shows now.blank now.last sent came (writes ++ (reads ++ Read 0 ∷ []))
       → IsWritten (Some []) (Some writes) sent true → Reads [] reads came false → IsUnfinished came

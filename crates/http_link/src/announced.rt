@@ -31,7 +31,7 @@ pub(crate) enum Extent {
 pub(crate) struct Announced {
     /// How many bytes the head has.
     pub(crate) head: usize,
-    /// How far the body behind it reaches.
+    /// How far the body after it reaches.
     pub(crate) extent: Extent,
 }
 
@@ -75,7 +75,7 @@ fn announced_by(part: &[u8]) -> Announced
     }
 }
 
-/// How far the body behind a head reaches.
+/// How far the body after a head reaches.
 fn extent_of(part: &[u8], head: &ResponseSpans, fields: &[HeaderSpan]) -> Extent
     requires { All (IsHeaderWithin (length part.now)) fields.now }
     ensures extent { result ≡ extent head.now.code (map (header_bytes part.now) fields.now) }

@@ -21,7 +21,7 @@ pub(crate) fn request_bytes(
     Ok(bytes)
 }
 
-/// What a location says behind its beginning, or all of it where it does not begin so.
+/// What a location says after its beginning, or all of it where it does not begin so.
 fn address_of(location: &[u8]) -> &[u8]
     ensures { result.now ≡ address location.now }
 {

@@ -17,7 +17,7 @@ abbrev pub covers : List Class → List Class → Bool
 covers [] b = true
 covers (j ∷ js) b = has b j && covers js b
 
--- the classes with which what stands behind a prefix may go on where it could have ended
+-- the classes with which what stands after a prefix may go on where it could have ended
 abbrev pub later : Part → List Class
 later an_operand = sign_open_bracket ∷ sign_dot ∷ []
 later an_else_if = the_else ∷ []

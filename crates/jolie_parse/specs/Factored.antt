@@ -15,15 +15,15 @@ use Rattle.jolie_parse.specs.Deciding.{nullable, first, further, later, disjoint
 use Rattle.jolie_parse.specs.Grammar.{id, path_parts, input_parts, output_parts, change, block}
 use Rattle.jolie_parse.specs.Grammar.{nothing, marked_statement, part_rules}
 
--- an input behind its operation, as what it is for that name
+-- an input after its operation, as what it is for that name
 abbrev pub named_input : Syn (Spelled → Process)
 named_input = means {B = Spelled → Process} (λ parts t. process.Input (means_as.input_of t parts)) input_parts
 
--- an output behind its operation, as what it is for that name
+-- an output after its operation, as what it is for that name
 abbrev pub named_output : Syn (Spelled → Process)
 named_output = means {B = Spelled → Process} (λ parts t. means_as.output_of t parts) output_parts
 
--- an assignment behind the first name of its path, as what it is for that name
+-- an assignment after the first name of its path, as what it is for that name
 abbrev pub named_assignment : Syn (Spelled → Process)
 named_assignment =
     means {B = Spelled → Process} (λ parts t. process.Assign (means_as.path_of t parts.0) parts.1)
@@ -45,7 +45,7 @@ named = means (λ (q : Spelled × (Spelled → Process)). q.1 q.0) (both id name
 abbrev pub else_if : Syn Otherwise
 else_if = means (λ q. otherwise.ElseIf (means_as.if_of q.0 q.1)) (prefix (c.the_if ∷ []) an_else_if)
 
--- what stands behind `else`: an `if` or a block
+-- what stands after `else`: an `if` or a block
 abbrev pub alternative : Syn Otherwise
 alternative = either else_if (means otherwise.Else block)
 

@@ -104,7 +104,7 @@ index = optional (between (c.Sign OpenBracket) an_expression (c.Sign CloseBracke
 unfoldable pub step : Syn Step
 step = behind (c.Sign Dot) (means (λ q. means_as.step_of q.0 q.1) (both word index))
 
--- a path behind its first name
+-- a path after its first name
 unfoldable pub path_parts : Syn (Option Expr × List Step)
 path_parts = both index (many step)
 
@@ -166,15 +166,15 @@ primary =
     either whole_number (either long_number (either quoted_text (either truth
     (either path_value (either size (either defined_test (either cast (either grouped literal))))))))
 
--- `-` or `!` and the operand behind it
+-- `-` or `!` and the operand after it
 unfoldable pub prefixed_operand : Syn Expr
 prefixed_operand = means means_as.prefixed_of (prefix (c.Sign Minus ∷ c.Sign Not ∷ []) an_operand)
 
--- an operand, behind any number of `-` and `!`
+-- an operand, after any number of `-` and `!`
 unfoldable pub unary : Syn Expr
 unary = either prefixed_operand primary
 
--- a further operand, behind `*`, `/` or `%`
+-- a further operand, after `*`, `/` or `%`
 unfoldable pub factor : Syn Factor
 factor = means means_as.factor_of (both (token (c.Sign Star ∷ c.Sign Slash ∷ c.Sign Percent ∷ [])) unary)
 
@@ -182,7 +182,7 @@ factor = means means_as.factor_of (both (token (c.Sign Star ∷ c.Sign Slash ∷
 unfoldable pub product : Syn Expr
 product = means means_as.product_of (both unary (many factor))
 
--- a further operand, behind `+` or `-`
+-- a further operand, after `+` or `-`
 unfoldable pub term : Syn Term
 term = means means_as.term_of (both (token (c.Sign Plus ∷ c.Sign Minus ∷ [])) product)
 
@@ -190,7 +190,7 @@ term = means means_as.term_of (both (token (c.Sign Plus ∷ c.Sign Minus ∷ [])
 unfoldable pub sum : Syn Expr
 sum = means means_as.sum_of (both product (many term))
 
--- a sum behind a sign that compares
+-- a sum after a sign that compares
 unfoldable pub comparand : Syn (Spelled × Expr)
 comparand =
     both
@@ -229,7 +229,7 @@ block = means means_as.block_of (inside (c.Sign OpenBrace) a_body (c.Sign CloseB
 unfoldable pub reply : Syn Reply
 reply = means (λ q. roll-Reply (record { path = q.0; body = q.1 })) (both (parens maybe_path) block)
 
--- an input behind its operation
+-- an input after its operation
 unfoldable pub input_parts : Syn (Option Path × Option Reply)
 input_parts = both (parens maybe_path) (optional reply)
 
@@ -251,7 +251,7 @@ answer =
     means (λ q. roll-Answer (record { path = q.0; handlers = q.1 }))
     (both (parens maybe_path) (optional (between (c.Sign OpenBracket) some_handlers (c.Sign CloseBracket))))
 
--- an output behind its operation
+-- an output after its operation
 unfoldable pub output_parts : Syn (Spelled × (Option Expr × Option Answer))
 output_parts = behind (c.Sign At) (both id (both (parens maybe_expression) (optional answer)))
 
@@ -439,7 +439,7 @@ field =
     (both (optional (one (c.Sign Dot))) (both word (both (optional cardinal)
     (both (behind (c.Sign Colon) type_body) (optional (one (c.Sign Comma)))))))
 
--- what stands behind the name of a type
+-- what stands after the name of a type
 unfoldable pub defined_type : Syn DefinedType
 defined_type = either (means defined.Body (behind (c.Sign Colon) type_body)) (means defined.Fields (braces some_fields))
 
@@ -474,13 +474,13 @@ request_response =
 unfoldable pub one_way : Syn OneWay
 one_way = means (λ q. record { name = name_of q.0; request = q.1 }) (both id (parens a_type_name))
 
--- operations behind the word `RequestResponse`
+-- operations after the word `RequestResponse`
 unfoldable pub request_responses : Syn OperationGroup
 request_responses =
     means (λ q. group.RequestResponse (place q.0) q.1)
     (both (ended (keyword the.RequestResponse) (c.Sign Colon)) (separated (c.Sign Comma) request_response))
 
--- operations behind the word `OneWay`
+-- operations after the word `OneWay`
 unfoldable pub one_ways : Syn OperationGroup
 one_ways =
     means (λ q. group.OneWay (place q.0) q.1)
@@ -508,7 +508,7 @@ alias =
 unfoldable pub variable : Syn CorrelationVariable
 variable = means (λ q. record { name = name_of q.0; aliases = q.1 }) (both (ended id (c.Sign Colon)) (some_of alias))
 
--- a name behind a word and a colon
+-- a name after a word and a colon
 abbrev pub labelled : {A : Type 0} → Class → Syn A → Syn A
 labelled k s = behind k (behind (c.Sign Colon) s)
 

@@ -9,7 +9,7 @@ use Rattle.jolie_parse.specs.Levels.{IsDead, IsRefused, IsTooDeep}
 abbrev pub HaveOneTree : Type 0
 HaveOneTree = (n m : ℕ) (tokens : List Spelled) (f g : List Definition) → IsFile n tokens f → IsFile m tokens g → f ≡ g
 
--- these tokens begin a file, and with the next, or with none behind them, they begin none
+-- these tokens begin a file, and with the next, or with none after them, they begin none
 abbrev pub IsStop : List Spelled → List Spelled → Type 0
 IsStop w r = BeginsFile w × IsDead w r
 

@@ -11,7 +11,7 @@ use Rattle.jolie_parse.specs.declared.begun.Beginning.{Beginning}
 use Rattle.jolie_parse.specs.declared.begun.Beginning.TheVariants as beginning
 use Rattle.jolie_parse.specs.Levels.{IsRefused, IsTooDeep}
 
--- the tokens are a file, or they are refused behind the last one alone: then each begins one with those before it
+-- the tokens are a file, or they are refused after the last one alone: then each begins one with those before it
 abbrev pub IsFileOrBegun : ℕ → List Spelled → Type 0
 IsFileOrBegun n ts = ((f : List Definition) × IsFile n ts f) ⊎ IsRefused n ts []
 
@@ -25,11 +25,11 @@ IsBeginning n ts beginning.MayGoOn = IsFileOrBegun n ts × IsShallow n ts
 IsBeginning n ts beginning.Stops = (IsFileOrBegun n ts → ⊥) × IsShallow n ts
 IsBeginning n ts beginning.TooDeep = IsFileOrBegun n ts → ⊥
 
--- the tokens are statements, each behind a semicolon
+-- the tokens are statements, each after a semicolon
 abbrev pub AreNext : ℕ → List Spelled → Type 0
 AreNext n ts = (vs : List Process) × Derives (Allowed n) (many (behind (c.Sign Semicolon) statement)) ts vs
 
--- Statements, each behind a semicolon, may be left out before a semicolon: what is left is a file or begins one if and
+-- Statements, each after a semicolon, may be left out before a semicolon: what is left is a file or begins one if and
 -- only if the whole does. What stands before them is not too deep with as many levels less as they may need.
 abbrev pub StatementsMayBeLeftOut : Type 0
 StatementsMayBeLeftOut =

@@ -44,7 +44,7 @@ module _ (rules : (r : Part) → Syn (Meant r)) (within : ℕ → (r : Part) →
   Begins {A} s w = (more : List Spelled) × (v : A) × (m : ℕ) × Derives (within m) s (w ++ more) v
 
   -- The tokens begin what stands in the innermost bracket, where no further level is left, and the next is a bracket
-  -- that opens, be it a wrong one. What stands behind a prefix ends before a token that is no part of it.
+  -- that opens, be it a wrong one. What stands after a prefix ends before a token that is no part of it.
   abbrev pub Stands : ℕ → Spelled → Opener → List Spelled → Type 0
   Stands zero t (bracket o r c) z = (has open_brackets (class t) ≡ true) × Begins (rules r) z
   Stands zero t (before ks r) z = ⊥
@@ -57,12 +57,12 @@ module _ (rules : (r : Part) → Syn (Meant r)) (within : ℕ → (r : Part) →
       (u : Spelled) × (z : List Spelled) × (has (opening p) (class u) ≡ true) × (y ≡ u ∷ z)
       × (LeadsTo (within n) (Leads n t) (rules (opened p)) z ⊎ Stands n t p z)
 
--- behind these tokens the next opens level n + 1
+-- after these tokens the next opens level n + 1
 abbrev pub OpensNext : ℕ → List Spelled → List Spelled → Type 0
 OpensNext n w r =
     (t : Spelled) × (q : List Spelled) × (r ≡ t ∷ q) × LeadsTo (Allowed n) (Leads production Allowed n t) file w
 
--- with these tokens and the next, or with none behind them, no file begins
+-- with these tokens and the next, or with none after them, no file begins
 abbrev pub IsDead : List Spelled → List Spelled → Type 0
 IsDead w [] = (m : ℕ) (f : List Definition) → IsFile m w f → ⊥
 IsDead w (t ∷ r) = BeginsFile (w ++ t ∷ []) → ⊥

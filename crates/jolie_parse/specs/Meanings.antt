@@ -136,11 +136,11 @@ comparison_of k =
 abbrev pub prefixed_of : Spelled × Expr → Expr
 prefixed_of q = expression (place q.0) (if same (class q.0) (c.Sign Minus) then form.Minus q.1 else form.Not q.1)
 
--- an operand behind its operator: `*`, `/` or `%`
+-- an operand after its operator: `*`, `/` or `%`
 abbrev pub factor_of : Spelled × Expr → Factor
 factor_of q = roll-Factor (record { operator = multiplicative_of (class q.0); operand = q.1 })
 
--- an operand behind its operator: `+` or `-`
+-- an operand after its operator: `+` or `-`
 abbrev pub term_of : Spelled × Expr → Term
 term_of q = roll-Term (record { operator = additive_of (class q.0); operand = q.1 })
 

@@ -62,7 +62,7 @@ enclosed (suc n) inner o c ts =
     and_then (take_token (o ∷ []) ts)
     (λ t r. deepen (and_then (inner r) (λ v r2. and_then (take_token (c ∷ []) r2) (λ _ r3. got (t, v) r3))) n)
 
--- a part behind its prefix, one level further in
+-- a part after its prefix, one level further in
 abbrev pub prefixed : ℕ → {A : Type 0} → (List Spelled → Outcome A) → List Class → List Spelled → Outcome (Spelled × A)
 prefixed zero inner ks ts = no_level ks ts
 prefixed (suc n) inner ks ts = and_then (take_token ks ts) (λ t r. and_then (inner r) (λ v r2. got (t, v) r2))

@@ -34,12 +34,12 @@ Reads o (Err e) left = Stops o e left
 abbrev pub why : List Class → List Spelled → Stop
 why ks ts = if begins ks ts then stop.TooDeep else stop.Syntax
 
--- the tokens behind the first
+-- the tokens after the first
 abbrev pub tail : List Spelled → List Spelled
 tail [] = []
 tail (t ∷ ts) = ts
 
--- the tokens behind the next, if it is of these classes
+-- the tokens after the next, if it is of these classes
 abbrev pub after : List Class → List Spelled → List Spelled
 after ks ts = if begins ks ts then tail ts else ts
 

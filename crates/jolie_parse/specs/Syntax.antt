@@ -21,7 +21,7 @@ use Rattle.jolie_parse.specs.Classes.{Spelled, class, has}
 
 -- ---- grammars
 
--- what stands one level further in: between brackets, behind a prefix, behind the `if` of an `else if`
+-- what stands one level further in: between brackets, after a prefix, after the `if` of an `else if`
 pub data Part : Type 0 where
   an_expression an_operand a_path maybe_path maybe_expression : Part
   a_body some_handlers a_name an_input an_else_if for_parts throw_parts some_members : Part
@@ -93,7 +93,7 @@ Derives within (prefix ks r) ts v = (x : List Spelled) × (has ks (class v.0) �
 
 -- ---- forms that grammars are made of
 
--- a phrase behind a token that is not kept
+-- a phrase after a token that is not kept
 abbrev pub behind : {A : Type 0} → Class → Syn A → Syn A
 behind k s = means (λ q. q.1) (both (token (k ∷ [])) s)
 

@@ -63,7 +63,7 @@ fn stopped(left: &Cursor, stop: Stop) -> Result<Beginning, AllocError>
 }
 
 impl<'a> Cursor<'a> {
-    /// Statements, each behind a `;`, as long as there are.
+    /// Statements, each after a `;`, as long as there are.
     fn next_statements(&mut self, levels: u32) -> Result<Items<Process>, Stop>
         ensures { Reads (more levels (behind c.sign_semicolon one_statement) [] self.old) result self.new }
     {
@@ -75,7 +75,7 @@ impl<'a> Cursor<'a> {
     }
 }
 
-/// Whether tokens of a text are found to be statements, each behind a `;`, with so many levels of nesting.
+/// Whether tokens of a text are found to be statements, each after a `;`, with so many levels of nesting.
 pub fn are_next_statements(
     alloc: Global,
     text: &[u8],

@@ -472,7 +472,7 @@ impl<'a> Cursor<'a> {
         Ok(steps)
     }
 
-    /// A path behind its first name.
+    /// A path after its first name.
     #[tactic(auto, using(crate::proofs::Lists::passes, crate::proofs::Lists::stops_then), unfolding(crate::specs::Grammar::path_parts, crate::specs::Reads::more))]
     #[cycle(expression)]
     pub fn path_parts(&mut self, levels: u32) -> Result<(Option<Boxed<Expr>>, Items<Step>), Stop>

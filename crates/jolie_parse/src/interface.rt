@@ -111,7 +111,7 @@ impl<'a> Cursor<'a> {
         })
     }
 
-    /// The type of a response, and the faults behind it.
+    /// The type of a response, and the faults after it.
     #[tactic(auto, using(crate::proofs::Lists::passes, crate::proofs::Lists::stops_then))]
     fn response_parts(&mut self, levels: u32) -> Result<(TypeName, Option<Items<Fault>>), Stop>
         ensures { Reads (read levels (syntax.both (spec.parens syntax.a_type_name) spec.throws) self.old) result

@@ -313,7 +313,7 @@ impl<'a> Cursor<'a> {
         })
     }
 
-    /// An input behind its operation.
+    /// An input after its operation.
     #[tactic(auto, using(crate::proofs::Lists::passes, crate::proofs::Lists::stops_then), unfolding(crate::specs::Grammar::input_parts))]
     #[cycle(process)]
     fn input_parts(&mut self, levels: u32) -> Result<(Option<Path>, Option<Reply>), Stop>
@@ -442,7 +442,7 @@ impl<'a> Cursor<'a> {
         Ok(branches)
     }
 
-    /// An input in brackets, and the block behind it.
+    /// An input in brackets, and the block after it.
     #[tactic(auto, using(crate::proofs::Lists::passes, crate::proofs::Lists::stops_then, crate::proofs::Inside::opened_stops, crate::proofs::Inside::inside_stops, crate::proofs::Inside::inside_read), unfolding(crate::specs::Grammar::branch))]
     #[cycle(process)]
     fn branch(&mut self, levels: u32) -> Result<Branch, Stop>
@@ -496,7 +496,7 @@ impl<'a> Cursor<'a> {
         Ok(Otherwise::Nothing)
     }
 
-    /// `else` and what stands behind it.
+    /// `else` and what stands after it.
     #[tactic(auto, using(crate::proofs::Lists::passes, crate::proofs::Lists::stops_then))]
     #[cycle(process)]
     fn behind_else(&mut self, levels: u32) -> Result<Otherwise, Stop>

@@ -167,7 +167,7 @@ impl<'a> Cursor<'a> {
         })
     }
 
-    /// The last part of a `for`, behind its path.
+    /// The last part of a `for`, after its path.
     #[tactic(auto, using(crate::proofs::Lists::passes, crate::proofs::Lists::stops_then), unfolding(crate::specs::Grammar::last_change, crate::specs::Grammar::count))]
     fn last_change(&mut self, levels: u32) -> Result<ForStep, Stop>
         ensures { Reads (read levels spec.last_change self.old) result self.new }
@@ -227,7 +227,7 @@ impl<'a> Cursor<'a> {
         })
     }
 
-    /// The data of a fault, behind a comma, if any are written.
+    /// The data of a fault, after a comma, if any are written.
     fn thrown_value(&mut self, levels: u32) -> Result<Option<Expr>, Stop>
         ensures { Reads (read levels (syntax.optional (syntax.behind c.sign_comma spec.expr)) self.old) result
             self.new }

@@ -296,7 +296,7 @@ body_placeless = fold-TypeBody TypeBody Field body_level field_level
 unfoldable pub field_placeless : Field → Field
 field_placeless = fold-Field TypeBody Field body_level field_level
 
--- what stands behind the name that is defined, without its places
+-- what stands after the name that is defined, without its places
 abbrev pub defined_placeless : DefinedType → DefinedType
 defined_placeless (defined.Body body) = defined.Body (body_placeless body)
 defined_placeless (defined.Fields fields) = defined.Fields (map field_placeless fields)
@@ -331,7 +331,7 @@ request_response_placeless o =
 abbrev pub one_way_placeless : OneWay → OneWay
 one_way_placeless o = record { name = name_placeless o.name; request = type_name_placeless o.request }
 
--- operations behind one word, without their places
+-- operations after one word, without their places
 abbrev pub group_placeless : OperationGroup → OperationGroup
 group_placeless (group.RequestResponse at operations) =
     group.RequestResponse 0 (map request_response_placeless operations)

@@ -52,7 +52,7 @@ params_of types ty (node r (field name ts fs)) = Some (json_of types (node r (fi
 
 -- ---- texts
 
--- members, behind one that may be absent
+-- members, after one that may be absent
 abbrev pub member_if : List ℕ → Option Data → Members → Members
 member_if name None ms = ms
 member_if name (Some d) ms = member name d ms

@@ -120,7 +120,7 @@ fn repeated(
     Ok(Box::new(alloc, Behaviour::While { test, body: turn })?)
 }
 
-/// A body and a step behind it.
+/// A body and a step after it.
 pub fn boxed_turn(
     alloc: Global,
     body: Behaviour,

@@ -74,7 +74,7 @@ impl<'a> Ports<'a> {
         }
     }
 
-    /// Adds a port behind the others, with its name, its number and its operations.
+    /// Adds a port after the others, with its name, its number and its operations.
     #[tactic(auto, using(crate::proofs::NumberedPorts::names_more))]
     pub fn add(
         &mut self,

@@ -82,7 +82,7 @@ fn lowered_operations(
     Ok(operations)
 }
 
-/// Adds the operations behind one word.
+/// Adds the operations after one word.
 fn add_group(
     alloc: Global,
     group: &OperationGroup,

@@ -118,19 +118,19 @@ abbrev pub is_option : List ℕ → Bool
 is_option [] = false
 is_option (b ∷ bs) = b == 45
 
--- the word is this option, and the one behind it is no option and one of the values that it takes
+-- the word is this option, and the one after it is no option and one of the values that it takes
 abbrev pub is_with_value : List ℕ → (List ℕ → Bool) → List ℕ → List ℕ → Bool
 is_with_value option takes word value = bytes_eq word option && (not (is_option value) && takes value)
 
--- the word begins a budget, and the one behind it is its number
+-- the word begins a budget, and the one after it is its number
 abbrev pub is_budget : List ℕ → List ℕ → Bool
 is_budget = is_with_value (codes "--budget") (is_unsigned_in 1 most_events)
 
--- the word begins picks, and the one behind it is their LIST
+-- the word begins picks, and the one after it is their LIST
 abbrev pub are_picks : List ℕ → List ℕ → Bool
 are_picks = is_with_value (codes "--picks") (λ list. is_some (picks_of list))
 
--- the word begins a number of connections, and the one behind it is that number
+-- the word begins a number of connections, and the one after it is that number
 abbrev pub are_connections : List ℕ → List ℕ → Bool
 are_connections = is_with_value (codes "--connections") (is_unsigned_in 1 most_connections)
 

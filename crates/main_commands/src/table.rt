@@ -17,7 +17,7 @@ pub struct OperandRow {
     pub help: &'static str,
 }
 
-/// What stands behind the name of an option.
+/// What stands after the name of an option.
 #[derive(Clone, Copy)]
 pub enum Takes {
     /// A number N from `least` to `most`.

@@ -20,7 +20,7 @@ use Rattle.office_core.specs.Route.{Way, to_session, to_new, refused_for, Asked,
 
 -- ---- ports
 
--- the port of a number of a session's service; Console is behind them and is none of these
+-- the port of a number of a session's service; Console is after them and is none of these
 abbrev pub port_of : Setting → Past → ℕ → ℕ → Option PortPart
 port_of w past s n =
     option_and_then

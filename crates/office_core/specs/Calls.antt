@@ -72,7 +72,7 @@ fetches c e = elim e.act [ act.Fetch s k ↦ is_call s k c | _ ↦ false ]
 abbrev pub brings : Call → Entry → Bool
 brings c e = is_some (brought_in c e)
 
--- a call goes to the console where its port is behind those of its service, else elsewhere
+-- a call goes to the console where its port is after those of its service, else elsewhere
 abbrev pub kind_of : Setting → Past → Call → OutKind
 kind_of w past c = if is_some (port_of w past c.session c.port) then kind.Remote else kind.Console
 

@@ -73,7 +73,7 @@ abbrev pub started_with : ProgramParts → Message → List Written → Session
 started_with parts m us =
     record { number = m.session; sets = numbered_sets parts m.service; written = us; released = false }
 
--- What is kept answers Bound to each of these values when it is written behind the others, the session being born: so
+-- What is kept answers Bound to each of these values when it is written after the others, the session being born: so
 -- no other reply can stand for want of memory.
 abbrev pub WritesFirst : Type 0
 WritesFirst =

@@ -59,7 +59,7 @@ in_turn v log = record v { seen = log; turn = true }
 abbrev pub off_turn : View → View
 off_turn v = record v { turn = false }
 
--- the seat with the turn made the calls that the history has behind what it had seen
+-- the seat with the turn made the calls that the history has after what it had seen
 abbrev pub committed : View → List Entry → View
 committed v log = record v { seen = log; mine = v.mine ++ drop (length v.seen) log }
 

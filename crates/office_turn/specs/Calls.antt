@@ -38,7 +38,7 @@ Stays parts v condition =
 abbrev pub HoldsSeen : ProgramParts → View → (Setting → Past → Type 0) → Type 0
 HoldsSeen parts v fact = fact (run_of parts) (past_at parts v.seen)
 
--- The pass was given the turn at one point of the one history, and its call's entry stands behind that, where the call
+-- The pass was given the turn at one point of the one history, and its call's entry stands after that, where the call
 -- makes one. What it has seen is legal then, and the entries by its number are just its calls.
 pub record Made (parts : ProgramParts) (v w : View) (more : Setting → Past → Option Entry) : Type 0 where
   pub before : List Entry
@@ -63,7 +63,7 @@ pub record Saw (parts : ProgramParts) (v w : View) : Type 0 where
   pub same : w ≡ record v { seen = w.seen }
 
 -- The pass took another in: what it has seen begins with what each of the two had seen, and the calls of the other, with
--- those that it kept, are kept behind its own.
+-- those that it kept, are kept after its own.
 pub record TookIn (parts : ProgramParts) (v other w : View) : Type 0 where
   pub begins : IsPrefix v.seen w.seen
   pub told : IsPrefix other.seen w.seen

@@ -38,7 +38,7 @@ abbrev pub NoneIsAnswered : Setting → List Entry → List Wait → Type 0
 NoneIsAnswered w h xs =
     (n : ℕ) → list_any (nat_eq n) (messages_of xs) ≡ true → first (answers w (past_of w h) n) ≡ None
 
--- Between two postings the input is open, each posting began behind collects, and what is not collected waits and has
+-- Between two postings the input is open, each posting began after collects, and what is not collected waits and has
 -- no answer.
 pub record IsGathered (w : Setting) (h : List Entry) (xs : List Wait) : Type 0 where
   pub unclosed : list_any closes h ≡ false

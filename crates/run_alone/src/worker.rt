@@ -26,7 +26,7 @@ pub struct Finished {
 
 /// Runs a program, whose text this is, until a front brings no more postings: each is posted, all sessions have their
 /// turns until none can go on, and what is finished is answered. At the end what is still open is stopped and answered
-/// so. A session has at most as many events as the budget, and each turn takes the next pick, or 0 behind the last.
+/// so. A session has at most as many events as the budget, and each turn takes the next pick, or 0 after the last.
 pub fn run_over<S: Seating, F: Front, L: Link>(
     alloc: Global,
     program: Program,

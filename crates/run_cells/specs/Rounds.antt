@@ -43,7 +43,7 @@ pub data Rests (s : State) (n : ℕ) (st : Stand) (seen : List Entry) : Type 0 w
       → NoneAllowed (seat_at s.setting n) (from_pick strands pick) (moment_at st seen) (moment_at st seen)
       → Rests s n st seen
 
--- A session rests since it was looked at: behind that there are adoptions alone.
+-- A session rests since it was looked at: after that there are adoptions alone.
 pub record IsResting (s : State) (n : ℕ) (st : Stand) : Type 0 where
   pub seen : List Entry
   pub since : OnlyAdoptions seen s.history

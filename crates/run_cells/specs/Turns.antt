@@ -53,7 +53,7 @@ pub record Play : Type 0 where
   pub session : ℕ
   pub pick : ℕ
 
--- the next turn of session n, with the next pick, which is 0 behind the last
+-- the next turn of session n, with the next pick, which is 0 after the last
 abbrev pub play : State → ℕ → Play
 play s n = record {
   setting = s.setting;

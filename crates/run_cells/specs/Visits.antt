@@ -10,11 +10,11 @@ pub record ArePassed (place number : ℕ) (c : RunState) : Type 0 where
   pub listed : place ≤ length c.unended
   pub there : number ≤ length c.stands
 
--- the session that is visited at a place has this number; behind the last stands the one that is born next
+-- the session that is visited at a place has this number; after the last stands the one that is born next
 abbrev pub IsNext : RunState → ℕ → ℕ → Type 0
 IsNext c place n = slice_get (c.unended ++ length c.stands ∷ []) place ≡ Some n
 
--- a state behind so many picks
+-- a state after so many picks
 abbrev pub past_picks : ℕ → State → State
 past_picks count s = record {
   setting = s.setting;

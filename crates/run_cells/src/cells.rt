@@ -20,7 +20,7 @@ pub struct Cell<S: Session> {
 }
 
 /// The sessions of a run by number, as far as they were adopted, and their office. A session has at most as many events
-/// as the budget, and each turn takes the next pick, or 0 behind the last. Rounds visit the sessions that are unended,
+/// as the budget, and each turn takes the next pick, or 0 after the last. Rounds visit the sessions that are unended,
 /// in rising order: all others have ended.
 #[derive(Drop)]
 pub struct Cells<'p, S: Session> {

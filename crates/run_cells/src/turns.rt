@@ -123,7 +123,7 @@ fn first_pick(picks: &[u32]) -> u32
     }
 }
 
-/// The picks behind so many.
+/// The picks after so many.
 pub(crate) fn picks_behind<'a>(picks: &'a [u32], count: usize) -> &'a [u32]
     ensures { result.now ≡ drop count picks.now }
 {

@@ -27,11 +27,11 @@ door_to n location = record { service = n; location = location }
 abbrev pub doors_at : ℕ → List PortPart → List DoorAt
 doors_at n ports = map (door_to n) (map location_in (filter is_door ports))
 
--- a door that was opened there, behind so many others
+-- a door that was opened there, after so many others
 abbrev pub port_at : ℕ → DoorAt → ListenerTold
 port_at place door = record { service = door.service; door = untried place }
 
--- doors that were opened there one after another, behind those that were counted
+-- doors that were opened there one after another, after those that were counted
 abbrev pub ports_at : Tally → List DoorAt → List ListenerTold
 ports_at tally [] = []
 ports_at tally (door ∷ more) = port_at tally.opened door ∷ ports_at (with_opened tally) more

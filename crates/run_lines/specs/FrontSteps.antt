@@ -40,7 +40,7 @@ EndsSo piece.More before now = now.faults ≡ before.faults
 EndsSo piece.End before now = (now.faults ≡ before.faults) × (now.passing ≡ before.passing) × IsAtEnd now.left
 EndsSo piece.Failed before now = Rose before.faults now.faults × (now.passing ≡ before.passing)
 
--- a piece was read behind what was there
+-- a piece was read after what was there
 pub record ReadsPiece (which : Piece) (before now : Reading) : Type 0 where
   pub grows : Grows before now
   pub passed : now.passing.passed ≡ before.passing.passed
@@ -52,7 +52,7 @@ pub record IsAsBefore (before now : Reading) : Type 0 where
   pub near : IsNear before.passing → IsNear now.passing
   pub lines : sent_lines (whole_lines now.passing.passed) ≡ sent_lines (whole_lines before.passing.passed)
 
--- what comes next behind the lines that were passed
+-- what comes next after the lines that were passed
 abbrev pub IsNext : Step → Reading → Reading → Type 0
 IsNext (step.Line n) before now =
     (now.faults ≡ before.faults) × IsLine n now.passing.rest × (is_blank (take n now.passing.rest) ≡ false)
@@ -86,7 +86,7 @@ abbrev pub ComesFurther : Option Step → Passing → Passing → Type 0
 ComesFurther None before now = progress before < progress now
 ComesFurther (Some which) before now = Unit {0}
 
--- there is more behind a piece that was read, or there need not be
+-- there is more after a piece that was read, or there need not be
 abbrev pub IsMore : Piece → Passing → Passing → Type 0
 IsMore piece.More before now = length before.rest < length now.rest
 IsMore piece.End before now = Unit {0}
@@ -96,7 +96,7 @@ IsMore piece.Failed before now = Unit {0}
 abbrev pub last_step : List ℕ → Step
 last_step rest = if is_blank rest then step.End else step.Last
 
--- how the lines end behind a piece
+-- how the lines end after a piece
 abbrev pub step_after : Piece → List ℕ → Option Step
 step_after piece.More rest = None
 step_after piece.End rest = Some (last_step rest)

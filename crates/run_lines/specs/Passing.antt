@@ -2,7 +2,7 @@
 use Rattle.std.specs.Prelude.{◌≡◌, ℕ, ◌+◌, ◌-◌, List, ◌∷◌, ◌++◌, [], length, take, drop}
 use Rattle.run_theorem.specs.Split.{IsOpen}
 
--- the bytes whose lines were passed, and those behind them
+-- the bytes whose lines were passed, and those after them
 pub record Passing : Type 0 where
   pub passed : List ℕ
   pub rest : List ℕ
@@ -19,12 +19,12 @@ read_in p = p.passed ++ p.rest
 abbrev pub longest_piece : ℕ
 longest_piece = 4096
 
--- No more was read than the next line asks for: in what stands behind the lines that were passed no line ends but in
+-- No more was read than the next line asks for: in what stands after the lines that were passed no line ends but in
 -- the last piece of it.
 abbrev pub IsNear : Passing → Type 0
 IsNear p = IsOpen (take (length p.rest - longest_piece) p.rest)
 
--- So many bytes are the first line of others, whose end stands behind it.
+-- So many bytes are the first line of others, whose end stands after it.
 pub record IsLine (n : ℕ) (bytes : List ℕ) : Type 0 where
   pub inside : IsOpen (take n bytes)
   pub whole : bytes ≡ take n bytes ++ 10 ∷ drop (n + 1) bytes

@@ -12,7 +12,7 @@ use std::marker::Model;
 /// How many bytes are asked of the source at a time.
 const PIECE: usize = 4096;
 
-/// Bytes that were read, of which the lines in front were passed. No line ends in what was seen behind them.
+/// Bytes that were read, of which the lines in front were passed. No line ends in what was seen after them.
 #[derive(Drop)]
 pub(crate) struct Lines {
     bytes: Vec<u8>,
@@ -67,7 +67,7 @@ impl Lines {
         }
     }
 
-    /// What stands behind the lines that were passed.
+    /// What stands after the lines that were passed.
     pub(crate) fn rest(&self) -> &[u8]
         ensures { result.now ≡ self.now.rest }
     {
@@ -94,7 +94,7 @@ impl Lines {
         self.seen = 0;
     }
 
-    /// Reads a piece behind what was read. After want of memory nothing was read.
+    /// Reads a piece after what was read. After want of memory nothing was read.
     pub(crate) fn fill<S: Source>(&mut self, source: &mut S) -> Result<Piece, AllocError>
         ensures read { MatchResult result
             (λ piece. ReadsPiece piece (reading self.old (S.told source.old).unread (S.told source.old).faults)

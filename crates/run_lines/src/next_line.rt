@@ -10,7 +10,7 @@ use crate::piece::Piece;
 use outside_traits::Source;
 use std::alloc::AllocError;
 
-/// What comes behind the lines that were passed.
+/// What comes after the lines that were passed.
 #[derive(Clone, Copy, Debug, PartialEq, Eq)]
 pub(crate) enum Step {
     /// A line of that length that is not blank.

@@ -1,7 +1,7 @@
 /// How the read of a piece ended.
 #[derive(Clone, Copy, Debug, PartialEq, Eq)]
 pub(crate) enum Piece {
-    /// There may be more behind it.
+    /// There may be more after it.
     More,
     /// The source is at its end.
     End,

@@ -18,7 +18,7 @@ use run_theorem::Next;
 use sqlite_items::Items;
 use std::alloc::{AllocError, Global};
 
-/// The most postings of a front: the lines behind them are passed over.
+/// The most postings of a front: the lines after them are passed over.
 const MOST_POSTINGS: usize = 4_294_967_295;
 
 /// What was read of a source, what its lines sent, whether nothing more is read, and whether the source failed.

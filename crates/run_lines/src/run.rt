@@ -19,7 +19,7 @@ use std::alloc::{AllocError, Global};
 
 /// Runs a program, whose text this is, over the lines of a source, and writes the answers to an output and the notes to
 /// a sink of their own; calls to services elsewhere go by the link. A session has at most as many events as the budget,
-/// and each turn takes the next pick, or 0 behind the last.
+/// and each turn takes the next pick, or 0 after the last.
 pub fn run_lines<S: Seating, I: Source, K: Sink, N: Sink, L: Link>(
     alloc: Global,
     program: Program,

@@ -7,7 +7,7 @@ use outside_traits::Sink;
 use outside_writing::write_all;
 use std::alloc::AllocError;
 
-/// Writes the bytes, as far as the sink takes them, and keeps what it took behind what was written. It says whether the
+/// Writes the bytes, as far as the sink takes them, and keeps what it took after what was written. It says whether the
 /// sink failed. After want of memory nothing was written.
 pub(crate) fn write_kept<K: Sink>(
     sink: &mut K,

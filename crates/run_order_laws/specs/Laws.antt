@@ -46,7 +46,7 @@ OrderGoesOn =
     (said ++ filter (is_answered w (past_of w (h ++ more))) (open_yet ++ count ∷ []))
     (filter (λ j. not (is_answered w (past_of w (h ++ more)) j)) (open_yet ++ count ∷ []))
 
--- At the end the others are told behind them, which is the order of the record.
+-- At the end the others are told after them, which is the order of the record.
 abbrev pub OrderEnds : Type 0
 OrderEnds =
     (w : Setting) (h more : List Entry) (count : ℕ) (said open_yet : List ℕ)

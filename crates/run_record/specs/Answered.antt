@@ -15,12 +15,12 @@ abbrev pub AnswersEach : Setting → List Entry → Type 0
 AnswersEach w h =
     (n : ℕ) (m : Message) → slice_get (accepted w h) n ≡ Some m → (o : Outcome) × (answers w (past_of w h) n ≡ o ∷ [])
 
--- the entries behind the posts that a posting begins with
+-- the entries after the posts that a posting begins with
 abbrev pub behind_posts : ℕ → ℕ → List Entry → List Entry
 behind_posts actor j [] = []
 behind_posts actor j (e ∷ es) = if posts_for actor j e then behind_posts actor j es else e ∷ es
 
--- the posting of a post is over behind the posts that follow it at once; of another entry there is nothing to say
+-- the posting of a post is over after the posts that follow it at once; of another entry there is nothing to say
 abbrev pub is_in_one_piece : Entry → List Entry → Bool
 is_in_one_piece e es = elim e.act [
   | act.Post j i q r ↦ not (list_any (posts_for e.actor j) (behind_posts e.actor j es))

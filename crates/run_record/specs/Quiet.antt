@@ -65,7 +65,7 @@ before_stop es = before_first stops es
 
 -- ---- before a posting
 
--- the events before the one that makes the call behind so many others
+-- the events before the one that makes the call after so many others
 abbrev pub events_for : ℕ → List Event → List Event
 events_for calls [] = []
 events_for calls (e ∷ es) = elim (makes_call e.kind) [
@@ -88,7 +88,7 @@ posts_for actor j e = elim e.act [ act.Post posting i q r ↦ nat_eq actor e.act
 abbrev pub posts : Entry → Bool
 posts e = elim e.act [ act.Post posting i q r ↦ true | _ ↦ false ]
 
--- an entry behind others begins posting j
+-- an entry after others begins posting j
 abbrev pub begins_posting : ℕ → List Entry → Entry → Bool
 begins_posting j before e = posts_for e.actor j e && not (list_any (posts_for e.actor j) before)
 

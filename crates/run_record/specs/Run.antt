@@ -21,7 +21,7 @@ pub data Hands : Type 0 where
   alone : Hands
   workers : ℕ → Hands
 
--- one of those who work: worker 0 alone; or a worker, or the caller, whose number is behind theirs
+-- one of those who work: worker 0 alone; or a worker, or the caller, whose number is after theirs
 abbrev pub is_hand : Hands → ℕ → Bool
 is_hand alone actor = nat_eq actor first_worker
 is_hand (workers n) actor = nat_le first_worker actor && nat_le actor (first_worker + n)

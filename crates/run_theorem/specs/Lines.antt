@@ -18,7 +18,7 @@ use Rattle.run_theorem.specs.Texts.{Came, response}
 use Rattle.run_theorem.specs.Split.{whole_lines, all_lines, sent_lines}
 use Rattle.run_theorem.specs.Statuses.{Causes, halts}
 
--- the most postings of a front: what comes behind them is passed over
+-- the most postings of a front: what comes after them is passed over
 abbrev pub most_postings : ℕ
 most_postings = 4294967295
 

@@ -21,7 +21,7 @@ pub record Rules : Type 0 where
 
 -- ---- a turn
 
--- a turn that a session took: with a pick, behind so many entries of the history; and whether an event came of it
+-- a turn that a session took: with a pick, after so many entries of the history; and whether an event came of it
 pub record TakenTurn : Type 0 where
   pub session : ℕ
   pub pick : ℕ
@@ -70,7 +70,7 @@ pub record WasHad (r : Rules) (h : List Entry) (sessions : List (List Event)) (t
       × Chose r.setting (take t.entries h) t (take had events) event
   pub rested : t.did ≡ false → (r.budget ≤ had) ⊎ (CanAct r.setting (take t.entries h) t.session (take had events) → ⊥)
 
--- ---- one turn behind the other
+-- ---- one turn after the other
 
 -- between two turns stand entries of their sessions alone
 abbrev pub AreTheirs : List Entry → TakenTurn → TakenTurn → Type 0
@@ -78,12 +78,12 @@ AreTheirs h a b =
     list_all (λ (e : Entry). nat_eq a.session e.actor || nat_eq b.session e.actor) (drop a.entries (take b.entries h))
     ≡ true
 
--- A turn ends a round: nothing came of it, and the session behind its own was not born before it.
+-- A turn ends a round: nothing came of it, and the session after its own was not born before it.
 pub record EndsRound (w : Setting) (before : List Entry) (t : TakenTurn) : Type 0 where
   pub rested : t.did ≡ false
   pub last : service_of w (past_of w before) (suc t.session) ≡ None
 
--- How turn b comes behind turn a: it is of the same session, where an event came of a; else of the next one, in the
+-- How turn b comes after turn a: it is of the same session, where an event came of a; else of the next one, in the
 -- same round; or where a ends its round a new one begins, with session 0, once each call that went out has its outcome.
 pub data Follows (w : Setting) (h : List Entry) (a b : TakenTurn) : Type 0 where
   again : a.did ≡ true → b.session ≡ a.session → AreTheirs h a b → Follows w h a b
@@ -93,8 +93,8 @@ pub data Follows (w : Setting) (h : List Entry) (a b : TakenTurn) : Type 0 where
 
 -- ---- a run
 
--- Sessions took turns of which these events came, in this history: each turn with the next pick, or 0 behind the last;
--- in rounds, one behind the other and each to its end.
+-- Sessions took turns of which these events came, in this history: each turn with the next pick, or 0 after the last;
+-- in rounds, one after the other and each to its end.
 pub record TookTurns (r : Rules) (picks : List ℕ) (h : List Entry) (sessions : List (List Event)) : Type 0 where
   pub turns : List TakenTurn
   pub had : (i : ℕ) (t : TakenTurn) → slice_get turns i ≡ Some t

@@ -45,7 +45,7 @@ pub record AreTaken (connections : List RunConnection) (asked : List Asked) : Ty
 -- The bytes of a connection that stands so. Unless it stands as failed in a write the bodies are those of the first
 -- requests that were read, and of all where it is over; and what was written is what is to be written where these texts
 -- are told. Where it stands as failed in a write the bodies are those of the first requests, and a front of that was
--- written, in which no more is wanting than the last answer and what is due behind it.
+-- written, in which no more is wanting than the last answer and what is due after it.
 pub record HasPassed (connection : RunConnection) (traffic : Traffic) : Type 0 where
   pub stage : connection.stage ≢ Stages.Spent
   pub keeps : (reading : Reading traffic.read)

@@ -59,7 +59,7 @@ is_told connection = nat_eq (length connection.texts) (length connection.bodies)
 -- once and those of one connection in their order, by the worker that has the connections; and, whether the front
 -- halted or not, each once the one before it on its connection was answered, and where each connection before its own
 -- waited for an answer or was over. What was written on each is what is to be written where the responses to its
--- postings are told; where it stands as failed in a write the last of these, or what is due behind it, was cut. The
+-- postings are told; where it stands as failed in a write the last of these, or what is due after it, was cut. The
 -- response to each posting was told that was finished before the last one came; and unless the front halted, to each.
 -- Whether a connection has failed its wire tells, when it comes back.
 pub record IsServed (w : Setting) (h : List Entry) (halted : Bool) (traffic : List Traffic) : Type 0 where

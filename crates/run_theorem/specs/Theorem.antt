@@ -106,7 +106,7 @@ pub record RanProgram (t : Task) (a : Around) (ended : Ended) : Type 0 where
 -- What a run over lines adds.
 pub record IsLined (t : Task) (a : Around) (ended : Ended) : Type 0 where
   pub ran : RanProgram t a ended
-  -- it has no doors, and nothing is written behind a write that failed
+  -- it has no doors, and nothing is written after a write that failed
   pub doors : a.now.doors ≡ a.before.doors
   pub no_doors : ran.status.causes.doors ≡ false
   pub once : (ran.status.causes.output && ran.status.causes.notes) ≡ false

@@ -25,7 +25,7 @@ use Rattle.jsonrpc_calls.specs.Heard.{heard}
 abbrev pub has_failed : Made → Bool
 has_failed m = is_none m.came
 
--- how often a link has failed behind a trip, where it had failed so often: one more where the trip failed
+-- how often a link has failed after a trip, where it had failed so often: one more where the trip failed
 abbrev pub faults_after_trip : ℕ → Made → ℕ
 faults_after_trip before m = if has_failed m then one_more before else before
 

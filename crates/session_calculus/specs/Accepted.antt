@@ -16,7 +16,7 @@ accepted types (Some ty) v = if conforms types v ty then Some (wide types v ty) 
 abbrev pub response_of : ProgramParts → ℕ → ℕ → Option TypeTree
 response_of parts service op = option_and_then (λ o. o.response) (operation_at parts service op)
 
--- the operations that a service sends to, port by port; Console's stands behind them
+-- the operations that a service sends to, port by port; Console's stands after them
 abbrev pub outputs_of : ProgramParts → ServicePart → List (List OperationPart)
 outputs_of parts s = map (sent_to parts.interfaces) s.ports ++ (println ∷ []) ∷ []
 

@@ -35,7 +35,7 @@ goes_on s m p (faults f) = moved_to (instead f) (taken s m)
 goes_on s m p (stores store) = starts p (record (taken s m) { store = store })
 
 -- the body of a request stands under its message, its operation and the path of its reply, and what comes after stands
--- behind it
+-- after it
 abbrev pub asked : Coming → Option PathTree → Proc → Term → Term
 asked m y p t = seq (exec m.message m.op y t) (proc p no_procs)
 

@@ -27,7 +27,7 @@ in_event a m place = record { strand = a.strand; kind = kind.In; number = m; pla
 abbrev pub coming : Mail → List ℕ → ℕ → Coming
 coming m ops place = record { message = m.message; op = m.op; value = m.value.now; ops = ops; branch = place }
 
--- the body of a request, with what comes after behind it
+-- the body of a request, with what comes next after it
 abbrev pub asked_after : Mail → Option PathTree → Proc → Term → Term
 asked_after m y p t = seq (exec m.message m.op y t) (proc p no_procs)
 

@@ -151,7 +151,7 @@ fn gone_on(
     }
 }
 
-/// The body of a request, with what comes after behind it.
+/// The body of a request, with what comes next after it.
 fn asked(
     alloc: Global,
     mail: Mail<'_>,

@@ -10,7 +10,7 @@ pub record StandsFirst (n : ℕ) (members : List Strand) (i : ℕ) : Type 0 wher
   pub here : (x : Strand) → x ≡ slice_index_or members i x → stands_in n x.number (term_view x.form.value) ≡ true
   pub not_before : is_among n (members_view (take i members)) ≡ false
 
--- members, and others behind them
+-- members, and others after them
 abbrev pub joined : Strands → Strands → Strands
 joined no_strands us = us
 joined (strand n t ts) us = strand n t (joined ts us)

@@ -27,7 +27,7 @@ pub fn operation_sent<'a>(actor: Actor<'a>, port: u32, op: u32) -> Option<Sent<'
     }
 }
 
-/// The operation of a number of one of some ports, behind which stands the one that every service has.
+/// The operation of a number of one of some ports, after which stands the one that every service has.
 fn operation_of<'a>(parts: &'a Parts, ports: &[Port], port: u32, op: u32) -> Option<Sent<'a>>
     ensures { option_map sent_view result
         ≡ operation_at_port (map (sent_to (parts_view parts.now).interfaces) (map port_view ports.now)) port op }

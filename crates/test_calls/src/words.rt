@@ -55,7 +55,7 @@ pub fn numbers(alloc: Global, words: &str) -> Result<Vec<u32>, WordError> {
     Ok(list)
 }
 
-/// What stands behind so many words.
+/// What stands after so many words.
 pub fn behind(words: &str, count: u32) -> &str {
     let mut rest = words;
     for _ in 0..count {

@@ -18,7 +18,7 @@ fn main(rt: HostRuntime) -> anyhow::Result<()> {
     run(&rt, expected, given)
 }
 
-/// What a row expects. Lines over a program have their answers behind them.
+/// What a row expects. Lines over a program have their answers after them.
 fn expected(rt: &HostRuntime, row: &Row<'_>) -> anyhow::Result<String> {
     let lines = if row.has("program") { "does" } else { "gives" };
     Ok(row.text(rt.alloc(), lines)?)

@@ -1,6 +1,6 @@
 //! Sessions of programs that are played line by line, with what each of them answers.
 //!
-//! A row has a program, the number of the service that its session is of, and lines, each with its answer behind it:
+//! A row has a program, the number of the service that its session is of, and lines, each with its answer after it:
 //! `step 0 => 0 Local 0 0 0`. How lines are written stands at `played`, what is handed in at `read_gift`, what an event
 //! asks at `need_words`, and values at `read_value`.
 ghost use Rattle.std.specs.Prelude.{◌<◌, length, IsTrue};

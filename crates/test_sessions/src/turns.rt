@@ -1,7 +1,7 @@
 //! Sessions that take turns at the desk of their office, line by line, with what each turn comes to.
 //!
 //! A row has a program, the budget of its session, if it wants one the message that comes in before the session is
-//! seated, and lines, each with its answer behind it: `turn 0 => did 0 In 0`. How lines are written stands at `played`.
+//! seated, and lines, each with its answer after it: `turn 0 => did 0 In 0`. How lines are written stands at `played`.
 mod line;
 mod words;
 

@@ -10,7 +10,7 @@ use Rattle.run_record.specs.Quiet.{before_stop, posts_for}
 use Rattle.run_record.specs.Collected.{collectors, uncollected}
 use Rattle.test_trials.specs.Quiet.{is_empty}
 
--- an entry behind others begins no posting, or one before which its actor collected what was answered
+-- an entry after others begins no posting, or one before which its actor collected what was answered
 abbrev pub collects_first : Setting → List Entry → Entry → Bool
 collects_first w before e =
     elim e.act [

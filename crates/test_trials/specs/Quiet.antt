@@ -92,7 +92,7 @@ abbrev pub may_begin : Setting → ℕ → ℕ → List Entry → List (List Eve
 may_begin w budget zero h sessions = is_empty h
 may_begin w budget (suc j) h sessions = is_quiet w budget h sessions
 
--- an entry behind others begins no posting, or one that may begin
+-- an entry after others begins no posting, or one that may begin
 abbrev pub begins_well : Setting → ℕ → List (List Event) → List Entry → Entry → Bool
 begins_well w budget sessions before e =
     elim e.act [

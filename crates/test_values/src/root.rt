@@ -4,7 +4,7 @@ use crate::error::WordError;
 use jolie_trees::{Root, Text};
 use std::alloc::{AllocError, Global};
 
-/// The root that a word is: `void`, `true` and `false`, an int behind `i`, a long behind `l`, a text behind `'`.
+/// The root that a word is: `void`, `true` and `false`, an int after `i`, a long after `l`, a text after `'`.
 pub fn read_root(alloc: Global, word: &str) -> Result<Root, WordError> {
     if let Some(text) = word.strip_prefix('\'') {
         return Ok(Root::Text(Text::new(alloc, text)?));

@@ -9,7 +9,7 @@ use std::alloc::{AllocError, Global};
 use test_calls::{Line, Words};
 use test_values::WordError;
 
-/// What an office answers to the lines, each behind its line and ` => `.
+/// What an office answers to the lines, each after its line and ` => `.
 ///
 /// A line begins with an actor, A: a session, or from 4,096 on a worker. A call that may not be made answers `not
 /// allowed`, and one that has nothing to give `none`, or `done` where it never has. A refusal is `refused NAME CODE`.
@@ -33,7 +33,7 @@ pub fn played(alloc: Global, office: &mut Office, lines: &str) -> Result<String,
     Ok(all)
 }
 
-/// Plays a line, and puts it with its answer behind the others.
+/// Plays a line, and puts it with its answer after the others.
 fn play(alloc: Global, office: &mut Office, line: &str, all: &mut String) -> Result<(), WordError> {
     let (ask, want) = line.split_once(" => ").unwrap_or((line, ""));
     let answer = told(alloc, office, read_line(ask, want)?)?;

@@ -3,7 +3,7 @@
 use std::alloc::Global;
 use test_rows::Row;
 
-/// The row's `program`. Where the row has a text `each` and a number `times`, the former stands behind it so often,
+/// The row's `program`. Where the row has a text `each` and a number `times`, the former stands after it so often,
 /// each `#` in it as the number of the time.
 pub fn program_text(alloc: Global, row: &Row<'_>) -> anyhow::Result<Vec<u8>> {
     let mut text = row.bytes(alloc, "program")?;

@@ -8,7 +8,7 @@ use std::alloc::{AllocError, Global};
 use term_session::{StepError, TermSession};
 use test_values::WordError;
 
-/// What a session answers to the lines, each behind its line and ` => `.
+/// What a session answers to the lines, each after its line and ` => `.
 ///
 /// - `step S GIFT` does the event of strand S. It gives the event, or `refused S` where S has no event for this gift.
 /// - `rounds S N KIND ..` does events of strand S for which nothing is given, of these kinds in turn, N times. It gives

@@ -49,7 +49,7 @@ fn text(alloc: Global, word: &str) -> Result<Text, WordError> {
     Ok(Text::from_string(text))
 }
 
-/// What a letter means behind a backslash.
+/// What a letter means after a backslash.
 fn escaped(letter: char) -> Result<char, WordError> {
     match letter {
         's' => Ok(' '),

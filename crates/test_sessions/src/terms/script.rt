@@ -16,7 +16,7 @@ use test_values::WordError;
 ///   `begin_rest P` has the members of a sequence for its rests, and `turn P` starts the body of a while, followed by
 ///   that while.
 /// - `done`, `place P`, `thrown F`, `wait K` and `dead K` are forms without parts, the last two with handlers.
-/// - `then P` puts a rest behind the last form, and `beside N` takes the last N forms as members of a parallel.
+/// - `then P` puts a rest after the last form, and `beside N` takes the last N forms as members of a parallel.
 /// - `scope S` puts a live scope around the last form, which `caught F`, `term`, `last` and `zombie` bring into
 ///   another state, and `with K` installs handlers in it.
 /// - `exec M`, `fail M F` and `prot` stand around the last form.

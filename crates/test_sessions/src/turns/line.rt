@@ -13,7 +13,7 @@ use test_conditions::{is_collectable, is_fetched};
 use test_seats::{Seat, WORKER};
 use test_values::WordError;
 
-/// What a session answers to the lines, each behind its line and ` => `.
+/// What a session answers to the lines, each after its line and ` => `.
 ///
 /// - `turn PICK` gives the session a turn: `did` with the strand, the kind and the number of the event, or `idle`,
 ///   `ended` or `spent`.
@@ -34,7 +34,7 @@ pub fn played(alloc: Global, seat: &mut Seat<'_>, lines: &str) -> Result<String,
     Ok(all)
 }
 
-/// Plays a line, and puts it with its answer behind the others.
+/// Plays a line, and puts it with its answer after the others.
 fn play(alloc: Global, seat: &mut Seat<'_>, line: &str, all: &mut String) -> Result<(), WordError>
     requires { IsSeated seat.old }
     ensures { OnOk result (IsSeated seat.new) }
