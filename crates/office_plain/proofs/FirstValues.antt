@@ -1,5 +1,5 @@
--- What is kept of sessions answers Bound to the first values of a session.
-use Rattle.std.proofs.Common.{◌≡◌, ℕ, suc, ◌+◌, Bool, true, false, ◌||◌, List, [], ◌∷◌, ◌++◌, length, map, refl, sym, ap, subst, ◌∙◌, Option, None, Some, option_map, is_some, true≢false, arith}
+-- What is kept of sessions answers Bound to what a message brings the session that it starts.
+use Rattle.std.proofs.Common.{◌≡◌, ℕ, suc, ◌+◌, Bool, true, false, ◌||◌, List, [], ◌∷◌, ◌++◌, append_assoc, length, map, refl, sym, ap, subst, ◌∙◌, Option, None, Some, option_map, is_some, true≢false, arith}
 use Rattle.std.specs.Prelude.{nat_eq, slice_get, option_and_then, unwrap_or, if◌then◌else◌}
 use Rattle.std.specs.List.{list_any, cons_option}
 use Rattle.std.proofs.lemmas.List.Elements.{filter_map-append}
@@ -11,23 +11,27 @@ use Rattle.correlation.specs.declared.session.Session.{Session}
 use Rattle.correlation.specs.declared.session.SetOf.{SetOf}
 use Rattle.correlation.specs.declared.session.Written.{Written}
 use Rattle.correlation.specs.Rows.{session_with}
-use Rattle.correlation.specs.Sessions.{is_born, key_in, key_of, reply_by, reply_of, reply_to, rows_of, set_with, write}
+use Rattle.correlation.specs.Sessions.{changed, is_born, key_in, key_of, reply_by, reply_of, reply_to, rows_of, set_with, write}
 use Rattle.correlation.specs.Sessions as rows
 use Rattle.reqresp_book.specs.declared.origin.Origin.{Origin}
-use Rattle.office_core.specs.Limits.{Setting, run_of}
+use Rattle.office_core.specs.declared.message.Message.{Message}
+use Rattle.office_core.specs.declared.post.Posted.{Posted}
+use Rattle.office_core.specs.Limits.{Setting}
 use Rattle.office_core.specs.Past.{Past}
 use Rattle.office_core.specs.Sessions.{births}
 use Rattle.office_core.specs.Keys.{Variable, sets_of}
 use Rattle.office_core.specs.Keys as keys
-use Rattle.office_core.specs.Accepted.{past_of}
-use Rattle.office_core.specs.Route.{Asked}
+use Rattle.office_core.specs.Accepted.{message_to}
+use Rattle.office_core.specs.Route.{Asked, asked_of, route}
 use Rattle.office_plain.specs.SetNumbers.{numbered_from, numbered_sets, sets_before}
+use Rattle.office_plain.specs.Accepting.{brought, started_with, CanStart, CanWrite}
 use Rattle.office_plain.specs.Kept.{keyed_sessions}
 use Rattle.office_plain.proofs.Keyed.{all_there_same, holder_is, variables_at}
 use Rattle.office_plain.proofs.KeysCome.{next_unborn}
 use Rattle.office_plain.proofs.Lists.{eq_true, itself, none_not_some, same_of}
-use Rattle.office_laws.specs.Laws.{WritesFirst, first_values, started_with}
-use Rattle.office_laws.proofs.First.{Begins, has_number, is_first, is_started, not_held, starting}
+use Rattle.office_plain.proofs.Posting.{way_to}
+use Rattle.office_plain.proofs.Routing.{is_asked}
+use Rattle.office_plain.proofs.Starting.{Begins, has_number, is_first, is_new, new_unnamed, not_held, starting}
 
 append_nil : {A : Type 0} (xs : List A) → xs ++ [] ≡ xs
 append_nil [] = refl
@@ -133,7 +137,7 @@ not_there f v (u ∷ vs) has none = by (nat_eq v u.number) refl has (λ h. not_t
 
 module _ (w : Setting) (past : Past) (from : Origin) (a : Asked) (begun : Begins w past a)
     (us : List Written) (x : Written) (xs : List Written)
-    (split : first_values w (starting w past from a) ≡ us ++ x ∷ xs) where
+    (split : brought w.parts a.operation (starting w past from a) ≡ us ++ x ∷ xs) where
   -- the session before the value is written
   abbrev fresh : Session
   fresh = started_with w.parts (starting w past from a) us
@@ -145,7 +149,7 @@ module _ (w : Setting) (past : Past) (from : Origin) (a : Asked) (begun : Begins
   variables_are t set =
       ap (λ o. rows.variables_of t.set
       (unwrap_or (option_map (λ (s : ServicePart). numbered_from (sets_before w.parts a.number) (sets_of s)) o) []))
-      begun.service
+      begun.asked.service
       ∙ variables_at t.set (sets_before w.parts a.number) set.place (sets_of a.service) set.first set.others set.number
       set.there
 
@@ -169,7 +173,7 @@ module _ (w : Setting) (past : Past) (from : Origin) (a : Asked) (begun : Begins
       ++ cons_option (option_map (λ k. row_of k) o) []) (unfinished t set)
       ∙ append_nil (rows_of (keyed_sessions w past) t.set))
       ∙ ap (λ n. rows.holder (keyed_sessions w past) n ys) set.number
-      ∙ holder_is w past a.number set.place a.service set.first set.others ys begun.service set.there
+      ∙ holder_is w past a.number set.place a.service set.first set.others ys begun.asked.service set.there
       ∙ not_held w past from a begun us x xs split set.place (set.first ∷ set.others) ys set.there set.has complete
     where
       row_of : List Root → KeyRow
@@ -192,7 +196,7 @@ module _ (w : Setting) (past : Past) (from : Origin) (a : Asked) (begun : Begins
           set_found x.variable (sets_before w.parts a.number) (sets_of a.service) t
           (sym (ap (λ o. set_with x.variable
           (unwrap_or (option_map (λ (s : ServicePart). numbered_from (sets_before w.parts a.number) (sets_of s)) o) []))
-          begun.service)
+          begun.asked.service)
           ∙ e)
 
       of : (t : SetOf) (o : Option (List Root)) → set_with x.variable (numbered_sets w.parts a.number) ≡ Some t
@@ -210,7 +214,7 @@ module _ (w : Setting) (past : Past) (from : Origin) (a : Asked) (begun : Begins
       by (Some t) e = of t (key_of (write x.variable x.value fresh) t.set) e refl
 
   -- the value is bound
-  is_written : reply_to (keyed_sessions w past ++ fresh ∷ []) (length (births w past)) x.variable x.value
+  pub is_written : reply_to (keyed_sessions w past ++ fresh ∷ []) (length (births w past)) x.variable x.value
       ≡ Some reply.Bound
   is_written =
       ap (option_map (λ (s : Session). reply_of (keyed_sessions w past ++ fresh ∷ []) s x.variable x.value))
@@ -220,16 +224,44 @@ module _ (w : Setting) (past : Past) (from : Origin) (a : Asked) (begun : Begins
       (is_first w past from a begun us x xs split)
       ∙ ap (λ o. Some (reply_by o)) none_held
 
-pub writes_first : WritesFirst
-writes_first parts h kept from q m us x xs legal ties goes starts split =
-    let it = is_started (run_of parts) past from q m goes starts in
-    ap (λ l. reply_to (l ++ started_with parts m us ∷ []) m.session x.variable x.value) ties.keys
-    ∙ subst
-    (λ y. first_values (run_of parts) y ≡ us ++ x ∷ xs
-    → reply_to (keyed_sessions (run_of parts) past ++ started_with parts y us ∷ []) y.session x.variable x.value
-    ≡ Some reply.Bound)
-    it.is_it
-    (λ g. is_written (run_of parts) past from it.asked it.begun us x xs g) split
+-- ---- one value after the other
+
+-- the session behind others once a value is written into it
+written_behind : (ss : List Session) (s : Session) (v : ℕ) (x : Root) → is_born ss s.number ≡ false
+    → changed s.number (write v x) (ss ++ s ∷ []) ≡ ss ++ write v x s ∷ []
+written_behind [] s v x h = ap (λ b. (if b then write v x s else s) ∷ []) (itself s.number)
+written_behind (r ∷ ss) s v x h =
+    λ i. (if front (nat_eq r.number s.number) (is_born ss s.number) h i then write v x r else r)
+    ∷ written_behind ss s v x (rest (nat_eq r.number s.number) (is_born ss s.number) h) i
+
+-- what is left of the values can be written too
+rest_written : (w : Setting) (past : Past) (from : Origin) (a : Asked) → Begins w past a → (us xs : List Written)
+    → brought w.parts a.operation (starting w past from a) ≡ us ++ xs
+    → CanWrite (length (births w past))
+    (keyed_sessions w past ++ started_with w.parts (starting w past from a) us ∷ []) xs
+rest_written w past from a begun us [] split = tt
+rest_written w past from a begun us (x ∷ xs) split = (
+  is_written w past from a begun us x xs split,
+  subst (λ l. CanWrite (length (births w past)) l xs)
+      (sym (written_behind (keyed_sessions w past) (started_with w.parts (starting w past from a) us) x.variable x.value
+      (next_unborn w past (length (births w past)) refl)))
+      (rest_written w past from a begun (us ++ x ∷ []) xs (split ∙ sym (append_assoc us (x ∷ []) xs))),
+)
+
+-- what a message brings can be written into the session that it starts
+pub can_start : (w : Setting) (past : Past) (from : Origin) (q : Posted) (a : Asked) (s : ℕ) (starts : Bool)
+    (m : Message) (sessions : List Session)
+    → route w past q ≡ way_to s starts → (starts ≡ true → s ≡ length (births w past)) → asked_of w q ≡ Some a
+    → m ≡ message_to w from s starts a → sessions ≡ keyed_sessions w past → CanStart w.parts a.operation m sessions
+can_start w past from q a s false m sessions goes next asked is_m tied =
+    λ on. absurd (true≢false (sym on ∙ ap (λ (y : Message). y.starts) is_m))
+can_start w past from q a s true m sessions goes next asked is_m tied =
+    λ on. subst (λ (p : Message × List Session). CanWrite p.0.session (p.1 ++ started_with w.parts p.0 [] ∷ [])
+    (brought w.parts a.operation p.0))
+    (λ i. (sym named i, sym tied i))
+    (rest_written w past from a
+    (record { asked = is_asked w q a asked; unnamed = new_unnamed w past q a asked (ap is_new goes) }) []
+    (brought w.parts a.operation (starting w past from a)) refl)
   where
-    past : Past
-    past = past_of (run_of parts) h
+    named : m ≡ starting w past from a
+    named = is_m ∙ ap (λ n. message_to w from n true a) (next refl)
