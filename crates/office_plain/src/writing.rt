@@ -111,7 +111,7 @@ fn write_value(
 ) -> Result<(), AllocError>
     requires live { is_live (sessions_of rows.old) session ≡ true }
     requires free { CanWrite session (sessions_of rows.old)
-        (cons_option (written_into variable (option_copied value.entry)) []) }
+        (cons_option (written_into variable (option_copied value)) []) }
     ensures { OnOk result (sessions_of rows.new ≡ changed session
         (write_all (cons_option (written_into variable (option_copied value.entry)) [])) (sessions_of rows.old)) }
 {
