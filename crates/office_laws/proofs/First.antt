@@ -1,5 +1,5 @@
 -- What the message that starts a session brings of its variables is answered Bound.
-use Rattle.std.proofs.Common.{◌≡◌, ◌≢◌, ◌<◌, ℕ, suc, ◌+◌, Bool, true, false, not, ◌&&◌, ◌||◌, List, [], ◌∷◌, ◌++◌, append_assoc, length, map, flat_map, cond, refl, sym, ap, subst, ◌∙◌, Option, None, Some, is_some, true≢false, arith}
+use Rattle.std.proofs.Common.{◌≡◌, ◌≢◌, ◌<◌, ℕ, suc, ◌+◌, Bool, true, false, not, ◌&&◌, ◌||◌, List, [], ◌∷◌, ◌++◌, append_assoc, length, map, cond, refl, sym, ap, subst, ◌∙◌, Option, None, Some, is_some, true≢false, arith}
 use Rattle.std.specs.Prelude.{nat_eq, slice_get, take, option_and_then, if◌then◌else◌}
 use Rattle.std.specs.List.{list_any, filter, filter_map, cons_option}
 use Rattle.std.proofs.lemmas.List.Elements.{filter_map-append}

@@ -1,8 +1,8 @@
 -- What is kept of sessions answers Bound to the first values of a session.
-use Rattle.std.proofs.Common.{◌≡◌, List, ◌∷◌, ◌++◌, sym, ap, subst, ◌∙◌, Some}
+use Rattle.std.proofs.Common.{◌≡◌, ◌∷◌, ◌++◌, sym, ap, subst, ◌∙◌, Some}
 use Rattle.correlation.specs.declared.bind_reply.BindReply.TheVariants as reply
 use Rattle.correlation.specs.Sessions.{reply_to}
-use Rattle.office_core.specs.Limits.{Setting, run_of}
+use Rattle.office_core.specs.Limits.{run_of}
 use Rattle.office_core.specs.Past.{Past}
 use Rattle.office_core.specs.Accepted.{past_of}
 use Rattle.office_plain.specs.Accepting.{started_with}

@@ -1,5 +1,5 @@
 -- What holds of every office whose history is legal.
-use Rattle.std.specs.Prelude.{◌≡◌, ◌++◌, true, false, List, [], ◌∷◌, Option, Some}
+use Rattle.std.specs.Prelude.{◌≡◌, ◌++◌, true, List, [], ◌∷◌, Option, Some}
 use Rattle.std.specs.List.{filter_map}
 use Rattle.behaviour_tree.specs.Data.{ProgramParts}
 use Rattle.correlation.specs.declared.bind_reply.BindReply.TheVariants as reply
